@@ -1,18 +1,32 @@
-ghost use Rattle.std.specs.Prelude.{◌≡◌, [], length, option_map, OnOk, OnErr, cond, Some, None};
+ghost use Rattle.std.specs.Prelude.{◌≡◌, ◌==◌, ◌&&◌, [], length, option_map, IfOk, OnOk, OnErr, cond, Some, None};
 ghost use Rattle.std.specs.Ordering.{is_eq, nat_cmp};
-ghost use Rattle.std.specs.Cmp.Lexicographic.{slice_cmp};
+ghost use Rattle.std.specs.Cmp.{and_equiv, and_per, on_equiv, on_per, partial_equiv_from_equiv};
+ghost use Rattle.std.specs.Cmp.Lexicographic.{lists_equiv, lists_per, nat_list_eq_equiv, pointwise, slice_cmp};
+ghost use Rattle.std.specs.Cmp.Rules.{hashing};
+ghost use Rattle.std.specs.Hash as fed;
+ghost use Rattle.std.specs.Hash.{first_alike, items_Alike, on_Alike};
+ghost use Rattle.std.specs.List.Sorted.{IsStrictlySortedBy};
+ghost use Rattle.std.specs.Map.{keys_of, values_of};
 ghost use Rattle.std.specs.BTreeMap.{insert_entry};
-ghost use Rattle.witx_base.specs.Found.{found};
+ghost use Rattle.std.proofs.Common.{rules};
+ghost use Rattle.witx_base.specs.Found.{found, IsCopyBy};
 
+use crate::duplicate::Duplicate;
 use crate::memory::OutOfMemory;
 use crate::name::Id;
 use std::alloc::Global;
 use std::collections::BTreeMap;
+use std::collections::btree_map::{Iter, Keys, Values};
+use std::hash::{Hash, Hasher};
 use std::marker::Model;
 
 /// An ordered map from names, which contracts see as the list of its entries in the names' order.
+///
+/// Maps are equal where their entries are. They are hashed by their names alone, in order, so that
+/// the values need no hash.
 #[derive(Debug, Drop)]
 pub struct NameMap<V> {
+    alloc: Global,
     map: BTreeMap<Id, V>,
 }
 
@@ -30,8 +44,14 @@ impl<V> NameMap<V> {
         ensures { result ≡ [] }
     {
         NameMap {
+            alloc,
             map: BTreeMap::new(alloc),
         }
+    }
+
+    /// Where the map takes its memory from.
+    pub fn allocator(&self) -> Global {
+        self.alloc
     }
 
     /// The number of entries.
@@ -47,6 +67,28 @@ impl<V> NameMap<V> {
     {
         self.map.get(key)
     }
+
+    /// The entries, in the order of their names.
+    pub fn iter(&self) -> Iter<'_, Id, V>
+        ensures entries { result ≡ self.now }
+        ensures ordered { IsStrictlySortedBy (slice_cmp nat_cmp) (keys_of self.now) }
+    {
+        self.map.iter()
+    }
+
+    /// The names, in order.
+    pub fn keys(&self) -> Keys<'_, Id, V>
+        ensures { result ≡ keys_of self.now }
+    {
+        self.map.keys()
+    }
+
+    /// The values, in the order of their names.
+    pub fn values(&self) -> Values<'_, Id, V>
+        ensures { result ≡ values_of self.now }
+    {
+        self.map.values()
+    }
 }
 
 impl<V: Drop> NameMap<V> {
@@ -58,5 +100,56 @@ impl<V: Drop> NameMap<V> {
     {
         self.map.insert(key, value)?;
         Ok(())
+    }
+}
+
+impl<V: Duplicate + Drop> Duplicate for NameMap<V> {
+    ghost is_copy = { IsCopyBy V.is_copy };
+
+    fn copy(&self) -> Result<NameMap<V>, OutOfMemory> {
+        let mut copies = NameMap::new(self.allocator());
+        for (key, value) in self.map.iter() {
+            copies.insert(key.copy()?, value.copy()?)?;
+        }
+        Ok(copies)
+    }
+}
+
+impl<'a, V> IntoIterator for &'a NameMap<V> {
+    type Item = (&'a Id, &'a V);
+
+    type IntoIter = Iter<'a, Id, V>;
+
+    ghost into_iter_gives = { λ m r. (r ≡ m.now) × IsStrictlySortedBy (slice_cmp nat_cmp) (keys_of m.now) };
+
+    fn into_iter(self) -> Iter<'a, Id, V> {
+        self.map.iter()
+    }
+}
+
+impl<V: PartialEq> PartialEq for NameMap<V> {
+    ghost eq = { pointwise (λ p q. pointwise ◌==◌ p.0 q.0 && V.eq p.1 q.1) };
+
+    ghost laws = { lists_per (and_per (on_per (λ p. p.0) (partial_equiv_from_equiv nat_list_eq_equiv)) (on_per (λ p. p.1) V.laws)) };
+
+    fn eq(&self, other: &NameMap<V>) -> bool {
+        self.map == other.map
+    }
+}
+
+impl<V: Eq> Eq for NameMap<V> {
+    ghost laws = { lists_equiv (and_equiv (on_equiv (λ p. p.0) nat_list_eq_equiv) (on_equiv (λ p. p.1) V.Eq.laws)) };
+}
+
+impl<V: Eq> Hash for NameMap<V> {
+    ghost hash_input = { fed.slice (λ p. fed.str p.0) };
+
+    ghost respects_eq = { (items_Alike (first_alike (λ p q. V.eq p.1 q.1) (on_Alike (λ p. p.0) {F = fed.str} (record { fed = Prim.search (hashing, rules) })))).fed };
+
+    fn hash<H: Hasher>(&self, state: &mut H) {
+        self.map.len().hash(state);
+        for (key, _) in self.map.iter() {
+            key.hash(state);
+        }
     }
 }
