@@ -12,7 +12,7 @@ use Rattle.std.specs.Map.{keys_of}
 use Rattle.std.specs.BTreeMap.{insert_entry}
 use Rattle.std.proofs.lemmas.List.{map-append}
 use Rattle.std.proofs.lemmas.Map.Keys.{sorted_head, sorted_tail}
-use Rattle.witx_base.specs.Found.{IsCopyBy}
+use Rattle.witx_base.specs.Copies.{IsCopyOfEntries}
 
 holds-at : {K : Type 0} (P : K → Type 0) (xs : List K) (k : K) (rest : List K) → AllByRecursion P (xs ++ k ∷ rest) → P k
 holds-at P [] k rest h = h.0
@@ -31,7 +31,7 @@ insert-last {R = R} o (e ∷ es) k v rest h =
 -- the entries `all` of a map, of which `left` are still to be copied, and the copies so far
 pub record IsCopiedSoFar {V : Type 0} (is_copy : V → V → Type 0) (all left copies : List (List ℕ × V)) : Type 0 where
   pub in_order : keys_of copies ++ keys_of left ≡ keys_of all
-  pub copied : (more : List (List ℕ × V)) → IsCopyBy is_copy left more → IsCopyBy is_copy all (copies ++ more)
+  pub copied : (more : List (List ℕ × V)) → IsCopyOfEntries is_copy left more → IsCopyOfEntries is_copy all (copies ++ more)
 
 pub copied-entry : {V : Type 0} (is_copy : V → V → Type 0) (all left rest copies now : List (List ℕ × V)) (k name : List ℕ) (v made : V)
     → IsStrictlySortedBy (slice_cmp nat_cmp) (keys_of all) → IsCopiedSoFar is_copy all left copies → left ≡ (k, v) ∷ rest
@@ -44,13 +44,13 @@ copied-entry {V} is_copy all left rest copies now k name v made sorted so_far ne
     let put : now ≡ copies ++ (k, made) ∷ [] = inserted ∙ ap (λ n. insert_entry (slice_cmp nat_cmp) copies n made) same ∙ last in
     let whole : IsCopiedSoFar is_copy all rest (copies ++ (k, made) ∷ []) = record {
       in_order = ap (λ ks. ks ++ keys_of rest) (map-append (λ (e : List ℕ × V). e.0) copies ((k, made) ∷ [])) ∙ append_assoc (keys_of copies) (k ∷ []) (keys_of rest) ∙ order;
-      copied = λ more h. subst (IsCopyBy is_copy all) (sym (append_assoc copies ((k, made) ∷ []) more))
-          (so_far.copied ((k, made) ∷ more) (subst (λ es. IsCopyBy is_copy es ((k, made) ∷ more)) (sym next) ((refl, copy), h)));
+      copied = λ more h. subst (IsCopyOfEntries is_copy all) (sym (append_assoc copies ((k, made) ∷ []) more))
+          (so_far.copied ((k, made) ∷ more) (subst (λ es. IsCopyOfEntries is_copy es ((k, made) ∷ more)) (sym next) ((refl, copy), h)));
     } in
     subst (IsCopiedSoFar is_copy all rest) (sym put) whole
 
 -- at the end every entry has its copy
 pub copied-all : {V : Type 0} (is_copy : V → V → Type 0) (all left copies : List (List ℕ × V))
-    → IsCopiedSoFar is_copy all left copies → left ≡ [] → IsCopyBy is_copy all copies
+    → IsCopiedSoFar is_copy all left copies → left ≡ [] → IsCopyOfEntries is_copy all copies
 copied-all is_copy all left copies so_far end =
-    subst (IsCopyBy is_copy all) (append-nil copies) (so_far.copied [] (subst (λ es. IsCopyBy is_copy es []) (sym end) tt))
+    subst (IsCopyOfEntries is_copy all) (append-nil copies) (so_far.copied [] (subst (λ es. IsCopyOfEntries is_copy es []) (sym end) tt))

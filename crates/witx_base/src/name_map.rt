@@ -9,7 +9,8 @@ ghost use Rattle.std.specs.List.Sorted.{IsStrictlySortedBy};
 ghost use Rattle.std.specs.Map.{keys_of, values_of};
 ghost use Rattle.std.specs.BTreeMap.{insert_entry};
 ghost use Rattle.std.proofs.Common.{rules};
-ghost use Rattle.witx_base.specs.Found.{found, IsCopyBy};
+ghost use Rattle.witx_base.specs.Copies.{IsCopyOfEntries};
+ghost use Rattle.witx_base.specs.Found.{found};
 
 use crate::duplicate::Duplicate;
 use crate::memory::OutOfMemory;
@@ -61,6 +62,13 @@ impl<V> NameMap<V> {
         self.map.len()
     }
 
+    /// Whether there is no entry.
+    pub fn is_empty(&self) -> bool
+        ensures { result ≡ (length self.now == 0) }
+    {
+        self.map.is_empty()
+    }
+
     /// The value at a name; none where the map lacks it.
     pub fn get(&self, key: &Id) -> Option<&V>
         ensures { option_map (λ v. v.now) result ≡ found self.now key.now }
@@ -104,7 +112,7 @@ impl<V: Drop> NameMap<V> {
 }
 
 impl<V: Duplicate + Drop> Duplicate for NameMap<V> {
-    ghost is_copy = { IsCopyBy V.is_copy };
+    ghost is_copy = { IsCopyOfEntries V.is_copy };
 
     fn copy(&self) -> Result<NameMap<V>, OutOfMemory> {
         let mut copies = NameMap::new(self.allocator());

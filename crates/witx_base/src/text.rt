@@ -53,6 +53,13 @@ impl Text {
         self.string.as_str()
     }
 
+    /// Whether there is no byte.
+    pub fn is_empty(&self) -> bool
+        ensures { result ≡ (length self.now == 0) }
+    {
+        self.string.is_empty()
+    }
+
     /// The number of bytes.
     pub fn len(&self) -> usize
         ensures { result ≡ length self.now }

@@ -3,7 +3,7 @@ use Rattle.std.specs.Ordering.{nat_cmp}
 use Rattle.std.specs.Cmp.Lexicographic.{slice_cmp}
 use Rattle.std.specs.List.Sorted.{IsStrictlySortedBy}
 use Rattle.std.specs.Map.{keys_of}
-use Rattle.witx_base.specs.Found.{IsCopyBy}
+use Rattle.witx_base.specs.Copies.{IsCopyOfEntries}
 use Rattle.witx_base.proofs.EntriesInOrder.{copied-all, copied-entry}
 use Rattle.witx_base.proofs.name_map.NameMapDuplicate.copy.Goals as goal
 
@@ -17,5 +17,5 @@ loop-key-preserved g c =
 pub returns : goal.returns
 returns g c =
     let start : c.into_iter-key-iterator.result ≡ c.self.inside.map.entries = c.into_iter-key-iterator.ensures.into_iter_gives ∙ c.iter-key-items.ensures.rest in
-    subst (λ es. IsCopyBy g.V.Duplicate.is_copy es c.loop-key.copies) (start ∙ c.self.view_is)
+    subst (λ es. IsCopyOfEntries g.V.Duplicate.is_copy es c.loop-key.copies) (start ∙ c.self.view_is)
     (copied-all g.V.Duplicate.is_copy _ _ _ c.loop-key.invariant c.in-None.ensures.steps.0)
