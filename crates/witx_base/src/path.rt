@@ -1,5 +1,5 @@
 ghost use Rattle.std.specs.Prelude.{◌≡◌, ◌==◌, ◌<◌, ◌++◌, ◌∷◌, [], length, map, IfOk, option_copied, IfSome, MatchOption, Some, None, IsTrue, string_bytes};
-ghost use Rattle.witx_base.specs.Paths.{behind_slashes, components_of, file_name, has_parent, is_absolute, is_here, is_kept, is_name, is_root, join, kept, last_component, all_but_last, parent, path_of, path_text, without_here};
+ghost use Rattle.witx_base.specs.Paths.{behind_slashes, components_of, file_name, has_parent, is_absolute, is_current_dir, is_kept, is_name, is_root, join, kept, last_component, all_but_last, parent, path_of, path_text, without_current_dir};
 ghost use Rattle.std.specs.List.{slice_split};
 ghost use Rattle.std.specs.Prelude.{refl};
 ghost use Rattle.std.specs.Ordering.{nat_cmp};
@@ -148,7 +148,10 @@ impl WitxPath {
             return other.copy();
         }
         let mut components = copied(alloc, self.components.as_slice())?;
-        append(&mut components, without_here(other.components.as_slice()))?;
+        append(
+            &mut components,
+            without_current_dir(other.components.as_slice()),
+        )?;
         of_components(alloc, components)
     }
 }
@@ -196,8 +199,8 @@ fn is_name(component: &str) -> bool
     !(component == "/" || (component == "." || component == ".."))
 }
 
-fn without_here(components: &[Text]) -> &[Text]
-    ensures { result.now ≡ without_here components.now }
+fn without_current_dir(components: &[Text]) -> &[Text]
+    ensures { result.now ≡ without_current_dir components.now }
 {
     if !components.is_empty() && components[0].as_str() == "." {
         &components[1..]
