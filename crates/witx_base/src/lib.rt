@@ -11,6 +11,8 @@ mod memory;
 mod name;
 mod name_map;
 mod path;
+#[cfg(test)]
+mod tests;
 mod text;
 
 pub use calls::CallCounter;
