@@ -1,4 +1,4 @@
-ghost use Rattle.std.specs.Prelude.{◌≡◌, ◌<◌, ◌≤◌, ℕ, List, Option, length, take, IfOk, OnOk, OnErr};
+ghost use Rattle.std.specs.Prelude.{◌≡◌, ◌<◌, ◌≤◌, ◌+◌, ℕ, List, Option, length, take, IfOk, OnOk, OnErr};
 ghost use Rattle.std.specs.Io.KnownBytes.{Appends, Consumes, IsAtEnd, Keeps};
 ghost use Rattle.witx_base.specs.Causes.{Rose};
 
@@ -12,6 +12,10 @@ pub trait Source {
     /// How often the source has failed.
     ghost faults: { Self → ℕ };
 
+    /// How often the source was asked: a call raises it by one at most, so that a bound on it is a
+    /// bound on the calls.
+    ghost reads: { Self → ℕ };
+
     /// Moves the first of the bytes left to the front of `buf`, and answers how many; 0 is the end of
     /// the input. What stands behind them in `buf`, and in all of it after `Failed`, is left open.
     fn read(&mut self, buf: &mut [u8]) -> Result<usize, Failed>
@@ -22,6 +26,7 @@ pub trait Source {
         ensures no_fault { OnOk result (faults self.new ≡ faults self.old) }
         ensures failed { OnErr result (Rose (faults self.old) (faults self.new)) }
         ensures nothing_moved { OnErr result (Keeps (left self.old) (left self.new)) }
+        ensures one_read { reads self.new ≤ reads self.old + 1 }
         ensures later { faults self.old ≤ faults self.new };
 }
 

@@ -59,6 +59,8 @@ impl Source for MemSource {
 
     ghost faults = { λ s. s.calls.faults };
 
+    ghost reads = { λ s. s.calls.next };
+
     fn read(&mut self, buf: &mut [u8]) -> Result<usize, Failed>
         requires { 0 < length buf.old }
         ensures fails { is_err result ≡ fails_next self.old.calls }
