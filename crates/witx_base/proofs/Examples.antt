@@ -1,13 +1,13 @@
 -- Worked examples of the definitions, each by computing.
-use Rattle.std.specs.Prelude.{◌≡◌, ℕ, List, [], ◌∷◌, Option, Some, None, Bool, true, false, refl, codes, map}
+use Rattle.std.specs.Prelude.{◌≡◌, ℕ, List, [], ◌∷◌, Some, None, true, false, refl, codes}
 use Rattle.std.specs.Ordering.{nat_cmp}
 use Rattle.std.specs.Cmp.Lexicographic.{slice_cmp}
 use Rattle.std.specs.BTreeMap.{insert_entry}
-use Rattle.witx_base.specs.Calls.{CallCount, counted, fails_next, no_calls}
+use Rattle.witx_base.specs.Calls.{counted, fails_next, no_calls}
 use Rattle.witx_base.specs.Causes.{one_more}
 use Rattle.witx_base.specs.Found.{found}
-use Rattle.witx_base.specs.MemDevices.{SourceState, SinkState, after_read, after_write, fails_write, given, accepted}
-use Rattle.witx_base.specs.Paths.{file_name, is_absolute, join, parent, path_of, path_text}
+use Rattle.witx_base.specs.MemDevices.{SourceState, SinkState, after_read, after_write, fails_write, given}
+use Rattle.witx_base.specs.Paths.{file_name, join, parent, path_of, path_text}
 
 -- ---- paths: components
 

@@ -56,26 +56,37 @@ fn lists(rt: HostRuntime) -> Result<(), Fail> {
 #[test]
 fn paths(rt: HostRuntime) -> Result<(), Fail> {
     let alloc = rt.alloc();
-    for (text, written, parent, name) in [
-        ("/", "/", None, None),
-        ("", "", None, None),
-        (".", ".", Some(""), None),
-        ("a/..", "a/..", Some("a"), None),
-        ("a/.", "a", Some(""), Some("a")),
-        ("./a", "./a", Some("."), Some("a")),
-        ("a//b/", "a/b", Some("a"), Some("b")),
-        ("/d/../x", "/d/../x", Some("/d/.."), Some("x")),
-        ("/a", "/a", Some("/"), Some("a")),
+    for (text, written, name) in [
+        ("/", "/", None),
+        ("", "", None),
+        (".", ".", None),
+        ("a/..", "a/..", None),
+        ("a/.", "a", Some("a")),
+        ("./a", "./a", Some("a")),
+        ("a//b/", "a/b", Some("b")),
+        ("/d/../x", "/d/../x", Some("x")),
     ] {
         let path = WitxPath::new(alloc, text)?;
-        assert_eq!(rt; path.as_str(), written, "{text}");
-        assert_eq!(rt; path.file_name(), name, "{text}");
-        assert!(rt; path.copy()? == path, "{text}");
-        assert_eq!(rt; path.is_absolute(), text.starts_with('/'), "{text}");
-        match (path.parent()?, parent) {
-            (Some(found), Some(wanted)) => assert_eq!(rt; found.as_str(), wanted, "{text}"),
-            (found, wanted) => assert!(rt; found.is_none() && wanted.is_none(), "{text}"),
-        }
+        assert_eq!(rt; path.as_str(), written);
+        assert_eq!(rt; path.file_name(), name);
+        assert!(rt; path.copy()? == path);
+    }
+    Ok(())
+}
+
+#[test]
+fn parents(rt: HostRuntime) -> Result<(), Fail> {
+    let alloc = rt.alloc();
+    for (text, wanted) in [
+        ("/", None),
+        ("", None),
+        ("a", Some("")),
+        ("/a", Some("/")),
+        ("a/..", Some("a")),
+        ("/d/../x", Some("/d/..")),
+    ] {
+        let parent = WitxPath::new(alloc, text)?.parent()?;
+        assert_eq!(rt; parent.as_ref().map(WitxPath::as_str), wanted);
     }
     Ok(())
 }
@@ -123,17 +134,16 @@ fn a_source_call_by_call(rt: HostRuntime) -> Result<(), Fail> {
     let alloc = rt.alloc();
     let bytes = Bytes::from_vec([1, 2, 3, 4, 5].to_vec(alloc)?);
     let mut source = MemSource::new(bytes, 2, numbers(alloc, &[3, 1])?);
-    let calls: [(usize, Result<usize, Failed>, [u8; 3]); 6] = [
-        (3, Ok(2), [1, 2, 0]),
-        (3, Err(Failed), [0, 0, 0]),
-        (1, Ok(1), [3, 0, 0]),
-        (3, Err(Failed), [0, 0, 0]),
-        (3, Ok(2), [4, 5, 0]),
-        (3, Ok(0), [0, 0, 0]),
-    ];
-    for (room, answer, moved) in calls {
+    for (answer, moved) in [
+        (Ok(2), [1, 2, 0]),
+        (Err(Failed), [0, 0, 0]),
+        (Ok(2), [3, 4, 0]),
+        (Err(Failed), [0, 0, 0]),
+        (Ok(1), [5, 0, 0]),
+        (Ok(0), [0, 0, 0]),
+    ] {
         let mut buffer = [0; 3];
-        assert_eq!(rt; source.read(&mut buffer[..room]), answer);
+        assert_eq!(rt; source.read(&mut buffer), answer);
         assert_eq!(rt; buffer, moved);
     }
     assert_eq!(rt; source.faults(), 2);
@@ -143,18 +153,17 @@ fn a_source_call_by_call(rt: HostRuntime) -> Result<(), Fail> {
 #[test]
 fn a_sink_call_by_call(rt: HostRuntime) -> Result<(), Fail> {
     let alloc = rt.alloc();
-    let mut sink = MemSink::new(alloc, 4, 2, numbers(alloc, &[1])?)?;
-    let pieces: [(&[u8], Result<usize, Failed>); 5] = [
-        (&[1, 2, 3], Ok(2)),
-        (&[3], Err(Failed)),
-        (&[3], Ok(1)),
-        (&[4, 5], Ok(1)),
-        (&[5], Err(Failed)),
-    ];
-    for (piece, answer) in pieces {
-        assert_eq!(rt; sink.write(piece), answer);
+    let mut sink = MemSink::new(alloc, 5, 2, numbers(alloc, &[1])?)?;
+    for (piece, answer) in [
+        ([1, 2, 3], Ok(2)),
+        ([3, 4, 5], Err(Failed)),
+        ([3, 4, 5], Ok(2)),
+        ([5, 6, 7], Ok(1)),
+        ([6, 7, 8], Err(Failed)),
+    ] {
+        assert_eq!(rt; sink.write(&piece), answer);
     }
-    assert_eq!(rt; sink.bytes(), [1, 2, 3, 4].as_slice());
+    assert_eq!(rt; sink.bytes(), [1, 2, 3, 4, 5].as_slice());
     assert_eq!(rt; sink.faults(), 2);
     Ok(())
 }
