@@ -132,9 +132,6 @@ joins-empty = refl
 
 -- ---- maps: a new name goes to its place, and a name that is there takes the new value
 
-Names : Type 0
-Names = List (List ℕ × ℕ)
-
 two : List (List ℕ × ℕ)
 two = insert_entry (slice_cmp nat_cmp) (insert_entry (slice_cmp nat_cmp) [] (codes "b") 1) (codes "a") 2
 
