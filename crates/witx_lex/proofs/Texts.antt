@@ -65,3 +65,14 @@ IsCharBoundary-wide_run p bs ascii =
           let whole : length bs ≡ prefix_len p bs = omega (arith, prefix_len-le-length p bs) in
           subst (IsCharBoundary bs) whole (IsCharBoundary-end bs)
     ]
+
+-- a run is found again in front of what does not begin with a byte that passes
+pub prefix_run : (p : ℕ → Bool) (r rest : List ℕ) → list_all p r ≡ true → begins p rest ≡ false → prefix_len p (r ++ rest) ≡ length r
+prefix_run p [] [] all stop = refl
+prefix_run p [] (c ∷ rest) all stop = rw stop refl
+prefix_run p (c ∷ r) rest all stop =
+    let parts = and_parts (p c) (list_all p r) all in
+    rw parts.0 (omega (arith, prefix_run p r rest parts.1 stop))
+
+pub take_run : (p : ℕ → Bool) (r rest : List ℕ) → list_all p r ≡ true → begins p rest ≡ false → take (prefix_len p (r ++ rest)) (r ++ rest) ≡ r
+take_run p r rest all stop = rw (prefix_run p r rest all stop) (take_at r rest (length r) refl)

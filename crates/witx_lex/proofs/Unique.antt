@@ -9,101 +9,9 @@ use Rattle.std.specs.Option.{option_map}
 use Rattle.std.specs.Char.{is_digit}
 use Rattle.witx_lex.specs.Characters.{is_blank, is_name, is_raw, is_line_byte, begins, are_digits, digits_follow, is_scalar, scalar_value}
 use Rattle.witx_lex.specs.Pieces.{Part, raw, letter, two_digits, scalar, Piece, blank, line, block, opening, closing, run, quoted, spelling, part_spelling, part_value, is_part, block_len, IsPiece, IsEnded, open_after, Stands, Stand}
+use Rattle.witx_lex.proofs.Texts.{take_run}
+use Rattle.witx_lex.proofs.Parts.{parts_stop, no_part_at_quote}
 use Rattle.witx_lex.proofs.Found.{block_ends}
-
--- a run is found again in front of what doesn't begin with a byte that passes
-prefix_run : (p : ℕ → Bool) (r rest : List ℕ) → list_all p r ≡ true → begins p rest ≡ false → prefix_len p (r ++ rest) ≡ length r
-prefix_run p [] [] all stop = refl
-prefix_run p [] (c ∷ rest) all stop = rw stop refl
-prefix_run p (c ∷ r) rest all stop =
-    let parts = and_parts (p c) (list_all p r) all in
-    rw parts.0 (omega (arith, prefix_run p r rest parts.1 stop))
-
-take_run : (p : ℕ → Bool) (r rest : List ℕ) → list_all p r ≡ true → begins p rest ≡ false → take (prefix_len p (r ++ rest)) (r ++ rest) ≡ r
-take_run p r rest all stop = rw (prefix_run p r rest all stop) (take_at r rest (length r) refl)
-
--- ---- parts of a string
-
-abbrev is_letter : ℕ → Bool
-is_letter c = is_part (letter c)
-
-abbrev is_hex : ℕ → Bool
-is_hex b = is_digit b 16 || b == 95
-
-abbrev escape_at : List ℕ → Option Part
-escape_at bs =
-    cond (is_letter (slice_index bs 0)) (Some (letter (slice_index bs 0)))
-    (cond (is_digit (slice_index bs 0) 16) (Some (two_digits (slice_index bs 0) (slice_index bs 1)))
-    (Some (scalar (take (prefix_len is_hex (drop 2 bs)) (drop 2 bs)))))
-
-abbrev part_at : List ℕ → Option Part
-part_at [] = None
-part_at (b ∷ bs) = cond (is_raw b) (Some (raw b)) (cond (b == 92) (escape_at bs) None)
-
-hex_no_letter : (h : ℕ) → is_digit h 16 ≡ true → is_letter h ≡ false
-hex_no_letter h e = grind (arith, nat_tests)
-
-or_parts : (a b c : Bool) (r s : Bool) → ((a && r) || ((b && c) && s)) ≡ true → ((a ≡ true) × (r ≡ true)) ⊎ ((b ≡ true) × (s ≡ true))
-or_parts true b c true s e = inl (refl, refl)
-or_parts true true true false true e = inr (refl, refl)
-or_parts true true true false false e = absurd cc
-or_parts true true false false s e = absurd cc
-or_parts true false c false s e = absurd cc
-or_parts false true true r true e = inr (refl, refl)
-or_parts false true true r false e = absurd cc
-or_parts false true false r s e = absurd cc
-or_parts false false c r s e = absurd cc
-
-or_left : (a b : Bool) → a ≡ true → (a || b) ≡ true
-or_left a b e = rw e refl
-
-or_right : (a b : Bool) → b ≡ true → (a || b) ≡ true
-or_right true b e = refl
-or_right false b e = e
-
-hex_all : (after : Bool) (ds : List ℕ) → digits_follow 16 after ds ≡ true → list_all is_hex ds ≡ true
-hex_all after [] e = refl
-hex_all after (b ∷ bs) e =
-    elim (or_parts (is_digit b 16) (b == 95) after (digits_follow 16 true bs) (digits_follow 16 false bs) e) [
-      | inl h ↦ rw (or_left (is_digit b 16) (b == 95) h.0) (hex_all true bs h.1)
-      | inr h ↦ rw (or_right (is_digit b 16) (b == 95) h.0) (hex_all false bs h.1)
-    ]
-
-part_complete : (p : Part) (more : List ℕ) → IsTrue (is_part p) → part_at (part_spelling p ++ more) ≡ Some p
-part_complete (raw b) more h = rw h refl
-part_complete (letter c) more h = rw h refl
-part_complete (two_digits h l) more e =
-    let parts = and_parts (is_digit h 16) (is_digit l 16) e in
-    rw (hex_no_letter h parts.0, parts.0) refl
-part_complete (scalar ds) more e =
-    let parts = and_parts (are_digits 16 ds) (is_scalar (scalar_value ds)) e in
-    let split : (ds ++ 125 ∷ []) ++ more ≡ ds ++ 125 ∷ more = append_assoc ds (125 ∷ []) more in
-    ap (λ (t : List ℕ). Some (scalar (take (prefix_len is_hex t) t))) split ∙ ap (λ (t : List ℕ). Some (scalar t)) (take_run is_hex ds (125 ∷ more) (hex_all false ds parts.0) refl)
-
-part_is : (p q : Part) → Some p ≡ Some q → p ≡ q
-part_is p q e = cc
-
-no_part : (p : Part) → None ≡ Some p → ⊥
-no_part p e = cc
-
-pub parts_unique : (ps qs : List Part) (more rest : List ℕ) → list_all is_part ps ≡ true → list_all is_part qs ≡ true
-    → flat_map part_spelling ps ++ 34 ∷ more ≡ flat_map part_spelling qs ++ 34 ∷ rest → ps ≡ qs
-parts_unique [] [] more rest hp hq e = refl
-parts_unique [] (q ∷ qs) more rest hp hq e =
-    let parts = and_parts (is_part q) (list_all is_part qs) hq in
-    absurd (no_part q (ap part_at (e ∙ append_assoc (part_spelling q) (flat_map part_spelling qs) (34 ∷ rest)) ∙ part_complete q (flat_map part_spelling qs ++ 34 ∷ rest) parts.0))
-parts_unique (p ∷ ps) [] more rest hp hq e =
-    let parts = and_parts (is_part p) (list_all is_part ps) hp in
-    absurd (no_part p (ap part_at (sym e ∙ append_assoc (part_spelling p) (flat_map part_spelling ps) (34 ∷ more)) ∙ part_complete p (flat_map part_spelling ps ++ 34 ∷ more) parts.0))
-parts_unique (p ∷ ps) (q ∷ qs) more rest hp hq e =
-    let a = and_parts (is_part p) (list_all is_part ps) hp in
-    let b = and_parts (is_part q) (list_all is_part qs) hq in
-    let whole : part_spelling p ++ (flat_map part_spelling ps ++ 34 ∷ more) ≡ part_spelling q ++ (flat_map part_spelling qs ++ 34 ∷ rest) =
-        sym (append_assoc (part_spelling p) (flat_map part_spelling ps) (34 ∷ more)) ∙ e ∙ append_assoc (part_spelling q) (flat_map part_spelling qs) (34 ∷ rest) in
-    let same : p ≡ q = part_is p q (sym (part_complete p (flat_map part_spelling ps ++ 34 ∷ more) a.0) ∙ ap part_at whole ∙ part_complete q (flat_map part_spelling qs ++ 34 ∷ rest) b.0) in
-    let others : flat_map part_spelling ps ++ 34 ∷ more ≡ flat_map part_spelling qs ++ 34 ∷ rest =
-        append_cancel_left (part_spelling p) _ _ (whole ∙ ap (λ (x : Part). part_spelling x ++ (flat_map part_spelling qs ++ 34 ∷ rest)) (sym same)) in
-    ap (λ (x : Part). x ∷ ps) same ∙ ap (λ (xs : List Part). q ∷ xs) (parts_unique ps qs more rest a.1 b.1 others)
 
 -- ---- pieces
 
@@ -168,9 +76,9 @@ no_piece p e = cc
 
 quoted_unique : (ps qs : List Part) (text rest more : List ℕ) → IsPiece (quoted ps) → IsPiece (quoted qs) → text ≡ spelling (quoted ps) ++ rest → text ≡ spelling (quoted qs) ++ more → quoted ps ≡ quoted qs
 quoted_unique ps qs text rest more hp hq e f =
-    let one : text ≡ 34 ∷ (flat_map part_spelling ps ++ 34 ∷ rest) = e ∙ ap (λ (t : List ℕ). 34 ∷ t) (append_assoc (flat_map part_spelling ps) (34 ∷ []) rest) in
-    let two : text ≡ 34 ∷ (flat_map part_spelling qs ++ 34 ∷ more) = f ∙ ap (λ (t : List ℕ). 34 ∷ t) (append_assoc (flat_map part_spelling qs) (34 ∷ []) more) in
-    ap (λ (xs : List Part). quoted xs) (parts_unique ps qs rest more hp.0 hq.0 (ap (drop 1) (sym one ∙ two)))
+    let one : drop 1 text ≡ flat_map part_spelling ps ++ 34 ∷ rest = ap (drop 1) e ∙ append_assoc (flat_map part_spelling ps) (34 ∷ []) rest in
+    let two : drop 1 text ≡ flat_map part_spelling qs ++ 34 ∷ more = ap (drop 1) f ∙ append_assoc (flat_map part_spelling qs) (34 ∷ []) more in
+    ap (λ (xs : List Part). quoted xs) (parts_stop ps qs (drop 1 text) (34 ∷ rest) (34 ∷ more) (hp.0, one) (hq.0, two) (no_part_at_quote rest) (no_part_at_quote more)).0
 
 pub piece_unique : (n m : ℕ) (p q : Piece) (text rest more : List ℕ) → Stands n p text rest → Stands m q text more → p ≡ q
 piece_unique n m p q text rest more a b =

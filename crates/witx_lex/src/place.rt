@@ -12,7 +12,7 @@ pub fn line_column(text: &str, at: usize) -> (usize, usize)
     let before = &bytes[..at.min(bytes.len())];
     let mut line: usize = 1;
     let mut column: usize = 1;
-    for byte in before {
+    'bytes: for byte in before {
         if *byte == b'\n' {
             line += 1;
             column = 1;
