@@ -93,7 +93,7 @@ piece_unique n m p q text rest more a b =
         ]
     ]
 
-some_spelling : (p : Piece) (rest : List ℕ) → IsPiece p → [] ≡ spelling p ++ rest → ⊥
+pub some_spelling : (p : Piece) (rest : List ℕ) → IsPiece p → [] ≡ spelling p ++ rest → ⊥
 some_spelling (blank b) rest h e = cc
 some_spelling (line t) rest h e = cc
 some_spelling (block t) rest h e = cc
