@@ -6,6 +6,7 @@ mod characters;
 mod comment;
 mod error;
 mod escape;
+mod laws;
 mod lexer;
 mod piece;
 mod place;
@@ -14,6 +15,10 @@ mod string;
 mod token;
 
 pub use error::{LexError, LexFault, LexKind};
+pub use laws::{
+    a_fault_is_unique, no_piece_at_a_fault, pieces_are_unique, pieces_exclude_a_fault, tokens_are_slices,
+    tokens_are_unique,
+};
 pub use lexer::lex;
 pub use place::line_column;
 pub use token::{Comments, Lexed, Span, Token, Tokens};
