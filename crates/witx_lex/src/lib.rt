@@ -12,6 +12,8 @@ mod piece;
 mod place;
 mod run;
 mod string;
+#[cfg(test)]
+mod tests;
 mod token;
 
 pub use error::{LexError, LexFault, LexKind};
