@@ -1,6 +1,6 @@
 //! What holds of every text, whatever reads it. Each law is the contract of a function that does
 //! nothing: call it to have the law.
-ghost use Rattle.std.specs.Prelude.{◌≡◌, ℕ, List, All};
+ghost use Rattle.std.specs.Prelude.{◌≡◌, ◌⊎◌, ℕ, List, All};
 ghost use Rattle.witx_lex.specs.declared.error.LexKind.{LexKind};
 ghost use Rattle.witx_lex.specs.Faults.{IsFault, IsFaultAt};
 ghost use Rattle.witx_lex.specs.Meaning.{HasTokens};
@@ -38,6 +38,13 @@ pub fn pieces_exclude_a_fault()
 pub fn a_fault_is_unique()
     ensures { (text : List ℕ) (kind other : LexKind) (at place : ℕ)
         → IsFault text kind at → IsFault text other place → (kind ≡ other) × (at ≡ place) }
+{
+}
+
+/// A text has pieces or a fault.
+pub fn a_text_has_pieces_or_a_fault()
+    ensures { (text : List ℕ)
+        → ((ps : List Piece) × ArePieces ps text) ⊎ ((kind : LexKind) × (at : ℕ) × IsFault text kind at) }
 {
 }
 
