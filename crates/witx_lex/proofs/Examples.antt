@@ -1,11 +1,11 @@
 -- The definitions on small texts, computed.
-use Rattle.std.proofs.Common.{◌≡◌, ℕ, ◌+◌, Bool, true, false, not, ◌||◌, ◌&&◌, ◌==◌, List, [], ◌∷◌, ◌++◌, length, Option, Some, None, refl, zero, suc}
+use Rattle.std.proofs.Common.{◌≡◌, ℕ, Bool, true, false, not, ◌||◌, ◌&&◌, ◌==◌, List, [], ◌∷◌, Some, None, refl, zero, suc}
 use Rattle.std.specs.Prelude.{nat_le, codes, if◌then◌else◌}
 use Rattle.std.specs.List.{list_all, flat_map, list_any}
 use Rattle.std.specs.Char.{encode_utf8}
-use Rattle.witx_lex.specs.Characters.{is_blank, is_name, letter_value, is_scalar, are_digits, scalar_value}
-use Rattle.witx_lex.specs.Pieces.{Part, raw, letter, two_digits, scalar, is_part, part_value, Piece, blank, line, block, opening, closing, run, quoted, spelling, block_len}
-use Rattle.witx_lex.specs.Tokens.{Token, left, right, id, word, annot, int, quoted as quoted_token, Lexed}
+use Rattle.witx_lex.specs.Characters.{is_blank, is_name, is_scalar, scalar_value}
+use Rattle.witx_lex.specs.Pieces.{raw, letter, two_digits, scalar, is_part, part_value, Piece, blank, line, block, opening, closing, run, spelling, block_len}
+use Rattle.witx_lex.specs.Tokens.{left, right, id, word, annot, int}
 use Rattle.witx_lex.specs.Meaning.{run_token, tokens_of}
 use Rattle.witx_lex.specs.Places.{line_at, column_at}
 

@@ -1,5 +1,5 @@
 -- A fault excludes pieces: where one is told no piece can stand, and a text has at most one.
-use Rattle.std.proofs.Common.{◌≡◌, ◌≢◌, ℕ, zero, suc, ◌+◌, ◌<◌, ◌≤◌, Bool, true, false, not, cond, ◌&&◌, ◌||◌, ◌==◌, List, [], ◌∷◌, ◌++◌, length, drop, Option, Some, None, IsUtf8, refl, sym, ap, ◌∙◌, subst, inl, inr, arith, append_assoc, eqb-true}
+use Rattle.std.proofs.Common.{◌≡◌, ◌≢◌, ℕ, ◌+◌, ◌≤◌, Bool, true, false, not, ◌||◌, ◌==◌, List, [], ◌∷◌, ◌++◌, length, drop, Some, None, IsUtf8, refl, sym, ap, ◌∙◌, subst, arith, append_assoc, eqb-true}
 use Rattle.std.proofs.lemmas.Bool.{and_parts}
 use Rattle.std.proofs.lemmas.Bool.Decides.{nat_tests}
 use Rattle.std.proofs.lemmas.List.{append_cancel_left, length-append, take_at}
@@ -8,8 +8,8 @@ use Rattle.std.specs.Prelude.{IsTrue, if◌then◌else◌}
 use Rattle.witx_lex.specs.declared.error.LexKind.{LexKind}
 use Rattle.witx_lex.specs.declared.error.LexKind.TheVariants.{UnexpectedCharacter, UnterminatedComment, UnterminatedString, BadEscape, BadCharacter, NotUtf8, EmptyId, TooDeep}
 use Rattle.witx_lex.specs.Characters.{is_blank, is_name, is_raw, is_control, begins}
-use Rattle.witx_lex.specs.Pieces.{Part, is_part, part_spelling, part_value, Piece, blank, line, block, opening, closing, run, quoted, spelling, block_len, IsPiece, open_after, open_after_all, Stands, Stand}
-use Rattle.witx_lex.specs.Faults.{Parts, NoPart, behind, IsFaultAt, IsFault}
+use Rattle.witx_lex.specs.Pieces.{Part, part_spelling, part_value, Piece, blank, line, block, opening, closing, run, quoted, spelling, block_len, open_after, open_after_all, Stands, Stand}
+use Rattle.witx_lex.specs.Faults.{Parts, NoPart, behind, IsFaultAt}
 use Rattle.witx_lex.proofs.Parts.{parts_stop, no_part_at_end, no_part_at_quote, no_part_before}
 use Rattle.witx_lex.proofs.Found.{block_ends}
 use Rattle.witx_lex.proofs.Unique.{piece_unique, some_spelling}
@@ -47,7 +47,9 @@ stopped_at_control : (bs : List ℕ) (k : ℕ) (ps : List Part) (c : ℕ) (rest 
 stopped_at_control bs k ps c rest read control place =
     let h = control_other c control in
     record {
-      parts = ps; rest = c ∷ rest; read = read;
+      parts = ps;
+      rest = c ∷ rest;
+      read = read;
       none = no_part_before c rest h.2 (differs c 92 h.0);
       kind_is = rw (h.0, h.1) refl;
       place_is = place ∙ rw h.1 refl;
@@ -238,9 +240,10 @@ plain_fault n b k bs NotUtf8 q f = absurd (differs b 34 q f.1)
 
 one_stop : (bs : List ℕ) (kind other : LexKind) (k j : ℕ) → Stopped bs kind k → Stopped bs other j → (kind ≡ other) × (k ≡ j)
 one_stop bs kind other k j s t =
-    let same = parts_stop s.parts t.parts bs s.rest t.rest s.read t.read s.none t.none in
-    (s.kind_is ∙ ap end_kind same.1 ∙ sym t.kind_is,
-     s.place_is ∙ ap (λ (r : List ℕ). end_place r s.parts) same.1 ∙ ap (end_place t.rest) same.0 ∙ sym t.place_is)
+    let same = parts_stop s.parts t.parts bs s.rest t.rest s.read t.read s.none t.none in (
+      s.kind_is ∙ ap end_kind same.1 ∙ sym t.kind_is,
+      s.place_is ∙ ap (λ (r : List ℕ). end_place r s.parts) same.1 ∙ ap (end_place t.rest) same.0 ∙ sym t.place_is,
+    )
 
 one_fault_case : (t : Bool) (n b k j : ℕ) (bs : List ℕ) (kind other : LexKind) → (b == 34) ≡ t → IsFaultAt n (b ∷ bs) kind k → IsFaultAt n (b ∷ bs) other j → (kind ≡ other) × (k ≡ j)
 one_fault_case true n b k j bs kind other e f g = one_stop bs kind other k j (string_fault n b k bs kind (eqb-true b 34 e) f) (string_fault n b j bs other (eqb-true b 34 e) g)
@@ -285,5 +288,5 @@ one_place [] (q ∷ qs) n text rest more kind other k j a b f g = absurd (no_pie
 one_place (p ∷ ps) (q ∷ qs) n text rest more kind other k j a b f g =
     let same = same_next n p q text a.0 b.0 a.1 b.1 in
     let h = one_place ps qs (open_after n q) b.0 rest more kind other k j (moved n p q ps a.0 b.0 rest same.0 same.1 a.2) b.2
-        (subst (λ (x : Piece). IsFaultAt (open_after_all (open_after n x) ps) rest kind k) same.0 f) g in
+    (subst (λ (x : Piece). IsFaultAt (open_after_all (open_after n x) ps) rest kind k) same.0 f) g in
     (h.0, omega (arith, h.1, length-append (spelling p) (flat_map spelling ps), length-append (spelling q) (flat_map spelling qs), ap (λ (x : Piece). length (spelling x)) same.0))

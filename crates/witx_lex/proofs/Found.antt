@@ -1,18 +1,17 @@
 -- Which piece stands at the front of a text, by its first bytes.
-use Rattle.std.proofs.Common.{◌≡◌, ◌≢◌, ℕ, zero, suc, ◌+◌, ◌-◌, ◌<◌, ◌≤◌, Bool, true, false, not, cond, ◌&&◌, ◌||◌, ◌==◌, List, [], ◌∷◌, ◌++◌, length, get_or, take, drop, Option, Some, None, refl, sym, ap, ◌∙◌, subst, inl, inr, arith, add-one, add-zero, append_assoc, eqb-true}
+use Rattle.std.proofs.Common.{◌≡◌, ◌≢◌, ℕ, zero, suc, ◌+◌, ◌-◌, ◌<◌, ◌≤◌, Bool, true, false, cond, ◌&&◌, ◌==◌, List, [], ◌∷◌, ◌++◌, length, get_or, take, drop, Option, Some, None, refl, sym, ap, ◌∙◌, subst, inl, inr, arith, append_assoc, eqb-true}
 use Rattle.std.proofs.lemmas.Bool.{cases_lt, and_parts}
 use Rattle.std.proofs.lemmas.Bool.Decides.{nat_tests}
-use Rattle.std.proofs.lemmas.Grind.{common_steps}
-use Rattle.std.proofs.lemmas.List.{drop_more, get_or_past, drop-drop, drop_all, take-append-drop, length-take-le, length-take, length-append, get_or_at, length-drop}
-use Rattle.std.proofs.lemmas.List.Sums.{prefix_len-le-length, prefix_len_passes, prefix_len_stops}
-use Rattle.std.specs.List.{prefix_len, list_all}
+use Rattle.std.proofs.lemmas.List.{drop_more, drop-drop, drop_all, take-append-drop, length-take-le, length-take, length-append, get_or_at, length-drop}
+use Rattle.std.proofs.lemmas.List.Sums.{prefix_len-le-length, prefix_len_stops}
+use Rattle.std.specs.List.{prefix_len}
 use Rattle.std.proofs.lemmas.Slice.{between_from_start}
 use Rattle.std.specs.Str.{IsCharBoundary}
 use Rattle.std.proofs.lemmas.Str.{IsCharBoundary-before_ascii}
 use Rattle.std.specs.Prelude.{IsTrue, ◌⊎◌, slice_range}
 use Rattle.std.specs.Option.{option_map}
 use Rattle.witx_lex.specs.Characters.{is_blank, is_name, is_line_byte, begins}
-use Rattle.witx_lex.specs.Pieces.{Piece, blank, line, block, opening, closing, run, spelling, block_len, IsPiece, IsEnded, open_after, Stands}
+use Rattle.witx_lex.specs.Pieces.{blank, line, block, opening, closing, run, spelling, block_len, Stands}
 use Rattle.std.specs.Prelude.{nat_lt}
 use Rattle.witx_lex.specs.Tokens.{id, word, annot, int}
 use Rattle.witx_lex.specs.Meaning.{run_token, is_int}
@@ -59,9 +58,10 @@ found_line n text inside bytes t len first second le inside-is bytes-is len-is t
     let k = prefix_len is_line_byte (drop 2 text) in
     let bytes-are : bytes ≡ drop 2 text = bytes-is ∙ inside-is in
     let len-k : len ≡ k = len-is ∙ ap (prefix_len is_line_byte) bytes-are in
-    let t-take : t ≡ take k (drop 2 text) = t-is ∙ between_from_start inside len ∙ ap (take len) inside-is ∙ ap (λ (j : ℕ). take j (drop 2 text)) len-k in
-    (rw (len-k, t-take) (stands_line n text first second le),
-     rw (len-k, t-take) (omega (arith, length-take-le k (drop 2 text) (prefix_len-le-length is_line_byte (drop 2 text)))))
+    let t-take : t ≡ take k (drop 2 text) = t-is ∙ between_from_start inside len ∙ ap (take len) inside-is ∙ ap (λ (j : ℕ). take j (drop 2 text)) len-k in (
+      rw (len-k, t-take) (stands_line n text first second le),
+      rw (len-k, t-take) (omega (arith, length-take-le k (drop 2 text) (prefix_len-le-length is_line_byte (drop 2 text)))),
+    )
 
 -- ---- where a block comment ends
 
@@ -134,13 +134,15 @@ found_run n text bytes name len first le bytes-is len-is name-is more =
     let len-k : len ≡ k = len-is ∙ ap (prefix_len is_name) bytes-is in
     let name-take : name ≡ take k text = name-is ∙ between_from_start text len ∙ ap (λ (j : ℕ). take j text) len-k in
     let long : length (take k text) ≡ k = length-take-le k text (prefix_len-le-length is_name text) in
-    let some : 0 < k = run_some text first in
-    (record {
-      piece = (λ e. let z : length name ≡ 0 = ap (λ (t : List ℕ). length t) e in let q : length name ≡ k = ap (λ (t : List ℕ). length t) name-take ∙ long in omega arith, rw name-take (all_of_run is_name text), more);
-      spelled = rw (len-k, name-take) (sym (take-append-drop k text));
-      ended = rw len-k (run_stops is_name text);
-      depth = le;
-    }, len-k ∙ sym (ap (λ (t : List ℕ). length t) name-take ∙ long))
+    let some : 0 < k = run_some text first in (
+      record {
+        piece = (λ e. let z : length name ≡ 0 = ap (λ (t : List ℕ). length t) e in let q : length name ≡ k = ap (λ (t : List ℕ). length t) name-take ∙ long in omega arith, rw name-take (all_of_run is_name text), more);
+        spelled = rw (len-k, name-take) (sym (take-append-drop k text));
+        ended = rw len-k (run_stops is_name text);
+        depth = le;
+      },
+      len-k ∙ sym (ap (λ (t : List ℕ). length t) name-take ∙ long),
+    )
 
 -- ---- which token a run is
 
@@ -249,13 +251,15 @@ found_block n text inside bytes t len first second le inside-is bytes-is len-is 
     let long : len ≤ length i = omega (arith, length-take len i, length-drop (len + 2) i) in
     let t-len : length t ≡ len = ap (λ (u : List ℕ). length u) t-take ∙ length-take-le len i long in
     let rest : drop (len + 4) text ≡ drop (len + 2) i = ap (λ (j : ℕ). drop j text) (omega arith) ∙ sym (drop-drop (len + 2) 2 text) in
-    let two = front_two text 40 59 (omega arith) (omega arith) first second in
-    (record {
-      piece = ap (λ (u : List ℕ). block_len 0 (u ++ 59 ∷ 41 ∷ [])) t-take ∙ ends.again [] ∙ ap (λ (j : ℕ). Some j) (sym t-len);
-      spelled = two ∙ ap (λ (u : List ℕ). 40 ∷ 59 ∷ u) (ends.split ∙ ap (λ (u : List ℕ). u ++ 59 ∷ 41 ∷ drop (len + 2) i) (sym t-take) ∙ sym (append_assoc t (59 ∷ 41 ∷ []) (drop (len + 2) i)) ∙ ap (λ (u : List ℕ). (t ++ 59 ∷ 41 ∷ []) ++ u) (sym rest));
-      ended = tt;
-      depth = le;
-    }, omega (arith, t-len, length-append t (59 ∷ 41 ∷ [])))
+    let two = front_two text 40 59 (omega arith) (omega arith) first second in (
+      record {
+        piece = ap (λ (u : List ℕ). block_len 0 (u ++ 59 ∷ 41 ∷ [])) t-take ∙ ends.again [] ∙ ap (λ (j : ℕ). Some j) (sym t-len);
+        spelled = two ∙ ap (λ (u : List ℕ). 40 ∷ 59 ∷ u) (ends.split ∙ ap (λ (u : List ℕ). u ++ 59 ∷ 41 ∷ drop (len + 2) i) (sym t-take) ∙ sym (append_assoc t (59 ∷ 41 ∷ []) (drop (len + 2) i)) ∙ ap (λ (u : List ℕ). (t ++ 59 ∷ 41 ∷ []) ++ u) (sym rest));
+        ended = tt;
+        depth = le;
+      },
+      omega (arith, t-len, length-append t (59 ∷ 41 ∷ [])),
+    )
 
 pub block_boundary : (t : List ℕ) (k : ℕ) → Some k ≡ block_len 0 t → IsCharBoundary t k
 block_boundary t k e =

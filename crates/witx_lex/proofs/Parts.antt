@@ -1,16 +1,15 @@
 -- At most one part of a string stands at the front of a text, and a reader finds it.
-use Rattle.std.proofs.Common.{◌≡◌, ◌≢◌, ℕ, zero, suc, ◌+◌, ◌-◌, ◌<◌, ◌≤◌, Bool, true, false, not, cond, ◌&&◌, ◌||◌, ◌==◌, List, [], ◌∷◌, ◌++◌, length, get_or, take, drop, Option, Some, None, refl, sym, ap, ◌∙◌, subst, inl, inr, arith, append_assoc}
+use Rattle.std.proofs.Common.{◌≡◌, ◌≢◌, ℕ, ◌+◌, ◌<◌, Bool, true, false, cond, ◌&&◌, ◌||◌, ◌==◌, List, [], ◌∷◌, ◌++◌, length, get_or, take, drop, Option, Some, None, refl, sym, ap, ◌∙◌, inl, inr, arith, append_assoc}
 use Rattle.std.proofs.lemmas.Bool.{and_parts}
 use Rattle.std.proofs.lemmas.Bool.Decides.{nat_tests}
-use Rattle.std.proofs.lemmas.List.{append_cancel_left, length-append, length-take-le, drop_more, drop-drop, drop_at, take-append-drop, get_or_at}
-use Rattle.std.proofs.lemmas.List.Sums.{prefix_len-le-length}
+use Rattle.std.proofs.lemmas.List.{append_cancel_left, length-append, length-take-le, drop_more, drop-drop, take-append-drop, get_or_at}
 use Rattle.std.specs.List.{prefix_len, list_all, flat_map}
 use Rattle.std.specs.Prelude.{IsTrue, ◌⊎◌, slice_index, is_some, unwrap_or, if◌then◌else◌}
 use Rattle.std.specs.Char.{is_digit}
 use Rattle.std.specs.Str.Parse.{digits_value}
 use Rattle.witx_lex.specs.declared.escape.Escaped.TheVariants.{Byte, Scalar}
 use Rattle.witx_lex.specs.Characters.{is_raw, letter_value, is_digit_or_underscore, are_digits, digits_follow, is_scalar, scalar_value}
-use Rattle.witx_lex.specs.Pieces.{Part, raw, letter, two_digits, scalar, part_spelling, part_value, is_part}
+use Rattle.witx_lex.specs.Pieces.{Part, raw, letter, two_digits, scalar, part_spelling, is_part}
 use Rattle.witx_lex.specs.Faults.{NoPart, Parts}
 use Rattle.witx_lex.specs.Escapes.{IsEscape}
 use Rattle.witx_lex.proofs.Texts.{front_two, within_from_byte, prefix_run, take_run}
@@ -113,7 +112,7 @@ parts_stop (p ∷ ps) (q ∷ qs) text rest more a b stop end =
     let right : text ≡ part_spelling q ++ (flat_map part_spelling qs ++ more) = b.1 ∙ append_assoc (part_spelling q) (flat_map part_spelling qs) more in
     let same : p ≡ q = part_unique p q text _ _ one.0 two.0 left right in
     let others : flat_map part_spelling ps ++ rest ≡ flat_map part_spelling qs ++ more =
-        append_cancel_left (part_spelling p) _ _ (sym left ∙ right ∙ ap (λ (x : Part). part_spelling x ++ (flat_map part_spelling qs ++ more)) (sym same)) in
+    append_cancel_left (part_spelling p) _ _ (sym left ∙ right ∙ ap (λ (x : Part). part_spelling x ++ (flat_map part_spelling qs ++ more)) (sym same)) in
     let tail = parts_stop ps qs (flat_map part_spelling ps ++ rest) rest more (one.1, refl) (two.1, others) stop end in
     (ap (λ (x : Part). x ∷ ps) same ∙ ap (λ (xs : List Part). q ∷ xs) tail.0, tail.1)
 
@@ -122,12 +121,12 @@ parts_stop (p ∷ ps) (q ∷ qs) text rest more a b stop end =
 pub escape_letter : (bytes : List ℕ) (v : ℕ) → Some v ≡ letter_value (slice_index bytes 0) → IsEscape bytes (record { value = Byte v; len = 1 })
 escape_letter [] v e = absurd cc
 escape_letter (b ∷ bs) v e = record {
-    part = letter b;
-    valid = ap is_some (sym e);
-    spelled = refl;
-    len = refl;
-    value = ap (λ (o : Option ℕ). unwrap_or o 0 ∷ []) e;
-  }
+  part = letter b;
+  valid = ap is_some (sym e);
+  spelled = refl;
+  len = refl;
+  value = ap (λ (o : Option ℕ). unwrap_or o 0 ∷ []) e;
+}
 
 chosen : (t : Bool) (v w : ℕ) → Some v ≡ (if t then Some w else None) → (t ≡ true) × (v ≡ w)
 chosen true v w e = (refl, cc)
@@ -154,8 +153,8 @@ escape_scalar bytes inside digits len c u brace inside-is len-is digits-is last 
     let past : drop (len + 1) inside ≡ drop (len + 3) bytes = ap (drop (len + 1)) inside-is ∙ drop-drop (len + 1) 2 bytes ∙ ap (λ (j : ℕ). drop j bytes) (omega arith) in
     let rest : drop len inside ≡ 125 ∷ drop (len + 3) bytes = drop_more inside len 0 within ∙ ap (λ (b : ℕ). b ∷ drop (len + 1) inside) last ∙ ap (λ (t : List ℕ). 125 ∷ t) past in
     let whole : drop 2 bytes ≡ (digits ++ 125 ∷ []) ++ drop (len + 3) bytes =
-        sym inside-is ∙ sym (take-append-drop len inside) ∙ ap (λ (t : List ℕ). t ++ drop len inside) (sym digits-is) ∙ ap (λ (t : List ℕ). digits ++ t) rest
-        ∙ sym (append_assoc digits (125 ∷ []) (drop (len + 3) bytes)) in
+    sym inside-is ∙ sym (take-append-drop len inside) ∙ ap (λ (t : List ℕ). t ++ drop len inside) (sym digits-is) ∙ ap (λ (t : List ℕ). digits ++ t) rest
+    ∙ sym (append_assoc digits (125 ∷ []) (drop (len + 3) bytes)) in
     let long : length digits ≡ len = ap (λ (t : List ℕ). length t) digits-is ∙ length-take-le len inside (omega arith) in
     record {
       part = scalar digits;
@@ -186,5 +185,5 @@ no_scalar bytes inside digits len u inside-is len-is digits-is none (scalar ds) 
     let long : len ≡ length ds = len-is ∙ ap (prefix_len is_digit_or_underscore) tail ∙ prefix_run is_digit_or_underscore ds (125 ∷ rest) all refl in
     let front : digits ≡ ds = digits-is ∙ ap (λ (j : ℕ). take j inside) len-is ∙ ap (λ (t : List ℕ). take (prefix_len is_digit_or_underscore t) t) tail ∙ take_run is_digit_or_underscore ds (125 ∷ rest) all refl in
     none (ap (λ (t : List ℕ). get_or t len 0) tail ∙ get_or_at ds 125 rest 0 len (sym long))
-         (ap (are_digits 16) front ∙ parts.0)
-         (ap (λ (t : List ℕ). is_scalar (scalar_value t)) front ∙ parts.1)
+    (ap (are_digits 16) front ∙ parts.0)
+    (ap (λ (t : List ℕ). is_scalar (scalar_value t)) front ∙ parts.1)

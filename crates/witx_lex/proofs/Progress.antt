@@ -1,8 +1,8 @@
 -- What was read of a text so far.
-use Rattle.std.proofs.Common.{◌≡◌, ◌≢◌, ℕ, zero, suc, ◌+◌, ◌-◌, ◌<◌, ◌≤◌, Bool, true, false, not, cond, ◌&&◌, ◌||◌, ◌==◌, List, [], ◌∷◌, ◌++◌, length, get_or, take, drop, Option, Some, None, IsUtf8, refl, sym, ap, ◌∙◌, subst, inl, inr, arith, add-one, add-zero, zero-add, add_assoc, append_assoc, eqb-true}
-use Rattle.std.proofs.lemmas.Bool.{cases_lt, and_parts}
+use Rattle.std.proofs.Common.{◌≡◌, ◌≢◌, ℕ, suc, ◌+◌, ◌<◌, ◌≤◌, Bool, true, false, cond, ◌&&◌, ◌==◌, List, [], ◌∷◌, ◌++◌, length, get_or, drop, IsUtf8, refl, sym, ap, ◌∙◌, subst, inl, inr, arith, append_assoc, eqb-true}
+use Rattle.std.proofs.lemmas.Bool.{and_parts}
 use Rattle.std.proofs.lemmas.Bool.Decides.{nat_tests}
-use Rattle.std.proofs.lemmas.List.{append-nil, length-append, length-drop, drop_at, drop-drop, drop_all, get_or_at, get_or_append_left, nil_from_length}
+use Rattle.std.proofs.lemmas.List.{append-nil, length-append, drop-drop, drop_all, get_or_at, get_or_append_left}
 use Rattle.std.proofs.lemmas.Str.{IsUtf8-drop, IsCharBoundary-start, IsCharBoundary-end, IsCharBoundary-before_ascii, IsCharBoundary-after_ascii, IsCharBoundary-from_rest}
 use Rattle.std.specs.List.{list_all, flat_map}
 use Rattle.std.specs.Prelude.{IsTrue, ◌⊎◌, slice_index, nat_lt}
@@ -12,7 +12,7 @@ use Rattle.witx_lex.specs.Tokens.{Token, id, word, annot, int, Lexed}
 use Rattle.witx_lex.specs.Characters.{begins, is_name, dollar}
 use Rattle.witx_lex.specs.Pieces.{Piece, blank, line, block, opening, closing, run, quoted, spelling, part_spelling, open_after, open_after_all, Stands, Stand, ArePieces}
 use Rattle.witx_lex.specs.Faults.{IsFaultAt, IsFault}
-use Rattle.witx_lex.specs.Meaning.{Seen, nothing, comment, token, seen, with_seen, tokens_from, tokens_of, run_token, is_int, depth_after}
+use Rattle.witx_lex.specs.Meaning.{nothing, comment, token, seen, tokens_from, tokens_of, run_token, is_int, depth_after}
 
 pub record Sofar (text : List ℕ) (at depth : ℕ) (comments : List (List ℕ)) (tokens : List Lexed) : Type 0 where
   pub boundary : IsCharBoundary text at

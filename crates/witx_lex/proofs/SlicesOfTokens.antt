@@ -1,12 +1,12 @@
 -- Each token of a text is the slice of the text at its span.
-use Rattle.std.proofs.Common.{◌≡◌, ℕ, ◌+◌, ◌-◌, ◌<◌, ◌≤◌, Bool, true, false, cond, ◌&&◌, ◌==◌, List, [], ◌∷◌, ◌++◌, length, get_or, take, drop, refl, sym, ap, ◌∙◌, subst, arith, eqb-true}
+use Rattle.std.proofs.Common.{◌≡◌, ℕ, ◌+◌, ◌-◌, ◌≤◌, Bool, true, false, cond, ◌&&◌, ◌==◌, List, [], ◌∷◌, ◌++◌, length, take, drop, refl, sym, ap, ◌∙◌, subst, arith, eqb-true}
 use Rattle.std.proofs.lemmas.Bool.{and_parts}
 use Rattle.std.proofs.lemmas.List.{length-append, length-drop, drop-drop, drop_at, take_at}
 use Rattle.std.proofs.lemmas.List.Elements.{All-cons}
 use Rattle.std.specs.List.{flat_map}
 use Rattle.std.specs.Prelude.{All, slice_range, slice_index, nat_lt}
 use Rattle.witx_lex.specs.Characters.{dollar, at_sign}
-use Rattle.witx_lex.specs.Pieces.{Piece, blank, line, block, opening, closing, run, quoted, spelling, part_value, IsPiece, open_after, Stands, Stand}
+use Rattle.witx_lex.specs.Pieces.{Piece, blank, line, block, opening, closing, run, quoted, spelling, part_value, IsPiece, open_after, Stand}
 use Rattle.witx_lex.specs.Tokens.{Token, left, right, id, word, annot, int, quoted as quoted_token, Lexed}
 use Rattle.witx_lex.specs.Meaning.{Seen, nothing, comment, token, seen, with_seen, tokens_from, run_token, is_int}
 use Rattle.witx_lex.specs.Slices.{Spells, StandsAt}
@@ -84,4 +84,4 @@ tokens_stand (p ∷ ps) n at text comments le h =
     seen_stands (seen p) text at end comments (λ cs. tokens_from end cs ps) (omega arith) inside
     (λ t e. subst (λ (s : List ℕ). Spells s t) (sym (slice_is text (spelling p) h.0 at end spelled refl)) (piece_spells p t h.1.piece e))
     (λ cs. tokens_stand ps (open_after n p) end text cs inside
-        (subst (λ (t : List ℕ). Stand (open_after n p) ps t []) (sym (rest_is text (spelling p) h.0 at end spelled refl)) h.2))
+    (subst (λ (t : List ℕ). Stand (open_after n p) ps t []) (sym (rest_is text (spelling p) h.0 at end spelled refl)) h.2))

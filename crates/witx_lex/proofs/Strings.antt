@@ -1,8 +1,7 @@
 -- Strings, part by part.
-use Rattle.std.proofs.Common.{◌≡◌, ◌≢◌, ℕ, zero, suc, ◌+◌, ◌-◌, ◌<◌, ◌≤◌, Bool, true, false, not, cond, ◌&&◌, ◌||◌, ◌==◌, List, [], ◌∷◌, ◌++◌, length, get_or, take, drop, Option, Some, None, IsUtf8, refl, sym, ap, ◌∙◌, subst, inl, inr, arith, add-one, append_assoc, eqb-true}
+use Rattle.std.proofs.Common.{◌≡◌, ℕ, ◌+◌, ◌<◌, ◌≤◌, List, [], ◌∷◌, ◌++◌, length, get_or, drop, IsUtf8, refl, sym, ap, ◌∙◌, subst, arith, append_assoc}
 use Rattle.std.proofs.lemmas.Bool.{and_parts}
-use Rattle.std.proofs.lemmas.Bool.Decides.{nat_tests}
-use Rattle.std.proofs.lemmas.List.{append-nil, length-append, length-drop, drop_at, drop-drop, drop_more}
+use Rattle.std.proofs.lemmas.List.{append-nil, length-append, drop_at, drop-drop, drop_more}
 use Rattle.std.specs.List.{list_all, flat_map}
 use Rattle.std.specs.Prelude.{IsTrue}
 use Rattle.witx_lex.specs.Characters.{is_raw}
@@ -27,11 +26,12 @@ pub String_more : (text : List ℕ) (at new_at : ℕ) (out new_out rest : List �
     → drop at text ≡ part_spelling p ++ rest → new_at ≡ at + length (part_spelling p) → new_out ≡ out ++ part_value p → StringSofar text new_at new_out
 String_more text at new_at out new_out rest p s valid spelled at-is out-is =
     let next : drop new_at text ≡ rest = ap (λ (j : ℕ). drop j text) at-is ∙ sym (drop-drop (length (part_spelling p)) at text) ∙ ap (drop (length (part_spelling p))) spelled ∙ drop_at (part_spelling p) rest _ refl in
-    let ps = s.0 in
-    (ps ++ p ∷ [],
-     (all_more ps p s.1.0 valid, s.1.1 ∙ ap (λ (t : List ℕ). flat_map part_spelling ps ++ t) (spelled ∙ ap (λ (t : List ℕ). part_spelling p ++ t) (sym next)) ∙ sym (append_assoc (flat_map part_spelling ps) (part_spelling p) (drop new_at text)) ∙ ap (λ (t : List ℕ). t ++ drop new_at text) (sym (map_more part_spelling ps p))),
-     out-is ∙ ap (λ (t : List ℕ). t ++ part_value p) s.2 ∙ sym (map_more part_value ps p),
-     at-is ∙ omega (arith, s.3, ap (λ (t : List ℕ). length t) (map_more part_spelling ps p), length-append (flat_map part_spelling ps) (part_spelling p)))
+    let ps = s.0 in (
+      ps ++ p ∷ [],
+      (all_more ps p s.1.0 valid, s.1.1 ∙ ap (λ (t : List ℕ). flat_map part_spelling ps ++ t) (spelled ∙ ap (λ (t : List ℕ). part_spelling p ++ t) (sym next)) ∙ sym (append_assoc (flat_map part_spelling ps) (part_spelling p) (drop new_at text)) ∙ ap (λ (t : List ℕ). t ++ drop new_at text) (sym (map_more part_spelling ps p))),
+      out-is ∙ ap (λ (t : List ℕ). t ++ part_value p) s.2 ∙ sym (map_more part_value ps p),
+      at-is ∙ omega (arith, s.3, ap (λ (t : List ℕ). length t) (map_more part_spelling ps p), length-append (flat_map part_spelling ps) (part_spelling p)),
+    )
 
 pub String_raw : (text : List ℕ) (at b : ℕ) (out new_out : List ℕ) → at < length text → b ≡ get_or text at 0 → IsTrue (is_raw b) → StringSofar text at out → new_out ≡ out ++ b ∷ [] → StringSofar text (at + 1) new_out
 String_raw text at b out new_out lt b-is h s e =
@@ -41,13 +41,17 @@ pub String_end : (n : ℕ) (text out : List ℕ) (at : ℕ) → get_or text 0 0 
     → (ps : List Part) × Stands n (quoted ps) text (drop (at + 1) text) × (at + 1 ≡ length (spelling (quoted ps))) × (out ≡ flat_map part_value ps)
 String_end n text out at first le lt last s utf8 =
     let ps = s.0 in
-    let whole : text ≡ 34 ∷ drop 1 text = front text 34 (omega arith) first in
-    (ps, record {
-      piece = (s.1.0, subst IsUtf8 s.2 utf8);
-      spelled = whole ∙ ap (λ (t : List ℕ). 34 ∷ t) (s.1.1 ∙ ap (λ (t : List ℕ). flat_map part_spelling ps ++ t) (drop_more text at 0 lt ∙ ap (λ (b : ℕ). b ∷ drop (at + 1) text) last) ∙ sym (append_assoc (flat_map part_spelling ps) (34 ∷ []) (drop (at + 1) text)));
-      ended = tt;
-      depth = le;
-    }, omega (arith, s.3, length-append (flat_map part_spelling ps) (34 ∷ [])), s.2)
+    let whole : text ≡ 34 ∷ drop 1 text = front text 34 (omega arith) first in (
+      ps,
+      record {
+        piece = (s.1.0, subst IsUtf8 s.2 utf8);
+        spelled = whole ∙ ap (λ (t : List ℕ). 34 ∷ t) (s.1.1 ∙ ap (λ (t : List ℕ). flat_map part_spelling ps ++ t) (drop_more text at 0 lt ∙ ap (λ (b : ℕ). b ∷ drop (at + 1) text) last) ∙ sym (append_assoc (flat_map part_spelling ps) (34 ∷ []) (drop (at + 1) text)));
+        ended = tt;
+        depth = le;
+      },
+      omega (arith, s.3, length-append (flat_map part_spelling ps) (34 ∷ [])),
+      s.2,
+    )
 
 pub String_not_utf8 : (n : ℕ) (text out : List ℕ) (at : ℕ) → get_or text 0 0 ≡ 34 → at < length text → get_or text at 0 ≡ 34 → StringSofar text at out → (IsUtf8 out → ⊥) → IsFaultAt n text NotUtf8 0
 String_not_utf8 n [] out at first lt last s not_text = absurd (omega arith)

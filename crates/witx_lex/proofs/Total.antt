@@ -1,16 +1,15 @@
 -- Every text has pieces or a fault.
-use Rattle.std.proofs.Common.{◌≡◌, ◌≢◌, ℕ, zero, suc, ◌+◌, ◌-◌, ◌<◌, ◌≤◌, Bool, true, false, not, cond, ◌&&◌, ◌||◌, ◌==◌, List, [], ◌∷◌, ◌++◌, length, get_or, take, drop, Option, Some, None, IsUtf8, refl, sym, ap, ◌∙◌, subst, inl, inr, arith, append_assoc, eqb-true}
+use Rattle.std.proofs.Common.{◌≡◌, ◌≢◌, ℕ, zero, suc, ◌≤◌, Bool, true, false, not, ◌&&◌, ◌||◌, ◌==◌, List, [], ◌∷◌, ◌++◌, length, get_or, take, drop, Option, Some, None, refl, sym, ap, ◌∙◌, subst, inl, inr, arith, append_assoc, eqb-true}
 use Rattle.std.proofs.lemmas.Bool.{cases_lt, and_parts}
 use Rattle.std.proofs.lemmas.Bool.Decides.{nat_tests}
 use Rattle.std.proofs.lemmas.List.{length-append, length-take-le}
 use Rattle.std.proofs.lemmas.List.Sums.{prefix_len-le-length}
 use Rattle.std.proofs.lemmas.Slice.{between_from_start}
 use Rattle.std.proofs.lemmas.Str.{IsUtf8-from_is_utf8, is_utf8-from_IsUtf8}
-use Rattle.std.specs.List.{prefix_len, list_all, flat_map}
+use Rattle.std.specs.List.{prefix_len, flat_map}
 use Rattle.std.specs.Prelude.{IsTrue, ◌⊎◌, slice_index, slice_range, is_some, unwrap_or, if◌then◌else◌}
 use Rattle.std.specs.Char.{is_digit}
 use Rattle.std.specs.Str.{is_utf8}
-use Rattle.std.specs.Str.Parse.{digits_value}
 use Rattle.witx_lex.specs.declared.error.LexKind.{LexKind}
 use Rattle.witx_lex.specs.declared.error.LexKind.TheVariants.{UnexpectedCharacter, UnterminatedComment, UnterminatedString, BadEscape, BadCharacter, NotUtf8, EmptyId, TooDeep}
 use Rattle.witx_lex.specs.declared.escape.Escape.{Escape}
@@ -85,7 +84,7 @@ scalar_case false bytes u brace e =
     let len = prefix_len is_digit_or_underscore inside in
     let digits = take len inside in
     inr (no_scalar bytes inside digits len u refl refl refl
-        (λ last all valid. three_false (get_or inside len 0 == 125) (are_digits 16 digits) (is_scalar (scalar_value digits)) e (true_eq _ 125 last) all valid))
+    (λ last all valid. three_false (get_or inside len 0 == 125) (are_digits 16 digits) (is_scalar (scalar_value digits)) e (true_eq _ 125 last) all valid))
 
 escape_case : (l b d : Bool) (bytes : List ℕ) → is_some (letter_value (slice_index bytes 0)) ≡ l → (slice_index bytes 0 == 117 && slice_index bytes 1 == 123) ≡ b
     → (is_digit (slice_index bytes 0) 16 && is_digit (slice_index bytes 1) 16) ≡ d → PartAt (92 ∷ bytes) ⊎ NoPart (92 ∷ bytes)
@@ -166,15 +165,15 @@ control_or_raw c q b k = grind (arith, nat_tests)
 string_end : (u : Bool) (n : ℕ) (bs : List ℕ) (ps : List Part) (rest : List ℕ) → n ≤ 100 → Parts ps bs (34 ∷ rest) → is_utf8 (flat_map part_value ps) ≡ u
     → PieceAt n (34 ∷ bs) ⊎ FaultAt n (34 ∷ bs)
 string_end true n bs ps rest le read u-is = inl (record {
-    piece = quoted ps;
-    rest = rest;
-    stands = record {
-      piece = (read.0, IsUtf8-from_is_utf8 (flat_map part_value ps) u-is);
-      spelled = ap (λ (t : List ℕ). 34 ∷ t) (read.1 ∙ sym (append_assoc (flat_map part_spelling ps) (34 ∷ []) rest));
-      ended = tt;
-      depth = le;
-    };
-  })
+  piece = quoted ps;
+  rest = rest;
+  stands = record {
+    piece = (read.0, IsUtf8-from_is_utf8 (flat_map part_value ps) u-is);
+    spelled = ap (λ (t : List ℕ). 34 ∷ t) (read.1 ∙ sym (append_assoc (flat_map part_spelling ps) (34 ∷ []) rest));
+    ended = tt;
+    depth = le;
+  };
+})
 string_end false n bs ps rest le read u-is =
     inr (record { kind = NotUtf8; place = 0; is = (refl, refl, ps, rest, read, λ u. absurd (let q : true ≡ false = sym (is_utf8-from_IsUtf8 (flat_map part_value ps) u) ∙ u-is in cc)) })
 
@@ -184,8 +183,11 @@ string_case true b k n bs ps c rest le read none q-is b-is k-is =
     string_end _ n bs ps rest le (subst (λ (x : ℕ). Parts ps bs (x ∷ rest)) (eqb-true c 34 q-is) read) refl
 string_case false true k n bs ps c rest le read none q-is b-is k-is =
     let same = eqb-true c 92 b-is in
-    inr (record { kind = BadEscape; place = behind ps;
-      is = (refl, ps, rest, subst (λ (x : ℕ). Parts ps bs (x ∷ rest)) same read, subst (λ (x : ℕ). NoPart (x ∷ rest)) same none, refl) })
+    inr (record {
+      kind = BadEscape;
+      place = behind ps;
+      is = (refl, ps, rest, subst (λ (x : ℕ). Parts ps bs (x ∷ rest)) same read, subst (λ (x : ℕ). NoPart (x ∷ rest)) same none, refl);
+    })
 string_case false false true n bs ps c rest le read none q-is b-is k-is =
     inr (record { kind = BadCharacter; place = behind ps; is = (refl, ps, c, rest, read, k-is, refl) })
 string_case false false false n bs ps c rest le read none q-is b-is k-is = absurd (none (raw c) rest (control_or_raw c q-is b-is k-is) refl)
@@ -226,9 +228,10 @@ paren_case false n bs le s-is =
 lone : (b : ℕ) (bs : List ℕ) → take (prefix_len is_name (b ∷ bs)) (b ∷ bs) ≡ 36 ∷ [] → (b ≡ 36) × (begins is_name bs ≡ false)
 lone b bs e =
     let one : prefix_len is_name (b ∷ bs) ≡ 1 =
-        sym (length-take-le (prefix_len is_name (b ∷ bs)) (b ∷ bs) (prefix_len-le-length is_name (b ∷ bs))) ∙ ap (λ (t : List ℕ). length t) e in
-    (ap (λ (t : List ℕ). get_or t 0 0) (sym (ap (λ (k : ℕ). take k (b ∷ bs)) one) ∙ e),
-     sym (ap (λ (k : ℕ). begins is_name (drop k (b ∷ bs))) one) ∙ run_stops is_name (b ∷ bs))
+    sym (length-take-le (prefix_len is_name (b ∷ bs)) (b ∷ bs) (prefix_len-le-length is_name (b ∷ bs))) ∙ ap (λ (t : List ℕ). length t) e in (
+      ap (λ (t : List ℕ). get_or t 0 0) (sym (ap (λ (k : ℕ). take k (b ∷ bs)) one) ∙ e),
+      sym (ap (λ (k : ℕ). begins is_name (drop k (b ∷ bs))) one) ∙ run_stops is_name (b ∷ bs),
+    )
 
 not_true : (x : Bool) → not x ≡ true → x ≡ false
 not_true true e = absurd cc
@@ -243,8 +246,12 @@ run_case true n b bs le name e-is =
     let h = and_parts (b == 36) (not (begins is_name bs)) e-is in
     inr (record { kind = EmptyId; place = 0; is = (refl, eqb-true b 36 h.0, not_true (begins is_name bs) h.1) })
 run_case false n b bs le name e-is =
-    inl (record { piece = _; rest = _; stands = (found_run n (b ∷ bs) (b ∷ bs) (slice_range (b ∷ bs) 0 (prefix_len is_name (b ∷ bs))) (prefix_len is_name (b ∷ bs)) name le refl refl refl
-        (λ e. let h = lone b bs (sym (between_from_start (b ∷ bs) (prefix_len is_name (b ∷ bs))) ∙ e) in not_lone b (begins is_name bs) e-is h.0 h.1)).0 })
+    inl (record {
+      piece = _;
+      rest = _;
+      stands = (found_run n (b ∷ bs) (b ∷ bs) (slice_range (b ∷ bs) 0 (prefix_len is_name (b ∷ bs))) (prefix_len is_name (b ∷ bs)) name le refl refl refl
+          (λ e. let h = lone b bs (sym (between_from_start (b ∷ bs) (prefix_len is_name (b ∷ bs))) ∙ e) in not_lone b (begins is_name bs) e-is h.0 h.1)).0;
+    })
 
 abbrev unexpected : ℕ → Bool
 unexpected b = not (is_blank b || is_name b || b == 40 || b == 41 || b == 34)

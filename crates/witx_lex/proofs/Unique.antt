@@ -1,14 +1,13 @@
 -- At most one piece stands at the front of a text.
-use Rattle.std.proofs.Common.{◌≡◌, ◌≢◌, ℕ, zero, suc, ◌+◌, ◌-◌, ◌<◌, ◌≤◌, Bool, true, false, not, cond, ◌&&◌, ◌||◌, ◌==◌, List, [], ◌∷◌, ◌++◌, length, get_or, take, drop, Option, Some, None, refl, sym, ap, ◌∙◌, subst, inl, inr, arith, append_assoc, eqb-true, take_at, drop_at}
-use Rattle.std.proofs.lemmas.Bool.{cases_lt, and_parts}
+use Rattle.std.proofs.Common.{◌≡◌, ℕ, Bool, true, false, cond, ◌==◌, List, [], ◌∷◌, ◌++◌, length, take, drop, Option, Some, None, refl, sym, ap, ◌∙◌, subst, inl, inr, arith, append_assoc, take_at}
+use Rattle.std.proofs.lemmas.Bool.{and_parts}
 use Rattle.std.proofs.lemmas.Bool.Decides.{nat_tests}
-use Rattle.std.proofs.lemmas.List.{append_cancel_left, length-append, take_at}
+use Rattle.std.proofs.lemmas.List.{append_cancel_left, take_at}
 use Rattle.std.specs.List.{prefix_len, list_all, flat_map}
 use Rattle.std.specs.Prelude.{IsTrue, ◌⊎◌, slice_index}
 use Rattle.std.specs.Option.{option_map}
-use Rattle.std.specs.Char.{is_digit}
-use Rattle.witx_lex.specs.Characters.{is_blank, is_name, is_raw, is_line_byte, begins, are_digits, digits_follow, is_scalar, scalar_value}
-use Rattle.witx_lex.specs.Pieces.{Part, raw, letter, two_digits, scalar, Piece, blank, line, block, opening, closing, run, quoted, spelling, part_spelling, part_value, is_part, block_len, IsPiece, IsEnded, open_after, Stands, Stand}
+use Rattle.witx_lex.specs.Characters.{is_blank, is_name, is_line_byte, begins}
+use Rattle.witx_lex.specs.Pieces.{Part, Piece, blank, line, block, opening, closing, run, quoted, spelling, part_spelling, block_len, IsPiece, IsEnded, open_after, Stands, Stand}
 use Rattle.witx_lex.proofs.Texts.{take_run}
 use Rattle.witx_lex.proofs.Parts.{parts_stop, no_part_at_quote}
 use Rattle.witx_lex.proofs.Found.{block_ends}
@@ -84,13 +83,13 @@ pub piece_unique : (n m : ℕ) (p q : Piece) (text rest more : List ℕ) → Sta
 piece_unique n m p q text rest more a b =
     elim (piece_complete p rest a.piece a.ended) [
       | inl x ↦ elim (piece_complete q more b.piece b.ended) [
-          | inl y ↦ some_piece p q (sym x ∙ ap piece_at (sym a.spelled ∙ b.spelled) ∙ y)
-          | inr y ↦ absurd (no_piece p (sym y.1 ∙ ap piece_at (sym b.spelled ∙ a.spelled) ∙ x))
-        ]
+        | inl y ↦ some_piece p q (sym x ∙ ap piece_at (sym a.spelled ∙ b.spelled) ∙ y)
+        | inr y ↦ absurd (no_piece p (sym y.1 ∙ ap piece_at (sym b.spelled ∙ a.spelled) ∙ x))
+      ]
       | inr x ↦ elim (piece_complete q more b.piece b.ended) [
-          | inl y ↦ absurd (no_piece q (sym x.1 ∙ ap piece_at (sym a.spelled ∙ b.spelled) ∙ y))
-          | inr y ↦ x.0.1 ∙ quoted_unique x.0.0 y.0.0 text rest more (subst IsPiece x.0.1 a.piece) (subst IsPiece y.0.1 b.piece) (a.spelled ∙ ap (λ (z : Piece). spelling z ++ rest) x.0.1) (b.spelled ∙ ap (λ (z : Piece). spelling z ++ more) y.0.1) ∙ sym y.0.1
-        ]
+        | inl y ↦ absurd (no_piece q (sym x.1 ∙ ap piece_at (sym a.spelled ∙ b.spelled) ∙ y))
+        | inr y ↦ x.0.1 ∙ quoted_unique x.0.0 y.0.0 text rest more (subst IsPiece x.0.1 a.piece) (subst IsPiece y.0.1 b.piece) (a.spelled ∙ ap (λ (z : Piece). spelling z ++ rest) x.0.1) (b.spelled ∙ ap (λ (z : Piece). spelling z ++ more) y.0.1) ∙ sym y.0.1
+      ]
     ]
 
 pub some_spelling : (p : Piece) (rest : List ℕ) → IsPiece p → [] ≡ spelling p ++ rest → ⊥

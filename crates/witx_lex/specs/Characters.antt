@@ -1,27 +1,36 @@
 -- The classes of characters. A text is the list of its UTF-8 bytes, so each class is a set of bytes;
 -- a byte of 128 or more belongs to a character outside ASCII.
-use Rattle.std.specs.Prelude.{ℕ, Bool, true, false, not, ◌&&◌, ◌||◌, ◌==◌, nat_lt, nat_le, IsTrue, if◌then◌else◌, List, [], ◌∷◌, Option, Some, None, filter}
+use Rattle.std.specs.Prelude.{ℕ, Bool, true, false, not, ◌&&◌, ◌||◌, ◌==◌, nat_lt, nat_le, if◌then◌else◌, List, [], ◌∷◌, Option, Some, None, filter}
 use Rattle.std.specs.Char.{is_digit}
 use Rattle.std.specs.Str.Parse.{digits_value}
 
 abbrev pub line_feed : ℕ
 line_feed = 10
+
 abbrev pub quote : ℕ
 quote = 34
+
 abbrev pub dollar : ℕ
 dollar = 36
+
 abbrev pub left_paren : ℕ
 left_paren = 40
+
 abbrev pub right_paren : ℕ
 right_paren = 41
+
 abbrev pub plus : ℕ
 plus = 43
+
 abbrev pub semicolon : ℕ
 semicolon = 59
+
 abbrev pub at_sign : ℕ
 at_sign = 64
+
 abbrev pub backslash : ℕ
 backslash = 92
+
 abbrev pub underscore : ℕ
 underscore = 95
 

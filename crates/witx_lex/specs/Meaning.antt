@@ -1,5 +1,5 @@
 -- The tokens of a text: those that its pieces stand for, each with its place and the comments before it.
-use Rattle.std.specs.Prelude.{◌≡◌, ℕ, ◌+◌, ◌-◌, Bool, true, false, ◌&&◌, ◌||◌, ◌==◌, if◌then◌else◌, List, [], ◌∷◌, ◌++◌, length, drop, slice_index, nat_lt}
+use Rattle.std.specs.Prelude.{◌≡◌, ℕ, ◌+◌, ◌-◌, Bool, ◌&&◌, ◌||◌, ◌==◌, if◌then◌else◌, List, [], ◌∷◌, ◌++◌, length, drop, slice_index, nat_lt}
 use Rattle.std.specs.List.{flat_map}
 use Rattle.witx_lex.specs.Characters.{dollar, plus, at_sign, are_digits}
 use Rattle.witx_lex.specs.Pieces.{Piece, blank, line, block, opening, closing, run, quoted, spelling, part_value, ArePieces}

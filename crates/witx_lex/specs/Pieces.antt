@@ -1,6 +1,6 @@
 -- The pieces of a text: it is cut into blanks, comments and tokens, which together spell it exactly.
 -- Stated of the whole text: how each piece is spelled, what each may hold, and what may follow it.
-use Rattle.std.specs.Prelude.{◌≡◌, ◌≢◌, ℕ, ◌+◌, ◌-◌, ◌≤◌, Bool, true, false, ◌&&◌, ◌==◌, is_some, unwrap_or, IsTrue, if◌then◌else◌, List, [], ◌∷◌, ◌++◌, length, Option, Some, None, option_map, ◌⊎◌}
+use Rattle.std.specs.Prelude.{◌≡◌, ◌≢◌, ℕ, ◌+◌, ◌-◌, ◌≤◌, Bool, false, ◌&&◌, ◌==◌, is_some, unwrap_or, IsTrue, if◌then◌else◌, List, [], ◌∷◌, ◌++◌, length, Option, Some, None, option_map, ◌⊎◌}
 use Rattle.std.specs.List.{list_all, flat_map}
 use Rattle.std.specs.Char.{is_digit, encode_utf8}
 use Rattle.std.specs.Str.{IsUtf8}
@@ -11,19 +11,19 @@ use Rattle.witx_lex.specs.Characters.{line_feed, quote, dollar, left_paren, righ
 
 -- what stands between the quotes of a string, part by part
 pub data Part : Type 0 where
-  raw : ℕ → Part               -- a byte that stands for itself
-  letter : ℕ → Part            -- a backslash and one of t n r " ' \
-  two_digits : ℕ → ℕ → Part    -- a backslash and two hexadecimal digits, for a byte
-  scalar : List ℕ → Part       -- a backslash, u and braces round hexadecimal digits, for a character
+  raw : ℕ → Part  -- a byte that stands for itself
+  letter : ℕ → Part  -- a backslash and one of t n r " ' \
+  two_digits : ℕ → ℕ → Part  -- a backslash and two hexadecimal digits, for a byte
+  scalar : List ℕ → Part  -- a backslash, u and braces round hexadecimal digits, for a character
 
 pub data Piece : Type 0 where
   blank : ℕ → Piece
-  line : List ℕ → Piece        -- ;; and a comment up to the end of its line
-  block : List ℕ → Piece       -- a comment between (; and ;)
-  opening : Piece              -- (
-  closing : Piece              -- )
-  run : List ℕ → Piece         -- a longest run of name characters
-  quoted : List Part → Piece   -- a string
+  line : List ℕ → Piece  -- ;; and a comment up to the end of its line
+  block : List ℕ → Piece  -- a comment between (; and ;)
+  opening : Piece  -- (
+  closing : Piece  -- )
+  run : List ℕ → Piece  -- a longest run of name characters
+  quoted : List Part → Piece  -- a string
 
 abbrev pub part_spelling : Part → List ℕ
 part_spelling (raw b) = b ∷ []

@@ -17,7 +17,10 @@ pub fn read_line<'a>(text: &'a str) -> Read<'a>
 {
     let inside = &text[2..];
     let len = line_len(inside.as_bytes());
-    Read { seen: Seen::Comment(&inside[..len]), len: len + 2 }
+    Read {
+        seen: Seen::Comment(&inside[..len]),
+        len: len + 2,
+    }
 }
 
 fn line_len(bytes: &[u8]) -> usize
@@ -36,7 +39,10 @@ pub fn read_block<'a>(text: &'a str) -> Result<Read<'a>, LexError>
     let inside = &text[2..];
     match block_len(inside.as_bytes()) {
         None => fault(LexKind::UnterminatedComment, 0),
-        Some(len) => Ok(Read { seen: Seen::Comment(&inside[..len]), len: len + 4 }),
+        Some(len) => Ok(Read {
+            seen: Seen::Comment(&inside[..len]),
+            len: len + 4,
+        }),
     }
 }
 

@@ -1,8 +1,8 @@
-use std::alloc::{AllocError, AllocFailed};
-use witx_base::OutOfMemory;
-
 ghost use Rattle.std.specs.Prelude.{◌≡◌};
 ghost use Rattle.witx_lex.specs.declared.error.LexError.TheVariants.{OutOfMemory};
+
+use std::alloc::{AllocError, AllocFailed};
+use witx_base::OutOfMemory;
 
 /// What is wrong at a place where no piece can stand.
 #[derive(Clone, Copy, PartialEq, Eq, Debug)]

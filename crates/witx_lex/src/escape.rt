@@ -32,11 +32,17 @@ pub fn read_escape(bytes: &[u8]) -> Option<Escape>
     let first = byte_of(bytes, 0);
     let second = byte_of(bytes, 1);
     if let Some(byte) = letter_value(first) {
-        Some(Escape { value: Escaped::Byte(byte), len: 1 })
+        Some(Escape {
+            value: Escaped::Byte(byte),
+            len: 1,
+        })
     } else if first == b'u' && second == b'{' {
         read_scalar(bytes)
     } else if let Some(byte) = two_digits(first, second) {
-        Some(Escape { value: Escaped::Byte(byte), len: 2 })
+        Some(Escape {
+            value: Escaped::Byte(byte),
+            len: 2,
+        })
     } else {
         None
     }
@@ -76,7 +82,10 @@ fn read_scalar(bytes: &[u8]) -> Option<Escape>
         return None;
     }
     match scalar(digits) {
-        Some(c) => Some(Escape { value: Escaped::Scalar(c), len: len + 3 }),
+        Some(c) => Some(Escape {
+            value: Escaped::Scalar(c),
+            len: len + 3,
+        }),
         None => None,
     }
 }
@@ -86,7 +95,10 @@ fn digits_len(bytes: &[u8]) -> usize
     ensures len { result ≡ prefix_len spec.is_digit_or_underscore bytes.now }
     ensures within { result ≤ length bytes.now }
 {
-    bytes.iter().take_while(|b| is_digit(**b, 16) || **b == b'_').count()
+    bytes
+        .iter()
+        .take_while(|b| is_digit(**b, 16) || **b == b'_')
+        .count()
 }
 
 /// The character whose code the hexadecimal digits among the bytes write, if it is one.

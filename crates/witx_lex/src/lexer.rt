@@ -30,14 +30,21 @@ pub fn lex<'a>(alloc: Global, text: &'a str) -> Result<Tokens<'a>, LexError>
                     Seen::Token(token) => {
                         depth = open_after(depth, &token);
                         let span = Span { start: at, end };
-                        tokens.push(Lexed { token, span, comments })?;
+                        tokens.push(Lexed {
+                            token,
+                            span,
+                            comments,
+                        })?;
                         comments = Comments::new(alloc);
                     }
                 }
                 at = end;
             }
             Err(LexError::Bad(fault)) => {
-                return Err(LexError::Bad(LexFault { kind: fault.kind, at: at + fault.at }));
+                return Err(LexError::Bad(LexFault {
+                    kind: fault.kind,
+                    at: at + fault.at,
+                }));
             }
             Err(LexError::OutOfMemory) => return Err(LexError::OutOfMemory),
         }

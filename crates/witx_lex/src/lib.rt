@@ -18,8 +18,8 @@ mod token;
 
 pub use error::{LexError, LexFault, LexKind};
 pub use laws::{
-    a_fault_is_unique, a_text_has_pieces_or_a_fault, no_piece_at_a_fault, pieces_are_unique, pieces_exclude_a_fault, tokens_are_slices,
-    tokens_are_unique,
+    a_fault_is_unique, a_text_has_pieces_or_a_fault, no_piece_at_a_fault, pieces_are_unique,
+    pieces_exclude_a_fault, tokens_are_slices, tokens_are_unique,
 };
 pub use lexer::lex;
 pub use place::line_column;

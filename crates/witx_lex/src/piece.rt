@@ -41,19 +41,32 @@ pub fn read_piece<'a>(alloc: Global, text: &'a str, depth: usize) -> Result<Read
     let first = byte_at(text, 0);
     let second = byte_at(text, 1);
     if is_blank(first) {
-        Ok(Read { seen: Seen::Nothing, len: 1 })
+        Ok(Read {
+            seen: Seen::Nothing,
+            len: 1,
+        })
     } else if first == b';' {
-        if second == b';' { Ok(read_line(text)) } else { fault(LexKind::UnexpectedCharacter, 0) }
+        if second == b';' {
+            Ok(read_line(text))
+        } else {
+            fault(LexKind::UnexpectedCharacter, 0)
+        }
     } else if first == b'(' {
         if second == b';' {
             read_block(text)
         } else if depth < 100 {
-            Ok(Read { seen: Seen::Token(Token::LParen), len: 1 })
+            Ok(Read {
+                seen: Seen::Token(Token::LParen),
+                len: 1,
+            })
         } else {
             fault(LexKind::TooDeep, 0)
         }
     } else if first == b')' {
-        Ok(Read { seen: Seen::Token(Token::RParen), len: 1 })
+        Ok(Read {
+            seen: Seen::Token(Token::RParen),
+            len: 1,
+        })
     } else if first == b'"' {
         read_string(alloc, text)
     } else if is_name(first) {

@@ -22,14 +22,26 @@ pub fn read_run<'a>(text: &'a str) -> Result<Read<'a>, LexError>
         if len == 1 {
             fault(LexKind::EmptyId, 0)
         } else {
-            Ok(Read { seen: Seen::Token(Token::Id(&name[1..])), len })
+            Ok(Read {
+                seen: Seen::Token(Token::Id(&name[1..])),
+                len,
+            })
         }
     } else if first == b'@' && 1 < len {
-        Ok(Read { seen: Seen::Token(Token::Annot(&name[1..])), len })
+        Ok(Read {
+            seen: Seen::Token(Token::Annot(&name[1..])),
+            len,
+        })
     } else if is_int(name.as_bytes()) {
-        Ok(Read { seen: Seen::Token(Token::Int(name)), len })
+        Ok(Read {
+            seen: Seen::Token(Token::Int(name)),
+            len,
+        })
     } else {
-        Ok(Read { seen: Seen::Token(Token::Word(name)), len })
+        Ok(Read {
+            seen: Seen::Token(Token::Word(name)),
+            len,
+        })
     }
 }
 

@@ -3,9 +3,9 @@ ghost use Rattle.std.specs.Prelude.{◌≡◌, ℕ, ◌≤◌, slice_index};
 ghost use Rattle.witx_lex.specs.Reads.{ReadsPiece};
 
 use crate::characters::is_raw;
-use crate::error::{LexError, LexFault, LexKind};
+use crate::error::{LexError, LexKind};
 use crate::escape::{push_escaped, read_escape};
-use crate::piece::{Read, Seen};
+use crate::piece::{Read, Seen, fault};
 use crate::token::Token;
 use std::alloc::Global;
 use witx_base::Text;
@@ -28,7 +28,7 @@ pub fn read_string<'a>(alloc: Global, text: &'a str) -> Result<Read<'a>, LexErro
                         len: at + 1,
                     });
                 }
-                Err(_) => return Err(LexError::Bad(LexFault { kind: LexKind::NotUtf8, at: 0 })),
+                Err(_) => return fault(LexKind::NotUtf8, 0),
             }
         } else if is_raw(byte) {
             out.push(byte)?;
@@ -39,11 +39,11 @@ pub fn read_string<'a>(alloc: Global, text: &'a str) -> Result<Read<'a>, LexErro
                     push_escaped(&mut out, escape.value)?;
                     at += escape.len + 1;
                 }
-                None => return Err(LexError::Bad(LexFault { kind: LexKind::BadEscape, at })),
+                None => return fault(LexKind::BadEscape, at),
             }
         } else {
-            return Err(LexError::Bad(LexFault { kind: LexKind::BadCharacter, at }));
+            return fault(LexKind::BadCharacter, at);
         }
     }
-    Err(LexError::Bad(LexFault { kind: LexKind::UnterminatedString, at: 0 }))
+    fault(LexKind::UnterminatedString, 0)
 }

@@ -40,7 +40,13 @@ fn named<'a>(token: &'a Token) -> (&'static str, &'a str) {
 }
 
 /// `front`, then `unit` so many times, then `back`.
-fn long(alloc: Global, front: &str, unit: &str, times: usize, back: &str) -> Result<String, AllocError> {
+fn long(
+    alloc: Global,
+    front: &str,
+    unit: &str,
+    times: usize,
+    back: &str,
+) -> Result<String, AllocError> {
     let mut out = String::from_str(alloc, front)?;
     for _ in 0..times {
         out.push_str(unit)?;
@@ -62,7 +68,10 @@ const TOKENS: &[(&str, &str)] = &[
     ("@", "word @ 0..1;"),
     ("u8", "word u8 0..2;"),
     ("a$b@c", "word a$b@c 0..5;"),
-    ("!#%&'*+-./:<=>?\\^_`|~", "word !#%&'*+-./:<=>?\\^_`|~ 0..21;"),
+    (
+        "!#%&'*+-./:<=>?\\^_`|~",
+        "word !#%&'*+-./:<=>?\\^_`|~ 0..21;",
+    ),
     ("0", "int 0 0..1;"),
     ("+7", "int +7 0..2;"),
     ("1_000", "int 1_000 0..5;"),
@@ -85,7 +94,10 @@ const TOKENS: &[(&str, &str)] = &[
     ("\"\\\"\\'\\\\\"", "quoted \"'\\ 0..8;"),
     ("\"\\41\\c3\\A9\"", "quoted Aé 0..11;"),
     ("\"\\u{e9}\\u{1_F4_a9}\\u{00000041}\"", "quoted é💩A 0..31;"),
-    ("\"\\u{10ffff}\\u{d7ff}\\u{e000}\"", "quoted \u{10ffff}\u{d7ff}\u{e000} 0..28;"),
+    (
+        "\"\\u{10ffff}\\u{d7ff}\\u{e000}\"",
+        "quoted \u{10ffff}\u{d7ff}\u{e000} 0..28;",
+    ),
     ("\"a\"b\"c\"", "quoted a 0..3;word b 3..4;quoted c 4..7;"),
     ("$a$b(c", "id a$b 0..4;( 4..5;word c 5..6;"),
     (";;", ""),
@@ -97,13 +109,16 @@ const TOKENS: &[(&str, &str)] = &[
     ("(; é (; x ;) y ;)\"s\"", "[ é (; x ;) y ]quoted s 18..21;"),
     ("(;\";)a", "[\"]word a 5..6;"),
     ("(;a;;)b", "[a;]word b 6..7;"),
-    ("a;;b\nc(;d;)(e", "word a 0..1;[b]word c 5..6;[d]( 11..12;word e 12..13;"),
+    (
+        "a;;b\nc(;d;)(e",
+        "word a 0..1;[b]word c 5..6;[d]( 11..12;word e 12..13;",
+    ),
 ];
 
 #[test]
 fn reads_tokens(rt: HostRuntime) -> Result<(), Fail> {
     for (text, want) in TOKENS {
-        assert_eq!(rt; reading(rt.alloc(), text)?.as_str(), want, "at {text}");
+        assert_eq!(rt; reading(rt.alloc(), text)?.as_str(), *want, "at {text}");
     }
     Ok(())
 }
@@ -158,7 +173,7 @@ const FAULTS: &[(&str, &str)] = &[
 #[test]
 fn finds_faults(rt: HostRuntime) -> Result<(), Fail> {
     for (text, want) in FAULTS {
-        assert_eq!(rt; reading(rt.alloc(), text)?.as_str(), want, "at {text}");
+        assert_eq!(rt; reading(rt.alloc(), text)?.as_str(), *want, "at {text}");
     }
     Ok(())
 }
@@ -183,7 +198,11 @@ fn counts_parentheses(rt: HostRuntime) -> Result<(), Fail> {
     for (front, unit, times, back, want) in cases {
         let text = long(alloc, front, unit, times, back)?;
         match want {
-            Some(fault) => assert_eq!(rt; reading(alloc, text.as_str())?.as_str(), fault, "at {unit}"),
+            Some(fault) => assert_eq!(rt;
+                reading(alloc, text.as_str())?.as_str(),
+                fault,
+                "at {unit}"
+            ),
             None => assert!(rt; lex(alloc, text.as_str()).is_ok(), "at {unit}"),
         }
     }

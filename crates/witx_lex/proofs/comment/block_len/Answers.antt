@@ -1,6 +1,6 @@
 use Rattle.std.proofs.Common.{arith, sym}
 use Rattle.std.proofs.lemmas.Bool.Decides.{nat_tests}
-use Rattle.witx_lex.proofs.Found.{block_in, block_out, block_plain, block_found, block_none}
+use Rattle.witx_lex.proofs.Found.{block_in, block_out, block_plain, block_none}
 use Rattle.witx_lex.proofs.comment.block_len.Goals as goal
 
 pub loop-at-preserved-then-bytes-at-eq59 : goal.loop-at-preserved-then-bytes-at-eq59

@@ -1,6 +1,5 @@
-use Rattle.std.proofs.Common.{refl, sym, arith, ap, subst, ◌∙◌}
+use Rattle.std.proofs.Common.{refl, sym, arith, ap, ◌∙◌}
 use Rattle.std.proofs.lemmas.Str.{IsCharBoundary-after_ascii}
-use Rattle.std.specs.Str.{IsCharBoundary}
 use Rattle.witx_lex.specs.Pieces.{block, block_len}
 use Rattle.witx_lex.proofs.Texts.{within_from_byte}
 use Rattle.witx_lex.proofs.Found.{found_block, block_boundary}

@@ -1,4 +1,4 @@
-use Rattle.std.proofs.Common.{◌≡◌, ◌∙◌, ap, sym, arith, refl}
+use Rattle.std.proofs.Common.{◌∙◌, ap}
 use Rattle.witx_lex.specs.Characters.{letter_value}
 use Rattle.witx_lex.proofs.Parts.{escape_letter, escape_digits}
 use Rattle.witx_lex.proofs.escape.read_escape.Goals as goal

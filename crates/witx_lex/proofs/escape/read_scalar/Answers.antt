@@ -1,6 +1,5 @@
-use Rattle.std.proofs.Common.{◌≡◌, ◌-◌, ◌∙◌, ℕ, List, true, false, ap, sym, arith, refl, take, drop, length, get_or}
+use Rattle.std.proofs.Common.{◌≡◌, ◌-◌, ◌∙◌, true, false, sym, refl, take, drop, length}
 use Rattle.std.proofs.lemmas.List.{take_rest}
-use Rattle.witx_lex.specs.Characters.{is_scalar, scalar_value}
 use Rattle.witx_lex.proofs.Parts.{escape_scalar, no_scalar}
 use Rattle.witx_lex.proofs.escape.read_scalar.Goals as goal
 use Rattle.witx_lex.proofs.escape.read_scalar.Goals.{then-byte_of-ne125-via-then-byte_of-ne125, then-byte_of-ne125-via-else-byte_of-ne125+then-not-are_digits}
@@ -22,7 +21,7 @@ returns-in-Some c =
     let len = c.digits_len-len.result in
     let inside = take (length bytes - 2) (drop 2 bytes) in
     escape_scalar bytes inside (take len inside) len c.in-Some.c c.requires.u c.requires.brace (take_rest bytes 2) c.digits_len-len.ensures.len refl
-        (sym c.byte_of.ensures ∙ c.if-byte_of-ne125.false) (sym c.if-not-are_digits.ensures) c.in-Some.ensures.0 c.in-Some.ensures.1
+    (sym c.byte_of.ensures ∙ c.if-byte_of-ne125.false) (sym c.if-not-are_digits.ensures) c.in-Some.ensures.0 c.in-Some.ensures.1
 
 pub returns-in-None : goal.returns-in-None
 returns-in-None c =

@@ -3,7 +3,7 @@ use Rattle.witx_lex.specs.Pieces.{Stands}
 use Rattle.std.proofs.lemmas.List.{map-append}
 use Rattle.witx_lex.specs.Views.{token_view, lexed_view, texts_view, tokens_view}
 use Rattle.witx_lex.specs.Reads.{seen_view}
-use Rattle.witx_lex.proofs.Progress.{Sofar, Sofar_start, Sofar_nothing, Sofar_comment, Sofar_token, Sofar_done, Sofar_fault}
+use Rattle.witx_lex.proofs.Progress.{Sofar, Sofar_start, Sofar_nothing, Sofar_comment, Sofar_token, Sofar_done}
 use Rattle.witx_lex.proofs.lexer.lex.Goals as goal
 
 pub loop-at-init : goal.loop-at-init
@@ -24,7 +24,7 @@ loop-at-preserved-in_ok-push-in-Comment c = let h = c.in-Ok.ensures in
 pub loop-at-preserved : goal.loop-at-preserved
 loop-at-preserved c = let h = c.in-Ok.ensures in
     let s = Sofar_token c.args.text.now c.loop-at.at c.loop-at.depth c.in-Ok.read.len (c.loop-at.at + c.in-Ok.read.len) (texts_view c.loop-at.comments) (texts_view c.new-comments-in-Token.result) (tokens_view c.loop-at.tokens) (tokens_view c.push-in-Token.new.self) h.piece (token_view c.in-Token.token) c.utf8.text c.loop-at.invariant
-        (subst (λ (t : List ℕ). Stands c.loop-at.depth h.piece t (drop c.in-Ok.read.len t)) c.range_from.ensures.value h.stands) h.len refl (sym h.sees ∙ ap seen_view c.in-Token.is) (ap texts_view c.new-comments-in-Token.ensures) (ap tokens_view c.in_ok-push-in-Token.ensures ∙ map-append lexed_view c.loop-at.tokens _) in
+    (subst (λ (t : List ℕ). Stands c.loop-at.depth h.piece t (drop c.in-Ok.read.len t)) c.range_from.ensures.value h.stands) h.len refl (sym h.sees ∙ ap seen_view c.in-Token.is) (ap texts_view c.new-comments-in-Token.ensures) (ap tokens_view c.in_ok-push-in-Token.ensures ∙ map-append lexed_view c.loop-at.tokens _) in
     subst (λ (d : ℕ). Sofar c.args.text.now (c.loop-at.at + c.in-Ok.read.len) d (texts_view c.new-comments-in-Token.result) (tokens_view c.push-in-Token.new.self)) (sym c.open_after-depth.ensures) s
 
 pub returns-clause-tokens : goal.returns-clause-tokens

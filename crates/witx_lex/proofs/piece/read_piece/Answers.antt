@@ -1,4 +1,4 @@
-use Rattle.std.proofs.Common.{refl, sym, arith, ap, subst, get_or, ◌∙◌}
+use Rattle.std.proofs.Common.{refl, sym, ap, get_or, ◌∙◌}
 use Rattle.std.specs.Prelude.{IsTrue}
 use Rattle.witx_lex.specs.Characters.{is_blank}
 use Rattle.witx_lex.specs.Pieces.{blank, opening, closing}

@@ -1,4 +1,4 @@
-use Rattle.std.proofs.Common.{refl, sym, arith, ap, subst, ◌∙◌, ◌≡◌, ◌≢◌, ◌∷◌, [], ◌==◌, ◌&&◌, ℕ, List, length, get_or, drop, Bool, true, false, cond, inl, inr, ◌+◌, ◌≤◌}
+use Rattle.std.proofs.Common.{refl, sym, arith, ap, subst, ◌∙◌, ◌≡◌, ◌≢◌, ◌∷◌, [], ◌==◌, ◌&&◌, ℕ, List, length, get_or, Bool, true, false, cond, inl, inr, ◌+◌, ◌≤◌}
 use Rattle.std.proofs.lemmas.Bool.Decides.{nat_tests}
 use Rattle.std.specs.Prelude.{nat_lt, ◌⊎◌}
 use Rattle.std.proofs.lemmas.Bool.{le-ltb}
@@ -7,7 +7,7 @@ use Rattle.std.specs.List.{prefix_len}
 use Rattle.std.specs.Str.{IsCharBoundary}
 use Rattle.witx_lex.specs.Characters.{is_name}
 use Rattle.witx_lex.specs.Pieces.{run}
-use Rattle.witx_lex.specs.Meaning.{token, run_token, is_int}
+use Rattle.witx_lex.specs.Meaning.{token, is_int}
 use Rattle.witx_lex.proofs.Texts.{IsCharBoundary-ascii_run}
 use Rattle.witx_lex.proofs.Found.{found_run, is_id, is_annot, is_other}
 use Rattle.witx_lex.proofs.run.read_run.Goals as goal

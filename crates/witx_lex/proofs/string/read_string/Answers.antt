@@ -1,12 +1,10 @@
-use Rattle.std.proofs.Common.{refl, sym, take, ◌-◌, arith, ap, subst, ◌∙◌, ◌≡◌, ◌+◌, ◌<◌, ◌++◌, ◌∷◌, length, get_or, drop, List, ℕ, string_bytes, IsUtf8}
+use Rattle.std.proofs.Common.{sym, take, ◌-◌, arith, ap, subst, ◌∙◌, ◌≡◌, ◌+◌, ◌<◌, ◌++◌, ◌∷◌, length, get_or, drop, List, ℕ, string_bytes, IsUtf8}
 use Rattle.std.proofs.lemmas.List.{take_rest, drop_more, length-append, length-drop}
 use Rattle.std.proofs.lemmas.Str.{IsUtf8-string_bytes}
-use Rattle.std.specs.Prelude.{IsTrue}
-use Rattle.witx_lex.specs.Characters.{is_raw}
 use Rattle.witx_lex.specs.Pieces.{quoted, part_spelling}
 use Rattle.witx_lex.specs.Tokens.{quoted as quoted_token}
 use Rattle.witx_lex.specs.Meaning.{token}
-use Rattle.witx_lex.proofs.Strings.{StringSofar, String_more, String_raw, String_end, String_not_utf8}
+use Rattle.witx_lex.proofs.Strings.{String_more, String_raw, String_end, String_not_utf8}
 use Rattle.witx_lex.proofs.string.read_string.Goals as goal
 
 pub returns-in-Ok : goal.returns-in-Ok
@@ -21,7 +19,7 @@ pub returns-in-Err : goal.returns-in-Err
 returns-in-Err c n le =
     let text = c.args.text.now in
     let there : get_or text c.loop-at.at 0 ≡ 34 = ap (λ (t : List ℕ). get_or t c.loop-at.at 0) (sym c.loop-at.invariant.0) ∙ c.if-byte-eq34.true in
-    String_not_utf8 n text c.loop-at.out.items c.loop-at.at c.requires (omega (arith, c.loop-at-test.true, c.as_bytes-bytes.ensures.len)) there c.loop-at.invariant.2 (λ u. absurd (let q = c.in-Err.ensures.succeeds u in cc))
+    rw c.fault.ensures (String_not_utf8 n text c.loop-at.out.items c.loop-at.at c.requires (omega (arith, c.loop-at-test.true, c.as_bytes-bytes.ensures.len)) there c.loop-at.invariant.2 (λ u. absurd (let q = c.in-Err.ensures.succeeds u in cc)))
 
 pub loop-at-preserved-then-is_raw : goal.loop-at-preserved-then-is_raw
 loop-at-preserved-then-is_raw c =
