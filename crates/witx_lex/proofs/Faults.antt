@@ -10,6 +10,7 @@ use Rattle.witx_lex.specs.declared.error.LexKind.TheVariants.{UnexpectedCharacte
 use Rattle.witx_lex.specs.Characters.{is_blank, is_name, is_raw, is_control, begins}
 use Rattle.witx_lex.specs.Pieces.{Part, part_spelling, part_value, Piece, blank, line, block, opening, closing, run, quoted, spelling, block_len, open_after, open_after_all, Stands, Stand}
 use Rattle.witx_lex.specs.Faults.{Parts, NoPart, behind, IsFaultAt}
+use Rattle.witx_lex.proofs.Texts.{differs}
 use Rattle.witx_lex.proofs.Parts.{parts_stop, no_part_at_end, no_part_at_quote, no_part_before}
 use Rattle.witx_lex.proofs.Found.{block_ends}
 use Rattle.witx_lex.proofs.Unique.{piece_unique, some_spelling}
@@ -36,9 +37,6 @@ record Stopped (bs : List ℕ) (kind : LexKind) (k : ℕ) : Type 0 where
 
 control_other : (c : ℕ) → is_control c ≡ true → ((c == 92) ≡ false) × ((c == 34) ≡ false) × (is_raw c ≡ false)
 control_other c h = (grind (arith, nat_tests), grind (arith, nat_tests), grind (arith, nat_tests))
-
-differs : (c d : ℕ) → (c == d) ≡ false → c ≢ d
-differs c d e same = absurd (grind (arith, nat_tests))
 
 not_quote : (b : ℕ) → IsTrue (not (is_blank b || is_name b || b == 40 || b == 41 || b == 34)) → b ≢ 34
 not_quote b h e = absurd (grind (arith, nat_tests))

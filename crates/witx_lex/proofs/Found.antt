@@ -1,4 +1,5 @@
--- Which piece stands at the front of a text, by its first bytes.
+-- The piece that the code finds by the first bytes of a text stands there: `stands_blank`, `stands_opening`,
+-- `stands_closing`, `found_line`, `found_block`, `found_run`.
 use Rattle.std.proofs.Common.{◌≡◌, ◌≢◌, ℕ, zero, suc, ◌+◌, ◌-◌, ◌<◌, ◌≤◌, Bool, true, false, cond, ◌&&◌, ◌==◌, List, [], ◌∷◌, ◌++◌, length, get_or, take, drop, Option, Some, None, refl, sym, ap, ◌∙◌, subst, inl, inr, arith, append_assoc, eqb-true}
 use Rattle.std.proofs.lemmas.Bool.{cases_lt, and_parts}
 use Rattle.std.proofs.lemmas.Bool.Decides.{nat_tests}

@@ -1,4 +1,4 @@
--- The number that the hexadecimal digits among some bytes write, read from the left.
+-- The number that hexadecimal digits write, read from the left: once it is too large it stays so (`too_large`).
 use Rattle.std.proofs.Common.{◌≡◌, ℕ, ◌+◌, ◌*◌, ◌<◌, ◌≤◌, Bool, true, false, List, [], ◌∷◌, length, get_or, drop, refl, sym, ap, ◌∙◌, arith}
 use Rattle.std.proofs.lemmas.Bool.Decides.{nat_tests}
 use Rattle.std.proofs.lemmas.List.{drop_more}

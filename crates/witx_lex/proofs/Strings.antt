@@ -1,4 +1,4 @@
--- Strings, part by part.
+-- `StringSofar`: the parts of a string up to an offset, which each part that is read carries on up to the closing quote.
 use Rattle.std.proofs.Common.{◌≡◌, ℕ, ◌+◌, ◌<◌, ◌≤◌, List, [], ◌∷◌, ◌++◌, length, get_or, drop, IsUtf8, refl, sym, ap, ◌∙◌, subst, arith, append_assoc}
 use Rattle.std.proofs.lemmas.Bool.{and_parts}
 use Rattle.std.proofs.lemmas.List.{append-nil, length-append, drop_at, drop-drop, drop_more}

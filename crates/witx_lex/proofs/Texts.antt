@@ -1,5 +1,6 @@
--- The front of a text, and runs of bytes.
-use Rattle.std.proofs.Common.{◌≡◌, ℕ, suc, ◌+◌, ◌-◌, ◌<◌, Bool, true, false, List, [], ◌∷◌, ◌++◌, length, get_or, take, drop, IsUtf8, refl, sym, ap, ◌∙◌, subst, inl, inr, arith, take_at}
+-- The first bytes of a text, and its longest run of bytes of a class: where it stops, and that it ends where a character does.
+use Rattle.std.proofs.Common.{◌≡◌, ◌≢◌, ◌==◌, ℕ, suc, ◌+◌, ◌-◌, ◌<◌, Bool, true, false, List, [], ◌∷◌, ◌++◌, length, get_or, take, drop, IsUtf8, refl, sym, ap, ◌∙◌, subst, inl, inr, arith, take_at}
+use Rattle.std.proofs.lemmas.Bool.Decides.{nat_tests}
 use Rattle.std.proofs.lemmas.Bool.{cases_lt, and_parts}
 use Rattle.std.proofs.lemmas.List.{drop_more, get_or_past, drop_all}
 use Rattle.std.proofs.lemmas.List.Sums.{prefix_len-le-length, prefix_len_passes, prefix_len_stops}
@@ -76,3 +77,7 @@ prefix_run p (c ∷ r) rest all stop =
 
 pub take_run : (p : ℕ → Bool) (r rest : List ℕ) → list_all p r ≡ true → begins p rest ≡ false → take (prefix_len p (r ++ rest)) (r ++ rest) ≡ r
 take_run p r rest all stop = rw (prefix_run p r rest all stop) (take_at r rest (length r) refl)
+
+-- bytes that a test tells apart
+pub differs : (c d : ℕ) → (c == d) ≡ false → c ≢ d
+differs c d e same = absurd (grind (arith, nat_tests))

@@ -17,7 +17,7 @@ use Rattle.witx_lex.specs.Characters.{is_blank, is_name, is_raw, is_control, is_
 use Rattle.witx_lex.specs.Pieces.{Part, raw, letter, two_digits, scalar, is_part, part_spelling, part_value, Piece, blank, line, block, opening, closing, run, quoted, spelling, block_len, open_after, open_after_all, Stands, Stand}
 use Rattle.witx_lex.specs.Faults.{Parts, NoPart, behind, IsFaultAt}
 use Rattle.witx_lex.specs.Escapes.{IsEscape}
-use Rattle.witx_lex.proofs.Texts.{run_stops}
+use Rattle.witx_lex.proofs.Texts.{differs, run_stops}
 use Rattle.witx_lex.proofs.Parts.{no_part_at_end, no_part_before, escape_letter, escape_digits, escape_scalar, no_scalar}
 use Rattle.witx_lex.proofs.Found.{stands_blank, stands_opening, stands_closing, stands_line, found_block, found_run}
 
@@ -94,9 +94,6 @@ escape_case false true d bytes l-is b-is d-is =
     scalar_case _ bytes (eqb-true _ 117 h.0) (eqb-true _ 123 h.1) refl
 escape_case false false true bytes l-is b-is d-is = inl (from_escape bytes _ (escape_digits bytes _ (chosen _ _ d-is)))
 escape_case false false false bytes l-is b-is d-is = inr (no_escape bytes l-is b-is d-is)
-
-differs : (c d : ℕ) → (c == d) ≡ false → c ≢ d
-differs c d e same = absurd (grind (arith, nat_tests))
 
 part_case : (r s : Bool) (b : ℕ) (bs : List ℕ) → is_raw b ≡ r → (b == 92) ≡ s → PartAt (b ∷ bs) ⊎ NoPart (b ∷ bs)
 part_case true s b bs r-is s-is = inl (record { part = raw b; rest = bs; valid = r-is; spelled = refl })

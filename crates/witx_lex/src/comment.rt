@@ -2,7 +2,7 @@
 ghost use Rattle.std.specs.Prelude.{◌≡◌, ℕ, ◌≤◌, length, slice_index};
 ghost use Rattle.std.specs.List.{prefix_len};
 ghost use Rattle.witx_lex.specs.Characters as spec;
-ghost use Rattle.witx_lex.specs.Pieces.{block_len};
+ghost use Rattle.witx_lex.specs.Pieces.{block_len, most_open};
 ghost use Rattle.witx_lex.specs.Reads.{FoundPiece, ReadsPiece};
 
 use crate::characters::is_line_byte;
@@ -13,7 +13,7 @@ use crate::piece::{Read, Seen, fault};
 pub fn read_line<'a>(text: &'a str) -> Read<'a>
     requires first { slice_index text.now 0 ≡ 59 }
     requires second { slice_index text.now 1 ≡ 59 }
-    ensures { (n : ℕ) → n ≤ 100 → FoundPiece n text.now result }
+    ensures { (n : ℕ) → n ≤ most_open → FoundPiece n text.now result }
 {
     let inside = &text[2..];
     let len = line_len(inside.as_bytes());
@@ -34,7 +34,7 @@ fn line_len(bytes: &[u8]) -> usize
 pub fn read_block<'a>(text: &'a str) -> Result<Read<'a>, LexError>
     requires first { slice_index text.now 0 ≡ 40 }
     requires second { slice_index text.now 1 ≡ 59 }
-    ensures { (n : ℕ) → n ≤ 100 → ReadsPiece n text.now result }
+    ensures { (n : ℕ) → n ≤ most_open → ReadsPiece n text.now result }
 {
     let inside = &text[2..];
     match block_len(inside.as_bytes()) {

@@ -2,12 +2,14 @@
 ghost use Rattle.std.specs.Prelude.{◌≡◌, ◌≤◌, IfOk, IfErr};
 ghost use Rattle.witx_lex.specs.Faults.{HasFault, IfBad};
 ghost use Rattle.witx_lex.specs.Meaning.{HasTokens, depth_after};
+ghost use Rattle.witx_lex.specs.Pieces.{most_open};
 ghost use Rattle.witx_lex.specs.Views.{token_view, tokens_view};
 
 use crate::error::{LexError, LexFault};
 use crate::piece::{Seen, read_piece};
 use crate::token::{Comments, Lexed, Span, Token, Tokens};
 use std::alloc::Global;
+use witx_base::Items;
 
 /// The tokens of a text, each with its place and the comments before it; or the text's fault, the
 /// first place at which no piece can stand. Exactly one of the two is there for each text.
@@ -15,8 +17,8 @@ pub fn lex<'a>(alloc: Global, text: &'a str) -> Result<Tokens<'a>, LexError>
     ensures tokens { IfOk result (λ ts. HasTokens text.now (tokens_view ts)) }
     ensures fault { IfErr result (λ e. IfBad e (λ f. HasFault text.now f)) }
 {
-    let mut tokens = Tokens::new(alloc);
-    let mut comments = Comments::new(alloc);
+    let mut tokens: Tokens<'a> = Items::new(alloc);
+    let mut comments: Comments<'a> = Items::new(alloc);
     let mut depth: usize = 0;
     let mut at: usize = 0;
     while at < text.len() {
@@ -35,7 +37,7 @@ pub fn lex<'a>(alloc: Global, text: &'a str) -> Result<Tokens<'a>, LexError>
                             span,
                             comments,
                         })?;
-                        comments = Comments::new(alloc);
+                        comments = Items::new(alloc);
                     }
                 }
                 at = end;
@@ -54,7 +56,7 @@ pub fn lex<'a>(alloc: Global, text: &'a str) -> Result<Tokens<'a>, LexError>
 
 /// How many parentheses are open after a token, of `depth` before it.
 fn open_after(depth: usize, token: &Token) -> usize
-    requires { depth ≤ 100 }
+    requires { depth ≤ most_open }
     ensures { result ≡ depth_after depth (token_view token.now) }
 {
     match token {

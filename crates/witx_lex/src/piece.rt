@@ -1,5 +1,6 @@
 //! One piece of a text: a blank, a comment or a token.
 ghost use Rattle.std.specs.Prelude.{◌≡◌, ◌<◌, ◌≤◌, length};
+ghost use Rattle.witx_lex.specs.Pieces.{most_open};
 ghost use Rattle.witx_lex.specs.Reads.{ReadsPiece, IsBad};
 
 use crate::characters::{byte_at, is_blank, is_name};
@@ -9,6 +10,9 @@ use crate::run::read_run;
 use crate::string::read_string;
 use crate::token::Token;
 use std::alloc::Global;
+
+/// The most parentheses that may be open.
+const MOST_OPEN: usize = 100;
 
 /// What a piece is to a reader of tokens.
 #[derive(Debug, Drop)]
@@ -35,7 +39,7 @@ pub fn fault<'a>(kind: LexKind, at: usize) -> Result<Read<'a>, LexError>
 /// The piece at the front of a text, where so many parentheses are open.
 pub fn read_piece<'a>(alloc: Global, text: &'a str, depth: usize) -> Result<Read<'a>, LexError>
     requires some { 0 < length text.now }
-    requires deep { depth ≤ 100 }
+    requires deep { depth ≤ most_open }
     ensures { ReadsPiece depth text.now result }
 {
     let first = byte_at(text, 0);
@@ -54,7 +58,7 @@ pub fn read_piece<'a>(alloc: Global, text: &'a str, depth: usize) -> Result<Read
     } else if first == b'(' {
         if second == b';' {
             read_block(text)
-        } else if depth < 100 {
+        } else if depth < MOST_OPEN {
             Ok(Read {
                 seen: Seen::Token(Token::LParen),
                 len: 1,

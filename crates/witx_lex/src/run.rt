@@ -3,6 +3,7 @@ ghost use Rattle.std.specs.Prelude.{◌≡◌, ℕ, ◌≤◌, length, slice_ind
 ghost use Rattle.std.specs.List.{prefix_len};
 ghost use Rattle.witx_lex.specs.Characters as spec;
 ghost use Rattle.witx_lex.specs.Meaning as meaning;
+ghost use Rattle.witx_lex.specs.Pieces.{most_open};
 ghost use Rattle.witx_lex.specs.Reads.{ReadsPiece};
 
 use crate::characters::{are_digits, byte_at, is_name};
@@ -13,7 +14,7 @@ use crate::token::Token;
 /// The longest run of name characters that begins the text.
 pub fn read_run<'a>(text: &'a str) -> Result<Read<'a>, LexError>
     requires { IsTrue (spec.is_name (slice_index text.now 0)) }
-    ensures { (n : ℕ) → n ≤ 100 → ReadsPiece n text.now result }
+    ensures { (n : ℕ) → n ≤ most_open → ReadsPiece n text.now result }
 {
     let len = name_len(text.as_bytes());
     let name = &text[..len];

@@ -1,5 +1,6 @@
 //! Strings.
 ghost use Rattle.std.specs.Prelude.{◌≡◌, ℕ, ◌≤◌, slice_index};
+ghost use Rattle.witx_lex.specs.Pieces.{most_open};
 ghost use Rattle.witx_lex.specs.Reads.{ReadsPiece};
 
 use crate::characters::is_raw;
@@ -13,7 +14,7 @@ use witx_base::Text;
 /// The string that begins the text, decoded.
 pub fn read_string<'a>(alloc: Global, text: &'a str) -> Result<Read<'a>, LexError>
     requires { slice_index text.now 0 ≡ 34 }
-    ensures { (n : ℕ) → n ≤ 100 → ReadsPiece n text.now result }
+    ensures { (n : ℕ) → n ≤ most_open → ReadsPiece n text.now result }
 {
     let bytes = text.as_bytes();
     let mut out: Vec<u8> = Vec::new(alloc);

@@ -10,9 +10,9 @@ returns-then-is_blank c =
     let e : IsTrue (is_blank (get_or c.args.text.now 0 0)) = ap is_blank (sym c.byte_at-first.ensures) ∙ sym c.is_blank.ensures ∙ c.if-is_blank.true in
     record { piece = blank (get_or c.args.text.now 0 0); stands = stands_blank c.args.depth c.args.text.now c.requires.some e c.requires.deep; len = refl; sees = refl }
 
-pub returns-then-depth-lt100 : goal.returns-then-depth-lt100
-returns-then-depth-lt100 c =
-    record { piece = opening; stands = stands_opening c.args.depth c.args.text.now c.requires.some (sym c.byte_at-first.ensures ∙ c.if-first-eq40.true) (λ e. c.if-second-eq59-2.false (c.byte_at-second.ensures ∙ e)) c.if-depth-lt100.true; len = refl; sees = refl }
+pub returns-then-depth-lt-MOST_OPEN : goal.returns-then-depth-lt-MOST_OPEN
+returns-then-depth-lt-MOST_OPEN c =
+    record { piece = opening; stands = stands_opening c.args.depth c.args.text.now c.requires.some (sym c.byte_at-first.ensures ∙ c.if-first-eq40.true) (λ e. c.if-second-eq59-2.false (c.byte_at-second.ensures ∙ e)) c.if-depth-lt-MOST_OPEN.true; len = refl; sees = refl }
 
 pub returns-then-first-eq41 : goal.returns-then-first-eq41
 returns-then-first-eq41 c = record { piece = closing; stands = stands_closing c.args.depth c.args.text.now c.requires.some (sym c.byte_at-first.ensures ∙ c.if-first-eq41.true) c.requires.deep; len = refl; sees = refl }
