@@ -1,0 +1,10 @@
+pub mod Characters
+pub mod Escapes
+pub mod Faults
+pub mod Meaning
+pub mod Pieces
+pub mod Places
+pub mod Reads
+pub mod Slices
+pub mod Tokens
+pub mod Views

@@ -1,0 +1,26 @@
+//! The lexer: the tokens of a text, each with its place and the comments before it, or the first
+//! place at which no token, comment or blank can stand.
+#![tactic(auto)]
+
+mod characters;
+mod comment;
+mod error;
+mod escape;
+mod laws;
+mod lexer;
+mod piece;
+mod place;
+mod run;
+mod string;
+#[cfg(test)]
+mod tests;
+mod token;
+
+pub use error::{LexError, LexFault, LexKind};
+pub use laws::{
+    a_fault_is_unique, a_text_has_pieces_or_a_fault, no_piece_at_a_fault, pieces_are_unique,
+    pieces_exclude_a_fault, tokens_are_slices, tokens_are_unique,
+};
+pub use lexer::lex;
+pub use place::line_column;
+pub use token::{Comments, Lexed, Span, Token, Tokens};

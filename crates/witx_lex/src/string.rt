@@ -1,0 +1,50 @@
+//! Strings.
+ghost use Rattle.std.specs.Prelude.{◌≡◌, ℕ, ◌≤◌, slice_index};
+ghost use Rattle.witx_lex.specs.Pieces.{most_open};
+ghost use Rattle.witx_lex.specs.Reads.{ReadsPiece};
+
+use crate::characters::is_raw;
+use crate::error::{LexError, LexKind};
+use crate::escape::{push_escaped, read_escape};
+use crate::piece::{Read, Seen, fault};
+use crate::token::Token;
+use std::alloc::Global;
+use witx_base::Text;
+
+/// The string that begins the text, decoded.
+pub fn read_string<'a>(alloc: Global, text: &'a str) -> Result<Read<'a>, LexError>
+    requires { slice_index text.now 0 ≡ 34 }
+    ensures { (n : ℕ) → n ≤ most_open → ReadsPiece n text.now result }
+{
+    let bytes = text.as_bytes();
+    let mut out: Vec<u8> = Vec::new(alloc);
+    let mut at: usize = 1;
+    while at < bytes.len() {
+        let byte = bytes[at];
+        if byte == b'"' {
+            match String::from_utf8(out) {
+                Ok(value) => {
+                    return Ok(Read {
+                        seen: Seen::Token(Token::Quoted(Text::from_string(value))),
+                        len: at + 1,
+                    });
+                }
+                Err(_) => return fault(LexKind::NotUtf8, 0),
+            }
+        } else if is_raw(byte) {
+            out.push(byte)?;
+            at += 1;
+        } else if byte == b'\\' {
+            match read_escape(&bytes[at + 1..]) {
+                Some(escape) => {
+                    push_escaped(&mut out, escape.value)?;
+                    at += escape.len + 1;
+                }
+                None => return fault(LexKind::BadEscape, at),
+            }
+        } else {
+            return fault(LexKind::BadCharacter, at);
+        }
+    }
+    fault(LexKind::UnterminatedString, 0)
+}
