@@ -62,7 +62,8 @@ fn letter_value(letter: u8) -> Option<u8>
 
 /// The byte that two hexadecimal digits write.
 fn two_digits(high: u8, low: u8) -> Option<u8>
-    ensures { result ≡ (if is_digit high 16 && is_digit low 16 then Some (digits_value 16 (high ∷ low ∷ [])) else None) }
+    ensures { result ≡ (if is_digit high 16 && is_digit low 16
+        then Some (digits_value 16 (high ∷ low ∷ [])) else None) }
 {
     let high = char::from(high).to_digit(16)?;
     let low = char::from(low).to_digit(16)?;
@@ -103,7 +104,8 @@ fn digits_len(bytes: &[u8]) -> usize
 
 /// The character whose code the hexadecimal digits among the bytes write, if it is one.
 fn scalar(digits: &[u8]) -> Option<char>
-    ensures { SomeIff result (IsTrue (spec.is_scalar (spec.scalar_value digits.now))) (spec.scalar_value digits.now) }
+    ensures { SomeIff result (IsTrue (spec.is_scalar (spec.scalar_value digits.now)))
+        (spec.scalar_value digits.now) }
 {
     let mut code = 0u32;
     'digits: for byte in digits {

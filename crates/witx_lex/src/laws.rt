@@ -10,12 +10,14 @@ ghost use Rattle.witx_lex.specs.Tokens.{Lexed};
 
 /// A text has at most one list of pieces.
 pub fn pieces_are_unique()
-    ensures { (text : List ℕ) (ps qs : List Piece) → ArePieces ps text → ArePieces qs text → ps ≡ qs }
+    ensures { (text : List ℕ) (ps qs : List Piece)
+        → ArePieces ps text → ArePieces qs text → ps ≡ qs }
 {}
 
 /// A text has at most one list of tokens.
 pub fn tokens_are_unique()
-    ensures { (text : List ℕ) (ts us : List Lexed) → HasTokens text ts → HasTokens text us → ts ≡ us }
+    ensures { (text : List ℕ) (ts us : List Lexed)
+        → HasTokens text ts → HasTokens text us → ts ≡ us }
 {}
 
 /// Where a fault is told no piece can stand.
@@ -39,11 +41,13 @@ pub fn a_fault_is_unique()
 /// A text has pieces or a fault.
 pub fn a_text_has_pieces_or_a_fault()
     ensures { (text : List ℕ)
-        → ((ps : List Piece) × ArePieces ps text) ⊎ ((kind : LexKind) × (at : ℕ) × IsFault text kind at) }
+        → ((ps : List Piece) × ArePieces ps text)
+        ⊎ ((kind : LexKind) × (at : ℕ) × IsFault text kind at) }
 {}
 
 /// The bytes of each token are those of the text at its span, without the `$` of an identifier and
 /// the `@` of an annotation; those of a string are decoded.
 pub fn tokens_are_slices()
-    ensures { (text : List ℕ) (tokens : List Lexed) → HasTokens text tokens → All (StandsAt text) tokens }
+    ensures { (text : List ℕ) (tokens : List Lexed)
+        → HasTokens text tokens → All (StandsAt text) tokens }
 {}
