@@ -1,0 +1,4 @@
+pub mod Answers
+pub mod FailingFiles
+pub mod Files
+pub mod LocatedTexts

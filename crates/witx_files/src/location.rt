@@ -1,0 +1,76 @@
+ghost use Rattle.std.specs.Prelude.{◌≡◌, ◌++◌, string_bytes, IfOk};
+ghost use Rattle.witx_files.specs.LocatedTexts.{IsLocatedText, heading, numbered_line, caret};
+
+use crate::fault::IoError;
+use crate::io::WitxIo;
+use std::alloc::{AllocError, Global};
+use witx_base::{Duplicate, OutOfMemory, Text, WitxPath};
+
+/// A place in a file; line and column are counted from 1.
+#[derive(Debug, PartialEq, Eq, Drop)]
+pub struct Location {
+    pub path: WitxPath,
+    pub line: usize,
+    pub column: usize,
+}
+
+impl Duplicate for Location {
+    ghost use Rattle.std.specs.Prelude.{◌≡◌};
+
+    ghost is_copy = { λ location made. made ≡ location };
+
+    fn copy(&self) -> Result<Location, OutOfMemory> {
+        Ok(Location {
+            path: self.path.copy()?,
+            line: self.line,
+            column: self.column,
+        })
+    }
+}
+
+impl Location {
+    /// The path, and below it the line with a caret under the column. Without the line, where the
+    /// reader answers a fault: where told files lack it, or the reader's count of faults rose.
+    pub fn highlight_source_with<I: WitxIo>(
+        &self,
+        alloc: Global,
+        witxio: &mut I,
+    ) -> Result<Text, OutOfMemory>
+        ensures files { I.files witxio.new ≡ I.files witxio.old }
+        ensures aliases { I.aliases witxio.new ≡ I.aliases witxio.old }
+        ensures text { IsLocatedText (I.files witxio.old) self.now (I.faults witxio.old) (I.faults witxio.new) result }
+    {
+        let mut text = heading(alloc, &self.path)?;
+        match witxio.fget_line(alloc, &self.path, self.line) {
+            Ok(line) => {
+                put_line(&mut text, self.line, line.as_str())?;
+                put_caret(&mut text, self.column)?;
+                Ok(Text::from_string(text))
+            }
+            Err(IoError::Fault(_)) => Ok(Text::from_string(text)),
+            Err(IoError::OutOfMemory) => Err(OutOfMemory),
+        }
+    }
+}
+
+fn heading(alloc: Global, path: &WitxPath) -> Result<String, AllocError>
+    ensures { IfOk result (λ text. string_bytes text ≡ heading path.now) }
+{
+    format!(in alloc; "in \"{}\":\n", path.as_str())
+}
+
+#[tactic(auto, using(crate::proofs::Alignment::alignment_rules))]
+fn put_line(text: &mut String, number: usize, line: &str) -> Result<(), AllocError>
+    ensures { IfOk result (λ _. string_bytes text.new ≡ string_bytes text.old ++ numbered_line number line.now) }
+{
+    write!(text, "{number:>5} | {line}\n")
+}
+
+/// Draws the caret; a width ends at 65,535.
+#[tactic(auto, using(crate::proofs::Alignment::alignment_rules))]
+fn put_caret(text: &mut String, column: usize) -> Result<(), AllocError>
+    ensures { IfOk result (λ _. string_bytes text.new ≡ string_bytes text.old ++ caret column) }
+{
+    let width = column.min(65535);
+    write!(text, "         {:>width$}", "^")
+}
