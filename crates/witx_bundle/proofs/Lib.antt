@@ -1,0 +1,4 @@
+pub mod Examples
+pub mod Headers
+pub mod LastTexts
+pub mod LineSteps
