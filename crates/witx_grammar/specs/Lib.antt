@@ -1,0 +1,5 @@
+pub mod Grammar
+pub mod Faults
+pub mod Prediction
+pub mod Reading
+pub mod Search
