@@ -1,0 +1,60 @@
+-- The name under which a type is shown.
+use Rattle.std.specs.Prelude.{ℕ, List, [], ◌++◌, Bool, true, false, Option, Some, None, codes, if◌then◌else◌}
+use Rattle.witx_ast.specs.declared.types.BuiltinType.{BuiltinType}
+use Rattle.witx_ast.specs.declared.types.RecordKind.{RecordKind}
+use Rattle.witx_ast.specs.Tree.{Tree, Fields, Arms, Arm, arm_list, behind}
+use Rattle.witx_ast.specs.Words.{is_expected, is_bool_arms}
+
+abbrev pub builtin_text : BuiltinType → List ℕ
+builtin_text BuiltinType.Char = codes "char"
+builtin_text (BuiltinType.U8 c) = codes "u8"
+builtin_text BuiltinType.U16 = codes "u16"
+builtin_text (BuiltinType.U32 p) = if p then codes "usize" else codes "u32"
+builtin_text BuiltinType.U64 = codes "u64"
+builtin_text BuiltinType.S8 = codes "s8"
+builtin_text BuiltinType.S16 = codes "s16"
+builtin_text BuiltinType.S32 = codes "s32"
+builtin_text BuiltinType.S64 = codes "s64"
+builtin_text BuiltinType.F32 = codes "f32"
+builtin_text BuiltinType.F64 = codes "f64"
+
+abbrev pub is_char : Tree → Bool
+is_char (Tree.builtin BuiltinType.Char) = true
+is_char _ = false
+
+abbrev pub separator : Bool → List ℕ
+separator true = []
+separator false = codes ", "
+
+-- an `ok`/`err` variant shows its payloads
+abbrev pub variant_text : List Arm → List ℕ → List ℕ
+variant_text cs payloads = if is_expected cs then codes "Result<" ++ payloads ++ codes ">" else if is_bool_arms cs then codes "bool" else codes "Variant"
+
+abbrev mutual
+  pub type_text : Tree → List ℕ
+  type_text (Tree.named name t docs) = name
+  type_text (Tree.builtin b) = builtin_text b
+  type_text Tree.handle = codes "Handle"
+  type_text (Tree.list_of t) = if is_char (behind t) then codes "string" else codes "List<" ++ type_text t ++ codes ">"
+  type_text (Tree.pointer_to t) = codes "Pointer<" ++ type_text t ++ codes ">"
+  type_text (Tree.const_pointer_to t) = codes "ConstPointer<" ++ type_text t ++ codes ">"
+  type_text (Tree.record_of RecordKind.Tuple ms) = codes "(" ++ separated true ms ++ codes ")"
+  type_text (Tree.record_of (RecordKind.Bitflags r) ms) = codes "Record"
+  type_text (Tree.record_of RecordKind.Other ms) = codes "Record"
+  type_text (Tree.variant_of r cs) = variant_text (arm_list cs) (payload_texts true cs)
+
+  -- the types of members, with a comma before each but the first
+  pub separated : Bool → Fields → List ℕ
+  separated first Fields.no_fields = []
+  separated first (Fields.field name t docs ms) = separator first ++ type_text t ++ separated false ms
+
+  -- the types of payloads, `()` where a case has none
+  pub payload_texts : Bool → Arms → List ℕ
+  payload_texts first Arms.no_arms = []
+  payload_texts first (Arms.bare name docs cs) = separator first ++ codes "()" ++ payload_texts false cs
+  payload_texts first (Arms.carries name t docs cs) = separator first ++ type_text t ++ payload_texts false cs
+
+-- one payload's type
+abbrev pub payload_text : Option Tree → List ℕ
+payload_text None = codes "()"
+payload_text (Some t) = type_text t

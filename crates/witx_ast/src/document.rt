@@ -1,0 +1,133 @@
+ghost use Rattle.std.specs.Prelude.{◌≡◌, map, option_map};
+ghost use Rattle.std.specs.List.{filter_map};
+ghost use Rattle.witx_ast.specs.Reads.{named_tree};
+ghost use Rattle.witx_ast.specs.Kinds.{typename_kind, module_kind, constant_kind};
+ghost use Rattle.witx_ast.specs.Definitions.{definition_tree, module_tree, typename_called, module_called, DefinitionsFit};
+
+use crate::definition::{Constants, Definitions, Entries, Entry, Modules, Typenames};
+use crate::kinds::OfKind;
+use crate::module::Module;
+use crate::types::NamedType;
+use std::marker::Model;
+use std::rc::Rc;
+use witx_base::{Duplicate, Id, OutOfMemory};
+
+/// A document: its definitions, in order and by name. Documents are equal where their entries are,
+/// and are hashed by the names of the entries, in order.
+#[derive(Debug)]
+#[derive_where(PartialEq, Eq, Hash)]
+pub struct Document {
+    entries: Entries,
+    #[derive_where(skip(EqHashOrd))]
+    definitions: Definitions,
+}
+
+impl Model for Document {
+    ghost use Rattle.std.specs.Coded.{codes};
+    ghost use Rattle.witx_ast.specs.Entries.{Held};
+    ghost use Rattle.witx_ast.specs.Definitions.{DefinitionsFit};
+    ghost use Rattle.witx_ast.specs.declared.definition.Definition.{Definition};
+    ghost use Rattle.witx_ast.specs.declared.definition.Entry.{Entry};
+    ghost use Rattle.witx_ast.specs.contracts.definition.Definition as d;
+    ghost use Rattle.witx_ast.specs.contracts.definition.Entry as e;
+
+    ghost Value = { Held Definition Entry };
+
+    ghost coded = { Prim.hlevel (codes, d.the_row.coded, e.the_row.coded) };
+
+    ghost view = { λ d. record { definitions = d.definitions; entries = d.entries } };
+
+    ghost inverse = { λ d. record { definitions = d.definitions; entries = d.entries } };
+
+    ghost invariant = { λ d. DefinitionsFit d.definitions d.entries };
+}
+
+// The entries first, so that each definition is let go of by those behind it before its own turn.
+impl Drop for Document {
+    fn drop(self) {
+        let Document {
+            entries,
+            definitions,
+        } = self;
+        drop(entries);
+        drop(definitions);
+    }
+}
+
+impl Document {
+    /// The document of `definitions`, whose typenames and modules `entries` holds by name.
+    pub fn new(definitions: Definitions, entries: Entries) -> Document
+        requires { DefinitionsFit definitions entries }
+        ensures definitions { result.definitions ≡ definitions }
+        ensures entries { result.entries ≡ entries }
+    {
+        Document {
+            entries,
+            definitions,
+        }
+    }
+
+    /// All definitions, in order.
+    pub fn definitions(&self) -> &Definitions
+        ensures { result.now ≡ self.now.definitions }
+    {
+        &self.definitions
+    }
+
+    /// The typename of that name; none exactly where the document has none.
+    #[tactic(auto, using(crate::proofs::TreeKinds::kind_rules))]
+    pub fn typename(&self, name: &Id) -> Option<&Rc<NamedType>>
+        ensures { option_map (λ n. named_tree n.now.value) result ≡ typename_called (map definition_tree self.now.definitions) name.now }
+    {
+        match self.entries.get(name) {
+            Some(Entry::Typename(named)) => Some(named),
+            _ => None,
+        }
+    }
+
+    /// The module of that name; none exactly where the document has none.
+    pub fn module(&self, name: &Id) -> Option<&Rc<Module>>
+        ensures { option_map (λ m. module_tree m.now.value) result ≡ module_called (map definition_tree self.now.definitions) name.now }
+    {
+        match self.entries.get(name) {
+            Some(Entry::Module(module)) => Some(module),
+            _ => None,
+        }
+    }
+
+    /// The typenames, in order.
+    pub fn typenames(&self) -> Typenames<'_>
+        ensures { filter_map typename_kind result.rest.now ≡ filter_map typename_kind self.now.definitions }
+    {
+        OfKind::among(self.definitions.as_slice())
+    }
+
+    /// The modules, in order.
+    pub fn modules(&self) -> Modules<'_>
+        ensures { filter_map module_kind result.rest.now ≡ filter_map module_kind self.now.definitions }
+    {
+        OfKind::among(self.definitions.as_slice())
+    }
+
+    /// The constants, in order.
+    pub fn constants(&self) -> Constants<'_>
+        ensures { filter_map constant_kind result.rest.now ≡ filter_map constant_kind self.now.definitions }
+    {
+        OfKind::among(self.definitions.as_slice())
+    }
+}
+
+impl Duplicate for Document {
+    ghost use Rattle.witx_ast.specs.Definitions.{definition_tree, entry_tree};
+    ghost use Rattle.witx_ast.specs.Copies.{IsCopyOf};
+
+    ghost is_copy = { IsCopyOf definition_tree entry_tree };
+
+    #[tactic(auto, using(crate::proofs::HeldCopies::held_rules))]
+    fn copy(&self) -> Result<Document, OutOfMemory> {
+        Ok(Document {
+            entries: self.entries.copy()?,
+            definitions: self.definitions.copy()?,
+        })
+    }
+}

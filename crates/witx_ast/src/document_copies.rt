@@ -1,0 +1,38 @@
+ghost use Rattle.std.specs.Prelude.{◌≡◌};
+ghost use Rattle.std.specs.List.{AllZip};
+ghost use Rattle.witx_ast.specs.Definitions.{definition_tree, entry_tree};
+
+use crate::definition::{Definition, Entry};
+use std::alloc::AllocError;
+use witx_base::{Duplicate, OutOfMemory};
+
+impl Duplicate for Definition {
+    ghost is_copy = { λ d c. definition_tree c ≡ definition_tree d };
+
+    fn copy(&self) -> Result<Definition, OutOfMemory> {
+        match self {
+            Definition::Typename(named) => Ok(Definition::Typename(named.clone()?)),
+            Definition::Module(module) => Ok(Definition::Module(module.clone()?)),
+            Definition::Constant(constant) => Ok(Definition::Constant(constant.copy()?)),
+        }
+    }
+}
+
+impl Clone for Entry {
+    ghost is_clone = { λ e c. entry_tree c ≡ entry_tree e };
+
+    fn clone(&self) -> Result<Entry, AllocError> {
+        match self {
+            Entry::Typename(named) => Ok(Entry::Typename(named.clone()?)),
+            Entry::Module(module) => Ok(Entry::Module(module.clone()?)),
+        }
+    }
+}
+
+impl Duplicate for Entry {
+    ghost is_copy = { λ e c. entry_tree c ≡ entry_tree e };
+
+    fn copy(&self) -> Result<Entry, OutOfMemory> {
+        Ok(self.clone()?)
+    }
+}

@@ -1,0 +1,168 @@
+use std::hash::{Hash, Hasher};
+use std::rc::Rc;
+use witx_base::{Id, Items, Text};
+
+/// The types without parts.
+#[derive(Clone, Copy, PartialEq, Eq, Hash, Debug, Drop)]
+pub enum BuiltinType {
+    Char,
+    /// `lang_c_char`: a character of C.
+    U8 { lang_c_char: bool },
+    U16,
+    /// `lang_ptr_size`: as wide as a pointer.
+    U32 { lang_ptr_size: bool },
+    U64,
+    S8,
+    S16,
+    S32,
+    S64,
+    F32,
+    F64,
+}
+
+/// What flags and the tags of variants are kept in.
+#[derive(Clone, Copy, PartialEq, Eq, Hash, Debug, Drop)]
+pub enum IntRepr {
+    U8,
+    U16,
+    U32,
+    U64,
+}
+
+/// What a record stands for.
+#[derive(Clone, Copy, PartialEq, Eq, Hash, Debug, Drop)]
+pub enum RecordKind {
+    /// Its members are told by their places.
+    Tuple,
+    /// Flags: one truth value per member.
+    Bitflags(IntRepr),
+    Other,
+}
+
+/// A reference that a module can use and not make.
+#[derive(Clone, Copy, PartialEq, Eq, Hash, Debug, Drop)]
+pub struct HandleDatatype;
+
+/// A use of a type: by its name, or written out. Equal where the trees are equal.
+#[cycle(ast)]
+#[derive(Debug, Drop)]
+pub enum TypeRef {
+    Name(Rc<NamedType>),
+    Value(Rc<Datatype>),
+}
+
+// By their trees, so that the derived comparisons of the types below say the same.
+impl PartialEq for TypeRef {
+    ghost use Rattle.std.specs.Cmp.{on_per, partial_equiv_from_equiv};
+    ghost use Rattle.witx_ast.specs.Reads.{tree_of};
+    ghost use Rattle.witx_ast.specs.Same.{same_tree};
+    ghost use Rattle.witx_ast.specs.SameLaws.{tree_equivalence};
+
+    ghost eq = { λ a b. same_tree (tree_of a) (tree_of b) };
+
+    ghost laws = { on_per tree_of (partial_equiv_from_equiv tree_equivalence) };
+
+    #[cycle(ast)]
+    #[tactic(auto, using(crate::proofs::Equal::same_rules))]
+    fn eq(&self, other: &TypeRef) -> bool {
+        match (self, other) {
+            (TypeRef::Name(a), TypeRef::Name(b)) => **a == **b,
+            (TypeRef::Value(a), TypeRef::Value(b)) => **a == **b,
+            _ => false,
+        }
+    }
+}
+
+impl Eq for TypeRef {
+    ghost use Rattle.std.specs.Cmp.{on_equiv};
+    ghost use Rattle.witx_ast.specs.Reads.{tree_of};
+    ghost use Rattle.witx_ast.specs.SameLaws.{tree_equivalence};
+
+    ghost laws = { on_equiv tree_of tree_equivalence };
+}
+
+// By its name, or else by the kind of the type: equal types hash alike.
+impl Hash for TypeRef {
+    ghost use Rattle.witx_ast.specs.Reads.{tree_of};
+    ghost use Rattle.witx_ast.specs.Hashes.{shallow_hash, tree-alike};
+
+    ghost hash_input = { λ t. shallow_hash (tree_of t) };
+
+    ghost respects_eq = { λ a b h. tree-alike (tree_of a) (tree_of b) h };
+
+    #[tactic(auto, using(crate::proofs::Equal::hash_rules))]
+    fn hash<H: Hasher>(&self, state: &mut H) {
+        match self {
+            TypeRef::Name(named) => {
+                state.write_u8(0);
+                named.name.hash(state);
+            }
+            TypeRef::Value(datatype) => {
+                state.write_u8(1);
+                datatype.kind().hash(state);
+            }
+        }
+    }
+}
+
+/// A name, and the type that it stands for.
+#[cycle(ast)]
+#[derive(PartialEq, Eq, Hash, Debug, Drop)]
+pub struct NamedType {
+    pub name: Id,
+    pub tref: TypeRef,
+    pub docs: Text,
+}
+
+/// A type that is written out.
+#[cycle(ast)]
+#[derive(PartialEq, Eq, Hash, Debug, Drop)]
+pub enum Datatype {
+    Record(RecordDatatype),
+    Variant(Variant),
+    Handle(HandleDatatype),
+    List(TypeRef),
+    Pointer(TypeRef),
+    ConstPointer(TypeRef),
+    Builtin(BuiltinType),
+}
+
+/// A record: a tuple, flags, or members with names.
+#[cycle(ast)]
+#[derive(PartialEq, Eq, Hash, Debug, Drop)]
+pub struct RecordDatatype {
+    pub kind: RecordKind,
+    pub members: Members,
+}
+
+/// The members of a record, in order.
+pub type Members = Items<RecordMember>;
+
+/// A member of a record.
+#[cycle(ast)]
+#[derive(PartialEq, Eq, Hash, Debug, Drop)]
+pub struct RecordMember {
+    pub name: Id,
+    pub tref: TypeRef,
+    pub docs: Text,
+}
+
+/// A choice of cases.
+#[cycle(ast)]
+#[derive(PartialEq, Eq, Hash, Debug, Drop)]
+pub struct Variant {
+    pub tag_repr: IntRepr,
+    pub cases: Cases,
+}
+
+/// The cases of a variant, in order.
+pub type Cases = Items<Case>;
+
+/// A case of a variant, with its payload if it has one.
+#[cycle(ast)]
+#[derive(PartialEq, Eq, Hash, Debug, Drop)]
+pub struct Case {
+    pub name: Id,
+    pub tref: Option<TypeRef>,
+    pub docs: Text,
+}
