@@ -59,7 +59,7 @@ pub fn documents_are_hashed_by_names(document: &Document)
 {}
 
 /// A module is hashed by its name, the names of its entries, in order, and its documentation.
-pub fn modules_are_hashed_by_names(module: &Module)
-    ensures { ⟦<Module as Hash>⟧.hash_input module.now
-        ≡ fed.str module.now.name ++ fed.slice (λ entry. fed.str entry.0) module.now.contents.entries ++ fed.str module.now.docs }
+pub fn modules_are_hashed_by_names(hashed: &Module)
+    ensures { ⟦<Module as Hash>⟧.hash_input hashed.now
+        ≡ fed.str hashed.now.name ++ fed.slice (λ entry. fed.str entry.0) hashed.now.contents.entries ++ fed.str hashed.now.docs }
 {}
