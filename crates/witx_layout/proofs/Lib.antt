@@ -1,0 +1,9 @@
+pub mod Alignments
+pub mod Begins
+pub mod Examples
+pub mod LawProofs
+pub mod Misfitting
+pub mod OneTypename
+pub mod Steps
+pub mod Typenames
+pub mod Written

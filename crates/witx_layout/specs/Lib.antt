@@ -1,0 +1,4 @@
+pub mod Laws
+pub mod LayoutsText
+pub mod Refusals
+pub mod Numbers

@@ -1,0 +1,88 @@
+ghost use Rattle.std.specs.Prelude.{◌≡◌, ◌≤◌, ◌<◌, ◌+◌, ◌^◌, max, MatchOption, MatchResult};
+ghost use Rattle.witx_layout.specs.Numbers.{align_to as rounded};
+
+use crate::layout::{SizeAlign, TooLarge};
+
+/// The offset, rounded up to a multiple of the alignment; none where that exceeds `usize::MAX`.
+pub fn align_to(offset: usize, alignment: usize) -> Option<usize>
+    requires { 0 < alignment }
+    ensures { MatchOption result (2 ^ 64 ≤ rounded offset alignment) (λ n. n ≡ rounded offset alignment) }
+{
+    offset.checked_add((alignment - offset % alignment) % alignment)
+}
+
+/// What is reached once a part is placed behind what is reached.
+pub fn followed_by(reached: SizeAlign, part: SizeAlign) -> Result<SizeAlign, TooLarge>
+    requires { 0 < part.align }
+    ensures { MatchResult result
+        (λ v. (v.size ≡ rounded reached.size part.align + part.size) × (v.align ≡ max reached.align part.align))
+        (λ _. 2 ^ 64 ≤ rounded reached.size part.align + part.size) }
+{
+    let Some(start) = align_to(reached.size, part.align) else {
+        return Err(TooLarge);
+    };
+    let Some(size) = start.checked_add(part.size) else {
+        return Err(TooLarge);
+    };
+    Ok(SizeAlign {
+        size,
+        align: greater(reached.align, part.align),
+    })
+}
+
+/// The whole, with its size rounded up to its alignment.
+pub fn padded(whole: SizeAlign) -> Result<SizeAlign, TooLarge>
+    requires { 0 < whole.align }
+    ensures { MatchResult result
+        (λ v. (v.size ≡ rounded whole.size whole.align) × (v.align ≡ whole.align))
+        (λ _. 2 ^ 64 ≤ rounded whole.size whole.align) }
+{
+    match align_to(whole.size, whole.align) {
+        Some(size) => Ok(SizeAlign {
+            size,
+            align: whole.align,
+        }),
+        None => Err(TooLarge),
+    }
+}
+
+/// A tag, and behind it the payload of the greatest size and the greatest alignment.
+pub fn tagged(tag: SizeAlign, payload: SizeAlign) -> Result<SizeAlign, TooLarge>
+    requires tag { 0 < tag.align }
+    requires payload { 0 < payload.align }
+    ensures { MatchResult result
+        (λ v. (v.size ≡ rounded (rounded tag.size payload.align + payload.size) (max tag.align payload.align)) × (v.align ≡ max tag.align payload.align))
+        (λ _. 2 ^ 64 ≤ rounded (rounded tag.size payload.align + payload.size) (max tag.align payload.align)) }
+{
+    padded(followed_by(tag, payload)?)
+}
+
+pub fn greater(a: usize, b: usize) -> usize
+    ensures { result ≡ max a b }
+{
+    a.max(b)
+}
+
+#[cfg(test)]
+mod tests {
+    use super::*;
+
+    #[test]
+    fn offsets_are_rounded_up(rt: HostRuntime) {
+        for (offset, alignment, rounded) in [
+            (0, 8, 0),
+            (1, 8, 8),
+            (2, 1, 2),
+            (5, 2, 6),
+            (5, 4, 8),
+            (usize::MAX - 7, 8, usize::MAX - 7),
+        ] {
+            assert_eq!(rt;
+                align_to(offset, alignment),
+                Some(rounded),
+                "{offset} to {alignment}"
+            );
+        }
+        assert_eq!(rt; align_to(usize::MAX - 6, 8), None);
+    }
+}
