@@ -1,0 +1,16 @@
+pub mod Scalars
+pub mod Runs
+pub mod Laws
+pub mod Ways
+pub mod Params
+pub mod Spaces
+pub mod Blocks
+pub mod Stores
+pub mod Callee
+pub mod Caller
+pub mod Whole
+pub mod Cases
+pub mod All
+pub mod CellLaws
+pub mod HeightLaws
+pub mod Examples

@@ -1,0 +1,14 @@
+pub mod Words
+pub mod Events
+pub mod Rows
+pub mod Functions
+pub mod Signature
+pub mod Lowerable
+pub mod Traces
+pub mod Machine
+pub mod Run
+pub mod Cells
+pub mod Passage
+pub mod Faithful
+pub mod Positions
+pub mod Heights

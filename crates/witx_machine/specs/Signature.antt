@@ -1,0 +1,73 @@
+-- The signature of a function: the types of the words that go in, and of those that come back.
+-- A result variant comes back as one word; what its first case carries is stored at return pointers,
+-- which are further words in: one for each member of a tuple, else one.
+use Rattle.std.specs.Prelude.{ℕ, List, [], ◌∷◌, ◌++◌, map, Bool, not, Option, Some, None, position, is_none, option_map}
+use Rattle.witx_ast.specs.declared.types.RecordKind.{RecordKind}
+use Rattle.witx_ast.specs.Tree.{Tree, Arms}
+use Rattle.witx_ast.specs.Plain.{Plain, plain}
+use Rattle.witx_machine.specs.declared.surface.WasmType.{WasmType}
+use Rattle.witx_machine.specs.declared.surface.Place.{Place}
+use Rattle.witx_machine.specs.Words.{builtin_word_type, repr_word_type}
+use Rattle.witx_machine.specs.Functions.{Function, member_types, ok_of, result_cases}
+
+-- the words of a parameter
+abbrev pub param_words : Plain → List WasmType
+param_words (Plain.builtin b) = builtin_word_type b ∷ []
+param_words (Plain.list_of t) = WasmType.I32 ∷ WasmType.I32 ∷ []
+param_words (Plain.record_of (RecordKind.Bitflags r) ms) = repr_word_type r ∷ []
+param_words _ = WasmType.I32 ∷ []
+
+abbrev pub words_of_params : List Tree → List WasmType
+words_of_params [] = []
+words_of_params (t ∷ ts) = param_words (plain t) ++ words_of_params ts
+
+-- the word of a result; a list and a record that isn't flags have none
+abbrev pub result_word : Plain → Option WasmType
+result_word (Plain.builtin b) = Some (builtin_word_type b)
+result_word Plain.handle = Some WasmType.I32
+result_word (Plain.pointer_to t) = Some WasmType.I32
+result_word (Plain.const_pointer_to t) = Some WasmType.I32
+result_word (Plain.record_of (RecordKind.Bitflags r) ms) = Some (repr_word_type r)
+result_word (Plain.variant_of r cs) = Some (repr_word_type r)
+result_word _ = None
+
+abbrev pub before_rest : {A : Type 0} → Option A → List A → List A
+before_rest None xs = xs
+before_rest (Some x) xs = x ∷ xs
+
+abbrev pub words_of_results : List Tree → List WasmType
+words_of_results [] = []
+words_of_results (t ∷ ts) = before_rest (result_word (plain t)) (words_of_results ts)
+
+-- the return pointers of an ok type, by what it is behind its names
+abbrev pub pointers_at : Tree → Tree → List Tree
+pointers_at whole (Tree.named n t d) = pointers_at whole t
+pointers_at whole (Tree.record_of RecordKind.Tuple ms) = member_types ms
+pointers_at whole _ = whole ∷ []
+
+abbrev pub ok_pointers : Option Tree → List Tree
+ok_pointers None = []
+ok_pointers (Some t) = pointers_at t t
+
+abbrev pub pointers_by : Option Arms → List Tree
+pointers_by None = []
+pointers_by (Some cs) = ok_pointers (ok_of cs)
+
+abbrev pub pointers_of : List Tree → List Tree
+pointers_of [] = []
+pointers_of (t ∷ ts) = pointers_by (result_cases t) ++ pointers_of ts
+
+-- the types of a function's return pointers
+abbrev pub return_pointers : Function → List Tree
+return_pointers f = pointers_of f.results
+
+-- THE SIGNATURE
+abbrev pub signature_params : Function → List WasmType
+signature_params f = words_of_params f.params ++ map (λ t. WasmType.I32) (return_pointers f)
+
+abbrev pub signature_results : Function → List WasmType
+signature_results f = words_of_results f.results
+
+-- the first result that has no word
+abbrev pub without_signature : Function → Option Place
+without_signature f = option_map Place.Result (position (λ t. is_none (result_word (plain t))) f.results)

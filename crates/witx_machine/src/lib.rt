@@ -1,0 +1,9 @@
+//! What lowering means: signatures, the events of a function's two traces, the machine that runs them,
+//! and the law that the two traces of each function agree.
+#![tactic(auto)]
+
+mod promises;
+mod surface;
+
+pub use promises::traces_are_faithful;
+pub use surface::{Place, WasmType};

@@ -1,0 +1,14 @@
+ghost use Rattle.std.specs.Prelude.{ℕ, List, IsTrue};
+ghost use Rattle.witx_ast.specs.Functions.{FunctionTree};
+ghost use Rattle.witx_ast.specs.Tags.{function_fits};
+ghost use Rattle.witx_machine.specs.Functions.{function_of};
+ghost use Rattle.witx_machine.specs.Lowerable.{lowerable};
+ghost use Rattle.witx_machine.specs.Traces.{caller_events, callee_events};
+ghost use Rattle.witx_machine.specs.Faithful.{Faithful};
+
+/// The two traces of a function that can be lowered, and whose types fit their tags, are faithful:
+/// caller against callee passes any arguments and brings any reply back.
+pub fn traces_are_faithful()
+    ensures { (module_name : List ℕ) (func : FunctionTree) → IsTrue (lowerable (function_of func)) → IsTrue (function_fits func) →
+        Faithful module_name (function_of func) (caller_events module_name (function_of func)) (callee_events module_name (function_of func)) }
+{}
