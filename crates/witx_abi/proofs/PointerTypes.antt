@@ -1,0 +1,172 @@
+-- The return pointers of an ok type: the named types of a tuple's members, or the one named type.
+use Rattle.std.proofs.Common.{◌≡◌, ◌<◌, ◌≤◌, ◌+◌, ℕ, zero, suc, List, [], ◌∷◌, ◌++◌, append_assoc, append-nil, Bool, true, false, not, ◌&&◌, ◌||◌, Option, Some, None, option_map, map, length, drop, get_or, refl, sym, ap, ◌∙◌, subst, T, arith}
+use Rattle.std.specs.Borrow.{Bor}
+use Rattle.std.specs.declared.alloc.Global.{Global}
+use Rattle.std.specs.declared.rc.Rc.{Rc}
+use Rattle.std.proofs.lemmas.List.{drop_more, drop_all}
+use Rattle.witx_ast.specs.Tree.{Tree, Fields}
+use Rattle.witx_ast.specs.Words.{is_named}
+use Rattle.witx_ast.specs.Reads.{tree_of, named_tree}
+use Rattle.witx_ast.specs.declared.types.RecordKind.{RecordKind}
+use Rattle.witx_ast.specs.declared.types.NamedType.{NamedType}
+use Rattle.witx_ast.specs.declared.types.RecordMember.{RecordMember}
+use Rattle.witx_machine.specs.Functions.{is_tuple, member_types}
+use Rattle.witx_machine.specs.Signature.{pointers_at, ok_pointers}
+use Rattle.witx_machine.specs.Lowerable.{can_be_ok, all_names, members_are_named}
+use Rattle.witx_abi.specs.Reads.{pointer_types, tuple_types}
+
+pub pointer-more : (ps : List (Bor (Rc NamedType Global))) (p : Bor (Rc NamedType Global)) → pointer_types (ps ++ p ∷ []) ≡ pointer_types ps ++ named_tree p.now.value ∷ []
+pointer-more [] p = refl
+pointer-more (q ∷ ps) p = ap (λ ts. named_tree q.now.value ∷ ts) (pointer-more ps p)
+
+pointers-tuple : (whole t : Tree) (ts : List Tree) → tuple_types t ≡ Some ts → pointers_at whole t ≡ ts
+pointers-tuple whole (Tree.named n t d) ts e = pointers-tuple whole t ts e
+pointers-tuple whole (Tree.record_of RecordKind.Tuple ms) ts e = some_same e
+  where
+    some_of : List Tree → Option (List Tree) → List Tree
+    some_of d (Some x) = x
+    some_of d None = d
+
+    some_same : Some (member_types ms) ≡ Some ts → member_types ms ≡ ts
+    some_same e = ap (some_of ts) e
+pointers-tuple whole (Tree.record_of (RecordKind.Bitflags r) ms) ts e = absurd (clash e)
+  where
+    clash : None ≡ Some ts → ⊥
+    clash e = cc
+pointers-tuple whole (Tree.record_of RecordKind.Other ms) ts e = absurd (clash e)
+  where
+    clash : None ≡ Some ts → ⊥
+    clash e = cc
+pointers-tuple whole (Tree.builtin b) ts e = absurd (clash e)
+  where
+    clash : None ≡ Some ts → ⊥
+    clash e = cc
+pointers-tuple whole Tree.handle ts e = absurd (clash e)
+  where
+    clash : None ≡ Some ts → ⊥
+    clash e = cc
+pointers-tuple whole (Tree.list_of t) ts e = absurd (clash e)
+  where
+    clash : None ≡ Some ts → ⊥
+    clash e = cc
+pointers-tuple whole (Tree.pointer_to t) ts e = absurd (clash e)
+  where
+    clash : None ≡ Some ts → ⊥
+    clash e = cc
+pointers-tuple whole (Tree.const_pointer_to t) ts e = absurd (clash e)
+  where
+    clash : None ≡ Some ts → ⊥
+    clash e = cc
+pointers-tuple whole (Tree.variant_of r cs) ts e = absurd (clash e)
+  where
+    clash : None ≡ Some ts → ⊥
+    clash e = cc
+
+pointers-one : (whole t : Tree) → tuple_types t ≡ None → pointers_at whole t ≡ whole ∷ []
+pointers-one whole (Tree.named n t d) e = pointers-one whole t e
+pointers-one whole (Tree.record_of RecordKind.Tuple ms) e = absurd (clash e)
+  where
+    clash : Some (member_types ms) ≡ None → ⊥
+    clash e = cc
+pointers-one whole (Tree.record_of (RecordKind.Bitflags r) ms) e = refl
+pointers-one whole (Tree.record_of RecordKind.Other ms) e = refl
+pointers-one whole (Tree.builtin b) e = refl
+pointers-one whole Tree.handle e = refl
+pointers-one whole (Tree.list_of t) e = refl
+pointers-one whole (Tree.pointer_to t) e = refl
+pointers-one whole (Tree.const_pointer_to t) e = refl
+pointers-one whole (Tree.variant_of r cs) e = refl
+
+-- the pointers of an ok type that is a tuple, and of another
+pub ok-tuple : (t : Tree) (ts : List Tree) → tuple_types t ≡ Some ts → ok_pointers (Some t) ≡ ts
+ok-tuple t ts e = pointers-tuple t t ts e
+
+pub ok-single : (t : Tree) → tuple_types t ≡ None → ok_pointers (Some t) ≡ t ∷ []
+ok-single t e = pointers-one t t e
+
+names-tuple : (t : Tree) (ts : List Tree) → tuple_types t ≡ Some ts → members_are_named t ≡ all_names ts
+names-tuple (Tree.named n t d) ts e = names-tuple t ts e
+names-tuple (Tree.record_of RecordKind.Tuple ms) ts e = ap all_names (pointers-tuple Tree.handle (Tree.record_of RecordKind.Tuple ms) ts e)
+names-tuple (Tree.record_of (RecordKind.Bitflags r) ms) ts e = absurd (clash e)
+  where
+    clash : None ≡ Some ts → ⊥
+    clash e = cc
+names-tuple (Tree.record_of RecordKind.Other ms) ts e = absurd (clash e)
+  where
+    clash : None ≡ Some ts → ⊥
+    clash e = cc
+names-tuple (Tree.builtin b) ts e = absurd (clash e)
+  where
+    clash : None ≡ Some ts → ⊥
+    clash e = cc
+names-tuple Tree.handle ts e = absurd (clash e)
+  where
+    clash : None ≡ Some ts → ⊥
+    clash e = cc
+names-tuple (Tree.list_of t) ts e = absurd (clash e)
+  where
+    clash : None ≡ Some ts → ⊥
+    clash e = cc
+names-tuple (Tree.pointer_to t) ts e = absurd (clash e)
+  where
+    clash : None ≡ Some ts → ⊥
+    clash e = cc
+names-tuple (Tree.const_pointer_to t) ts e = absurd (clash e)
+  where
+    clash : None ≡ Some ts → ⊥
+    clash e = cc
+names-tuple (Tree.variant_of r cs) ts e = absurd (clash e)
+  where
+    clash : None ≡ Some ts → ⊥
+    clash e = cc
+
+not-tuple : (t : Tree) → tuple_types t ≡ None → is_tuple t ≡ false
+not-tuple (Tree.named n t d) e = not-tuple t e
+not-tuple (Tree.record_of RecordKind.Tuple ms) e = absurd (clash e)
+  where
+    clash : Some (member_types ms) ≡ None → ⊥
+    clash e = cc
+not-tuple (Tree.record_of (RecordKind.Bitflags r) ms) e = refl
+not-tuple (Tree.record_of RecordKind.Other ms) e = refl
+not-tuple (Tree.builtin b) e = refl
+not-tuple Tree.handle e = refl
+not-tuple (Tree.list_of t) e = refl
+not-tuple (Tree.pointer_to t) e = refl
+not-tuple (Tree.const_pointer_to t) e = refl
+not-tuple (Tree.variant_of r cs) e = refl
+
+and-right : (a b : Bool) → a && b ≡ true → b ≡ true
+and-right true b h = h
+and-right false b h = absurd (clash h)
+  where
+    clash : false ≡ true → ⊥
+    clash h = cc
+
+and-left : (a b : Bool) → a && b ≡ true → a ≡ true
+and-left true b h = refl
+and-left false b h = h
+
+-- what an ok type that can be lowered has named
+pub ok-members : (t : Tree) (ts : List Tree) → tuple_types t ≡ Some ts → can_be_ok (Some t) ≡ true → all_names ts ≡ true
+ok-members t ts e h = sym (names-tuple t ts e) ∙ and-right (is_named t || is_tuple t) (members_are_named t) h
+
+pub ok-named : (t : Tree) → tuple_types t ≡ None → can_be_ok (Some t) ≡ true → is_named t ≡ true
+ok-named t e h = or-false (is_named t) (is_tuple t) (not-tuple t e) (and-left (is_named t || is_tuple t) (members_are_named t) h)
+  where
+    or-false : (a b : Bool) → b ≡ false → a || b ≡ true → a ≡ true
+    or-false true b e h = refl
+    or-false false b e h = sym e ∙ h
+
+pub member-named : (xs : List RecordMember) (i : ℕ) (m : RecordMember) → i < length xs → m ≡ get_or xs i m → all_names (map (λ m. tree_of m.tref) xs) ≡ true → is_named (tree_of m.tref) ≡ true
+member-named [] i m l p h = absurd (omega arith)
+member-named (x ∷ xs) zero m l p h = subst (λ y. is_named (tree_of y.tref) ≡ true) (sym p) (and-left (is_named (tree_of x.tref)) (all_names (map (λ m. tree_of m.tref) xs)) h)
+member-named (x ∷ xs) (suc i) m l p h = member-named xs i m (omega arith) p (and-right (is_named (tree_of x.tref)) (all_names (map (λ m. tree_of m.tref) xs)) h)
+
+pub members-step : (ts : List Tree) (xs : List RecordMember) (i : ℕ) (m : RecordMember) → i < length xs → m ≡ get_or xs i m
+    → ts ++ map (λ m. tree_of m.tref) (drop i xs) ≡ (ts ++ tree_of m.tref ∷ []) ++ map (λ m. tree_of m.tref) (drop (i + 1) xs)
+members-step ts xs i m l p = rw (drop_more xs i m l, ← p) (sym (append_assoc ts (tree_of m.tref ∷ []) (map (λ m. tree_of m.tref) (drop (i + 1) xs))))
+
+pub members-last : (ts : List Tree) (xs : List RecordMember) (i : ℕ) → length xs ≤ i → ts ++ map (λ m. tree_of m.tref) (drop i xs) ≡ ts
+members-last ts xs i l = rw (drop_all i xs l) (append-nil ts)
+
+pub ruleset pointer_rules = (pointer-more, ok-tuple, ok-single, ok-members, ok-named, member-named, members-step, members-last)

@@ -1,0 +1,211 @@
+ghost use Rattle.std.specs.Prelude.{◌≡◌, ◌++◌, ◌∷◌, [], IfOk, None, Some, cond, is_some, option_map, position, not, true};
+ghost use Rattle.witx_ast.specs.Reads.{tree_of};
+ghost use Rattle.witx_machine.specs.Events as machine;
+ghost use Rattle.witx_machine.specs.Functions.{is_tuple, result_cases};
+ghost use Rattle.witx_machine.specs.Lowerable.{can_be_param, can_be_err, can_be_result, unlowerable, unlowerable_result};
+ghost use Rattle.witx_machine.specs.Signature.{signature_params, signature_results, ok_pointers, pointers_of, pointers_by, return_pointers};
+ghost use Rattle.witx_machine.specs.Traces as traces;
+ghost use Rattle.witx_abi.specs.Reads.{called, param_types, planned_events, pointer_types};
+
+use crate::instruction::{Instruction, WasmTypes};
+use crate::lowering::{lift, lower};
+use crate::plan::{Plan, Planned, add, put};
+use crate::pointers::Pointers;
+use crate::reading::{err_type, is_tuple, ok_type, result_cases};
+use witx_ast::{InterfaceFunc, Params, TypeRef};
+use witx_base::{Id, OutOfMemory};
+
+/// Plans the events of the side that calls.
+#[tactic(auto, using(crate::proofs::Sides::side_rules))]
+pub fn plan_caller<'a>(
+    plan: &mut Plan<'a>,
+    module_name: &'a Id,
+    func: &'a InterfaceFunc,
+    pointers: &Pointers<'a>,
+    params: &'a WasmTypes,
+    results: &'a WasmTypes,
+) -> Result<(), OutOfMemory>
+    requires lowerable { unlowerable (called func.now) ≡ None }
+    requires pointers { pointer_types pointers.now ≡ return_pointers (called func.now) }
+    requires params { params.now ≡ signature_params (called func.now) }
+    requires results { results.now ≡ signature_results (called func.now) }
+    ensures { IfOk result (λ _. planned_events plan.new ≡ planned_events plan.old ++ traces.caller_events module_name.now (called func.now)) }
+{
+    lower_params(plan, &func.params)?;
+    make_spaces(plan, pointers)?;
+    let module = module_name.as_str();
+    let name = func.name.as_str();
+    put(
+        plan,
+        Instruction::CallWasm {
+            module,
+            name,
+            params,
+            results,
+        },
+    )?;
+    lift_results(plan, &func.results, pointers)?;
+    let amt = func.results.len();
+    put(plan, Instruction::Return { amt })
+}
+
+#[tactic(auto, using(crate::proofs::Sides::side_rules))]
+fn lower_params<'a>(plan: &mut Plan<'a>, params: &'a Params) -> Result<(), OutOfMemory>
+    requires { position (λ t. not (can_be_param t)) (param_types params.now) ≡ None }
+    ensures { IfOk result (λ _. planned_events plan.new ≡ planned_events plan.old ++ traces.lower_params 0 (param_types params.now)) }
+{
+    for (nth, param) in params.as_slice().iter().enumerate() {
+        put(plan, Instruction::GetArg { nth })?;
+        put(plan, lower(&param.tref))?;
+    }
+    Ok(())
+}
+
+#[tactic(auto, using(crate::proofs::Sides::side_rules))]
+fn make_spaces<'a>(plan: &mut Plan<'a>, pointers: &Pointers<'a>) -> Result<(), OutOfMemory>
+    ensures { IfOk result (λ _. planned_events plan.new ≡ planned_events plan.old ++ traces.make_spaces 0 (pointer_types pointers.now)) }
+{
+    for (slot, pointer) in pointers.as_slice().iter().enumerate() {
+        let ty = *pointer;
+        add(plan, Planned::Space { slot, ty })?;
+        put(plan, Instruction::ReturnPointerGet { n: slot })?;
+    }
+    Ok(())
+}
+
+#[tactic(auto, using(crate::proofs::Sides::side_rules))]
+fn lift_results<'a>(
+    plan: &mut Plan<'a>,
+    results: &'a Params,
+    pointers: &Pointers<'a>,
+) -> Result<(), OutOfMemory>
+    requires lowerable { unlowerable_result (param_types results.now) ≡ None }
+    requires pointers { pointer_types pointers.now ≡ pointers_of (param_types results.now) }
+    ensures { IfOk result (λ _. planned_events plan.new ≡ planned_events plan.old ++ traces.lift_of (param_types results.now)) }
+{
+    match results.get(0) {
+        Some(only) => lift_result(plan, &only.tref, pointers),
+        None => Ok(()),
+    }
+}
+
+#[tactic(auto, using(crate::proofs::Sides::side_rules))]
+fn lift_result<'a>(
+    plan: &mut Plan<'a>,
+    tref: &'a TypeRef,
+    pointers: &Pointers<'a>,
+) -> Result<(), OutOfMemory>
+    requires lowerable { can_be_result (tree_of tref.now) ≡ true }
+    requires pointers { pointer_types pointers.now ≡ pointers_by (result_cases (tree_of tref.now)) }
+    ensures { IfOk result (λ _. planned_events plan.new ≡ planned_events plan.old ++ traces.lift_by (result_cases (tree_of tref.now)) (tree_of tref.now)) }
+{
+    match result_cases(tref) {
+        Some(variant) => lift_cases(plan, ok_type(variant), err_type(variant), pointers),
+        None => put(plan, lift(tref)),
+    }
+}
+
+#[tactic(auto, using(crate::proofs::Sides::side_rules))]
+fn lift_cases<'a>(
+    plan: &mut Plan<'a>,
+    ok: Option<&'a TypeRef>,
+    err: Option<&'a TypeRef>,
+    pointers: &Pointers<'a>,
+) -> Result<(), OutOfMemory>
+    requires err { can_be_err (option_map (λ t. tree_of t.now) err) ≡ true }
+    requires pointers { pointer_types pointers.now ≡ ok_pointers (option_map (λ t. tree_of t.now) ok) }
+    ensures { IfOk result (λ _. planned_events plan.new ≡ planned_events plan.old ++ traces.lift_cases (option_map (λ t. tree_of t.now) ok.entry) (option_map (λ t. tree_of t.now) err.entry)) }
+{
+    lift_ok_block(plan, ok, pointers)?;
+    lift_err_block(plan, err)?;
+    put(plan, Instruction::ResultLift)
+}
+
+#[tactic(auto, using(crate::proofs::Sides::side_rules))]
+fn lift_ok_block<'a>(
+    plan: &mut Plan<'a>,
+    ok: Option<&'a TypeRef>,
+    pointers: &Pointers<'a>,
+) -> Result<(), OutOfMemory>
+    requires { pointer_types pointers.now ≡ ok_pointers (option_map (λ t. tree_of t.now) ok) }
+    ensures { IfOk result (λ _. planned_events plan.new ≡ planned_events plan.old ++ traces.block_of (traces.ok_lifted (option_map (λ t. tree_of t.now) ok.entry)) (is_some (option_map (λ t. tree_of t.now) ok.entry))) }
+{
+    add(plan, Planned::Push)?;
+    lift_ok(plan, ok, pointers)?;
+    add(
+        plan,
+        Planned::Finish {
+            value: ok.is_some(),
+        },
+    )
+}
+
+#[tactic(auto, using(crate::proofs::Sides::side_rules))]
+fn lift_ok<'a>(
+    plan: &mut Plan<'a>,
+    ok: Option<&'a TypeRef>,
+    pointers: &Pointers<'a>,
+) -> Result<(), OutOfMemory>
+    requires { pointer_types pointers.now ≡ ok_pointers (option_map (λ t. tree_of t.now) ok) }
+    ensures { IfOk result (λ _. planned_events plan.new ≡ planned_events plan.old ++ traces.ok_lifted (option_map (λ t. tree_of t.now) ok.entry)) }
+{
+    match ok {
+        Some(tref) => {
+            load_all(plan, pointers)?;
+            pack(plan, tref, pointers.len())
+        }
+        None => Ok(()),
+    }
+}
+
+#[tactic(auto, using(crate::proofs::Sides::side_rules))]
+fn pack<'a>(plan: &mut Plan<'a>, tref: &TypeRef, amt: usize) -> Result<(), OutOfMemory>
+    ensures { IfOk result (λ _. planned_events plan.new ≡ planned_events plan.old ++ cond (is_tuple (tree_of tref.now)) (machine.emit (machine.Step.TupleLift amt) ∷ []) []) }
+{
+    if is_tuple(tref) {
+        put(plan, Instruction::TupleLift { amt })
+    } else {
+        Ok(())
+    }
+}
+
+#[tactic(auto, using(crate::proofs::Sides::side_rules))]
+fn load_all<'a>(plan: &mut Plan<'a>, pointers: &Pointers<'a>) -> Result<(), OutOfMemory>
+    ensures { IfOk result (λ _. planned_events plan.new ≡ planned_events plan.old ++ traces.load_all 0 (pointer_types pointers.now)) }
+{
+    for (n, pointer) in pointers.as_slice().iter().enumerate() {
+        let ty = *pointer;
+        put(plan, Instruction::ReturnPointerGet { n })?;
+        put(plan, Instruction::Load { ty })?;
+    }
+    Ok(())
+}
+
+#[tactic(auto, using(crate::proofs::Sides::side_rules))]
+fn lift_err_block<'a>(plan: &mut Plan<'a>, err: Option<&'a TypeRef>) -> Result<(), OutOfMemory>
+    requires { can_be_err (option_map (λ t. tree_of t.now) err) ≡ true }
+    ensures { IfOk result (λ _. planned_events plan.new ≡ planned_events plan.old ++ traces.block_of (traces.err_lifted (option_map (λ t. tree_of t.now) err.entry)) (is_some (option_map (λ t. tree_of t.now) err.entry))) }
+{
+    add(plan, Planned::Push)?;
+    lift_err(plan, err)?;
+    add(
+        plan,
+        Planned::Finish {
+            value: err.is_some(),
+        },
+    )
+}
+
+#[tactic(auto, using(crate::proofs::Sides::side_rules))]
+fn lift_err<'a>(plan: &mut Plan<'a>, err: Option<&'a TypeRef>) -> Result<(), OutOfMemory>
+    requires { can_be_err (option_map (λ t. tree_of t.now) err) ≡ true }
+    ensures { IfOk result (λ _. planned_events plan.new ≡ planned_events plan.old ++ traces.err_lifted (option_map (λ t. tree_of t.now) err.entry)) }
+{
+    match err {
+        Some(tref) => {
+            put(plan, Instruction::ReuseReturn)?;
+            put(plan, lift(tref))
+        }
+        None => Ok(()),
+    }
+}

@@ -1,0 +1,32 @@
+//! Lowering of an interface's functions: signatures, instructions, and the events of both sides of a call.
+#![tactic(auto)]
+
+mod abi;
+mod bindgen;
+mod callee;
+mod caller;
+mod can_lower;
+mod error;
+mod event;
+mod failing;
+mod instruction;
+mod kept;
+mod lowering;
+mod plan;
+mod pointers;
+mod reading;
+mod signature;
+#[cfg(test)]
+mod tests;
+mod trace;
+
+pub use abi::AbiFunc;
+pub use bindgen::{Bindgen, BindgenError};
+pub use can_lower::lowerable;
+pub use error::{AbiError, SignatureError};
+pub use event::{Event, Events, Step};
+pub use failing::FailingBindgen;
+pub use instruction::{Instruction, WasmTypes};
+pub use trace::Trace;
+pub use witx_ast::TypeRefs;
+pub use witx_machine::{Place, WasmType};

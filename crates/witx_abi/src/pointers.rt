@@ -1,0 +1,85 @@
+ghost use Rattle.std.specs.Prelude.{◌≡◌, ◌++◌, ◌∷◌, [], None, Some, IfOk, map, option_map, true};
+ghost use Rattle.witx_ast.specs.Reads.{tree_of};
+ghost use Rattle.witx_ast.specs.Words.{is_named};
+ghost use Rattle.witx_machine.specs.Lowerable.{can_be_ok, can_be_result, all_names, unlowerable_result};
+ghost use Rattle.witx_machine.specs.Functions.{result_cases};
+ghost use Rattle.witx_machine.specs.Signature.{ok_pointers, pointers_of, pointers_by};
+ghost use Rattle.witx_abi.specs.Reads.{param_types, pointer_types};
+
+use crate::reading::{ok_type, result_cases, tuple_members};
+use std::alloc::Global;
+use std::rc::Rc;
+use witx_ast::{Members, NamedType, Params, TypeRef};
+use witx_base::{Items, OutOfMemory};
+
+/// The types of return pointers, in order.
+pub type Pointers<'a> = Items<&'a Rc<NamedType>>;
+
+/// The return pointers of a function that can be lowered.
+#[tactic(auto, using(crate::proofs::Sides::side_rules))]
+pub fn return_pointers<'a>(alloc: Global, results: &'a Params) -> Result<Pointers<'a>, OutOfMemory>
+    requires { unlowerable_result (param_types results.now) ≡ None }
+    ensures { IfOk result (λ pointers. pointer_types pointers ≡ pointers_of (param_types results.now)) }
+{
+    match results.get(0) {
+        Some(only) => result_pointers(alloc, &only.tref),
+        None => Ok(Items::new(alloc)),
+    }
+}
+
+#[tactic(auto, using(crate::proofs::Sides::side_rules))]
+fn result_pointers<'a>(alloc: Global, tref: &'a TypeRef) -> Result<Pointers<'a>, OutOfMemory>
+    requires { can_be_result (tree_of tref.now) ≡ true }
+    ensures { IfOk result (λ pointers. pointer_types pointers ≡ pointers_by (result_cases (tree_of tref.now))) }
+{
+    match result_cases(tref) {
+        Some(variant) => ok_pointers(alloc, ok_type(variant)),
+        None => Ok(Items::new(alloc)),
+    }
+}
+
+// The return pointers of an ok type: those of a tuple's members, or the one of another type.
+#[tactic(auto, using(crate::proofs::PointerTypes::pointer_rules))]
+fn ok_pointers<'a>(alloc: Global, ok: Option<&'a TypeRef>) -> Result<Pointers<'a>, OutOfMemory>
+    requires { can_be_ok (option_map (λ t. tree_of t.now) ok) ≡ true }
+    ensures { IfOk result (λ pointers. pointer_types pointers ≡ ok_pointers (option_map (λ t. tree_of t.now) ok.entry)) }
+{
+    let mut pointers = Items::new(alloc);
+    if let Some(tref) = ok {
+        push_pointers(&mut pointers, tref)?;
+    }
+    Ok(pointers)
+}
+
+#[tactic(auto, using(witx_ast::proofs::TreeKinds::kind_rules, crate::proofs::PointerTypes::pointer_rules))]
+fn push_pointers<'a>(pointers: &mut Pointers<'a>, tref: &'a TypeRef) -> Result<(), OutOfMemory>
+    requires { can_be_ok (Some (tree_of tref.now)) ≡ true }
+    ensures { IfOk result (λ _. pointer_types pointers.new ≡ pointer_types pointers.old ++ ok_pointers (Some (tree_of tref.now))) }
+{
+    match tuple_members(tref) {
+        Some(members) => push_members(pointers, members),
+        None => push_named(pointers, tref),
+    }
+}
+
+#[tactic(auto, using(crate::proofs::PointerTypes::pointer_rules))]
+fn push_members<'a>(pointers: &mut Pointers<'a>, members: &'a Members) -> Result<(), OutOfMemory>
+    requires { all_names (map (λ m. tree_of m.tref) members.now) ≡ true }
+    ensures { IfOk result (λ _. pointer_types pointers.new ≡ pointer_types pointers.old ++ map (λ m. tree_of m.tref) members.now) }
+{
+    for member in members.as_slice() {
+        push_named(pointers, &member.tref)?;
+    }
+    Ok(())
+}
+
+#[tactic(auto, using(witx_ast::proofs::TreeKinds::kind_rules, crate::proofs::PointerTypes::pointer_rules))]
+fn push_named<'a>(pointers: &mut Pointers<'a>, tref: &'a TypeRef) -> Result<(), OutOfMemory>
+    requires { is_named (tree_of tref.now) ≡ true }
+    ensures { IfOk result (λ _. pointer_types pointers.new ≡ pointer_types pointers.old ++ tree_of tref.now ∷ []) }
+{
+    match tref {
+        TypeRef::Name(named) => pointers.push(named),
+        TypeRef::Value(_) => unreachable!(),
+    }
+}

@@ -1,0 +1,77 @@
+ghost use Rattle.std.specs.Prelude.{◌≡◌, [], map, Some, is_some};
+ghost use Rattle.witx_machine.specs.Events.{finish};
+ghost use Rattle.witx_abi.specs.Reads.{event_of};
+ghost use Rattle.witx_abi.specs.Told.{told_after, is_fault, Counts};
+
+use crate::bindgen::{Bindgen, BindgenError};
+use crate::event::{Event, Events, Step};
+use crate::instruction::Instruction;
+use std::alloc::Global;
+use std::rc::Rc;
+use witx_ast::NamedType;
+use witx_base::Items;
+
+/// A generator that records the events of a trace, and never fails. Its operands are all 0.
+#[derive(Debug, Drop)]
+pub struct Trace {
+    events: Events,
+}
+
+impl Trace {
+    /// A trace without events; takes no memory.
+    pub fn new(alloc: Global) -> Trace
+        ensures { result.events ≡ [] }
+    {
+        Trace {
+            events: Items::new(alloc),
+        }
+    }
+
+    /// The events so far.
+    pub fn events(&self) -> &Events
+        ensures { result.now ≡ self.now.events }
+    {
+        &self.events
+    }
+}
+
+impl Bindgen for Trace {
+    type Operand = u8;
+
+    ghost told = { λ trace. Some (map event_of trace.events) };
+
+    ghost faults = { λ trace. 0 };
+
+    fn emit(
+        &mut self,
+        inst: &Instruction<'_>,
+        _operands: &mut Vec<u8>,
+        results: &mut Vec<u8>,
+    ) -> Result<(), BindgenError> {
+        let step = Step::of(self.events.allocator(), inst)?;
+        results.resize(inst.results_len(), 0)?;
+        self.events.push(Event::Emit(step))?;
+        Ok(())
+    }
+
+    fn allocate_space(&mut self, slot: usize, ty: &Rc<NamedType>) -> Result<(), BindgenError> {
+        let ty = ty.clone()?;
+        self.events.push(Event::Space { slot, ty })?;
+        Ok(())
+    }
+
+    fn push_block(&mut self) -> Result<(), BindgenError> {
+        self.events.push(Event::Push)?;
+        Ok(())
+    }
+
+    fn finish_block(&mut self, operand: Option<u8>) -> Result<(), BindgenError>
+        ensures event { Some (map event_of self.new.events) ≡ told_after result (finish (is_some operand)) (Some (map event_of self.old.events)) }
+        ensures cause { Counts (is_fault result) 0 0 }
+    {
+        self.events.push(Event::Finish {
+            value: operand.is_some(),
+        })?;
+        Ok(())
+    }
+}
