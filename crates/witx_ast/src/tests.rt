@@ -180,8 +180,11 @@ fn look_ups(rt: HostRuntime) -> Result<(), Fail> {
         assert_eq!(rt; document.typename(&name).is_some(), typename);
         assert_eq!(rt; document.module(&name).is_some(), module);
     }
-    assert_eq!(rt; document.typenames().count(), 2);
-    assert_eq!(rt; document.constants().count(), 1);
+    let mut typenames = document.typenames();
+    assert!(rt; typenames.next().is_some() && typenames.next().is_some());
+    assert!(rt; typenames.next().is_none());
+    let mut constants = document.constants();
+    assert!(rt; constants.next().is_some() && constants.next().is_none());
     assert_eq!(rt; document.error_types(alloc)?.len(), 1);
     Ok(())
 }
@@ -192,13 +195,16 @@ fn items_of_a_module(rt: HostRuntime) -> Result<(), Fail> {
     let Some(document) = document(alloc, definitions(alloc, "errno", "size")?)? else {
         return Err(Fail::new("a name stands twice"));
     };
+    let Some(module) = document.modules().next() else {
+        return Err(Fail::new("there is no module"));
+    };
     let read = Id::new(alloc, "read")?;
-    for module in document.modules() {
-        assert!(rt; module.func(&read).is_some() && module.import(&read).is_none());
-        assert_eq!(rt; module.imports().count(), 1);
-        assert_eq!(rt; module.funcs().count(), 2);
-        assert!(rt; module.copy()? == **module);
-    }
+    assert!(rt; module.func(&read).is_some() && module.import(&read).is_none());
+    let mut imports = module.imports();
+    assert!(rt; imports.next().is_some() && imports.next().is_none());
+    let mut funcs = module.funcs();
+    assert!(rt; funcs.next().is_some() && funcs.next().is_some() && funcs.next().is_none());
+    assert!(rt; module.copy()? == **module);
     Ok(())
 }
 
