@@ -1,0 +1,5 @@
+pub mod Adding
+pub mod Appending
+pub mod ListingSteps
+pub mod Reading
+pub mod Writing

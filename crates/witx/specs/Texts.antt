@@ -1,0 +1,34 @@
+-- What a run writes on its second sink: the usage text where the words have no form, else one line that names the refusal.
+use Rattle.std.specs.Prelude.{◌≡◌, ◌⊎◌, ℕ, List, [], ◌∷◌, ◌++◌, codes}
+use Rattle.std.specs.Fmt.{decimal}
+use Rattle.witx.specs.declared.refusal.Refusal.{Refusal}
+use Rattle.witx.specs.declared.refusal.Refusal.TheVariants as refusal
+use Rattle.witx_bundle.specs.declared.error.BundleError.{BundleError}
+use Rattle.witx_bundle.specs.declared.error.BundleError.TheVariants as bundle
+
+-- a text and a line feed
+abbrev pub line : List ℕ → List ℕ
+line text = text ++ codes "\n"
+
+abbrev pub bundle_text : BundleError → List ℕ
+bundle_text bundle.TooLong = codes "bundle has more than 4194304 bytes"
+bundle_text (bundle.NotUtf8 at) = codes "bundle is not UTF-8 at byte " ++ decimal at
+bundle_text (bundle.BeforeFirst at) = codes "text before the first file at byte " ++ decimal at
+bundle_text bundle.OutOfMemory = codes "out of memory"
+
+abbrev pub text_of : Refusal → List ℕ
+text_of refusal.Usage = line (codes "usage: witx adapt PATH..")
+text_of refusal.Source = line (codes "witx: cannot read input")
+text_of (refusal.Bundle e) = line (codes "witx: " ++ bundle_text e)
+text_of refusal.NotBuilt = line (codes "witx: not built yet")
+
+-- the status of a refusal
+abbrev pub status_of : Refusal → ℕ
+status_of refusal.NotBuilt = 1
+status_of refusal.Usage = 2
+status_of refusal.Source = 3
+status_of (refusal.Bundle e) = 6
+
+-- the status of a run that refuses: that of the refusal, or one of the two where the text isn't written
+abbrev pub IsRefused : ℕ → ℕ → Type 0
+IsRefused wanted status = (status ≡ wanted) ⊎ (status ≡ 4) ⊎ (status ≡ 5)

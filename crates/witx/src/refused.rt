@@ -1,0 +1,36 @@
+ghost use Rattle.std.specs.Prelude.{◌≡◌, ◌<◌, ◌≤◌};
+ghost use Rattle.std.specs.Io.KnownBytes.{Appends, Keeps};
+ghost use Rattle.witx_base.specs.Causes.{Rose};
+ghost use Rattle.witx.specs.Streams.{TookPrefix};
+ghost use Rattle.witx.specs.Texts.{IsRefused, status_of, text_of};
+
+use crate::output::put_text;
+use crate::refusal::Refusal;
+use std::alloc::Global;
+use witx_base::Sink;
+
+/// The status of a run that couldn't write its text.
+pub const UNWRITTEN: u8 = 4;
+
+/// The status of a run that found no memory.
+pub const NO_MEMORY: u8 = 5;
+
+/// Writes what is to be said of a refusal, and answers the status: that of the refusal, or 4 where the
+/// sink failed, or 5 where there was no memory for the text.
+pub fn put_refusal<E: Sink>(alloc: Global, refusal: Refusal, err: &mut E) -> u8
+    ensures status { IsRefused (status_of refusal) result }
+    ensures told { result ≡ status_of refusal → Appends (E.taken err.old) (E.taken err.new) (text_of refusal) }
+    ensures unwritten { result ≡ 4 → Rose (E.faults err.old) (E.faults err.new) × TookPrefix (E.taken err.old) (E.taken err.new) (text_of refusal) }
+    ensures no_memory { result ≡ 5 → Keeps (E.taken err.old) (E.taken err.new) }
+    ensures failed { E.faults err.old < E.faults err.new → result ≡ 4 }
+    ensures later { E.faults err.old ≤ E.faults err.new }
+{
+    let text = match refusal.text(alloc) {
+        Ok(text) => text,
+        Err(_) => return NO_MEMORY,
+    };
+    match put_text(err, text.as_str()) {
+        Ok(()) => refusal.status(),
+        Err(_) => UNWRITTEN,
+    }
+}
