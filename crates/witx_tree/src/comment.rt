@@ -1,0 +1,32 @@
+use std::alloc::Global;
+use witx_base::{Items, OutOfMemory, Text};
+use witx_comments::documentation;
+
+/// The texts of comments, without the marks that begin and end them.
+pub type CommentTexts<'a> = Items<&'a str>;
+
+/// The comments between the token before an item and the item's first token.
+#[derive(Debug, Drop)]
+pub struct CommentSyntax<'a> {
+    pub comments: CommentTexts<'a>,
+}
+
+/// An item and the comments before it.
+#[derive(Debug, Drop)]
+pub struct Documented<'a, T> {
+    pub comments: CommentSyntax<'a>,
+    pub item: T,
+}
+
+impl<'a> CommentSyntax<'a> {
+    ghost use Rattle.std.specs.Prelude.{◌≡◌, IfOk};
+    ghost use Rattle.witx_comments.specs.Docs.{documentation_of};
+    ghost use Rattle.witx_tree.specs.Views.{comments_view};
+
+    /// The documentation text of the comments.
+    pub fn docs(&self, alloc: Global) -> Result<Text, OutOfMemory>
+        ensures { IfOk result (λ text. text ≡ documentation_of (comments_view self.now)) }
+    {
+        documentation(alloc, self.comments.as_slice())
+    }
+}

@@ -1,0 +1,15 @@
+//! Syntax trees of the interface language, as a text has them: names with their places, and the
+//! comments of each item.
+#![tactic(auto)]
+
+mod comment;
+mod tree;
+
+pub use comment::{CommentSyntax, CommentTexts, Documented};
+pub use tree::{
+    BuiltinSyntax, CaseSyntax, CaseSyntaxes, ConstSyntax, DeclSyntax, EnumSyntax, ExpectedSyntax,
+    FieldSyntax, FieldSyntaxes, FlagsSyntax, HandleSyntax, IdSyntax, ImportTypeSyntax,
+    InterfaceFuncSyntax, MemberSyntaxes, ModuleDeclSyntax, ModuleDeclSyntaxes, ModuleImportSyntax,
+    ModuleSyntax, RecordSyntax, TopLevelDocument, TopLevelSyntax, TopLevelSyntaxes, TupleSyntax,
+    TypeSyntaxes, TypedefSyntax, TypenameSyntax, UnionFieldSyntaxes, UnionSyntax, VariantSyntax,
+};
