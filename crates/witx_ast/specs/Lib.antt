@@ -15,6 +15,7 @@ pub mod Tags
 pub mod Entries
 pub mod Puts
 pub mod Items
+pub mod Closed
 pub mod Copies
 pub mod ItemKinds
 pub mod Definitions
