@@ -1,21 +1,19 @@
 -- In the two traces of a function that can be lowered each step has the operands that it takes.
-use Rattle.std.proofs.Common.{◌≡◌, ◌≤◌, ◌+◌, ◌-◌, ℕ, zero, suc, List, [], ◌∷◌, ◌++◌, Bool, true, false, not, ◌&&◌, ◌||◌, cond, T, Option, Some, None, is_some, is_none, option_and_then, map, length, length-append, refl, sym, ap, ◌∙◌, subst, arith, nat_le, le→leb}
-use Rattle.std.specs.List.{position}
+use Rattle.std.proofs.Common.{◌≡◌, ◌≤◌, ◌+◌, ◌-◌, ℕ, suc, List, [], ◌∷◌, ◌++◌, Bool, true, false, ◌||◌, cond, T, Option, Some, None, is_some, is_none, option_and_then, map, length, length-append, refl, sym, ap, ◌∙◌, subst, arith, le→leb}
 use Rattle.witx_ast.specs.declared.types.BuiltinType.{BuiltinType}
 use Rattle.witx_ast.specs.declared.types.IntRepr.{IntRepr}
 use Rattle.witx_ast.specs.declared.types.RecordKind.{RecordKind}
-use Rattle.witx_ast.specs.Tree.{Tree, Fields, Arms}
-use Rattle.witx_ast.specs.Plain.{Plain, plain, plain_arms}
+use Rattle.witx_ast.specs.Tree.{Tree, Arms}
+use Rattle.witx_ast.specs.Plain.{plain, plain_arms}
 use Rattle.witx_ast.specs.Words.{is_named}
 use Rattle.witx_machine.specs.declared.surface.WasmType.{WasmType}
-use Rattle.witx_machine.specs.Words.{same_types}
-use Rattle.witx_machine.specs.Events.{Step, Event, emit, space, push, finish}
+use Rattle.witx_machine.specs.Events.{Step, Event, emit, finish}
 use Rattle.witx_machine.specs.Rows.{operands_count, results_count}
 use Rattle.witx_machine.specs.Functions.{Function, has_payload, is_tuple, ok_of, err_of, result_cases}
-use Rattle.witx_machine.specs.Signature.{param_words, words_of_params, result_word, before_rest, words_of_results, pointers_at, pointers_by, pointers_of, return_pointers, signature_params, signature_results}
-use Rattle.witx_machine.specs.Lowerable.{can_be_param, can_return, can_be_result, can_be_ok, can_be_err, is_narrow, is_expected, unlowerable_result, first_place, unlowerable, lowerable}
-use Rattle.witx_machine.specs.Traces.{lower_builtin, lift_builtin, lower_flags, lift_flags, lower_at, lift_at, lower_step, lift_step, lower_params, get_args, lift_params, make_spaces, load_all, store_all, ok_lifted, err_lifted, lift_cases, lift_by, lift_of, ok_lowered, err_lowered, lower_cases, lower_by, lower_of, lower_results, lift_results, caller_events, callee_events, block_of}
-use Rattle.witx_machine.proofs.Scalars.{left_true, right_true, same_types_is}
+use Rattle.witx_machine.specs.Signature.{param_words, words_of_params, words_of_results, pointers_at, return_pointers, signature_params, signature_results}
+use Rattle.witx_machine.specs.Lowerable.{can_return, can_be_ok, can_be_err, is_narrow, is_expected, unlowerable_result, lowerable}
+use Rattle.witx_machine.specs.Traces.{lower_builtin, lift_builtin, lower_at, lift_at, lower_step, lift_step, lower_params, get_args, lift_params, make_spaces, load_all, store_all, ok_lifted, err_lifted, lift_cases, lift_by, lift_of, ok_lowered, err_lowered, lower_cases, lower_by, lower_of, lower_results, lift_results, caller_events, callee_events, block_of}
+use Rattle.witx_machine.proofs.Scalars.{right_true, same_types_is}
 use Rattle.witx_machine.proofs.All.{params_lower, result_lowers}
 use Rattle.witx_machine.specs.Heights.{moved, height_after, heights}
 
@@ -311,7 +309,7 @@ return-level n =
     let z : 0 + 0 ≡ 0 = omega arith in
     at (emit (Step.Return n) ∷ []) (0 + n) n (0 + 0) 0 e z (step-level (Step.Return n) n 0 0 refl refl)
 
-length-map : {A B : Type 0} (f : A → B) (xs : List A) → length (map f xs) ≡ length xs
+pub length-map : {A B : Type 0} (f : A → B) (xs : List A) → length (map f xs) ≡ length xs
 length-map f [] = refl
 length-map f (x ∷ xs) = ap suc (length-map f xs)
 

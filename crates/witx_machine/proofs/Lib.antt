@@ -13,4 +13,6 @@ pub mod Cases
 pub mod All
 pub mod CellLaws
 pub mod HeightLaws
+pub mod Moving
+pub mod OutcomeLaws
 pub mod Examples

@@ -11,4 +11,6 @@ pub mod Cells
 pub mod Passage
 pub mod Faithful
 pub mod Positions
+pub mod Moves
+pub mod Outcomes
 pub mod Heights

@@ -5,10 +5,23 @@ ghost use Rattle.witx_machine.specs.Functions.{function_of};
 ghost use Rattle.witx_machine.specs.Lowerable.{lowerable};
 ghost use Rattle.witx_machine.specs.Traces.{caller_events, callee_events};
 ghost use Rattle.witx_machine.specs.Faithful.{Faithful};
+ghost use Rattle.witx_machine.specs.Moves.{RowsKeepToTable};
+ghost use Rattle.witx_machine.specs.Outcomes.{AtMostOneOutcome};
 
 /// The two traces of a function that can be lowered, and whose types fit their tags, are faithful:
 /// caller against callee passes any arguments and brings any reply back.
 pub fn traces_are_faithful()
     ensures { (module_name : List ℕ) (func : FunctionTree) → IsTrue (lowerable (function_of func)) → IsTrue (function_fits func) →
         Faithful module_name (function_of func) (caller_events module_name (function_of func)) (callee_events module_name (function_of func)) }
+{}
+
+/// Each row of the machine takes as many operands off the stack, and leaves as many results there, as
+/// the table of operands and results says, on both sides of a run.
+pub fn rows_keep_to_the_table()
+    ensures { RowsKeepToTable }
+{}
+
+/// A run has at most one outcome.
+pub fn a_run_has_at_most_one_outcome()
+    ensures { AtMostOneOutcome }
 {}
