@@ -1,5 +1,5 @@
 -- The traces of every function that can be lowered and whose types fit their tags run well, in every domain that meets the laws.
-use Rattle.std.proofs.Common.{◌≡◌, ℕ, zero, suc, ◌+◌, ◌^◌, Bool, true, false, cond, not, ◌&&◌, ◌||◌, T, refl, sym, ap, ◌∙◌, subst, arith, Option, Some, None, is_none, List, [], ◌∷◌, ◌++◌, append-nil, map, length, nat_le, IsTrue, ◌⊎◌, inl, inr}
+use Rattle.std.proofs.Common.{◌≡◌, ℕ, ◌+◌, ◌^◌, Bool, true, false, cond, not, ◌&&◌, ◌||◌, T, refl, sym, ap, ◌∙◌, subst, arith, Option, Some, None, is_none, List, [], ◌∷◌, ◌++◌, append-nil, length, nat_le, ◌⊎◌, inl, inr}
 use Rattle.std.specs.List.{position, position_from}
 use Rattle.std.proofs.lemmas.Iterator.Adapters.{position_from-zero}
 use Rattle.witx_ast.specs.declared.function.Abi.{Abi}
@@ -12,12 +12,11 @@ use Rattle.witx_ast.specs.Words.{is_named}
 use Rattle.witx_ast.specs.Tags.{fits, arms_fit, repr_bits, node_fits}
 use Rattle.witx_machine.specs.declared.surface.WasmType.{WasmType}
 use Rattle.witx_machine.specs.declared.surface.Place.{Place}
-use Rattle.witx_machine.specs.Words.{Scalar, number, address, const_address, handle_of, flags_of, enum_of, repr_word_type, same_types}
-use Rattle.witx_machine.specs.Events.{Event}
+use Rattle.witx_machine.specs.Words.{Scalar, number, address, const_address, handle_of, flags_of, enum_of, repr_word_type}
 use Rattle.witx_machine.specs.Rows.{lowering, lifting}
 use Rattle.witx_machine.specs.Functions.{Function, has_payload, is_tuple, name_of, member_types, ok_of, err_of, result_cases}
 use Rattle.witx_machine.specs.Signature.{param_words, words_of_params, result_word, before_rest, pointers_at, pointers_by, ok_pointers}
-use Rattle.witx_machine.specs.Lowerable.{can_be_param, can_be_result, can_return, can_be_ok, can_be_err, is_narrow, is_expected, unlowerable_result, first_place, unlowerable, lowerable}
+use Rattle.witx_machine.specs.Lowerable.{can_be_param, can_be_result, can_return, can_be_ok, can_be_err, is_narrow, is_expected, unlowerable_result, first_place, lowerable}
 use Rattle.witx_machine.specs.Traces.{lower_step, lift_step, lower_by, lift_by, caller_events, callee_events}
 use Rattle.witx_machine.specs.Machine.{Domain, went, outside, word_item, value_item, plain_item, found}
 use Rattle.witx_machine.specs.Run.{Call, typed, cases_are, same_presence}

@@ -1,10 +1,10 @@
 -- Blocks: how they are set aside, and how they are run.
-use Rattle.std.proofs.Common.{◌≡◌, ℕ, zero, suc, ◌+◌, Bool, true, false, cond, T, refl, sym, ap, ◌∙◌, subst, Option, Some, None, List, [], ◌∷◌, ◌++◌, append_assoc, append-nil, length}
+use Rattle.std.proofs.Common.{◌≡◌, ℕ, suc, Bool, cond, T, sym, ap, ◌∙◌, Option, Some, None, List, [], ◌∷◌, ◌++◌, append_assoc, append-nil}
 use Rattle.witx_ast.specs.Tree.{Tree}
-use Rattle.witx_machine.specs.Events.{Step, Event, emit, space, push, finish}
-use Rattle.witx_machine.specs.Rows.{row, result_lower, result_lift}
+use Rattle.witx_machine.specs.Events.{Event, emit, space, push, finish}
+use Rattle.witx_machine.specs.Rows.{result_lower, result_lift}
 use Rattle.witx_machine.specs.Traces.{block_of}
-use Rattle.witx_machine.specs.Machine.{Domain, Tried, went, State, Side, Inside, in_lower, in_lift, Item, word_item, value_item, plain_item, Block, found, next, flowing, gathering, play, act, runs_within, run_block, payload_item, result_word, lifted_payload, left_over, with_stack}
+use Rattle.witx_machine.specs.Machine.{Domain, went, State, Side, Inside, in_lower, in_lift, Item, word_item, value_item, plain_item, Block, found, next, flowing, gathering, runs_within, run_block, payload_item, result_word, lifted_payload, left_over, with_stack}
 use Rattle.witx_machine.proofs.Runs.{Try, Runs, only_true, plays, acts}
 
 -- steps alone

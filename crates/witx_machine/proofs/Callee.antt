@@ -1,21 +1,20 @@
 -- The callee's whole run.
-use Rattle.std.proofs.Common.{◌≡◌, ℕ, zero, suc, ◌+◌, Bool, true, false, cond, ◌&&◌, T, refl, sym, ap, ◌∙◌, subst, Option, Some, None, is_none, is_some, List, [], ◌∷◌, ◌++◌, append_assoc, append-nil, map, length, slice_get, length-append}
+use Rattle.std.proofs.Common.{◌≡◌, ℕ, suc, ◌+◌, true, T, refl, sym, ap, ◌∙◌, subst, Option, Some, None, List, [], ◌∷◌, ◌++◌, append_assoc, append-nil, map, length, slice_get, length-append}
 use Rattle.witx_ast.specs.Tree.{Tree}
-use Rattle.witx_ast.specs.Plain.{plain}
-use Rattle.witx_ast.specs.Same.{same_bytes, same_tree}
+use Rattle.witx_ast.specs.Same.{same_bytes}
 use Rattle.witx_ast.specs.SameLaws.{bytes-self, same-self}
 use Rattle.witx_machine.specs.Events.{Step, Event, emit}
 use Rattle.witx_machine.specs.Functions.{Function}
-use Rattle.witx_machine.specs.Signature.{words_of_params, signature_results}
+use Rattle.witx_machine.specs.Signature.{signature_results}
 use Rattle.witx_machine.specs.Traces.{lift_params, lower_results, callee_events}
-use Rattle.witx_machine.specs.Machine.{Domain, Tried, went, State, Side, Inside, outside, Item, word_item, value_item, Block, Flow, found, next, only, flowing, play, after, pushed, runs_within, run_trace, ended, items_off, values_off, is_nil}
+use Rattle.witx_machine.specs.Machine.{Domain, went, State, Side, Inside, outside, Item, word_item, Flow, found, next, only, flowing, after, pushed, runs_within, run_trace, ended, is_nil}
 use Rattle.witx_machine.specs.Run.{callee_side, start, reply_items, typed, same_trees}
 use Rattle.witx_machine.specs.Passage.{Meaning}
 use Rattle.witx_machine.proofs.Scalars.{both_true, truth}
 use Rattle.witx_machine.proofs.Laws.{Laws}
-use Rattle.witx_machine.proofs.Runs.{Try, Runs, only_true, runs_none, runs_then, plays, runs_act, AreItemsOf, all_values_off, all_items_off}
+use Rattle.witx_machine.proofs.Runs.{Try, Runs, only_true, runs_then, plays, runs_act, AreItemsOf, all_values_off, all_items_off}
 use Rattle.witx_machine.proofs.Ways.{Ways}
-use Rattle.witx_machine.proofs.Params.{PassedAll, StandAt, params_lifted, at, AreArguments, typed_length}
+use Rattle.witx_machine.proofs.Params.{PassedAll, StandAt, params_lifted, AreArguments, typed_length}
 
 pub same_name_refl : (n : List ℕ) → T (same_bytes n n)
 same_name_refl n = truth (bytes-self n)

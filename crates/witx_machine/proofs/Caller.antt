@@ -1,14 +1,11 @@
 -- The caller's whole run, around the callee's.
-use Rattle.std.proofs.Common.{◌≡◌, ℕ, zero, suc, ◌+◌, Bool, true, false, cond, ◌&&◌, T, refl, sym, ap, ◌∙◌, subst, Option, Some, None, is_none, List, [], ◌∷◌, ◌++◌, append_assoc, append-nil, option_and_then, option_to_list, map, length}
-use Rattle.witx_ast.specs.Tree.{Tree}
-use Rattle.witx_machine.specs.declared.surface.WasmType.{WasmType}
-use Rattle.witx_machine.specs.Words.{same_types}
+use Rattle.std.proofs.Common.{◌≡◌, ℕ, true, T, refl, sym, ap, ◌∙◌, Option, Some, None, List, [], ◌∷◌, ◌++◌, append_assoc, option_and_then, option_to_list, map, length}
 use Rattle.witx_machine.specs.Events.{Step, Event, emit}
 use Rattle.witx_machine.specs.Functions.{Function}
 use Rattle.witx_machine.specs.Signature.{signature_params, signature_results, return_pointers}
 use Rattle.witx_machine.specs.Traces.{lower_params, make_spaces, lift_results, caller_events}
-use Rattle.witx_machine.specs.Machine.{Domain, Tried, went, State, Side, Inside, outside, Item, word_item, value_item, Flow, found, next, only, flowing, after, pushed, runs_within, run_trace, ended, is_nil}
-use Rattle.witx_machine.specs.Run.{callee_side, caller_side, called_with, start, typed, words_in, values_in, one_word, Call, Outcome, run}
+use Rattle.witx_machine.specs.Machine.{Domain, went, State, Side, Inside, outside, Item, word_item, value_item, Flow, found, next, only, flowing, after, pushed, runs_within, run_trace, ended, is_nil}
+use Rattle.witx_machine.specs.Run.{callee_side, caller_side, called_with, start, typed, words_in, values_in, one_word, Call, run}
 use Rattle.witx_machine.specs.Passage.{Meaning}
 use Rattle.witx_machine.proofs.Scalars.{both_true, same_types_self}
 use Rattle.witx_machine.proofs.Laws.{Laws}

@@ -1,17 +1,17 @@
 -- A result with cases ok and err: what each of its four sorts of reply does on both sides.
-use Rattle.std.proofs.Common.{◌≡◌, ◌≢◌, ℕ, zero, suc, ◌+◌, ◌<◌, ◌≤◌, Bool, true, false, cond, T, refl, sym, ap, ◌∙◌, subst, arith, Option, Some, None, is_some, List, [], ◌∷◌, ◌++◌, append_assoc, append-nil, map, length, length-append, drop, ◌-◌}
+use Rattle.std.proofs.Common.{◌≡◌, ℕ, zero, suc, ◌+◌, ◌≤◌, Bool, true, false, cond, T, refl, sym, ap, ◌∙◌, subst, arith, Option, Some, None, is_some, List, [], ◌∷◌, ◌++◌, map, length, length-append, drop, ◌-◌}
 use Rattle.witx_ast.specs.declared.function.Abi.{Abi}
 use Rattle.witx_ast.specs.Tree.{Tree}
 use Rattle.witx_ast.specs.Plain.{plain}
 use Rattle.witx_machine.specs.declared.surface.WasmType.{WasmType}
 use Rattle.witx_machine.specs.Events.{Step, Event, emit}
-use Rattle.witx_machine.specs.Rows.{row, variant_payload, tuple_lower, tuple_lift, reuse_return}
+use Rattle.witx_machine.specs.Rows.{variant_payload, tuple_lower, tuple_lift, reuse_return}
 use Rattle.witx_machine.specs.Functions.{Function, is_tuple, by_address, name_of, result_cases}
 use Rattle.witx_machine.specs.Signature.{words_of_params, signature_results, pointers_at, ok_pointers, param_words}
-use Rattle.witx_machine.specs.Traces.{lower_cases, lift_cases, ok_lowered, ok_lifted, err_lowered, err_lifted, callee_events, caller_events, store_all, load_all, lift_params, lower_results, lower_step, lift_step}
-use Rattle.witx_machine.specs.Machine.{Domain, Tried, went, State, Side, Inside, outside, in_lower, in_lift, Item, word_item, value_item, plain_item, Block, found, pushed, payload_item, result_word, left_over, lifted_payload, values_off}
+use Rattle.witx_machine.specs.Traces.{lower_cases, lift_cases, ok_lowered, ok_lifted, err_lowered, err_lifted, callee_events, caller_events, store_all, load_all, lift_params, lower_results, lower_step}
+use Rattle.witx_machine.specs.Machine.{Domain, went, State, Side, Inside, outside, in_lower, in_lift, Item, word_item, value_item, plain_item, Block, found, pushed, payload_item, result_word, left_over, lifted_payload}
 use Rattle.witx_machine.specs.Run.{Call, Outcome, typed, cases_are}
-use Rattle.witx_machine.specs.Passage.{Meaning, ReturnsPicked, ReturnsCase, HoldAll, HoldParts, ok_values, last_words, ParamWords}
+use Rattle.witx_machine.specs.Passage.{Meaning, ReturnsPicked, HoldAll, HoldParts, ok_values, last_words, ParamWords}
 use Rattle.witx_machine.proofs.Scalars.{left_true, right_true}
 use Rattle.witx_machine.proofs.Laws.{Laws}
 use Rattle.witx_machine.proofs.Runs.{Try, Runs, runs_none, runs_then, runs_act, plays, AreItemsOf, all_values_off}
@@ -20,9 +20,9 @@ use Rattle.witx_machine.proofs.Params.{row_goes, StandAt, stand_back, lower_one,
 use Rattle.witx_machine.proofs.Callee.{stand_all, as_items}
 use Rattle.witx_machine.proofs.Callee
 use Rattle.witx_machine.proofs.Caller
-use Rattle.witx_machine.proofs.Spaces.{SlotsAt, PointersAt, pointer_count}
+use Rattle.witx_machine.proofs.Spaces.{PointersAt, pointer_count}
 use Rattle.witx_machine.proofs.Blocks.{AllSteps, steps_append, block, sets_aside, block_ran, lowers_result, lifts_result}
-use Rattle.witx_machine.proofs.Stores.{LoadsAll, AreOf, hold_all, store_steps, load_steps, stores, loads}
+use Rattle.witx_machine.proofs.Stores.{AreOf, hold_all, store_steps, load_steps, stores, loads}
 use Rattle.witx_machine.proofs.Whole.{room_for, Before}
 
 pub before_zero : (n : ℕ) → 1 ≤ n → (k : ℕ) × (n ≡ suc k)

@@ -1,5 +1,5 @@
 -- The cells meet the laws, and so the two traces of a function that can be lowered are faithful.
-use Rattle.std.proofs.Common.{◌≡◌, ◌≢◌, ℕ, zero, suc, ◌+◌, ◌*◌, ◌^◌, ◌%◌, ◌/◌, ◌<◌, ◌≤◌, Bool, true, false, cond, not, ◌&&◌, ◌||◌, T, refl, sym, ap, ◌∙◌, subst, arith, Option, Some, None, option_map, List, [], ◌∷◌, ◌++◌, length, map, ltb, leb, nat_eq, ltb→lt, lt→ltb, leb→le, eqb→eq, nat_le, lit<, pow-suc, pow_mono, mod-eq_of_lt, lt_of_lt_of_le, inl, inr, ◌⊎◌, IsTrue, IsFalse, ℤ}
+use Rattle.std.proofs.Common.{◌≡◌, ◌≢◌, ℕ, zero, suc, ◌+◌, ◌*◌, ◌^◌, ◌%◌, ◌/◌, ◌<◌, ◌≤◌, Bool, true, false, cond, not, ◌&&◌, T, refl, sym, ap, ◌∙◌, subst, arith, Option, Some, None, option_map, List, [], ◌∷◌, ◌++◌, length, map, nat_eq, ltb→lt, lt→ltb, leb→le, eqb→eq, nat_le, lit<, pow-suc, pow_mono, mod-eq_of_lt, lt_of_lt_of_le, inl, inr, IsTrue}
 use lib.Dec.{eqb_refl}
 use Rattle.witx_ast.specs.declared.types.BuiltinType.{BuiltinType}
 use Rattle.witx_ast.specs.declared.types.IntRepr.{IntRepr}
@@ -15,12 +15,11 @@ use Rattle.witx_ast.specs.Tags.{fits, repr_bits, types_fit, function_fits}
 use Rattle.witx_ast.proofs.AlikeLaws.{alike-self, builtins-decide}
 use Rattle.witx_machine.specs.declared.surface.WasmType.{WasmType}
 use Rattle.witx_machine.specs.Words.{Word, i32, same_type, Scalar, number, address, const_address, handle_of, flags_of, enum_of, word_of, value_of, builtin_word_type, number_word, when, bits_of_flags, flags_from, flags_word, flags_value, repr_modulus, repr_word_type, enum_value, checked}
-use Rattle.witx_machine.specs.Functions.{Function, function_of, has_payload, by_address, name_of, ok_of, err_of, result_cases}
+use Rattle.witx_machine.specs.Functions.{function_of, has_payload, by_address, ok_of, err_of}
 use Rattle.witx_machine.specs.Lowerable.{is_expected, lowerable}
 use Rattle.witx_machine.specs.Traces.{caller_events, callee_events}
-use Rattle.witx_machine.specs.Machine.{Domain}
-use Rattle.witx_machine.specs.Cells.{Cell, Cells, Memory, Taken, get, insert, given, loaded, stored, is_i32, list_words, list_of_values, values_of, tuple_parts, case_picked, picked, payload_of, result_value, cells, outcome}
-use Rattle.witx_machine.specs.Faithful.{cell_meaning, At, IsTaken, IsMadeFor, Holds, AreFree, AreOther, direct_words, is_zero, zero_of, zero_by, zero_in, zero_error, are_arguments, is_reply, Faithful}
+use Rattle.witx_machine.specs.Cells.{Cell, Cells, Memory, Taken, get, insert, given, loaded, stored, is_i32, list_words, list_of_values, values_of, tuple_parts, case_picked, result_value, cells, outcome}
+use Rattle.witx_machine.specs.Faithful.{cell_meaning, At, IsTaken, AreFree, AreOther, direct_words, is_zero, zero_of, zero_by, zero_in, are_arguments, is_reply, Faithful}
 use Rattle.witx_machine.proofs.Scalars.{cut_back, truth, true_of, same_type_self, same_type_is, when_true, both_true, left_true, right_true}
 use Rattle.witx_machine.proofs.Laws.{Laws, Lowers, scalar_type, AreMembers, PayloadIs, named_payload}
 use Rattle.witx_machine.proofs.Params.{AreArguments}

@@ -1,5 +1,5 @@
 -- Worked functions, computed: their signatures, their events, their runs, and wrong traces that get stuck or go astray.
-use Rattle.std.specs.Prelude.{◌≡◌, refl, ℕ, List, [], ◌∷◌, ◌++◌, Option, Some, None, pos, negsuc, Bool, true, false, option_map, codes}
+use Rattle.std.specs.Prelude.{◌≡◌, refl, ℕ, List, [], ◌∷◌, Option, Some, None, pos, negsuc, true, false, option_map, codes}
 use native.Mathlib.Decide.{ℕ_discrete}
 use Rattle.witx_ast.specs.declared.function.Abi.{Abi}
 use Rattle.witx_ast.specs.declared.types.BuiltinType.{BuiltinType}
@@ -9,14 +9,14 @@ use Rattle.witx_ast.specs.Tree.{Tree, Fields, Arms}
 use Rattle.witx_ast.specs.Values.{Value, Values}
 use Rattle.witx_machine.specs.declared.surface.WasmType.{WasmType}
 use Rattle.witx_machine.specs.declared.surface.Place.{Place}
-use Rattle.witx_machine.specs.Words.{Word, i32, number_word, number, value_of, word_of}
+use Rattle.witx_machine.specs.Words.{Word, i32, number, value_of, word_of}
 use Rattle.witx_machine.specs.Events.{Step, Event, emit, space, push, finish}
 use Rattle.witx_machine.specs.Functions.{Function}
 use Rattle.witx_machine.specs.Signature.{signature_params, signature_results, without_signature}
 use Rattle.witx_machine.specs.Lowerable.{unlowerable}
 use Rattle.witx_machine.specs.Traces.{caller_events, callee_events}
 use Rattle.witx_machine.specs.Machine.{Tried, went, no_rule, stuck_at}
-use Rattle.witx_machine.specs.Run.{Outcome, values_in}
+use Rattle.witx_machine.specs.Run.{values_in}
 use Rattle.witx_machine.specs.Cells.{run_cells, Memory, cells}
 use Rattle.witx_machine.specs.Positions.{Spot, in_caller, in_callee, spotted_run}
 

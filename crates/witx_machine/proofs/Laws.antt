@@ -1,6 +1,5 @@
 -- What a domain has to meet for the traces of a function to run well.
-use Rattle.std.proofs.Common.{◌≡◌, ◌≢◌, ℕ, zero, suc, ◌+◌, ◌^◌, Bool, true, false, cond, T, Option, Some, None, List, [], ◌∷◌, nat_le}
-use Rattle.witx_ast.specs.declared.types.BuiltinType.{BuiltinType}
+use Rattle.std.proofs.Common.{◌≡◌, ◌≢◌, ℕ, suc, ◌^◌, Bool, true, false, cond, T, Option, Some, None, List, [], ◌∷◌, nat_le}
 use Rattle.witx_ast.specs.declared.types.IntRepr.{IntRepr}
 use Rattle.witx_ast.specs.declared.types.RecordKind.{RecordKind}
 use Rattle.witx_ast.specs.Tree.{Tree}

@@ -1,5 +1,5 @@
 -- Parameters: what the caller lowers, the callee lifts.
-use Rattle.std.proofs.Common.{◌≡◌, ◌≢◌, ℕ, zero, suc, ◌+◌, ◌<◌, ◌≤◌, Bool, true, false, cond, ◌&&◌, T, refl, sym, ap, ◌∙◌, subst, arith, Option, Some, None, List, [], ◌∷◌, ◌++◌, append_assoc, append-nil, map, length, slice_get}
+use Rattle.std.proofs.Common.{◌≡◌, ℕ, suc, ◌+◌, Bool, true, false, cond, T, refl, sym, ap, ◌∙◌, subst, arith, Option, Some, None, List, [], ◌∷◌, ◌++◌, append_assoc, map, length, slice_get}
 use Rattle.witx_ast.specs.Tree.{Tree}
 use Rattle.witx_ast.specs.Plain.{Plain, plain}
 use Rattle.witx_machine.specs.declared.surface.WasmType.{WasmType}
@@ -7,14 +7,14 @@ use Rattle.witx_machine.specs.Events.{Step, Event, emit}
 use Rattle.witx_machine.specs.Rows.{Row, row, addr_of, lowering, lifting, list_pointer_length, list_from_pointer_length, load}
 use Rattle.witx_machine.specs.Functions.{by_address, name_of}
 use Rattle.witx_machine.specs.Signature.{param_words}
-use Rattle.witx_machine.specs.Traces.{lower_at, lift_at, lower_step, lift_step, lower_params, lift_params, get_args}
-use Rattle.witx_machine.specs.Machine.{Domain, Tried, went, State, Side, Inside, Item, word_item, value_item, plain_item, Block, found, pushed, act}
+use Rattle.witx_machine.specs.Traces.{lower_at, lift_at, lift_step, lower_params, lift_params, get_args}
+use Rattle.witx_machine.specs.Machine.{Domain, went, State, Side, Inside, Item, word_item, value_item, plain_item, Block, found, pushed}
 use Rattle.witx_machine.specs.Run.{typed, argument_items}
 use Rattle.witx_machine.specs.Passage.{Meaning, ParamWords}
 use Rattle.witx_machine.proofs.Scalars.{both_true, left_true, right_true}
-use Rattle.witx_machine.proofs.Laws.{Laws, scalar_type}
+use Rattle.witx_machine.proofs.Laws.{Laws}
 use Rattle.witx_machine.proofs.Runs.{Try, Runs, runs_none, runs_then, plays, acts, runs_act, AreItemsOf}
-use Rattle.witx_machine.proofs.Ways.{Way, one_word, two_words, by_cell, OneWord, TwoWords, ByCell, Ways}
+use Rattle.witx_machine.proofs.Ways.{Way, one_word, two_words, by_cell, Ways}
 
 -- the items stand among the arguments from the i-th on
 abbrev pub StandAt : {A : Type 0} → List A → ℕ → List A → Type 0

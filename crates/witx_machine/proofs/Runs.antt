@@ -1,9 +1,9 @@
 -- Runs of a part of a trace, and how they are put together.
-use Rattle.std.proofs.Common.{◌≡◌, ℕ, zero, suc, ◌+◌, Bool, true, false, cond, ◌||◌, T, refl, sym, ap, ◌∙◌, subst, arith, Option, Some, None, is_none, List, [], ◌∷◌, ◌++◌, append_assoc, append-nil, map, length}
+use Rattle.std.proofs.Common.{◌≡◌, ℕ, suc, ◌+◌, Bool, true, false, cond, ◌||◌, T, refl, ap, ◌∙◌, arith, Some, None, is_none, List, [], ◌∷◌, ◌++◌, append_assoc, append-nil, map, length}
 use Rattle.witx_ast.specs.Tree.{Tree}
 use Rattle.witx_machine.specs.Events.{Step, Event, emit, space}
 use Rattle.witx_machine.specs.Rows.{Row, row}
-use Rattle.witx_machine.specs.Machine.{Domain, Tried, went, no_rule, stuck_at, only, State, Side, Inside, Item, word_item, value_item, Flow, flowing, play, act, give_slot, after, is_nil, slot_word, pushed, words_off, values_off, items_off}
+use Rattle.witx_machine.specs.Machine.{Domain, Tried, went, stuck_at, only, State, Side, Inside, Item, word_item, value_item, Flow, flowing, play, act, give_slot, after, is_nil, slot_word, pushed, words_off, values_off, items_off}
 
 abbrev pub Try : Type 0 → Type 0
 Try = Tried (Unit {0})

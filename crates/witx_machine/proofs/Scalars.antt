@@ -1,7 +1,7 @@
 -- A number that is lowered to its word and lifted again is itself.
-use Rattle.std.proofs.Common.{◌≡◌, ℕ, zero, suc, ◌+◌, ◌-◌, ◌%◌, ◌^◌, ◌<◌, ◌≤◌, Bool, true, false, cond, ◌&&◌, ◌||◌, T, ltb, refl, sym, ap, ◌∙◌, subst, arith, ltb→lt, lt→ltb, leb→le, ℤ, pos, negsuc, Option, Some, None, IsTrue, List, [], ◌∷◌, nat_le}
+use Rattle.std.proofs.Common.{◌≡◌, ℕ, ◌+◌, ◌-◌, ◌^◌, ◌<◌, ◌≤◌, Bool, true, false, cond, ◌&&◌, ◌||◌, T, ltb, refl, sym, ap, ◌∙◌, subst, arith, ltb→lt, ℤ, pos, negsuc, Option, List, [], ◌∷◌, nat_le}
 use Rattle.witx_ast.specs.declared.types.BuiltinType.{BuiltinType}
-use Rattle.witx_ast.specs.ValueTests.{in_range, is_below, is_within, is_scalar}
+use Rattle.witx_ast.specs.ValueTests.{in_range, is_scalar}
 use Rattle.witx_machine.specs.declared.surface.WasmType.{WasmType}
 use Rattle.witx_machine.specs.Words.{cut, with_sign, wrapped, modulus, builtin_word_type, when, same_type, same_types}
 

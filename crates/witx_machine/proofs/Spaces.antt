@@ -1,5 +1,5 @@
 -- The caller's return pointers.
-use Rattle.std.proofs.Common.{◌≡◌, ◌≢◌, ℕ, zero, suc, ◌+◌, ◌<◌, ◌≤◌, Bool, true, false, cond, ◌&&◌, T, refl, sym, ap, ◌∙◌, subst, arith, Option, Some, None, List, [], ◌∷◌, ◌++◌, map, length, nat_eq, eqb→eq}
+use Rattle.std.proofs.Common.{◌≡◌, ◌≢◌, ℕ, suc, ◌+◌, ◌<◌, ◌≤◌, Bool, true, false, cond, T, refl, sym, ap, ◌∙◌, subst, arith, Option, Some, None, List, [], ◌∷◌, map, length, nat_eq, eqb→eq}
 use lib.Dec.{eqb_refl}
 use Rattle.witx_ast.specs.Tree.{Tree}
 use Rattle.witx_ast.specs.Plain.{Plain, plain}
@@ -13,7 +13,7 @@ use Rattle.witx_machine.specs.Passage.{Meaning, PointerWords}
 use Rattle.witx_machine.proofs.Scalars.{both_true}
 use Rattle.witx_machine.proofs.Laws.{Laws}
 use Rattle.witx_machine.proofs.Runs.{Try, Runs, runs_none, runs_then, plays, runs_space}
-use Rattle.witx_machine.proofs.Params.{at, row_goes}
+use Rattle.witx_machine.proofs.Params.{row_goes}
 
 module _ {W : Type 0} where
   -- the slots from k on have these addresses

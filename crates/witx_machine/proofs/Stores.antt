@@ -1,16 +1,16 @@
 -- What the callee stores through the return pointers, and what the caller loads.
-use Rattle.std.proofs.Common.{◌≡◌, ◌≢◌, ℕ, zero, suc, ◌+◌, Bool, true, false, cond, T, refl, sym, ap, ◌∙◌, subst, Option, Some, None, List, [], ◌∷◌, ◌++◌, append_assoc, append-nil, map, length}
+use Rattle.std.proofs.Common.{◌≡◌, ◌≢◌, ℕ, ◌+◌, refl, sym, ap, ◌∙◌, Option, Some, None, List, [], ◌∷◌, map}
 use Rattle.witx_ast.specs.Tree.{Tree}
 use Rattle.witx_ast.specs.Plain.{Plain, plain}
-use Rattle.witx_machine.specs.Events.{Step, Event, emit}
+use Rattle.witx_machine.specs.Events.{Step, Event}
 use Rattle.witx_machine.specs.Rows.{load, store, return_pointer_get}
 use Rattle.witx_machine.specs.Traces.{store_all, load_all}
 use Rattle.witx_machine.specs.Machine.{Domain, went, State, Side, Inside, Item, word_item, value_item, Block, found, pushed}
 use Rattle.witx_machine.specs.Passage.{Meaning, HoldAll}
 use Rattle.witx_machine.proofs.Laws.{Laws}
 use Rattle.witx_machine.proofs.Runs.{Try, Runs, runs_none, runs_then, plays, AreItemsOf}
-use Rattle.witx_machine.proofs.Params.{at, row_goes, get_goes, StandAt}
-use Rattle.witx_machine.proofs.Spaces.{SlotsAt, AreOther, Pointer, PointersAt}
+use Rattle.witx_machine.proofs.Params.{row_goes, get_goes, StandAt}
+use Rattle.witx_machine.proofs.Spaces.{SlotsAt, AreOther, PointersAt}
 use Rattle.witx_machine.proofs.Blocks.{AllSteps, steps_append}
 
 pub store_steps : (w : ℕ) (ts : List Tree) → AllSteps (store_all w ts)

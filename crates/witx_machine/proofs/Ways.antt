@@ -1,16 +1,16 @@
 -- The three ways in which a parameter is passed, whatever the domain.
-use Rattle.std.proofs.Common.{◌≡◌, ℕ, ◌^◌, Bool, true, false, cond, ◌&&◌, T, refl, sym, ap, ◌∙◌, subst, Option, Some, None, List, [], ◌∷◌, nat_le}
+use Rattle.std.proofs.Common.{◌≡◌, ℕ, ◌^◌, Bool, true, false, cond, T, refl, sym, ap, subst, Option, Some, List, [], ◌∷◌, nat_le}
 use Rattle.witx_ast.specs.declared.types.BuiltinType.{BuiltinType}
 use Rattle.witx_ast.specs.declared.types.IntRepr.{IntRepr}
 use Rattle.witx_ast.specs.declared.types.RecordKind.{RecordKind}
 use Rattle.witx_ast.specs.Tree.{Tree}
 use Rattle.witx_ast.specs.Tree.{Fields as TreeFields, Arms as TreeArms}
-use Rattle.witx_ast.specs.Plain.{Plain, Fields, plain, plain_fields, plain_arms, field_count, arm_count}
+use Rattle.witx_ast.specs.Plain.{Plain, plain, plain_fields, plain_arms, field_count, arm_count}
 use Rattle.witx_ast.specs.Tags.{fits, repr_bits, node_fits}
 use Rattle.witx_machine.specs.declared.surface.WasmType.{WasmType}
 use Rattle.witx_machine.specs.Words.{Scalar, number, address, const_address, handle_of, flags_of, enum_of, repr_word_type}
 use Rattle.witx_machine.specs.Events.{Step}
-use Rattle.witx_machine.specs.Rows.{Row, row, addr_of, lowering, lifting, list_pointer_length, list_from_pointer_length, load}
+use Rattle.witx_machine.specs.Rows.{row, addr_of, lowering, lifting, list_pointer_length, list_from_pointer_length, load}
 use Rattle.witx_machine.specs.Functions.{has_payload, by_address, name_of}
 use Rattle.witx_machine.specs.Signature.{param_words}
 use Rattle.witx_machine.specs.Traces.{lower_at, lift_at, lower_builtin, lift_builtin}

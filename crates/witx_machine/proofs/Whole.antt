@@ -1,20 +1,20 @@
 -- The two runs together.
-use Rattle.std.proofs.Common.{◌≡◌, ℕ, zero, suc, ◌+◌, ◌≤◌, Bool, true, false, cond, T, refl, sym, ap, ◌∙◌, subst, arith, Option, Some, None, List, [], ◌∷◌, ◌++◌, append_assoc, append-nil, option_to_list, map, length, length-append, ◌-◌}
+use Rattle.std.proofs.Common.{◌≡◌, ℕ, zero, suc, ◌+◌, ◌≤◌, T, refl, sym, ap, ◌∙◌, subst, arith, Option, Some, None, List, [], ◌∷◌, ◌++◌, append_assoc, option_to_list, map, length, length-append, ◌-◌}
 use Rattle.witx_ast.specs.Tree.{Tree}
-use Rattle.witx_ast.specs.Plain.{Plain, plain}
+use Rattle.witx_ast.specs.Plain.{plain}
 use Rattle.witx_machine.specs.declared.surface.WasmType.{WasmType}
 use Rattle.witx_machine.specs.Events.{Step, Event, emit}
 use Rattle.witx_machine.specs.Functions.{Function}
 use Rattle.witx_machine.specs.Signature.{words_of_params, signature_params, signature_results, return_pointers, param_words}
 use Rattle.witx_machine.specs.Traces.{lower_params, make_spaces, lift_results, caller_events, callee_events}
-use Rattle.witx_machine.specs.Machine.{Domain, went, State, outside, Item, word_item, pushed}
-use Rattle.witx_machine.specs.Run.{typed, argument_items, Call, Outcome, run, values_in}
+use Rattle.witx_machine.specs.Machine.{Domain, went, outside, word_item, pushed}
+use Rattle.witx_machine.specs.Run.{typed, argument_items, Call, Outcome, run}
 use Rattle.witx_machine.specs.Passage.{Meaning, PassesWords, PointerWords, Returns}
 use Rattle.witx_machine.specs.Faithful.{EndsWell}
 use Rattle.witx_machine.proofs.Laws.{Laws}
 use Rattle.witx_machine.proofs.Runs.{Runs, runs_then}
 use Rattle.witx_machine.proofs.Ways.{Ways}
-use Rattle.witx_machine.proofs.Params.{Passed, PassedAll, passed_all_kept, AreArguments, StandAt, params_lowered, stand_front, typed_append, pushed_words}
+use Rattle.witx_machine.proofs.Params.{PassedAll, passed_all_kept, AreArguments, params_lowered, stand_front, typed_append, pushed_words}
 use Rattle.witx_machine.proofs.Callee.{ResultLowered, callee_runs, stand_all, as_items}
 use Rattle.witx_machine.proofs.Callee
 use Rattle.witx_machine.proofs.Caller.{ResultLifted, ParamsPassed, CalleeRan, caller_runs, values_in_items}

@@ -7,7 +7,7 @@ use Rattle.std.specs.Prelude.{ℕ, List, [], ◌∷◌, Bool, true, false, ◌&&
 use Rattle.witx_ast.specs.declared.types.IntRepr.{IntRepr}
 use Rattle.witx_ast.specs.declared.types.RecordKind.{RecordKind}
 use Rattle.witx_ast.specs.Tree.{Tree, Arms}
-use Rattle.witx_ast.specs.Plain.{Plain, plain, plain_arms}
+use Rattle.witx_ast.specs.Plain.{plain, plain_arms}
 use Rattle.witx_ast.specs.Same.{same_bytes}
 use Rattle.witx_ast.specs.Words.{is_named}
 use Rattle.witx_machine.specs.declared.surface.WasmType.{WasmType}

@@ -1,6 +1,6 @@
 -- What each step does, as a table, and how many operands it takes and results it leaves.
 -- The conversions of a value to its one word are one row, and so are those of a word to its value.
-use Rattle.std.specs.Prelude.{ℕ, List, Bool, true, false, Option, length}
+use Rattle.std.specs.Prelude.{ℕ, List, true, false, Option, length}
 use Rattle.witx_ast.specs.declared.types.BuiltinType.{BuiltinType}
 use Rattle.witx_ast.specs.Tree.{Tree}
 use Rattle.witx_machine.specs.declared.surface.WasmType.{WasmType}

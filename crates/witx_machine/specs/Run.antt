@@ -2,7 +2,7 @@
 -- The callee has the caller's memory and the addresses that are left; stack, slots and blocks are its own.
 -- Each side calls once, by the module's and the function's own names, with words, values and types that
 -- are the function's; the run ends where both traces have made their call and reached their return.
-use Rattle.std.specs.Prelude.{ℕ, List, [], ◌∷◌, ◌++◌, length, Bool, true, false, ◌&&◌, Option, Some, None, is_none, map, option_and_then, not}
+use Rattle.std.specs.Prelude.{ℕ, List, [], ◌∷◌, ◌++◌, length, Bool, true, false, ◌&&◌, Option, Some, None, is_none, map, option_and_then}
 use Rattle.witx_ast.specs.Tree.{Tree, Arms}
 use Rattle.witx_ast.specs.Same.{same_bytes, same_tree}
 use Rattle.witx_machine.specs.declared.surface.WasmType.{WasmType}

@@ -1,7 +1,7 @@
 -- The signature of a function: the types of the words that go in, and of those that come back.
 -- A result variant comes back as one word; what its first case carries is stored at return pointers,
 -- which are further words in: one for each member of a tuple, else one.
-use Rattle.std.specs.Prelude.{ℕ, List, [], ◌∷◌, ◌++◌, map, Bool, not, Option, Some, None, position, is_none, option_map}
+use Rattle.std.specs.Prelude.{List, [], ◌∷◌, ◌++◌, map, Option, Some, None, position, is_none, option_map}
 use Rattle.witx_ast.specs.declared.types.RecordKind.{RecordKind}
 use Rattle.witx_ast.specs.Tree.{Tree, Arms}
 use Rattle.witx_ast.specs.Plain.{Plain, plain}

@@ -1,7 +1,7 @@
 -- The events that the two sides of a call make for a function: the caller's and the callee's.
 -- The caller lowers its arguments, makes a space for each return pointer, calls, and lifts the result.
 -- The callee lifts its words, calls the interface's function, and lowers the result.
-use Rattle.std.specs.Prelude.{ℕ, ◌+◌, List, [], ◌∷◌, ◌++◌, length, Bool, true, false, cond, Option, Some, None, is_some}
+use Rattle.std.specs.Prelude.{ℕ, ◌+◌, List, [], ◌∷◌, ◌++◌, length, Bool, false, cond, Option, Some, None, is_some}
 use Rattle.witx_ast.specs.declared.types.BuiltinType.{BuiltinType}
 use Rattle.witx_ast.specs.declared.types.IntRepr.{IntRepr}
 use Rattle.witx_ast.specs.declared.types.RecordKind.{RecordKind}
