@@ -1,5 +1,5 @@
 -- Worked functions, computed: their signatures, their events, their runs, and wrong traces that get stuck or go astray.
-use Rattle.std.specs.Prelude.{◌≡◌, refl, ℕ, List, [], ◌∷◌, Option, Some, None, pos, negsuc, true, false, option_map, codes}
+use Rattle.std.specs.Prelude.{◌≡◌, refl, ℕ, List, [], ◌∷◌, Option, Some, None, pos, negsuc, true, false, option_map, codes, take, drop}
 use native.Mathlib.Decide.{ℕ_discrete}
 use Rattle.witx_ast.specs.declared.function.Abi.{Abi}
 use Rattle.witx_ast.specs.declared.types.BuiltinType.{BuiltinType}
@@ -152,6 +152,14 @@ gives_two = function [] (expected (Some pair_type) (Some error_name) ∷ [])
 gives_two_signature : signature_params gives_two ≡ WasmType.I32 ∷ WasmType.I32 ∷ []
 gives_two_signature = refl
 
+gives_two_word : signature_results gives_two ≡ WasmType.I32 ∷ []
+gives_two_word = refl
+
+gives_two_caller : caller_events m gives_two ≡ space 0 number_name ∷ emit (Step.ReturnPointerGet 0) ∷ space 1 number_name ∷ emit (Step.ReturnPointerGet 1) ∷ emit (Step.CallWasm m (codes "f") (WasmType.I32 ∷ WasmType.I32 ∷ []) (WasmType.I32 ∷ []))
+    ∷ push ∷ emit (Step.ReturnPointerGet 0) ∷ emit (Step.Load number_name) ∷ emit (Step.ReturnPointerGet 1) ∷ emit (Step.Load number_name) ∷ emit (Step.TupleLift 2) ∷ finish true
+    ∷ push ∷ emit Step.ReuseReturn ∷ emit (Step.EnumLift error_name) ∷ finish true ∷ emit Step.ResultLift ∷ emit (Step.Return 1) ∷ []
+gives_two_caller = refl
+
 gives_two_callee : callee_events m gives_two ≡ emit (Step.CallInterface m (codes "f") [] gives_two.results) ∷ push ∷ emit Step.VariantPayload ∷ emit (Step.TupleLower 2) ∷ emit (Step.GetArg 1) ∷ emit (Step.Store number_name) ∷ emit (Step.GetArg 0) ∷ emit (Step.Store number_name) ∷ finish false
     ∷ push ∷ emit Step.VariantPayload ∷ emit (Step.EnumLower error_name) ∷ finish true ∷ emit (Step.ResultLower (Some pair_type) (Some error_name)) ∷ emit (Step.Return 1) ∷ []
 gives_two_callee = refl
@@ -205,6 +213,10 @@ path_open_params = refl
 
 path_open_results : signature_results path_open ≡ WasmType.I32 ∷ []
 path_open_results = refl
+
+-- the callee stores the handle by the last of its words
+path_open_stores : take 2 (drop 18 (callee_events m path_open)) ≡ emit (Step.GetArg 8) ∷ emit (Step.Store handle_name) ∷ []
+path_open_stores = refl
 
 -- flags on u64, and a negative number in two's complement
 abbrev wide_flags : Function
