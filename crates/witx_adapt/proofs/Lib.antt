@@ -1,0 +1,6 @@
+pub mod Appending
+pub mod ListingSteps
+pub mod Fitting
+pub mod Lowering
+pub mod Gathering
+pub mod Answered

@@ -1,0 +1,200 @@
+ghost use Rattle.std.specs.Prelude.{◌≡◌, ◌++◌, IfOk, OnOk, drop, map, string_bytes};
+ghost use Rattle.witx_ast.specs.Items.{item_tree};
+ghost use Rattle.witx_ast.specs.Definitions.{definition_tree, module_tree};
+ghost use Rattle.witx_abi.specs.Reads.{event_of};
+ghost use Rattle.witx_adapt.specs.Entries.{lowered};
+ghost use Rattle.witx_adapt.specs.Listings.{constant_line, definition_lines, func_count, func_line, func_lines, import_line, item_lines, listing_text, module_line, next_func_lines, side_lines, typename_lines};
+
+use crate::adapted::{Adapted, AdaptedFunc};
+use crate::event_lines::put_events;
+use crate::names::{put_quoted, put_signature};
+use std::alloc::{AllocError, Global};
+use std::fmt::Write;
+use witx_abi::Event;
+use witx_ast::{Constant, Definition, InterfaceFunc, Module, ModuleDefinition};
+use witx_base::{OutOfMemory, Text};
+use witx_layout::SizeAlign;
+
+/// The listing of an adapted document: the lines of each definition, in document order. Layouts and
+/// functions are taken from their lists in order, one for each typename and one for each function.
+#[tactic(auto, unfolding(crate::specs::Listings::listing_text))]
+pub fn listing(alloc: Global, adapted: &Adapted) -> Result<Text, OutOfMemory>
+    ensures { IfOk result (λ t. t ≡ listing_text adapted.now) }
+{
+    let mut text = String::new(alloc);
+    put_definitions(
+        alloc,
+        &mut text,
+        adapted.document.definitions().as_slice(),
+        adapted.functions.as_slice(),
+        adapted.layouts.as_slice(),
+    )?;
+    Ok(Text::from_string(text))
+}
+
+#[tactic(auto, using(crate::proofs::ListingSteps::definition_rules))]
+fn put_definitions(
+    alloc: Global,
+    text: &mut String,
+    definitions: &[Definition],
+    functions: &[AdaptedFunc],
+    layouts: &[SizeAlign],
+) -> Result<(), OutOfMemory>
+    ensures { OnOk result (string_bytes text.new ≡ string_bytes text.old
+        ++ definition_lines (map definition_tree definitions.now) (map lowered functions.now) layouts.now) }
+{
+    let mut functions = functions;
+    let mut layouts = layouts;
+    for definition in definitions {
+        match definition {
+            Definition::Typename(named) => {
+                layouts = put_typename(text, named.name.as_str(), layouts)?;
+                continue;
+            }
+            Definition::Module(module) => {
+                functions = put_module(alloc, text, module, functions)?;
+                continue;
+            }
+            Definition::Constant(constant) => {
+                put_constant(text, constant)?;
+                continue;
+            }
+        }
+    }
+    Ok(())
+}
+
+/// The line of a typename with the first of the layouts; answers the others.
+fn put_typename<'a>(
+    text: &mut String,
+    name: &str,
+    layouts: &'a [SizeAlign],
+) -> Result<&'a [SizeAlign], AllocError>
+    ensures lines { IfOk result (λ rest. string_bytes text.new ≡ string_bytes text.old ++ typename_lines name.now layouts.now) }
+    ensures rest { IfOk result (λ rest. rest.now ≡ drop 1 layouts.now) }
+{
+    if layouts.is_empty() {
+        return Ok(layouts);
+    }
+    let SizeAlign { size, align } = layouts[0];
+    write!(text, "typename {name} size {size} align {align}\n")?;
+    Ok(&layouts[1..])
+}
+
+fn put_constant(text: &mut String, constant: &Constant) -> Result<(), AllocError>
+    ensures { OnOk result (string_bytes text.new ≡ string_bytes text.old ++ constant_line constant.now) }
+{
+    let ty = constant.ty.as_str();
+    let name = constant.name.as_str();
+    let value = constant.value;
+    write!(text, "const {ty} {name} {value}\n")
+}
+
+/// The lines of a module with the first of the functions; answers the others.
+fn put_module<'a>(
+    alloc: Global,
+    text: &mut String,
+    module: &Module,
+    functions: &'a [AdaptedFunc],
+) -> Result<&'a [AdaptedFunc], OutOfMemory>
+    ensures lines { IfOk result (λ rest. string_bytes text.new ≡ string_bytes text.old
+        ++ (module_line module.now.name ++ item_lines (module_tree module.now).items (map lowered functions.now))) }
+    ensures rest { IfOk result (λ rest. rest.now ≡ drop (func_count (module_tree module.now).items) functions.now) }
+{
+    put_module_line(text, module.name.as_str())?;
+    put_items(alloc, text, module.definitions().as_slice(), functions)
+}
+
+fn put_module_line(text: &mut String, name: &str) -> Result<(), AllocError>
+    ensures { OnOk result (string_bytes text.new ≡ string_bytes text.old ++ module_line name.now) }
+{
+    write!(text, "module {name}\n")
+}
+
+#[tactic(auto, using(crate::proofs::ListingSteps::item_rules))]
+fn put_items<'a>(
+    alloc: Global,
+    text: &mut String,
+    items: &[ModuleDefinition],
+    functions: &'a [AdaptedFunc],
+) -> Result<&'a [AdaptedFunc], OutOfMemory>
+    ensures lines { IfOk result (λ rest. string_bytes text.new ≡ string_bytes text.old
+        ++ item_lines (map item_tree items.now) (map lowered functions.now)) }
+    ensures rest { IfOk result (λ rest. rest.now ≡ drop (func_count (map item_tree items.now)) functions.now) }
+{
+    let mut rest = functions;
+    for item in items {
+        match item {
+            ModuleDefinition::Import(import) => {
+                put_import(text, import.name.as_str())?;
+                continue;
+            }
+            ModuleDefinition::Func(func) => {
+                rest = put_next_func(alloc, text, func, rest)?;
+                continue;
+            }
+        }
+    }
+    Ok(rest)
+}
+
+fn put_import(text: &mut String, name: &str) -> Result<(), AllocError>
+    ensures { OnOk result (string_bytes text.new ≡ string_bytes text.old ++ import_line name.now) }
+{
+    text.push_str("import ")?;
+    put_quoted(text, name)?;
+    text.push_str(" memory\n")
+}
+
+/// The lines of a function with the first of the functions; answers the others.
+fn put_next_func<'a>(
+    alloc: Global,
+    text: &mut String,
+    func: &InterfaceFunc,
+    functions: &'a [AdaptedFunc],
+) -> Result<&'a [AdaptedFunc], OutOfMemory>
+    ensures lines { IfOk result (λ rest. string_bytes text.new ≡ string_bytes text.old ++ next_func_lines func.now.name (map lowered functions.now)) }
+    ensures rest { IfOk result (λ rest. rest.now ≡ drop 1 functions.now) }
+{
+    if functions.is_empty() {
+        return Ok(functions);
+    }
+    put_func(alloc, text, func.name.as_str(), &functions[0])?;
+    Ok(&functions[1..])
+}
+
+fn put_func(
+    alloc: Global,
+    text: &mut String,
+    name: &str,
+    func: &AdaptedFunc,
+) -> Result<(), OutOfMemory>
+    ensures { OnOk result (string_bytes text.new ≡ string_bytes text.old ++ func_lines name.now (lowered func.now)) }
+{
+    put_func_line(text, name, func)?;
+    put_side(alloc, text, "caller", func.caller.events().as_slice())?;
+    put_side(alloc, text, "callee", func.callee.events().as_slice())
+}
+
+fn put_func_line(text: &mut String, name: &str, func: &AdaptedFunc) -> Result<(), AllocError>
+    ensures { OnOk result (string_bytes text.new ≡ string_bytes text.old ++ func_line name.now (lowered func.now)) }
+{
+    text.push_str("func ")?;
+    put_quoted(text, name)?;
+    text.push_str(" ")?;
+    put_signature(text, func.params.as_slice(), func.results.as_slice())?;
+    text.push_str("\n")
+}
+
+fn put_side(
+    alloc: Global,
+    text: &mut String,
+    side: &str,
+    events: &[Event],
+) -> Result<(), OutOfMemory>
+    ensures { OnOk result (string_bytes text.new ≡ string_bytes text.old ++ side_lines side.now (map event_of events.now)) }
+{
+    text.push_str(side)?;
+    text.push_str("\n")?;
+    put_events(alloc, text, events)
+}

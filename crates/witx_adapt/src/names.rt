@@ -1,0 +1,118 @@
+ghost use Rattle.std.specs.Prelude.{◌≡◌, ◌++◌, ◌<◌, ◌/◌, ◌%◌, ◌∷◌, [], OnOk, string_bytes, codes};
+ghost use Rattle.std.specs.List.{flat_map};
+ghost use Rattle.std.specs.Str.{chars};
+ghost use Rattle.witx_adapt.specs.Names.{digit, escaped, quoted, signature, spaced, wasm_word, wasm_words};
+
+use std::alloc::AllocError;
+use witx_abi::WasmType;
+
+/// Appends a name in double quotes: its own quotes and backslashes behind a backslash, its control
+/// characters as a backslash and two hexadecimal digits.
+pub fn put_quoted(text: &mut String, name: &str) -> Result<(), AllocError>
+    ensures { OnOk result (string_bytes text.new ≡ string_bytes text.old ++ quoted name.now) }
+{
+    text.push_str("\"")?;
+    put_escaped(text, name)?;
+    text.push_str("\"")
+}
+
+fn put_escaped(text: &mut String, name: &str) -> Result<(), AllocError>
+    ensures { OnOk result (string_bytes text.new ≡ string_bytes text.old ++ flat_map escaped (chars name.now)) }
+{
+    for c in name.chars() {
+        put_character(text, c)?;
+    }
+    Ok(())
+}
+
+fn put_character(text: &mut String, c: char) -> Result<(), AllocError>
+    ensures { OnOk result (string_bytes text.new ≡ string_bytes text.old ++ escaped c) }
+{
+    if c == '"' || c == '\\' {
+        text.push_str("\\")?;
+        return text.push(c);
+    }
+    if c < ' ' || c == '\u{7f}' {
+        return put_control(text, c as u8);
+    }
+    text.push(c)
+}
+
+fn put_control(text: &mut String, byte: u8) -> Result<(), AllocError>
+    ensures { OnOk result (string_bytes text.new ≡ string_bytes text.old ++ 92 ∷ digit (byte / 16) ∷ digit (byte % 16) ∷ []) }
+{
+    text.push_str("\\")?;
+    text.push(hex_digit(byte / 16))?;
+    text.push(hex_digit(byte % 16))
+}
+
+fn hex_digit(n: u8) -> char
+    requires { n < 16 }
+    ensures value { result ≡ digit n }
+    ensures ascii { result < 128 }
+{
+    if n < 10 {
+        (b'0' + n) as char
+    } else {
+        (b'a' + (n - 10)) as char
+    }
+}
+
+/// Appends a signature: the types of its words in parentheses.
+pub fn put_signature(
+    text: &mut String,
+    params: &[WasmType],
+    results: &[WasmType],
+) -> Result<(), AllocError>
+    ensures { OnOk result (string_bytes text.new ≡ string_bytes text.old ++ signature params.now results.now) }
+{
+    put_group(text, params)?;
+    text.push_str(" -> ")?;
+    put_group(text, results)
+}
+
+fn put_group(text: &mut String, types: &[WasmType]) -> Result<(), AllocError>
+    ensures { OnOk result (string_bytes text.new ≡ string_bytes text.old ++ (codes "(" ++ wasm_words types.now ++ codes ")")) }
+{
+    text.push_str("(")?;
+    put_words(text, types)?;
+    text.push_str(")")
+}
+
+fn put_words(text: &mut String, types: &[WasmType]) -> Result<(), AllocError>
+    ensures { OnOk result (string_bytes text.new ≡ string_bytes text.old ++ wasm_words types.now) }
+{
+    if types.is_empty() {
+        return Ok(());
+    }
+    text.push_str(wasm_word(types[0]))?;
+    put_more_words(text, &types[1..])
+}
+
+#[tactic(auto, using(crate::proofs::Appending::appending_rules))]
+fn put_more_words(text: &mut String, types: &[WasmType]) -> Result<(), AllocError>
+    ensures { OnOk result (string_bytes text.new ≡ string_bytes text.old ++ flat_map spaced types.now) }
+{
+    for ty in types {
+        put_spaced(text, *ty)?;
+    }
+    Ok(())
+}
+
+fn put_spaced(text: &mut String, ty: WasmType) -> Result<(), AllocError>
+    ensures { OnOk result (string_bytes text.new ≡ string_bytes text.old ++ spaced ty) }
+{
+    text.push_str(" ")?;
+    text.push_str(wasm_word(ty))
+}
+
+fn wasm_word(ty: WasmType) -> &'static str
+    ensures { result.now ≡ wasm_word ty }
+{
+    match ty {
+        WasmType::I32 => "i32",
+        WasmType::I64 => "i64",
+        WasmType::F32 => "f32",
+        WasmType::F64 => "f64",
+    }
+}
