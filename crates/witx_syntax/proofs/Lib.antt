@@ -1,0 +1,9 @@
+pub mod Digits
+pub mod Documents
+mod Examples
+pub mod Leaves
+pub mod Loop
+pub mod Pushed
+pub mod Shapes
+pub mod Sound
+pub mod Wording

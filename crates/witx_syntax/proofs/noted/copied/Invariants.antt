@@ -1,0 +1,6 @@
+use Rattle.std.proofs.Common.{◌≡◌, map, take}
+use Rattle.std.specs.Borrow.{Bor}
+use Rattle.witx_syntax.proofs.noted.copied.Given as goal
+
+abbrev pub invariant-loop-text : goal.invariant-loop-text
+invariant-loop-text l = l.texts ≡ take l.text-index l.text-items

@@ -1,0 +1,9 @@
+pub mod Integers
+pub mod Kinds
+pub mod Messages
+pub mod Names
+pub mod Reads
+pub mod Rows
+pub mod Sorts
+pub mod Stack
+pub mod Values

@@ -1,0 +1,55 @@
+//! What holds of every text, as functions that do nothing: each contract is a theorem.
+
+ghost use Rattle.std.specs.Prelude.{◌≡◌, ◌⊎◌, ℕ, List};
+ghost use Rattle.witx_syntax.specs.Names.{AllNames, StandsInText};
+ghost use Rattle.witx_syntax.specs.Reads.{IsFaultOf, Reads, Told};
+ghost use Rattle.witx_tree.specs.Trees.{Document};
+
+use crate::table::the_table;
+use witx_grammar::{at_most_one_fault, derivation_or_fault};
+use witx_lex::{
+    a_fault_is_unique, a_text_has_pieces_or_a_fault, pieces_exclude_a_fault, tokens_are_slices,
+    tokens_are_unique,
+};
+
+/// A text is at most one document.
+pub fn at_most_one_document()
+    ensures { (text : List ℕ) (d e : Document) → Reads text d → Reads text e → d ≡ e }
+{
+    tokens_are_unique();
+    let _table = the_table();
+}
+
+/// A text that is a document has no fault.
+pub fn no_fault_where_read()
+    ensures { (text : List ℕ) (d : Document) (f : Told) → Reads text d → IsFaultOf text f → ⊥ }
+{
+    tokens_are_unique();
+    pieces_exclude_a_fault();
+}
+
+/// A text is a document or has a fault.
+pub fn a_document_or_a_fault()
+    ensures { (text : List ℕ) → ((d : Document) × Reads text d) ⊎ ((f : Told) × IsFaultOf text f) }
+{
+    a_text_has_pieces_or_a_fault();
+    derivation_or_fault();
+    let _table = the_table();
+}
+
+/// A text has at most one fault: one message, at one line and column.
+pub fn at_most_one_parse_fault()
+    ensures { (text : List ℕ) (f g : Told) → IsFaultOf text f → IsFaultOf text g → f ≡ g }
+{
+    a_fault_is_unique();
+    pieces_exclude_a_fault();
+    tokens_are_unique();
+    at_most_one_fault();
+}
+
+/// Each identifier of a document is the bytes of the text at its place, behind their `$`.
+pub fn identifiers_stand_in_the_text()
+    ensures { (text : List ℕ) (d : Document) → Reads text d → AllNames (StandsInText text) d }
+{
+    tokens_are_slices();
+}
