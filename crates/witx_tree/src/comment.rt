@@ -6,13 +6,13 @@ use witx_comments::documentation;
 pub type CommentTexts<'a> = Items<&'a str>;
 
 /// The comments between the token before an item and the item's first token.
-#[derive(Debug, Drop)]
+#[derive(PartialEq, Eq, Debug, Drop)]
 pub struct CommentSyntax<'a> {
     pub comments: CommentTexts<'a>,
 }
 
 /// An item and the comments before it.
-#[derive(Debug, Drop)]
+#[derive(PartialEq, Eq, Debug, Drop)]
 pub struct Documented<'a, T> {
     pub comments: CommentSyntax<'a>,
     pub item: T,

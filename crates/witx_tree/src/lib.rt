@@ -3,9 +3,14 @@
 #![tactic(auto)]
 
 mod comment;
+mod copies;
+mod laws;
 mod tree;
 
 pub use comment::{CommentSyntax, CommentTexts, Documented};
+pub use laws::{
+    documents_equal_without_places, identifiers_equal_by_name, types_equal_without_places,
+};
 pub use tree::{
     BuiltinSyntax, CaseSyntax, CaseSyntaxes, ConstSyntax, DeclSyntax, EnumSyntax, ExpectedSyntax,
     FieldSyntax, FieldSyntaxes, FlagsSyntax, HandleSyntax, IdSyntax, ImportTypeSyntax,

@@ -5,9 +5,13 @@ use witx_base::{Items, Text};
 use witx_lex::Span;
 
 /// An identifier, and where it stands with its `$`.
+///
+/// Identifiers are equal by name, wherever they stand.
 #[derive(Clone, Copy, Debug)]
+#[derive_where(PartialEq, Eq)]
 pub struct IdSyntax<'a> {
     pub name: &'a str,
+    #[derive_where(skip(EqHashOrd))]
     pub span: Span,
 }
 
@@ -48,7 +52,7 @@ pub type ModuleDeclSyntaxes<'a> = Items<Documented<'a, ModuleDeclSyntax<'a>>>;
 /// The top-level forms of a text.
 pub type TopLevelSyntaxes<'a> = Items<Documented<'a, TopLevelSyntax<'a>>>;
 
-/// A type.
+/// A type. Types are equal where they are the same up to places.
 #[derive(Debug, Drop)]
 #[cycle(typedefs)]
 pub enum TypedefSyntax<'a> {
@@ -69,29 +73,72 @@ pub enum TypedefSyntax<'a> {
     Bool,
 }
 
+// By their readings, so that the derived comparisons of the types below say the same.
+impl<'a> PartialEq for TypedefSyntax<'a> {
+    ghost use Rattle.std.specs.Cmp.{on_per, partial_equiv_from_equiv};
+    ghost use Rattle.witx_tree.specs.Views.{type_view};
+    ghost use Rattle.witx_tree.specs.Same.{same_type};
+    ghost use Rattle.witx_tree.specs.SameLaws.{type_equivalence};
+
+    ghost eq = { λ a b. same_type (type_view a) (type_view b) };
+
+    ghost laws = { on_per type_view (partial_equiv_from_equiv type_equivalence) };
+
+    #[cycle(typedefs)]
+    #[tactic(auto, using(crate::proofs::Equal::same_rules))]
+    fn eq(&self, other: &TypedefSyntax<'a>) -> bool {
+        match (self, other) {
+            (TypedefSyntax::Enum(a), TypedefSyntax::Enum(b)) => *a == *b,
+            (TypedefSyntax::Tuple(a), TypedefSyntax::Tuple(b)) => *a == *b,
+            (TypedefSyntax::Expected(a), TypedefSyntax::Expected(b)) => *a == *b,
+            (TypedefSyntax::Flags(a), TypedefSyntax::Flags(b)) => *a == *b,
+            (TypedefSyntax::Record(a), TypedefSyntax::Record(b)) => *a == *b,
+            (TypedefSyntax::Union(a), TypedefSyntax::Union(b)) => *a == *b,
+            (TypedefSyntax::Variant(a), TypedefSyntax::Variant(b)) => *a == *b,
+            (TypedefSyntax::Handle(a), TypedefSyntax::Handle(b)) => *a == *b,
+            (TypedefSyntax::List(a), TypedefSyntax::List(b)) => **a == **b,
+            (TypedefSyntax::Pointer(a), TypedefSyntax::Pointer(b)) => **a == **b,
+            (TypedefSyntax::ConstPointer(a), TypedefSyntax::ConstPointer(b)) => **a == **b,
+            (TypedefSyntax::Builtin(a), TypedefSyntax::Builtin(b)) => *a == *b,
+            (TypedefSyntax::Ident(a), TypedefSyntax::Ident(b)) => *a == *b,
+            (TypedefSyntax::String, TypedefSyntax::String) => true,
+            (TypedefSyntax::Bool, TypedefSyntax::Bool) => true,
+            _ => false,
+        }
+    }
+}
+
+impl<'a> Eq for TypedefSyntax<'a> {
+    ghost use Rattle.std.specs.Cmp.{on_equiv};
+    ghost use Rattle.witx_tree.specs.Views.{type_view};
+    ghost use Rattle.witx_tree.specs.SameLaws.{type_equivalence};
+
+    ghost laws = { on_equiv type_view type_equivalence };
+}
+
 /// An enum with its representation, if one is given, and its names, one or more.
-#[derive(Debug, Drop)]
+#[derive(PartialEq, Eq, Debug, Drop)]
 pub struct EnumSyntax<'a> {
     pub repr: Option<BuiltinSyntax>,
     pub members: MemberSyntaxes<'a>,
 }
 
 /// Flags with their representation, if one is given.
-#[derive(Debug, Drop)]
+#[derive(PartialEq, Eq, Debug, Drop)]
 pub struct FlagsSyntax<'a> {
     pub repr: Option<BuiltinSyntax>,
     pub flags: MemberSyntaxes<'a>,
 }
 
 /// A tuple.
-#[derive(Debug, Drop)]
+#[derive(PartialEq, Eq, Debug, Drop)]
 #[cycle(typedefs)]
 pub struct TupleSyntax<'a> {
     pub types: TypeSyntaxes<'a>,
 }
 
 /// An expected result or error, each with a type or without.
-#[derive(Debug, Drop)]
+#[derive(PartialEq, Eq, Debug, Drop)]
 #[cycle(typedefs)]
 pub struct ExpectedSyntax<'a> {
     pub ok: Option<Box<TypedefSyntax<'a>>>,
@@ -99,14 +146,14 @@ pub struct ExpectedSyntax<'a> {
 }
 
 /// A record with its fields, one or more.
-#[derive(Debug, Drop)]
+#[derive(PartialEq, Eq, Debug, Drop)]
 #[cycle(typedefs)]
 pub struct RecordSyntax<'a> {
     pub fields: FieldSyntaxes<'a>,
 }
 
 /// A field, a parameter or a result.
-#[derive(Debug, Drop)]
+#[derive(PartialEq, Eq, Debug, Drop)]
 #[cycle(typedefs)]
 pub struct FieldSyntax<'a> {
     pub name: IdSyntax<'a>,
@@ -114,7 +161,7 @@ pub struct FieldSyntax<'a> {
 }
 
 /// A union with its tag, if one is given.
-#[derive(Debug, Drop)]
+#[derive(PartialEq, Eq, Debug, Drop)]
 #[cycle(typedefs)]
 pub struct UnionSyntax<'a> {
     pub tag: Option<Box<TypedefSyntax<'a>>>,
@@ -122,7 +169,7 @@ pub struct UnionSyntax<'a> {
 }
 
 /// A variant with its tag, if one is given.
-#[derive(Debug, Drop)]
+#[derive(PartialEq, Eq, Debug, Drop)]
 #[cycle(typedefs)]
 pub struct VariantSyntax<'a> {
     pub tag: Option<Box<TypedefSyntax<'a>>>,
@@ -130,7 +177,7 @@ pub struct VariantSyntax<'a> {
 }
 
 /// A case, with a type or without.
-#[derive(Debug, Drop)]
+#[derive(PartialEq, Eq, Debug, Drop)]
 #[cycle(typedefs)]
 pub struct CaseSyntax<'a> {
     pub name: IdSyntax<'a>,
@@ -142,14 +189,14 @@ pub struct CaseSyntax<'a> {
 pub struct HandleSyntax;
 
 /// A named type.
-#[derive(Debug, Drop)]
+#[derive(PartialEq, Eq, Debug, Drop)]
 pub struct TypenameSyntax<'a> {
     pub ident: IdSyntax<'a>,
     pub def: TypedefSyntax<'a>,
 }
 
 /// A constant of a named type.
-#[derive(Debug, Drop)]
+#[derive(PartialEq, Eq, Debug, Drop)]
 pub struct ConstSyntax<'a> {
     pub ty: IdSyntax<'a>,
     pub name: IdSyntax<'a>,
@@ -162,18 +209,23 @@ pub enum ImportTypeSyntax {
     Memory,
 }
 
-/// An import of a module, its name, and where that stands.
+/// An import of a module, its name, and where that stands, which equality skips.
 #[derive(Debug, Drop)]
+#[derive_where(PartialEq, Eq)]
 pub struct ModuleImportSyntax {
     pub name: Text,
+    #[derive_where(skip(EqHashOrd))]
     pub name_loc: Span,
     pub type_: ImportTypeSyntax,
 }
 
-/// A function of a module, the name that it is exported by, and where that stands.
+/// A function of a module, the name that it is exported by, and where that stands, which equality
+/// skips.
 #[derive(Debug, Drop)]
+#[derive_where(PartialEq, Eq)]
 pub struct InterfaceFuncSyntax<'a> {
     pub export: Text,
+    #[derive_where(skip(EqHashOrd))]
     pub export_loc: Span,
     pub params: FieldSyntaxes<'a>,
     pub results: FieldSyntaxes<'a>,
@@ -181,21 +233,21 @@ pub struct InterfaceFuncSyntax<'a> {
 }
 
 /// A declaration of a module.
-#[derive(Debug, Drop)]
+#[derive(PartialEq, Eq, Debug, Drop)]
 pub enum ModuleDeclSyntax<'a> {
     Import(ModuleImportSyntax),
     Func(InterfaceFuncSyntax<'a>),
 }
 
 /// A module.
-#[derive(Debug, Drop)]
+#[derive(PartialEq, Eq, Debug, Drop)]
 pub struct ModuleSyntax<'a> {
     pub name: IdSyntax<'a>,
     pub decls: ModuleDeclSyntaxes<'a>,
 }
 
 /// A declaration.
-#[derive(Debug, Drop)]
+#[derive(PartialEq, Eq, Debug, Drop)]
 pub enum DeclSyntax<'a> {
     Typename(TypenameSyntax<'a>),
     Module(ModuleSyntax<'a>),
@@ -204,14 +256,14 @@ pub enum DeclSyntax<'a> {
 }
 
 /// A top-level form: a declaration, or the use of another file.
-#[derive(Debug, Drop)]
+#[derive(PartialEq, Eq, Debug, Drop)]
 pub enum TopLevelSyntax<'a> {
     Decl(DeclSyntax<'a>),
     Use(Text),
 }
 
 /// A text.
-#[derive(Debug, Drop)]
+#[derive(PartialEq, Eq, Debug, Drop)]
 pub struct TopLevelDocument<'a> {
     pub items: TopLevelSyntaxes<'a>,
 }

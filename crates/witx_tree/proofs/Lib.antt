@@ -1,0 +1,5 @@
+pub mod TypeViews
+pub mod Unlike
+pub mod Equal
+pub mod Copied
+pub mod Decided
