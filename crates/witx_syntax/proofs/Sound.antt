@@ -73,9 +73,11 @@ Makes P ls form vs us = (kinds_are (form_kind form ∷ ls) us ≡ true) × (Name
 abbrev IsSound : (Name → Type 0) → Rule → Type 0
 IsSound P u = (ts : List Lexed) (at : ℕ) (ls : List ℕ) → OfKinds (wants_kinds u.symbols) ls (λ vs. Makes P ls u.form vs (u.action ts at vs))
 
-abbrev AreSound : (Name → Type 0) → List Rule → Type 0
-AreSound P [] = Unit {0}
-AreSound P (u ∷ us) = IsSound P u × AreSound P us
+-- each rule of the list is sound
+infixr 20 ◌▸◌
+data AreSound (P : Name → Type 0) : List Rule → Type 0 where
+  all_done : AreSound P []
+  ◌▸◌ : {u : Rule} {us : List Rule} → IsSound P u → AreSound P us → AreSound P (u ∷ us)
 
 more_entries : (P : Name → Type 0) (ts : List Lexed) (at : ℕ) (ls : List ℕ) (x : EntryTree) (ps rs : Fields) (b : Bool) (vs : List Val) → kinds_are ls vs ≡ true
     → (kinds_are (entries_kind ∷ ls) (row_more_entries (an_entry x ∷ some_entries ps rs b ∷ vs)) ≡ true)
@@ -86,217 +88,82 @@ more_entries P ts at ls noreturn ps rs b vs e = (e, λ h. h.1)
 
 -- row by row, in their order
 all_sound : (P : Name → Type 0) → AreSound P the_rules
-all_sound P = (
-  λ ts at ls vs e. (e, λ h. (tt, h)),
-  (
-    λ ts at ls i is vs e. (e, λ h. ((h.0, h.1.0), h.1.1)),
-    (
-      λ ts at ls q vs e. (e, λ h. (tt, h.1)),
-      (
-        λ ts at ls n t vs e. (e, λ h. ((h.0, h.1.0), h.1.1)),
-        (
-          λ ts at ls n ds vs e. (e, λ h. ((h.0, h.1.0), h.1.1)),
-          (
-            λ ts at ls n n2 v vs e. (e, λ h. ((h.0, h.1.0), h.1.1.1)),
-            (
-              λ ts at ls vs e. (e, λ h. (tt, h)),
-              (
-                λ ts at ls vs e. (e, λ h. (tt, h)),
-                (
-                  λ ts at ls vs e. (e, λ h. (tt, h)),
-                  (
-                    λ ts at ls vs e. (e, λ h. (tt, h)),
-                    (
-                      λ ts at ls vs e. (e, λ h. (tt, h)),
-                      (
-                        λ ts at ls vs e. (e, λ h. (tt, h)),
-                        (
-                          λ ts at ls vs e. (e, λ h. (tt, h)),
-                          (
-                            λ ts at ls vs e. (e, λ h. (tt, h)),
-                            (
-                              λ ts at ls vs e. (e, λ h. (tt, h)),
-                              (
-                                λ ts at ls vs e. (e, λ h. (tt, h)),
-                                (
-                                  λ ts at ls vs e. (e, λ h. (tt, h)),
-                                  (
-                                    λ ts at ls t vs e. (e, λ h. h),
-                                    (
-                                      λ ts at ls t vs e. (e, λ h. h),
-                                      (
-                                        λ ts at ls vs e. (e, λ h. (tt, h)),
-                                        (
-                                          λ ts at ls vs e. (e, λ h. (tt, h)),
-                                          (
-                                            λ ts at ls t vs e. (e, λ h. h),
-                                            (
-                                              λ ts at ls n vs e. (e, λ h. h),
-                                              (
-                                                λ ts at ls vs e. (e, λ h. (tt, h)),
-                                                (
-                                                  λ ts at ls vs e. (e, λ h. (tt, h)),
-                                                  (
-                                                    λ ts at ls b m ms vs e. (e, λ h. ((h.1.0, h.1.1.0), h.1.1.1)),
-                                                    (
-                                                      λ ts at ls m ms vs e. (e, λ h. ((h.0, h.1.0), h.1.1)),
-                                                      (
-                                                        λ ts at ls b ms vs e. (e, λ h. h.1),
-                                                        (
-                                                          λ ts at ls ms vs e. (e, λ h. h),
-                                                          (
-                                                            λ ts at ls cs n t fs vs e. (e, λ h. ((h.0, h.1.0), h.1.1)),
-                                                            (
-                                                              λ ts at ls tys vs e. (e, λ h. h),
-                                                              (
-                                                                λ ts at ls t vs e. (e, λ h. h),
-                                                                (
-                                                                  λ ts at ls vs e. (e, λ h. (tt, h)),
-                                                                  (
-                                                                    λ ts at ls x vs e. (e, λ h. ((tt, h.0), h.1)),
-                                                                    (
-                                                                      λ ts at ls t x vs e. (e, λ h. ((h.0, h.1.0), h.1.1)),
-                                                                      (
-                                                                        λ ts at ls t us vs e. (e, λ h. ((h.0, h.1.0), h.1.1)),
-                                                                        (
-                                                                          λ ts at ls vs e. (e, λ h. ((tt, tt), h)),
-                                                                          (
-                                                                            λ ts at ls cs t us vs e. (e, λ h. ((tt, (h.0, h.1.0)), h.1.1)),
-                                                                            (
-                                                                              λ ts at ls t cs vs e. (e, λ h. ((h.0, h.1.0), h.1.1)),
-                                                                              (
-                                                                                λ ts at ls cs vs e. (e, λ h. ((tt, h.0), h.1)),
-                                                                                (
-                                                                                  λ ts at ls b vs e. (e, λ h. h),
-                                                                                  (
-                                                                                    λ ts at ls n vs e. (e, λ h. h),
-                                                                                    (
-                                                                                      λ ts at ls vs e. (e, λ h. (tt, h)),
-                                                                                      (
-                                                                                        λ ts at ls m ms vs e. (e, λ h. ((h.0, h.1.0), h.1.1)),
-                                                                                        (
-                                                                                          λ ts at ls vs e. (e, λ h. (tt, h)),
-                                                                                          (
-                                                                                            λ ts at ls t tys vs e. (e, λ h. ((h.0, h.1.0), h.1.1)),
-                                                                                            (
-                                                                                              λ ts at ls t vs e. (e, λ h. h),
-                                                                                              (
-                                                                                                λ ts at ls t vs e. (e, λ h. h),
-                                                                                                (
-                                                                                                  λ ts at ls vs e. (e, λ h. (tt, h)),
-                                                                                                  (
-                                                                                                    λ ts at ls cs t us vs e. (e, λ h. ((h.0, h.1.0), h.1.1)),
-                                                                                                    (
-                                                                                                      λ ts at ls n t vs e. (e, λ h. ((h.0, h.1.0), h.1.1)),
-                                                                                                      (
-                                                                                                        λ ts at ls vs e. (e, λ h. (tt, h)),
-                                                                                                        (
-                                                                                                          λ ts at ls cs n t fs vs e. (e, λ h. ((h.0, h.1.0), h.1.1)),
-                                                                                                          (
-                                                                                                            λ ts at ls vs e. (e, λ h. (tt, h)),
-                                                                                                            (
-                                                                                                              λ ts at ls t vs e. (e, λ h. h),
-                                                                                                              (
-                                                                                                                λ ts at ls n vs e. (e, λ h. ((h.0, tt), h.1)),
-                                                                                                                (
-                                                                                                                  λ ts at ls n t vs e. (e, λ h. ((h.0, h.1.0), h.1.1)),
-                                                                                                                  (
-                                                                                                                    λ ts at ls vs e. (e, λ h. (tt, h)),
-                                                                                                                    (
-                                                                                                                      λ ts at ls cs n t cs2 vs e. (e, λ h. ((h.0, h.1.0), h.1.1)),
-                                                                                                                      (
-                                                                                                                        λ ts at ls q vs e. (e, λ h. h),
-                                                                                                                        (
-                                                                                                                          λ ts at ls q ps rs b vs e. (e, λ h. h.1),
-                                                                                                                          (
-                                                                                                                            λ ts at ls vs e. (e, λ h. (tt, h)),
-                                                                                                                            (
-                                                                                                                              λ ts at ls d ds vs e. (e, λ h. ((h.0, h.1.0), h.1.1)),
-                                                                                                                              (
-                                                                                                                                λ ts at ls n t vs e. (e, λ h. ((h.0, h.1.0), h.1.1)),
-                                                                                                                                (
-                                                                                                                                  λ ts at ls n t vs e. (e, λ h. ((h.0, h.1.0), h.1.1)),
-                                                                                                                                  (
-                                                                                                                                    λ ts at ls vs e. (e, λ h. (tt, h)),
-                                                                                                                                    (
-                                                                                                                                      λ ts at ls vs e. (e, λ h. ((tt, tt), h)),
-                                                                                                                                      (
-                                                                                                                                        more_entries P,
-                                                                                                                                        tt,
-                                                                                                                                      ),
-                                                                                                                                    ),
-                                                                                                                                  ),
-                                                                                                                                ),
-                                                                                                                              ),
-                                                                                                                            ),
-                                                                                                                          ),
-                                                                                                                        ),
-                                                                                                                      ),
-                                                                                                                    ),
-                                                                                                                  ),
-                                                                                                                ),
-                                                                                                              ),
-                                                                                                            ),
-                                                                                                          ),
-                                                                                                        ),
-                                                                                                      ),
-                                                                                                    ),
-                                                                                                  ),
-                                                                                                ),
-                                                                                              ),
-                                                                                            ),
-                                                                                          ),
-                                                                                        ),
-                                                                                      ),
-                                                                                    ),
-                                                                                  ),
-                                                                                ),
-                                                                              ),
-                                                                            ),
-                                                                          ),
-                                                                        ),
-                                                                      ),
-                                                                    ),
-                                                                  ),
-                                                                ),
-                                                              ),
-                                                            ),
-                                                          ),
-                                                        ),
-                                                      ),
-                                                    ),
-                                                  ),
-                                                ),
-                                              ),
-                                            ),
-                                          ),
-                                        ),
-                                      ),
-                                    ),
-                                  ),
-                                ),
-                              ),
-                            ),
-                          ),
-                        ),
-                      ),
-                    ),
-                  ),
-                ),
-              ),
-            ),
-          ),
-        ),
-      ),
-    ),
-  ),
-)
+all_sound P =
+    (λ ts at ls vs e. (e, λ h. (tt, h)))
+    ▸ (λ ts at ls i is vs e. (e, λ h. ((h.0, h.1.0), h.1.1)))
+    ▸ (λ ts at ls q vs e. (e, λ h. (tt, h.1)))
+    ▸ (λ ts at ls n t vs e. (e, λ h. ((h.0, h.1.0), h.1.1)))
+    ▸ (λ ts at ls n ds vs e. (e, λ h. ((h.0, h.1.0), h.1.1)))
+    ▸ (λ ts at ls n n2 v vs e. (e, λ h. ((h.0, h.1.0), h.1.1.1)))
+    ▸ (λ ts at ls vs e. (e, λ h. (tt, h)))
+    ▸ (λ ts at ls vs e. (e, λ h. (tt, h)))
+    ▸ (λ ts at ls vs e. (e, λ h. (tt, h)))
+    ▸ (λ ts at ls vs e. (e, λ h. (tt, h)))
+    ▸ (λ ts at ls vs e. (e, λ h. (tt, h)))
+    ▸ (λ ts at ls vs e. (e, λ h. (tt, h)))
+    ▸ (λ ts at ls vs e. (e, λ h. (tt, h)))
+    ▸ (λ ts at ls vs e. (e, λ h. (tt, h)))
+    ▸ (λ ts at ls vs e. (e, λ h. (tt, h)))
+    ▸ (λ ts at ls vs e. (e, λ h. (tt, h)))
+    ▸ (λ ts at ls vs e. (e, λ h. (tt, h)))
+    ▸ (λ ts at ls t vs e. (e, λ h. h))
+    ▸ (λ ts at ls t vs e. (e, λ h. h))
+    ▸ (λ ts at ls vs e. (e, λ h. (tt, h)))
+    ▸ (λ ts at ls vs e. (e, λ h. (tt, h)))
+    ▸ (λ ts at ls t vs e. (e, λ h. h))
+    ▸ (λ ts at ls n vs e. (e, λ h. h))
+    ▸ (λ ts at ls vs e. (e, λ h. (tt, h)))
+    ▸ (λ ts at ls vs e. (e, λ h. (tt, h)))
+    ▸ (λ ts at ls b m ms vs e. (e, λ h. ((h.1.0, h.1.1.0), h.1.1.1)))
+    ▸ (λ ts at ls m ms vs e. (e, λ h. ((h.0, h.1.0), h.1.1)))
+    ▸ (λ ts at ls b ms vs e. (e, λ h. h.1))
+    ▸ (λ ts at ls ms vs e. (e, λ h. h))
+    ▸ (λ ts at ls cs n t fs vs e. (e, λ h. ((h.0, h.1.0), h.1.1)))
+    ▸ (λ ts at ls tys vs e. (e, λ h. h))
+    ▸ (λ ts at ls t vs e. (e, λ h. h))
+    ▸ (λ ts at ls vs e. (e, λ h. (tt, h)))
+    ▸ (λ ts at ls x vs e. (e, λ h. ((tt, h.0), h.1)))
+    ▸ (λ ts at ls t x vs e. (e, λ h. ((h.0, h.1.0), h.1.1)))
+    ▸ (λ ts at ls t us vs e. (e, λ h. ((h.0, h.1.0), h.1.1)))
+    ▸ (λ ts at ls vs e. (e, λ h. ((tt, tt), h)))
+    ▸ (λ ts at ls cs t us vs e. (e, λ h. ((tt, (h.0, h.1.0)), h.1.1)))
+    ▸ (λ ts at ls t cs vs e. (e, λ h. ((h.0, h.1.0), h.1.1)))
+    ▸ (λ ts at ls cs vs e. (e, λ h. ((tt, h.0), h.1)))
+    ▸ (λ ts at ls b vs e. (e, λ h. h))
+    ▸ (λ ts at ls n vs e. (e, λ h. h))
+    ▸ (λ ts at ls vs e. (e, λ h. (tt, h)))
+    ▸ (λ ts at ls m ms vs e. (e, λ h. ((h.0, h.1.0), h.1.1)))
+    ▸ (λ ts at ls vs e. (e, λ h. (tt, h)))
+    ▸ (λ ts at ls t tys vs e. (e, λ h. ((h.0, h.1.0), h.1.1)))
+    ▸ (λ ts at ls t vs e. (e, λ h. h))
+    ▸ (λ ts at ls t vs e. (e, λ h. h))
+    ▸ (λ ts at ls vs e. (e, λ h. (tt, h)))
+    ▸ (λ ts at ls cs t us vs e. (e, λ h. ((h.0, h.1.0), h.1.1)))
+    ▸ (λ ts at ls n t vs e. (e, λ h. ((h.0, h.1.0), h.1.1)))
+    ▸ (λ ts at ls vs e. (e, λ h. (tt, h)))
+    ▸ (λ ts at ls cs n t fs vs e. (e, λ h. ((h.0, h.1.0), h.1.1)))
+    ▸ (λ ts at ls vs e. (e, λ h. (tt, h)))
+    ▸ (λ ts at ls t vs e. (e, λ h. h))
+    ▸ (λ ts at ls n vs e. (e, λ h. ((h.0, tt), h.1)))
+    ▸ (λ ts at ls n t vs e. (e, λ h. ((h.0, h.1.0), h.1.1)))
+    ▸ (λ ts at ls vs e. (e, λ h. (tt, h)))
+    ▸ (λ ts at ls cs n t cs2 vs e. (e, λ h. ((h.0, h.1.0), h.1.1)))
+    ▸ (λ ts at ls q vs e. (e, λ h. h))
+    ▸ (λ ts at ls q ps rs b vs e. (e, λ h. h.1))
+    ▸ (λ ts at ls vs e. (e, λ h. (tt, h)))
+    ▸ (λ ts at ls d ds vs e. (e, λ h. ((h.0, h.1.0), h.1.1)))
+    ▸ (λ ts at ls n t vs e. (e, λ h. ((h.0, h.1.0), h.1.1)))
+    ▸ (λ ts at ls n t vs e. (e, λ h. ((h.0, h.1.0), h.1.1)))
+    ▸ (λ ts at ls vs e. (e, λ h. (tt, h)))
+    ▸ (λ ts at ls vs e. (e, λ h. ((tt, tt), h)))
+    ▸ more_entries P
+    ▸ all_done
 
 rule_with : (P : Name → Type 0) (us : List Rule) (r : ℕ) → r < length us → AreSound P us
     → IsSound P (slice_index_or us r no_rule) × (production (map production_of us) r ≡ production_of (slice_index_or us r no_rule))
 rule_with P [] r lt h = absurd (omega arith)
-rule_with P (u ∷ us) zero lt h = (h.0, refl)
-rule_with P (u ∷ us) (suc r) lt h = rule_with P us r (omega arith) h.1
+rule_with P (u ∷ us) zero lt (h ▸ hs) = (h, refl)
+rule_with P (u ∷ us) (suc r) lt (h ▸ hs) = rule_with P us r (omega arith) hs
 
 -- ---- derivations
 
