@@ -2,7 +2,7 @@
 use Rattle.std.specs.Prelude.{◌≡◌, List, [], ◌∷◌, map}
 use Rattle.std.proofs.Common.{refl}
 use Rattle.std.specs.List.{AllZip}
-use Rattle.witx_tree.specs.Views.{boxed_view, member_view, noted_field, noted_type, noted_case, noted_decl, noted_item, field_view, type_view, case_view, decl_view, item_view, types_view, fields_view, union_fields_view, cases_view}
+use Rattle.witx_tree.specs.Views.{boxed_view, member_view, noted_decl, noted_item, field_view, type_view, case_view, decl_view, item_view, types_view, fields_view, union_fields_view, cases_view}
 use Rattle.witx_tree.specs.Copies.{IsCopyOfDocumented, ReadsAs}
 use Rattle.witx_tree.specs.declared.comment.Documented.{Documented}
 use Rattle.witx_tree.specs.declared.tree.IdSyntax.{IdSyntax}

@@ -4,9 +4,9 @@ use Rattle.std.proofs.Common.{rules, ap, sym, ◌∙◌}
 use Rattle.std.specs.Bool.{Decides}
 use Rattle.std.specs.Cmp.Lexicographic.{pointwise}
 use mathlib.Core.Bool.{beq}
-use Rattle.witx_tree.specs.Trees.{QuotedText, Fields, DeclTree, ItemTree, NotedDecl, NotedItem}
-use Rattle.witx_tree.specs.Same.{same_bytes, same_fields}
-use Rattle.witx_tree.specs.SameLaws.{both, false-true, bytes-to, bytes-self, comments-to, comments-self, name-to, type-to, type-from, fields-to, fields-self, fields-unplaced}
+use Rattle.witx_tree.specs.Trees.{QuotedText, Fields, DeclTree, ItemTree}
+use Rattle.witx_tree.specs.Same.{same_bytes}
+use Rattle.witx_tree.specs.SameLaws.{both, false-true, bytes-to, bytes-self, comments-to, comments-self, type-to, type-from, fields-to, fields-self, fields-unplaced}
 use Rattle.witx_tree.specs.Unplaced.{unplaced, unplaced_name, unplaced_fields, unplaced_decl, unplaced_noted_decl, unplaced_item, unplaced_noted_item, unplaced_document}
 use Rattle.witx_tree.specs.Views.{comments_view, name_view, type_view, fields_view, decl_view, noted_decl, declaration_view, item_view, noted_item, document_view}
 use Rattle.witx_tree.specs.declared.comment.CommentSyntax.{CommentSyntax}

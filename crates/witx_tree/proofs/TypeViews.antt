@@ -4,7 +4,7 @@ use Rattle.std.proofs.Common.{rules}
 use Rattle.std.specs.declared.boxed.Box.{Box}
 use Rattle.std.specs.declared.alloc.Global.{Global}
 use Rattle.witx_tree.specs.Trees.{TypeTree}
-use Rattle.witx_tree.specs.Views.{type_view, case_view, field_view, boxed_view, optional_view, name_view, member_view, types_view, fields_view, union_fields_view, cases_view, CaseView, FieldView}
+use Rattle.witx_tree.specs.Views.{type_view, case_view, field_view, boxed_view, optional_view, name_view, member_view, types_view, fields_view, union_fields_view, cases_view}
 use Rattle.witx_tree.specs.declared.tree.TypedefSyntax.{TypedefSyntax, the_lemmas}
 use Rattle.witx_tree.specs.declared.tree.TypedefSyntax.TheVariants as typedef
 use Rattle.witx_tree.specs.declared.tree.BuiltinSyntax.{BuiltinSyntax}

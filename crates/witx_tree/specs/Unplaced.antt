@@ -1,5 +1,5 @@
 -- Trees of a text without their places, which is what equality compares: each name stands at the beginning of the text.
-use Rattle.std.specs.Prelude.{ℕ, List, map}
+use Rattle.std.specs.Prelude.{map}
 use Rattle.witx_tree.specs.Trees.{Name, QuotedText, Member, TypeTree, Maybe, Types, Fields, UnionFields, Cases, DeclTree, NotedDecl, ItemTree, NotedItem, Document}
 
 abbrev pub unplaced_name : Name → Name

@@ -1,7 +1,6 @@
 -- The trees that the trees of the code are.
-use Rattle.std.specs.Prelude.{ℕ, List, [], ◌∷◌, map, Option, Some, None}
+use Rattle.std.specs.Prelude.{List, [], ◌∷◌, map, Option, Some, None}
 use Rattle.std.specs.Global.{Box}
-use Rattle.std.specs.Borrow.{Bor}
 use Rattle.witx_tree.specs.declared.comment.CommentSyntax.{CommentSyntax}
 use Rattle.witx_tree.specs.declared.comment.Documented.{Documented}
 use Rattle.witx_tree.specs.declared.tree.IdSyntax.{IdSyntax}
@@ -9,19 +8,14 @@ use Rattle.witx_tree.specs.declared.tree.TypedefSyntax.{TypedefSyntax, fold-Type
 use Rattle.witx_tree.specs.declared.tree.TypedefSyntax.TheOpen.{TypedefSyntax-F, TupleSyntax-F, ExpectedSyntax-F, RecordSyntax-F, FieldSyntax-F, UnionSyntax-F, VariantSyntax-F, CaseSyntax-F}
 use Rattle.witx_tree.specs.declared.tree.FieldSyntax.{FieldSyntax, fold-FieldSyntax}
 use Rattle.witx_tree.specs.declared.tree.CaseSyntax.{CaseSyntax, fold-CaseSyntax}
-use Rattle.witx_tree.specs.declared.tree.TypenameSyntax.{TypenameSyntax}
-use Rattle.witx_tree.specs.declared.tree.ConstSyntax.{ConstSyntax}
-use Rattle.witx_tree.specs.declared.tree.ModuleImportSyntax.{ModuleImportSyntax}
-use Rattle.witx_tree.specs.declared.tree.InterfaceFuncSyntax.{InterfaceFuncSyntax}
 use Rattle.witx_tree.specs.declared.tree.ModuleDeclSyntax.{ModuleDeclSyntax}
 use Rattle.witx_tree.specs.declared.tree.ModuleDeclSyntax.TheVariants as module_decl
-use Rattle.witx_tree.specs.declared.tree.ModuleSyntax.{ModuleSyntax}
 use Rattle.witx_tree.specs.declared.tree.DeclSyntax.{DeclSyntax}
 use Rattle.witx_tree.specs.declared.tree.DeclSyntax.TheVariants as decl
 use Rattle.witx_tree.specs.declared.tree.TopLevelSyntax.{TopLevelSyntax}
 use Rattle.witx_tree.specs.declared.tree.TopLevelSyntax.TheVariants as top
 use Rattle.witx_tree.specs.declared.tree.TopLevelDocument.{TopLevelDocument}
-use Rattle.witx_tree.specs.Trees.{Comments, Name, QuotedText, Member, TypeTree, ident, builtin, string, boolean, handle, list_of, pointer_to, const_pointer_to, tuple_of, enum_of, flags_of, record_of, union_of, variant_of, expected, Maybe, absent, present, Types, no_types, one_type, Fields, no_fields, one_field, UnionFields, no_union_fields, one_union_field, Cases, no_cases, one_case, DeclTree, memory, function, NotedDecl, ItemTree, uses, typename, module_of, constant, NotedItem, Document}
+use Rattle.witx_tree.specs.Trees.{Comments, Name, Member, TypeTree, ident, builtin, string, boolean, handle, list_of, pointer_to, const_pointer_to, tuple_of, enum_of, flags_of, record_of, union_of, variant_of, expected, Maybe, absent, present, Types, no_types, one_type, Fields, no_fields, one_field, UnionFields, no_union_fields, one_union_field, Cases, no_cases, one_case, DeclTree, memory, function, NotedDecl, ItemTree, uses, typename, module_of, constant, NotedItem, Document}
 
 abbrev pub comments_view : CommentSyntax → Comments
 comments_view c = map (λ t. t.now) c.comments

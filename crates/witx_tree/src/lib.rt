@@ -5,6 +5,8 @@
 mod comment;
 mod copies;
 mod laws;
+#[cfg(test)]
+mod tests;
 mod tree;
 
 pub use comment::{CommentSyntax, CommentTexts, Documented};
