@@ -1,0 +1,439 @@
+-- One check, and one part, more.
+use Rattle.std.specs.Prelude.{◌≡◌, ◌&&◌, ◌||◌, option_map, ℕ, List, [], ◌∷◌, ◌++◌, ◌+◌, ◌<◌, ◌≤◌, length, drop, Option, Some, None, map, Bool, true, false}
+use Rattle.std.proofs.Common.{refl, add-one, sym, ap, arith, get_or, append_assoc, ◌∙◌}
+use Rattle.std.proofs.lemmas.List.{drop_more, drop_all, map-append, append-nil}
+use Rattle.witx_base.specs.Found.{found}
+use Rattle.witx_files.specs.declared.location.Location.{Location}
+use Rattle.witx_base.specs.Texts.{same_text}
+use Rattle.witx_comments.specs.Docs.{documentation_of}
+use Rattle.witx_tree.specs.Trees.{TypeTree, Name, Member, Fields, no_fields, one_field, Types, no_types, one_type, UnionFields, no_union_fields, one_union_field, Cases, no_cases, one_case, union_of, variant_of}
+use Rattle.witx_tree.specs.Views.{type_view, name_view, member_view, comments_view, fields_view, types_view, union_fields_view, cases_view, boxed_view, maybe_of}
+use Rattle.witx_check.specs.Slices.{union_checks, variant_checks, member_views}
+use Rattle.witx_check.proofs.ArmNames.{arm_names-arm}
+use Rattle.witx_check.proofs.NamePlaces.{has-push, seen-more}
+use Rattle.std.specs.Map.{keys_of}
+use Rattle.witx_check.proofs.SyntaxTrees.{form_rules, field-FieldSyntax, case-CaseSyntax}
+use Rattle.witx_tree.specs.declared.comment.Documented.{Documented}
+use Rattle.witx_tree.specs.declared.tree.FieldSyntax.{FieldSyntax}
+use Rattle.witx_tree.specs.declared.tree.CaseSyntax.{CaseSyntax}
+use Rattle.witx_tree.specs.declared.tree.IdSyntax.{IdSyntax}
+use Rattle.witx_tree.specs.declared.tree.UnionSyntax.{UnionSyntax, out-UnionSyntax}
+use Rattle.witx_tree.specs.declared.tree.VariantSyntax.{VariantSyntax, out-VariantSyntax}
+use Rattle.witx_ast.specs.declared.types.Case.{Case}
+use Rattle.witx_ast.specs.declared.types.TypeRef.{TypeRef}
+use Rattle.witx_ast.specs.declared.types.Variant.{Variant, out-Variant}
+use Rattle.witx_ast.specs.Words.{all_arms_bare, is_bare}
+use Rattle.witx_ast.proofs.TreeKinds.{kind_rules}
+use Rattle.witx_tree.specs.declared.tree.TypedefSyntax.{TypedefSyntax}
+use Rattle.witx_ast.specs.declared.types.RecordMember.{RecordMember}
+use Rattle.witx_ast.specs.Tree.{Tree, Field, Arm, Arms, arm, arms_of}
+use Rattle.witx_ast.specs.Reads.{tree_of, member_field, case_arm}
+use Rattle.witx_ast.proofs.Trees.{tree_rules, tree-RecordMember, tree-Case}
+use Rattle.witx_check.specs.declared.error.CheckError.{CheckError}
+use Rattle.witx_check.specs.declared.error.CheckError.TheVariants as check_error
+use Rattle.witx_check.specs.Blame.{Blames, fault_of}
+use Rattle.witx_check.specs.Faults.{Fault, Check, first_fault}
+use Rattle.witx_check.specs.Names.{Here, Marks, new_mark}
+use Rattle.witx_check.specs.Checks.{type_checks, field_checks, each_type_checks, union_field_checks, member_checks, case_checks, maybe_checks, union_fields_count, cases_count}
+use Rattle.witx_check.specs.Trees.{tree_meant, fields_meant, types_meant, number_name, member_arm, flag_field, bool_tree, arm_called, bare_arm, union_arms, union_name, case_arms, maybe_tree}
+use Rattle.witx_check.specs.Tags.{has_name, arm_names, are_bare, case_check, tag_checks, tag_names, size_check}
+
+-- ---- the first fault of a list
+
+pub fault-past : (c : Check) (cs : List Check) → c ≡ None → first_fault (c ∷ cs) ≡ first_fault cs
+fault-past c cs e = rw e refl
+
+pub fault-append : (xs ys : List Check) → first_fault xs ≡ None → first_fault (xs ++ ys) ≡ first_fault ys
+fault-append [] ys e = refl
+fault-append (None ∷ xs) ys e = fault-append xs ys e
+fault-append (Some f ∷ xs) ys e = absurd (cc)
+
+pub fault-stays : (xs ys : List Check) (f : Fault) → first_fault xs ≡ Some f → first_fault (xs ++ ys) ≡ Some f
+fault-stays [] ys f e = absurd (cc)
+fault-stays (None ∷ xs) ys f e = fault-stays xs ys f e
+fault-stays (Some g ∷ xs) ys f e = e
+
+pub blames-head : (e : CheckError) (c : Check) (cs : List Check) → Blames e c → Blames e (first_fault (c ∷ cs))
+blames-head (check_error.Validation v) None cs b = absurd (cc)
+blames-head (check_error.Validation v) (Some f) cs b = b
+blames-head check_error.OutOfMemory c cs b = tt
+
+pub blames-append : (e : CheckError) (xs ys : List Check) → Blames e (first_fault xs) → Blames e (first_fault (xs ++ ys))
+blames-append (check_error.Validation v) xs ys b = sym (fault-stays xs ys (fault_of v) (sym b))
+blames-append check_error.OutOfMemory xs ys b = tt
+
+pub blames-to : (e : CheckError) (f g : Option Fault) → f ≡ g → Blames e f → Blames e g
+blames-to e f g p b = rw p at b
+
+-- from a list of checks to the whole whose first fault it has
+pub step-past : (c : Check) (xs ys : List Check) (x : Option Fault) → first_fault (c ∷ (xs ++ ys)) ≡ x → c ≡ None → first_fault xs ≡ None → first_fault ys ≡ x
+step-past c xs ys x e n t = let e1 = rw (fault-past c (xs ++ ys) n, fault-append xs ys t) at e in e1
+
+pub step-head : (e : CheckError) (c : Check) (cs : List Check) (x : Option Fault) → first_fault (c ∷ cs) ≡ x → Blames e c → Blames e x
+step-head e c cs x q b = blames-to e (first_fault (c ∷ cs)) x q (blames-head e c cs b)
+
+pub step-wrong : (e : CheckError) (c : Check) (xs ys : List Check) (x : Option Fault) → first_fault (c ∷ (xs ++ ys)) ≡ x → c ≡ None → Blames e (first_fault xs) → Blames e x
+step-wrong e c xs ys x q n b = let q1 = rw (fault-past c (xs ++ ys) n) at q in blames-to e (first_fault (xs ++ ys)) x q1 (blames-append e xs ys b)
+
+-- ---- scopes that answer alike give the same checks
+
+Alike : Marks → Marks → Type 0
+Alike a b = (q : List ℕ) → found a q ≡ found b q
+
+pub names-alike : (h : Here) (a b : Marks) (rs : Fields) → ((q : List ℕ) → found a q ≡ found b q) → field_checks h a rs ≡ field_checks h b rs
+names-alike h a b no_fields s = refl
+names-alike h a b (one_field docs m t fs) s =
+    let e = names-alike h ((m.name, m.start) ∷ a) ((m.name, m.start) ∷ b) fs (λ q. rw (s q) refl) in
+    rw (s m.name, e) refl
+
+-- ---- the fields of a record
+
+pub rows-drop : (fs : List (Documented FieldSyntax)) (i : ℕ) (f : Documented FieldSyntax) → i < length fs → f ≡ get_or fs i f
+    → fields_view (drop i fs) ≡ one_field (comments_view f.comments) (name_view f.item.name) (type_view f.item.type_) (fields_view (drop (i + 1) fs))
+rows-drop fs i f l p = rw (drop_more fs i f l, ← p, field-FieldSyntax f.item) refl
+
+pub rows-end : (fs : List (Documented FieldSyntax)) (i : ℕ) → length fs ≤ i → fields_view (drop i fs) ≡ no_fields
+rows-end fs i l = rw (drop_all i fs l) refl
+
+pub row-next : (h : Here) (fs : List (Documented FieldSyntax)) (i : ℕ) (f : Documented FieldSyntax) (old new : Marks) (x : Option Fault)
+    → i < length fs → f ≡ get_or fs i f
+    → first_fault (field_checks h old (fields_view (drop i fs))) ≡ x
+    → new_mark h old f.item.name.name.now f.item.name.span.start ≡ None
+    → ((q : List ℕ) → found new q ≡ found ((f.item.name.name.now, f.item.name.span.start) ∷ old) q)
+    → first_fault (type_checks h false (h.place f.item.name.span.start) (type_view f.item.type_)) ≡ None
+    → first_fault (field_checks h new (fields_view (drop (i + 1) fs))) ≡ x
+row-next h fs i f old new x l p e n k t =
+    let e1 = rw (rows-drop fs i f l p) at e in
+    let e2 = step-past (new_mark h old f.item.name.name.now f.item.name.span.start) (type_checks h false (h.place f.item.name.span.start) (type_view f.item.type_)) (field_checks h ((f.item.name.name.now, f.item.name.span.start) ∷ old) (fields_view (drop (i + 1) fs))) x e1 n t in
+    rw (names-alike h new ((f.item.name.name.now, f.item.name.span.start) ∷ old) (fields_view (drop (i + 1) fs)) k) e2
+
+pub row-known : (h : Here) (fs : List (Documented FieldSyntax)) (i : ℕ) (f : Documented FieldSyntax) (old : Marks) (e : CheckError) (x : Option Fault)
+    → i < length fs → f ≡ get_or fs i f
+    → first_fault (field_checks h old (fields_view (drop i fs))) ≡ x
+    → Blames e (new_mark h old f.item.name.name.now f.item.name.span.start)
+    → Blames e x
+row-known h fs i f old e x l p q b =
+    let q1 = rw (rows-drop fs i f l p) at q in
+    step-head e (new_mark h old f.item.name.name.now f.item.name.span.start) (type_checks h false (h.place f.item.name.span.start) (type_view f.item.type_) ++ field_checks h ((f.item.name.name.now, f.item.name.span.start) ∷ old) (fields_view (drop (i + 1) fs))) x q1 b
+
+pub row-wrong : (h : Here) (fs : List (Documented FieldSyntax)) (i : ℕ) (f : Documented FieldSyntax) (old : Marks) (e : CheckError) (x : Option Fault)
+    → i < length fs → f ≡ get_or fs i f
+    → first_fault (field_checks h old (fields_view (drop i fs))) ≡ x
+    → new_mark h old f.item.name.name.now f.item.name.span.start ≡ None
+    → Blames e (first_fault (type_checks h false (h.place f.item.name.span.start) (type_view f.item.type_)))
+    → Blames e x
+row-wrong h fs i f old e x l p q n b =
+    let q1 = rw (rows-drop fs i f l p) at q in
+    step-wrong e (new_mark h old f.item.name.name.now f.item.name.span.start) (type_checks h false (h.place f.item.name.span.start) (type_view f.item.type_)) (field_checks h ((f.item.name.name.now, f.item.name.span.start) ∷ old) (fields_view (drop (i + 1) fs))) x q1 n b
+
+pub row-none : (h : Here) (fs : List (Documented FieldSyntax)) (i : ℕ) (old : Marks) (x : Option Fault)
+    → length fs ≤ i → first_fault (field_checks h old (fields_view (drop i fs))) ≡ x → x ≡ None
+row-none h fs i old x l q = sym (rw (rows-end fs i l) at q)
+
+pub fields-next : (h : Here) (fs : List (Documented FieldSyntax)) (i : ℕ) (f : Documented FieldSyntax) (ms : List RecordMember) (m : RecordMember) (x : List Field)
+    → i < length fs → f ≡ get_or fs i f
+    → map member_field ms ++ fields_meant h (fields_view (drop i fs)) ≡ x
+    → m.name ≡ f.item.name.name.now → tree_of m.tref ≡ tree_meant h (type_view f.item.type_) → m.docs ≡ documentation_of (comments_view f.comments)
+    → map member_field (ms ++ m ∷ []) ++ fields_meant h (fields_view (drop (i + 1) fs)) ≡ x
+fields-next h fs i f ms m x l p e a b c =
+    let e1 = rw (rows-drop fs i f l p) at e in
+    rw (map-append member_field ms (m ∷ []), append_assoc, tree-RecordMember m, a, b, c) e1
+
+pub fields-end : (h : Here) (fs : List (Documented FieldSyntax)) (i : ℕ) (ms : List RecordMember) (x : List Field)
+    → length fs ≤ i → map member_field ms ++ fields_meant h (fields_view (drop i fs)) ≡ x → map member_field ms ≡ x
+fields-end h fs i ms x l e = rw (rows-end fs i l, append-nil) at e
+
+pub ruleset row_rules = (row-next, row-known, row-wrong, row-none, fields-next, fields-end)
+
+-- ---- the types of a tuple
+
+pub parts-drop : (ts : List TypedefSyntax) (i : ℕ) (t : TypedefSyntax) → i < length ts → t ≡ get_or ts i t
+    → types_view (drop i ts) ≡ one_type (type_view t) (types_view (drop (i + 1) ts))
+parts-drop ts i t l p = rw (drop_more ts i t l, ← p) refl
+
+pub parts-end : (ts : List TypedefSyntax) (i : ℕ) → length ts ≤ i → types_view (drop i ts) ≡ no_types
+parts-end ts i l = rw (drop_all i ts l) refl
+
+pub part-next : (h : Here) (near : Location) (ts : List TypedefSyntax) (i : ℕ) (t : TypedefSyntax) (x : Option Fault)
+    → i < length ts → t ≡ get_or ts i t
+    → first_fault (each_type_checks h near (types_view (drop i ts))) ≡ x
+    → first_fault (type_checks h false near (type_view t)) ≡ None
+    → first_fault (each_type_checks h near (types_view (drop (i + 1) ts))) ≡ x
+part-next h near ts i t x l p e n =
+    let e1 = rw (parts-drop ts i t l p) at e in step-past None (type_checks h false near (type_view t)) (each_type_checks h near (types_view (drop (i + 1) ts))) x e1 refl n
+
+pub part-wrong : (h : Here) (near : Location) (ts : List TypedefSyntax) (i : ℕ) (t : TypedefSyntax) (e : CheckError) (x : Option Fault)
+    → i < length ts → t ≡ get_or ts i t
+    → first_fault (each_type_checks h near (types_view (drop i ts))) ≡ x
+    → Blames e (first_fault (type_checks h false near (type_view t)))
+    → Blames e x
+part-wrong h near ts i t e x l p q b =
+    let q1 = rw (parts-drop ts i t l p) at q in step-wrong e None (type_checks h false near (type_view t)) (each_type_checks h near (types_view (drop (i + 1) ts))) x q1 refl b
+
+pub part-none : (h : Here) (near : Location) (ts : List TypedefSyntax) (i : ℕ) (x : Option Fault)
+    → length ts ≤ i → first_fault (each_type_checks h near (types_view (drop i ts))) ≡ x → x ≡ None
+part-none h near ts i x l q = sym (rw (parts-end ts i l) at q)
+
+pub numbered-next : (h : Here) (ts : List TypedefSyntax) (i : ℕ) (t : TypedefSyntax) (ms : List RecordMember) (m : RecordMember) (x : List Field)
+    → i < length ts → t ≡ get_or ts i t
+    → map member_field ms ++ types_meant h i (types_view (drop i ts)) ≡ x
+    → m.name ≡ number_name i → tree_of m.tref ≡ tree_meant h (type_view t) → m.docs ≡ []
+    → map member_field (ms ++ m ∷ []) ++ types_meant h (i + 1) (types_view (drop (i + 1) ts)) ≡ x
+numbered-next h ts i t ms m x l p e a b c =
+    let e1 = rw (parts-drop ts i t l p) at e in
+    rw (map-append member_field ms (m ∷ []), append_assoc, tree-RecordMember m, a, b, c) e1
+
+pub numbered-end : (h : Here) (ts : List TypedefSyntax) (i : ℕ) (ms : List RecordMember) (x : List Field)
+    → length ts ≤ i → map member_field ms ++ types_meant h i (types_view (drop i ts)) ≡ x → map member_field ms ≡ x
+numbered-end h ts i ms x l e = rw (parts-end ts i l, append-nil) at e
+
+pub ruleset part_rules = (part-next, part-wrong, part-none, numbered-next, numbered-end)
+
+pub ruleset type_rules = (form_rules, tree_rules, fault-past, fault-append, blames-head, blames-append)
+
+-- ---- names with comments
+
+pub noted-drop : (ns : List (Documented IdSyntax)) (i : ℕ) (n : Documented IdSyntax) → i < length ns → n ≡ get_or ns i n
+    → member_views (drop i ns) ≡ member_view n ∷ member_views (drop (i + 1) ns)
+noted-drop ns i n l p = rw (drop_more ns i n l, ← p) refl
+
+pub noted-end : (ns : List (Documented IdSyntax)) (i : ℕ) → length ns ≤ i → member_views (drop i ns) ≡ []
+noted-end ns i l = rw (drop_all i ns l) refl
+
+pub noted-alike : (h : Here) (a b : Marks) (ns : List Member) → ((q : List ℕ) → found a q ≡ found b q) → member_checks h a ns ≡ member_checks h b ns
+noted-alike h a b [] s = refl
+noted-alike h a b (n ∷ ns) s =
+    let e = noted-alike h ((n.name.name, n.name.start) ∷ a) ((n.name.name, n.name.start) ∷ b) ns (λ q. rw (s q) refl) in
+    rw (s n.name.name, e) refl
+
+pub noted-next : (h : Here) (ns : List (Documented IdSyntax)) (i : ℕ) (n : Documented IdSyntax) (old new : Marks) (x : Option Fault)
+    → i < length ns → n ≡ get_or ns i n
+    → first_fault (member_checks h old (member_views (drop i ns))) ≡ x
+    → new_mark h old n.item.name.now n.item.span.start ≡ None
+    → ((q : List ℕ) → found new q ≡ found ((n.item.name.now, n.item.span.start) ∷ old) q)
+    → first_fault (member_checks h new (member_views (drop (i + 1) ns))) ≡ x
+noted-next h ns i n old new x l p e c k =
+    let e1 = rw (noted-drop ns i n l p) at e in
+    let e2 = step-past (new_mark h old n.item.name.now n.item.span.start) [] (member_checks h ((n.item.name.now, n.item.span.start) ∷ old) (member_views (drop (i + 1) ns))) x e1 c refl in
+    rw (noted-alike h new ((n.item.name.now, n.item.span.start) ∷ old) (member_views (drop (i + 1) ns)) k) e2
+
+pub noted-known : (h : Here) (ns : List (Documented IdSyntax)) (i : ℕ) (n : Documented IdSyntax) (old : Marks) (e : CheckError) (x : Option Fault)
+    → i < length ns → n ≡ get_or ns i n
+    → first_fault (member_checks h old (member_views (drop i ns))) ≡ x
+    → Blames e (new_mark h old n.item.name.now n.item.span.start)
+    → Blames e x
+noted-known h ns i n old e x l p q b =
+    let q1 = rw (noted-drop ns i n l p) at q in
+    step-head e (new_mark h old n.item.name.now n.item.span.start) (member_checks h ((n.item.name.now, n.item.span.start) ∷ old) (member_views (drop (i + 1) ns))) x q1 b
+
+pub noted-none : (h : Here) (ns : List (Documented IdSyntax)) (i : ℕ) (old : Marks) (x : Option Fault)
+    → length ns ≤ i → first_fault (member_checks h old (member_views (drop i ns))) ≡ x → x ≡ None
+noted-none h ns i old x l q = sym (rw (noted-end ns i l) at q)
+
+pub noted_arms-next : (ns : List (Documented IdSyntax)) (i : ℕ) (n : Documented IdSyntax) (cs : List Case) (c : Case) (x : List Arm)
+    → i < length ns → n ≡ get_or ns i n
+    → map case_arm cs ++ map member_arm (member_views (drop i ns)) ≡ x
+    → c.name ≡ n.item.name.now → c.tref ≡ None → c.docs ≡ documentation_of (comments_view n.comments)
+    → map case_arm (cs ++ c ∷ []) ++ map member_arm (member_views (drop (i + 1) ns)) ≡ x
+noted_arms-next ns i n cs c x l p e a b d =
+    let e1 = rw (noted-drop ns i n l p) at e in
+    rw (map-append case_arm cs (c ∷ []), append_assoc, tree-Case c, a, b, d) e1
+
+pub noted_arms-end : (ns : List (Documented IdSyntax)) (i : ℕ) (cs : List Case) (x : List Arm)
+    → length ns ≤ i → map case_arm cs ++ map member_arm (member_views (drop i ns)) ≡ x → map case_arm cs ≡ x
+noted_arms-end ns i cs x l e = let e1 = rw (noted-end ns i l, append-nil) at e in e1
+
+pub noted_flags-next : (ns : List (Documented IdSyntax)) (i : ℕ) (n : Documented IdSyntax) (ms : List RecordMember) (m : RecordMember) (x : List Field)
+    → i < length ns → n ≡ get_or ns i n
+    → map member_field ms ++ map flag_field (member_views (drop i ns)) ≡ x
+    → m.name ≡ n.item.name.now → tree_of m.tref ≡ bool_tree → m.docs ≡ documentation_of (comments_view n.comments)
+    → map member_field (ms ++ m ∷ []) ++ map flag_field (member_views (drop (i + 1) ns)) ≡ x
+noted_flags-next ns i n ms m x l p e a b d =
+    let e1 = rw (noted-drop ns i n l p) at e in
+    rw (map-append member_field ms (m ∷ []), append_assoc, tree-RecordMember m, a, b, d) e1
+
+pub noted_flags-end : (ns : List (Documented IdSyntax)) (i : ℕ) (ms : List RecordMember) (x : List Field)
+    → length ns ≤ i → map member_field ms ++ map flag_field (member_views (drop i ns)) ≡ x → map member_field ms ≡ x
+noted_flags-end ns i ms x l e = let e1 = rw (noted-end ns i l, append-nil) at e in e1
+
+pub ruleset noted_rules = (noted-next, noted-known, noted-none, noted_arms-next, noted_arms-end, noted_flags-next, noted_flags-end)
+
+pub ruleset enum_rules = (tree_rules, fault-past, blames-head)
+
+-- ---- tags
+
+are_bare-payload : (n : List ℕ) (t : Option Tree) (d : List ℕ) (rest : List Arm) → are_bare (arms_of rest) ≡ all_arms_bare rest → are_bare (arm n t d (arms_of rest)) ≡ is_bare t && all_arms_bare rest
+are_bare-payload n None d rest e = e
+are_bare-payload n (Some t) d rest e = refl
+
+pub names-next : (cs : List Case) (i : ℕ) (c : Case) (n : List ℕ) (ns : List (List ℕ)) (x : List (List ℕ))
+    → i < length cs → c ≡ get_or cs i c → n ≡ c.name
+    → ns ++ arm_names (arms_of (map case_arm (drop i cs))) ≡ x
+    → (ns ++ n ∷ []) ++ arm_names (arms_of (map case_arm (drop (i + 1) cs))) ≡ x
+names-next cs i c n ns x l p s e =
+    let e1 = rw (drop_more cs i c l, ← p, arm_names-arm (case_arm c) (map case_arm (drop (i + 1) cs)), tree-Case c) at e in
+    rw (append_assoc, s) e1
+
+pub names-end : (cs : List Case) (i : ℕ) (ns : List (List ℕ)) (x : List (List ℕ))
+    → length cs ≤ i → ns ++ arm_names (arms_of (map case_arm (drop i cs))) ≡ x → ns ≡ x
+names-end cs i ns x l e = let e1 = rw (drop_all i cs l, append-nil) at e in e1
+
+are_bare-arms : (rest : List Arm) → are_bare (arms_of rest) ≡ all_arms_bare rest
+are_bare-arms [] = refl
+are_bare-arms (a ∷ rest) = are_bare-payload a.called a.payload a.comment rest (are_bare-arms rest)
+
+pub bare-test : (v : Variant) → all_arms_bare (map case_arm (out-Variant v).cases) ≡ are_bare (arms_of (map case_arm (out-Variant v).cases))
+bare-test v = sym (are_bare-arms (map case_arm (out-Variant v).cases))
+
+pub ruleset case_rules = (kind_rules, names-next, names-end, bare-test)
+
+-- ---- the types of a union
+
+pub uparts-drop : (ts : List (Documented TypedefSyntax)) (i : ℕ) (t : Documented TypedefSyntax) → i < length ts → t ≡ get_or ts i t
+    → union_fields_view (drop i ts) ≡ one_union_field (comments_view t.comments) (type_view t.item) (union_fields_view (drop (i + 1) ts))
+uparts-drop ts i t l p = rw (drop_more ts i t l, ← p) refl
+
+pub uparts-end : (ts : List (Documented TypedefSyntax)) (i : ℕ) → length ts ≤ i → union_fields_view (drop i ts) ≡ no_union_fields
+uparts-end ts i l = rw (drop_all i ts l) refl
+
+pub upart-next : (h : Here) (near : Location) (ts : List (Documented TypedefSyntax)) (i : ℕ) (t : Documented TypedefSyntax) (x : Option Fault)
+    → i < length ts → t ≡ get_or ts i t
+    → first_fault (union_field_checks h near (union_fields_view (drop i ts))) ≡ x
+    → first_fault (type_checks h false near (type_view t.item)) ≡ None
+    → first_fault (union_field_checks h near (union_fields_view (drop (i + 1) ts))) ≡ x
+upart-next h near ts i t x l p e n =
+    let e1 = rw (uparts-drop ts i t l p) at e in step-past None (type_checks h false near (type_view t.item)) (union_field_checks h near (union_fields_view (drop (i + 1) ts))) x e1 refl n
+
+pub upart-wrong : (h : Here) (near : Location) (ts : List (Documented TypedefSyntax)) (i : ℕ) (t : Documented TypedefSyntax) (e : CheckError) (x : Option Fault)
+    → i < length ts → t ≡ get_or ts i t
+    → first_fault (union_field_checks h near (union_fields_view (drop i ts))) ≡ x
+    → Blames e (first_fault (type_checks h false near (type_view t.item)))
+    → Blames e x
+upart-wrong h near ts i t e x l p q b =
+    let q1 = rw (uparts-drop ts i t l p) at q in step-wrong e None (type_checks h false near (type_view t.item)) (union_field_checks h near (union_fields_view (drop (i + 1) ts))) x q1 refl b
+
+pub upart-none : (h : Here) (near : Location) (ts : List (Documented TypedefSyntax)) (i : ℕ) (x : Option Fault)
+    → length ts ≤ i → first_fault (union_field_checks h near (union_fields_view (drop i ts))) ≡ x → x ≡ None
+upart-none h near ts i x l q = sym (rw (uparts-end ts i l) at q)
+
+pub uarm-next : (h : Here) (names : Option (List (List ℕ))) (ts : List (Documented TypedefSyntax)) (i : ℕ) (t : Documented TypedefSyntax) (cs : List Case) (c : Case) (r : TypeRef) (x : List Arm)
+    → i < length ts → t ≡ get_or ts i t
+    → map case_arm cs ++ union_arms h names i (union_fields_view (drop i ts)) ≡ x
+    → c.name ≡ union_name names i → c.tref ≡ Some r → tree_of r ≡ tree_meant h (type_view t.item) → c.docs ≡ documentation_of (comments_view t.comments)
+    → map case_arm (cs ++ c ∷ []) ++ union_arms h names (i + 1) (union_fields_view (drop (i + 1) ts)) ≡ x
+uarm-next h names ts i t cs c r x l p e a b k d =
+    let e1 = rw (uparts-drop ts i t l p) at e in
+    rw (map-append case_arm cs (c ∷ []), append_assoc, tree-Case c, a, b, k, d) e1
+
+pub uarm-end : (h : Here) (names : Option (List (List ℕ))) (ts : List (Documented TypedefSyntax)) (i : ℕ) (cs : List Case) (x : List Arm)
+    → length ts ≤ i → map case_arm cs ++ union_arms h names i (union_fields_view (drop i ts)) ≡ x → map case_arm cs ≡ x
+uarm-end h names ts i cs x l e = let e1 = rw (uparts-end ts i l, append-nil) at e in e1
+
+pub ruleset union_rules = (upart-next, upart-wrong, upart-none, uarm-next, uarm-end)
+
+-- ---- the cases of a variant
+
+pub choices-drop : (cs : List (Documented CaseSyntax)) (i : ℕ) (c : Documented CaseSyntax) → i < length cs → c ≡ get_or cs i c
+    → cases_view (drop i cs) ≡ one_case (comments_view c.comments) (name_view c.item.name) (maybe_of (option_map type_view c.item.ty)) (cases_view (drop (i + 1) cs))
+choices-drop cs i c l p = rw (drop_more cs i c l, ← p, case-CaseSyntax c.item) refl
+
+pub choices-end : (cs : List (Documented CaseSyntax)) (i : ℕ) → length cs ≤ i → cases_view (drop i cs) ≡ no_cases
+choices-end cs i l = rw (drop_all i cs l) refl
+
+-- names of cases that answer alike give the same checks
+case-alike : (names : Option (List (List ℕ))) (a b : List (List ℕ)) (n : List ℕ) (at : Location) → has_name a n ≡ has_name b n → case_check names a n at ≡ case_check names b n at
+case-alike None a b n at e = refl
+case-alike (Some ns) a b n at e = rw e refl
+
+seen-alike : (h : Here) (names : Option (List (List ℕ))) (a b : List (List ℕ)) (cs : Cases) → ((q : List ℕ) → has_name a q ≡ has_name b q) → case_checks h names a cs ≡ case_checks h names b cs
+seen-alike h names a b no_cases s = refl
+seen-alike h names a b (one_case docs m t cs) s =
+    let e = seen-alike h names (a ++ m.name ∷ []) (b ++ m.name ∷ []) cs (λ q. has-push a m.name q ∙ ap (λ t. t || has_name (m.name ∷ []) q) (s q) ∙ sym (has-push b m.name q)) in
+    rw (case-alike names a b m.name (h.place m.start) (s m.name), e) refl
+
+pub choice-next : (h : Here) (names : Option (List (List ℕ))) (cs : List (Documented CaseSyntax)) (i : ℕ) (c : Documented CaseSyntax) (old new : Marks) (n : List ℕ) (x : Option Fault)
+    → i < length cs → c ≡ get_or cs i c → n ≡ c.item.name.name.now
+    → first_fault (case_checks h names (keys_of old) (cases_view (drop i cs))) ≡ x
+    → case_check names (keys_of old) n (h.place c.item.name.span.start) ≡ None
+    → first_fault (maybe_checks h (h.place c.item.name.span.start) (maybe_of (option_map type_view c.item.ty))) ≡ None
+    → ((q : List ℕ) → found new q ≡ found ((n, c.item.name.span.start) ∷ old) q)
+    → first_fault (case_checks h names (keys_of new) (cases_view (drop (i + 1) cs))) ≡ x
+choice-next h names cs i c old new n x l p s e k t f =
+    let e1 = rw (choices-drop cs i c l p, ← s) at e in
+    let e2 = step-past (case_check names (keys_of old) n (h.place c.item.name.span.start)) (maybe_checks h (h.place c.item.name.span.start) (maybe_of (option_map type_view c.item.ty))) (case_checks h names (keys_of old ++ n ∷ []) (cases_view (drop (i + 1) cs))) x e1 k t in
+    rw (seen-alike h names (keys_of new) (keys_of old ++ n ∷ []) (cases_view (drop (i + 1) cs)) (λ q. seen-more old new n q c.item.name.span.start (f q))) e2
+
+pub choice-bad : (h : Here) (names : Option (List (List ℕ))) (cs : List (Documented CaseSyntax)) (i : ℕ) (c : Documented CaseSyntax) (seen : List (List ℕ)) (n : List ℕ) (e : CheckError) (x : Option Fault)
+    → i < length cs → c ≡ get_or cs i c → n ≡ c.item.name.name.now
+    → first_fault (case_checks h names seen (cases_view (drop i cs))) ≡ x
+    → Blames e (case_check names seen n (h.place c.item.name.span.start))
+    → Blames e x
+choice-bad h names cs i c seen n e x l p s q b =
+    let q1 = rw (choices-drop cs i c l p, ← s) at q in
+    step-head e (case_check names seen n (h.place c.item.name.span.start)) (maybe_checks h (h.place c.item.name.span.start) (maybe_of (option_map type_view c.item.ty)) ++ case_checks h names (seen ++ n ∷ []) (cases_view (drop (i + 1) cs))) x q1 b
+
+pub choice-wrong : (h : Here) (names : Option (List (List ℕ))) (cs : List (Documented CaseSyntax)) (i : ℕ) (c : Documented CaseSyntax) (seen : List (List ℕ)) (n : List ℕ) (e : CheckError) (x : Option Fault)
+    → i < length cs → c ≡ get_or cs i c → n ≡ c.item.name.name.now
+    → first_fault (case_checks h names seen (cases_view (drop i cs))) ≡ x
+    → case_check names seen n (h.place c.item.name.span.start) ≡ None
+    → Blames e (first_fault (maybe_checks h (h.place c.item.name.span.start) (maybe_of (option_map type_view c.item.ty))))
+    → Blames e x
+choice-wrong h names cs i c seen n e x l p s q k b =
+    let q1 = rw (choices-drop cs i c l p, ← s) at q in
+    step-wrong e (case_check names seen n (h.place c.item.name.span.start)) (maybe_checks h (h.place c.item.name.span.start) (maybe_of (option_map type_view c.item.ty))) (case_checks h names (seen ++ n ∷ []) (cases_view (drop (i + 1) cs))) x q1 k b
+
+pub choice-none : (h : Here) (names : Option (List (List ℕ))) (cs : List (Documented CaseSyntax)) (i : ℕ) (seen : List (List ℕ)) (x : Option Fault)
+    → length cs ≤ i → first_fault (case_checks h names seen (cases_view (drop i cs))) ≡ x → x ≡ None
+choice-none h names cs i seen x l q = sym (rw (choices-end cs i l) at q)
+
+pub carm-next : (h : Here) (cs : List (Documented CaseSyntax)) (i : ℕ) (s : Documented CaseSyntax) (ms : List Case) (c : Case) (x : List Arm)
+    → i < length cs → s ≡ get_or cs i s
+    → map case_arm ms ++ case_arms h (cases_view (drop i cs)) ≡ x
+    → c.name ≡ s.item.name.name.now → option_map tree_of c.tref ≡ maybe_tree h (maybe_of (option_map type_view s.item.ty)) → c.docs ≡ documentation_of (comments_view s.comments)
+    → map case_arm (ms ++ c ∷ []) ++ case_arms h (cases_view (drop (i + 1) cs)) ≡ x
+carm-next h cs i s ms c x l p e a k d =
+    let e1 = rw (choices-drop cs i s l p) at e in
+    rw (map-append case_arm ms (c ∷ []), append_assoc, tree-Case c, a, k, d) e1
+
+pub carm-end : (h : Here) (cs : List (Documented CaseSyntax)) (i : ℕ) (ms : List Case) (x : List Arm)
+    → length cs ≤ i → map case_arm ms ++ case_arms h (cases_view (drop i cs)) ≡ x → map case_arm ms ≡ x
+carm-end h cs i ms x l e = let e1 = rw (choices-end cs i l, append-nil) at e in e1
+
+pub ruleset choice_rules = (choice-next, choice-bad, choice-wrong, choice-none, carm-next, carm-end)
+
+-- ---- a list, a check and a list
+
+pub then-ok : (xs ys : List Check) (c : Check) → first_fault xs ≡ None → c ≡ None → first_fault (xs ++ c ∷ ys) ≡ first_fault ys
+then-ok xs ys c n k = rw (fault-append xs (c ∷ ys) n) (fault-past c ys k)
+
+pub then-bad : (e : CheckError) (xs ys : List Check) (c : Check) → first_fault xs ≡ None → Blames e c → Blames e (first_fault (xs ++ c ∷ ys))
+then-bad e xs ys c n b = blames-to e (first_fault (c ∷ ys)) (first_fault (xs ++ c ∷ ys)) (sym (fault-append xs (c ∷ ys) n)) (blames-head e c ys b)
+
+pub then-wrong : (e : CheckError) (xs ys : List Check) (c : Check) → first_fault xs ≡ None → c ≡ None → Blames e (first_fault ys) → Blames e (first_fault (xs ++ c ∷ ys))
+then-wrong e xs ys c n k b = blames-to e (first_fault ys) (first_fault (xs ++ c ∷ ys)) (sym (then-ok xs ys c n k)) b
+
+pub ruleset tag_rules = (type_rules, then-ok, then-bad)
+
+pub ruleset tagged_rules = (form_rules, tree_rules, then-ok, then-bad, then-wrong, blames-append)
+
+union_fields_count-in : (ts : List (Documented TypedefSyntax)) → union_fields_count (union_fields_view ts) ≡ length ts
+union_fields_count-in [] = refl
+union_fields_count-in (t ∷ ts) = rw (union_fields_count-in ts) (add-one (length ts))
+
+cases_count-in : (cs : List (Documented CaseSyntax)) → cases_count (cases_view cs) ≡ length cs
+cases_count-in [] = refl
+cases_count-in (c ∷ cs) = rw (cases_count-in cs) (add-one (length cs))
+
+pub union-checks : (h : Here) (near : Location) (u : UnionSyntax) → first_fault (type_checks h true near (union_of (boxed_view (out-UnionSyntax u).tag) (union_fields_view (out-UnionSyntax u).fields))) ≡ first_fault (union_checks h near u)
+union-checks h near u =
+    let e : (maybe_checks h near (boxed_view (out-UnionSyntax u).tag) ++ tag_checks (maybe_tree h (boxed_view (out-UnionSyntax u).tag)) near) ++ (size_check (tag_names (maybe_tree h (boxed_view (out-UnionSyntax u).tag))) (length (out-UnionSyntax u).fields) near ∷ union_field_checks h near (union_fields_view (out-UnionSyntax u).fields)) ≡ maybe_checks h near (boxed_view (out-UnionSyntax u).tag) ++ (tag_checks (maybe_tree h (boxed_view (out-UnionSyntax u).tag)) near ++ (size_check (tag_names (maybe_tree h (boxed_view (out-UnionSyntax u).tag))) (length (out-UnionSyntax u).fields) near ∷ union_field_checks h near (union_fields_view (out-UnionSyntax u).fields)))
+    = append_assoc (maybe_checks h near (boxed_view (out-UnionSyntax u).tag)) (tag_checks (maybe_tree h (boxed_view (out-UnionSyntax u).tag)) near) (size_check (tag_names (maybe_tree h (boxed_view (out-UnionSyntax u).tag))) (length (out-UnionSyntax u).fields) near ∷ union_field_checks h near (union_fields_view (out-UnionSyntax u).fields)) in
+    rw (union_fields_count-in (out-UnionSyntax u).fields) (ap first_fault (sym e))
+
+pub variant-checks : (h : Here) (near : Location) (u : VariantSyntax) → first_fault (type_checks h true near (variant_of (boxed_view (out-VariantSyntax u).tag) (cases_view (out-VariantSyntax u).cases))) ≡ first_fault (variant_checks h near u)
+variant-checks h near u =
+    let e : (maybe_checks h near (boxed_view (out-VariantSyntax u).tag) ++ tag_checks (maybe_tree h (boxed_view (out-VariantSyntax u).tag)) near) ++ (size_check (tag_names (maybe_tree h (boxed_view (out-VariantSyntax u).tag))) (length (out-VariantSyntax u).cases) near ∷ case_checks h (tag_names (maybe_tree h (boxed_view (out-VariantSyntax u).tag))) [] (cases_view (out-VariantSyntax u).cases)) ≡ maybe_checks h near (boxed_view (out-VariantSyntax u).tag) ++ (tag_checks (maybe_tree h (boxed_view (out-VariantSyntax u).tag)) near ++ (size_check (tag_names (maybe_tree h (boxed_view (out-VariantSyntax u).tag))) (length (out-VariantSyntax u).cases) near ∷ case_checks h (tag_names (maybe_tree h (boxed_view (out-VariantSyntax u).tag))) [] (cases_view (out-VariantSyntax u).cases)))
+    = append_assoc (maybe_checks h near (boxed_view (out-VariantSyntax u).tag)) (tag_checks (maybe_tree h (boxed_view (out-VariantSyntax u).tag)) near) (size_check (tag_names (maybe_tree h (boxed_view (out-VariantSyntax u).tag))) (length (out-VariantSyntax u).cases) near ∷ case_checks h (tag_names (maybe_tree h (boxed_view (out-VariantSyntax u).tag))) [] (cases_view (out-VariantSyntax u).cases)) in
+    rw (cases_count-in (out-VariantSyntax u).cases) (ap first_fault (sym e))
+
+pub ruleset checked_rules = (type_rules, union-checks, variant-checks)

@@ -1,0 +1,101 @@
+-- One parameter, and one result, more.
+use Rattle.std.specs.Prelude.{◌≡◌, ℕ, List, [], ◌∷◌, ◌++◌, ◌+◌, ◌<◌, ◌≤◌, length, drop, Option, Some, None, map, Bool, true, false}
+use Rattle.std.proofs.Common.{refl, sym, ap, get_or, append_assoc, ◌∙◌}
+use Rattle.std.proofs.lemmas.List.{map-append, append-nil}
+use Rattle.witx_base.specs.Found.{found}
+use Rattle.witx_files.specs.declared.location.Location.{Location}
+use Rattle.witx_tree.specs.Trees.{Fields, no_fields, one_field}
+use Rattle.witx_tree.specs.Views.{type_view, comments_view, fields_view}
+use Rattle.witx_comments.specs.Docs.{documentation_of}
+use Rattle.witx_tree.specs.declared.comment.Documented.{Documented}
+use Rattle.witx_tree.specs.declared.tree.FieldSyntax.{FieldSyntax}
+use Rattle.witx_ast.specs.Tree.{Field}
+use Rattle.witx_ast.specs.Reads.{tree_of}
+use Rattle.witx_ast.specs.Functions.{param_field}
+use Rattle.witx_ast.specs.declared.function.InterfaceFuncParam.{InterfaceFuncParam}
+use Rattle.witx_check.specs.declared.error.CheckError.{CheckError}
+use Rattle.witx_check.specs.Blame.{Blames}
+use Rattle.witx_check.specs.Faults.{Fault, Check, first_fault}
+use Rattle.witx_check.specs.Names.{Here, Marks, new_mark}
+use Rattle.witx_check.specs.Checks.{type_checks, field_checks}
+use Rattle.witx_check.specs.Trees.{tree_meant, fields_meant}
+use Rattle.witx_check.specs.Functions.{fields_scope, result_checks}
+use Rattle.witx_check.proofs.Onward.{row-next, row-known, row-wrong, row-none, rows-drop, rows-end, fault-past, fault-append, blames-to, blames-append, blames-head}
+
+pub params-next : (h : Here) (fs : List (Documented FieldSyntax)) (i : ℕ) (f : Documented FieldSyntax) (ms : List InterfaceFuncParam) (m : InterfaceFuncParam) (x : List Field)
+    → i < length fs → f ≡ get_or fs i f
+    → map param_field ms ++ fields_meant h (fields_view (drop i fs)) ≡ x
+    → m.name ≡ f.item.name.name.now → tree_of m.tref ≡ tree_meant h (type_view f.item.type_) → m.docs ≡ documentation_of (comments_view f.comments)
+    → map param_field (ms ++ m ∷ []) ++ fields_meant h (fields_view (drop (i + 1) fs)) ≡ x
+params-next h fs i f ms m x l p e a b c =
+    let e1 = rw (rows-drop fs i f l p) at e in
+    rw (map-append param_field ms (m ∷ []), append_assoc, a, b, c) e1
+
+pub params-end : (h : Here) (fs : List (Documented FieldSyntax)) (i : ℕ) (ms : List InterfaceFuncParam) (x : List Field)
+    → length fs ≤ i → map param_field ms ++ fields_meant h (fields_view (drop i fs)) ≡ x → map param_field ms ≡ x
+params-end h fs i ms x l e = let e1 = rw (rows-end fs i l, append-nil) at e in e1
+
+pub scope-alike : (h : Here) (a b : Marks) (rs : Fields) → ((q : List ℕ) → found a q ≡ found b q) → (q : List ℕ) → found (fields_scope a rs) q ≡ found (fields_scope b rs) q
+scope-alike h a b no_fields s q = s q
+scope-alike h a b (one_field docs m t fs) s q = scope-alike h ((m.name, m.start) ∷ a) ((m.name, m.start) ∷ b) fs (λ r. rw (s r) refl) q
+
+pub scope-next : (h : Here) (fs : List (Documented FieldSyntax)) (i : ℕ) (f : Documented FieldSyntax) (old new : Marks) (q : List ℕ) (x : Option ℕ)
+    → i < length fs → f ≡ get_or fs i f
+    → found (fields_scope old (fields_view (drop i fs))) q ≡ x
+    → ((r : List ℕ) → found new r ≡ found ((f.item.name.name.now, f.item.name.span.start) ∷ old) r)
+    → found (fields_scope new (fields_view (drop (i + 1) fs))) q ≡ x
+scope-next h fs i f old new q x l p e k =
+    let e1 = rw (rows-drop fs i f l p) at e in
+    scope-alike h new ((f.item.name.name.now, f.item.name.span.start) ∷ old) (fields_view (drop (i + 1) fs)) k q ∙ e1
+
+pub scope-end : (h : Here) (fs : List (Documented FieldSyntax)) (i : ℕ) (old : Marks) (q : List ℕ) (x : Option ℕ)
+    → length fs ≤ i → found (fields_scope old (fields_view (drop i fs))) q ≡ x → found old q ≡ x
+scope-end h fs i old q x l e = let e1 = rw (rows-end fs i l) at e in e1
+
+pub ruleset param_rules = (row-next, row-known, row-wrong, row-none, params-next, params-end, scope-next, scope-end)
+
+pub results-alike : (h : Here) (a b : Marks) (rs : Fields) → ((q : List ℕ) → found a q ≡ found b q) → result_checks h a rs ≡ result_checks h b rs
+results-alike h a b no_fields s = refl
+results-alike h a b (one_field docs m t fs) s =
+    let e = results-alike h ((m.name, m.start) ∷ a) ((m.name, m.start) ∷ b) fs (λ q. rw (s q) refl) in
+    rw (s m.name, e) refl
+
+turn-past : (xs ys : List Check) (c : Check) (x : Option Fault) → first_fault (xs ++ c ∷ ys) ≡ x → first_fault xs ≡ None → c ≡ None → first_fault ys ≡ x
+turn-past xs ys c x e n k = sym (fault-past c ys k) ∙ (sym (fault-append xs (c ∷ ys) n) ∙ e)
+
+pub result-next : (h : Here) (fs : List (Documented FieldSyntax)) (i : ℕ) (f : Documented FieldSyntax) (old new : Marks) (x : Option Fault)
+    → i < length fs → f ≡ get_or fs i f
+    → first_fault (result_checks h old (fields_view (drop i fs))) ≡ x
+    → new_mark h old f.item.name.name.now f.item.name.span.start ≡ None
+    → ((q : List ℕ) → found new q ≡ found ((f.item.name.name.now, f.item.name.span.start) ∷ old) q)
+    → first_fault (type_checks h false (h.place f.item.name.span.start) (type_view f.item.type_)) ≡ None
+    → first_fault (result_checks h new (fields_view (drop (i + 1) fs))) ≡ x
+result-next h fs i f old new x l p e n k t =
+    let e1 = rw (rows-drop fs i f l p) at e in
+    let e2 = turn-past (type_checks h false (h.place f.item.name.span.start) (type_view f.item.type_)) (result_checks h ((f.item.name.name.now, f.item.name.span.start) ∷ old) (fields_view (drop (i + 1) fs))) (new_mark h old f.item.name.name.now f.item.name.span.start) x e1 t n in
+    rw (results-alike h new ((f.item.name.name.now, f.item.name.span.start) ∷ old) (fields_view (drop (i + 1) fs)) k) e2
+
+pub result-wrong : (h : Here) (fs : List (Documented FieldSyntax)) (i : ℕ) (f : Documented FieldSyntax) (old : Marks) (e : CheckError) (x : Option Fault)
+    → i < length fs → f ≡ get_or fs i f
+    → first_fault (result_checks h old (fields_view (drop i fs))) ≡ x
+    → Blames e (first_fault (type_checks h false (h.place f.item.name.span.start) (type_view f.item.type_)))
+    → Blames e x
+result-wrong h fs i f old e x l p q b =
+    let q1 = rw (rows-drop fs i f l p) at q in
+    blames-to e (first_fault ((type_checks h false (h.place f.item.name.span.start) (type_view f.item.type_)) ++ ((new_mark h old f.item.name.name.now f.item.name.span.start) ∷ (result_checks h ((f.item.name.name.now, f.item.name.span.start) ∷ old) (fields_view (drop (i + 1) fs)))))) x q1 (blames-append e (type_checks h false (h.place f.item.name.span.start) (type_view f.item.type_)) ((new_mark h old f.item.name.name.now f.item.name.span.start) ∷ (result_checks h ((f.item.name.name.now, f.item.name.span.start) ∷ old) (fields_view (drop (i + 1) fs)))) b)
+
+pub result-known : (h : Here) (fs : List (Documented FieldSyntax)) (i : ℕ) (f : Documented FieldSyntax) (old : Marks) (e : CheckError) (x : Option Fault)
+    → i < length fs → f ≡ get_or fs i f
+    → first_fault (result_checks h old (fields_view (drop i fs))) ≡ x
+    → first_fault (type_checks h false (h.place f.item.name.span.start) (type_view f.item.type_)) ≡ None
+    → Blames e (new_mark h old f.item.name.name.now f.item.name.span.start)
+    → Blames e x
+result-known h fs i f old e x l p q n b =
+    let q1 = rw (rows-drop fs i f l p) at q in
+    blames-to e (first_fault ((new_mark h old f.item.name.name.now f.item.name.span.start) ∷ (result_checks h ((f.item.name.name.now, f.item.name.span.start) ∷ old) (fields_view (drop (i + 1) fs))))) x (sym (fault-append (type_checks h false (h.place f.item.name.span.start) (type_view f.item.type_)) ((new_mark h old f.item.name.name.now f.item.name.span.start) ∷ (result_checks h ((f.item.name.name.now, f.item.name.span.start) ∷ old) (fields_view (drop (i + 1) fs)))) n) ∙ q1) (blames-head e (new_mark h old f.item.name.name.now f.item.name.span.start) (result_checks h ((f.item.name.name.now, f.item.name.span.start) ∷ old) (fields_view (drop (i + 1) fs))) b)
+
+pub result-none : (h : Here) (fs : List (Documented FieldSyntax)) (i : ℕ) (old : Marks) (x : Option Fault)
+    → length fs ≤ i → first_fault (result_checks h old (fields_view (drop i fs))) ≡ x → x ≡ None
+result-none h fs i old x l q = sym (rw (rows-end fs i l) at q)
+
+pub ruleset result_rules = (result-next, result-wrong, result-known, result-none, params-next, params-end)

@@ -1,0 +1,140 @@
+-- `typename-checks-by`, `module-checks-by`, `constant-checks-by`: the checks of a declaration by what a validator keeps are
+-- those by positions, and so are the trees and what is kept afterwards.
+use Rattle.std.specs.Prelude.{◌≡◌, ◌⊎◌, ℕ, List, [], ◌∷◌, ◌++◌, ◌&&◌, Option, Some, None, option_map, map, filter, cond, Bool, true, false, Result, Ok, Err, OnOk, OnErr, IfErr}
+use Rattle.std.proofs.Common.{refl, sym, ap, subst, inl, inr, ◌∙◌}
+use Rattle.std.proofs.lemmas.List.{map-append, append-nil}
+use Rattle.std.proofs.lemmas.List.Elements.{filter-append}
+use Rattle.std.proofs.lemmas.Map.Lookups.{exact_bytes}
+use Rattle.std.proofs.lemmas.Map.Views.{tells_apart}
+use Rattle.witx_base.specs.Found.{found}
+use Rattle.witx_files.specs.declared.location.Location.{Location}
+use Rattle.witx_comments.specs.Docs.{documentation_of}
+use Rattle.witx_tree.specs.Trees.{TypeTree, Name, NotedDecl}
+use Rattle.witx_ast.specs.Tree.{Tree, named}
+use Rattle.witx_ast.specs.Definitions.{DefinitionTree, typename_of, module_of, definition_tree, entry_tree, introduced, DefinitionsFit}
+use Rattle.witx_ast.specs.Entries.{Fits}
+use Rattle.witx_ast.specs.declared.definition.Definition.{Definition}
+use Rattle.witx_ast.specs.declared.definition.Entry.{Entry}
+use Rattle.witx_check.specs.declared.error.CheckError.{CheckError}
+use Rattle.witx_check.specs.declared.constants.ConstantName.{ConstantName}
+use Rattle.witx_check.specs.Blame.{Blames}
+use Rattle.witx_check.specs.Faults.{Check, Fault, first_fault, name_already_exists}
+use Rattle.witx_check.specs.Names.{Names, Here, new_name}
+use Rattle.witx_check.specs.Trees.{tree_meant}
+use Rattle.witx_check.specs.Checks.{type_checks}
+use Rattle.witx_check.specs.Modules.{items_checks}
+use Rattle.witx_check.specs.DeclarationForms.{DeclForm, typename_form, module_form, constant_form}
+use Rattle.witx_check.specs.Constants.{constant_place, repeated_constant}
+use Rattle.witx_check.specs.Inside.{within, typename_checks, module_checks, module_meant}
+use Rattle.witx_check.specs.Positions.{Taken, Outcome, made_type, made_module, refused, is_name, after, first_place, declared_name}
+use Rattle.witx_check.specs.Declarations.{Past, TakenConstant, constants_of_type, decl_checks, decl_tree, accepted, rejected, with_taken}
+use Rattle.witx_check.specs.Kept.{Kept, Keeps, KeepsNames, KeepsConstants}
+use Rattle.witx_check.proofs.ByPosition.{within-by-position}
+use Rattle.witx_check.proofs.Finished.{name-by-position}
+use Rattle.witx_check.proofs.Fits.{found-last, first_or, last-step, fits-unnamed}
+use Rattle.witx_check.proofs.Steps.{is_eq-swap}
+
+-- ---- the checks and the definition
+
+pub typename-checks-by : (names : Names) (es : List (List ℕ × Entry)) (past : Past) (place : ℕ → Location) (n : Name) (form : TypeTree) → KeepsNames names es past.taken
+    → typename_checks names (within names es place n) n form ≡ decl_checks past place (typename_form n form)
+typename-checks-by names es past place n form k =
+    ap (λ (h : Here). typename_checks names h n form) (within-by-position names es past.taken place n k)
+    ∙ ap (λ (c : Check). c ∷ type_checks (after past.taken place n) true (place n.start) form) (name-by-position names es past.taken n.name (place n.start) k)
+
+pub module-checks-by : (names : Names) (es : List (List ℕ × Entry)) (past : Past) (place : ℕ → Location) (n : Name) (items : List NotedDecl) → KeepsNames names es past.taken
+    → module_checks names (within names es place n) n items ≡ decl_checks past place (module_form n items)
+module-checks-by names es past place n items k =
+    ap (λ (h : Here). module_checks names h n items) (within-by-position names es past.taken place n k)
+    ∙ ap (λ (c : Check). c ∷ items_checks (after past.taken place n) [] items) (name-by-position names es past.taken n.name (place n.start) k)
+
+pub constant-check-by : (entries : List (ConstantName × Location)) (taken : List TakenConstant) (ty n : List ℕ) (at : Location) → KeepsConstants entries taken
+    → repeated_constant entries ty n at ≡ new_name (constants_of_type taken ty) n at
+constant-check-by entries taken ty n at k = ap (option_map (λ (l : Location). name_already_exists n at l)) (k ty n)
+
+pub typename-tree-by : (names : Names) (es : List (List ℕ × Entry)) (past : Past) (place : ℕ → Location) (n : Name) (form : TypeTree) (comments : List (List ℕ)) → KeepsNames names es past.taken
+    → typename_of n.name (tree_meant (within names es place n) form) (documentation_of comments) ≡ decl_tree past place comments (typename_form n form)
+typename-tree-by names es past place n form comments k =
+    ap (λ (h : Here). typename_of n.name (tree_meant h form) (documentation_of comments)) (within-by-position names es past.taken place n k)
+
+pub module-tree-by : (names : Names) (es : List (List ℕ × Entry)) (past : Past) (place : ℕ → Location) (n : Name) (items : List NotedDecl) (comments : List (List ℕ)) → KeepsNames names es past.taken
+    → module_of (module_meant (within names es place n) n.name items comments) ≡ decl_tree past place comments (module_form n items)
+module-tree-by names es past place n items comments k =
+    ap (λ (h : Here). module_of (module_meant h n.name items comments)) (within-by-position names es past.taken place n k)
+
+-- ---- a constant more
+
+abbrev one_constant : Bool → List ℕ → Location → Names
+one_constant c n p = cond c ((n, p) ∷ []) []
+
+one-found : (c : Bool) (n : List ℕ) (p : Location) (before : Names) (q : List ℕ) → found (before ++ one_constant c n p) q ≡ first_or (found before q) (cond (c && is_name q n) (Some p) None)
+one-found true n p before q = found-last before n p q
+one-found false n p before q = ap (λ (l : Names). found l q) (append-nil before) ∙ none-after (found before q)
+  where
+    none-after : (o : Option Location) → o ≡ first_or o None
+    none-after None = refl
+    none-after (Some l) = refl
+
+filter-one : (c : TakenConstant) (ty : List ℕ) (b : Bool) → is_name c.type_name ty ≡ b → map (λ (x : TakenConstant). (x.name, x.place)) (filter (λ (x : TakenConstant). is_name x.type_name ty) (c ∷ [])) ≡ one_constant b c.name c.place
+filter-one c ty true e = rw e refl
+filter-one c ty false e = rw e refl
+
+constants-last : (cs : List TakenConstant) (c : TakenConstant) (ty : List ℕ) → constants_of_type (cs ++ c ∷ []) ty ≡ constants_of_type cs ty ++ one_constant (is_name c.type_name ty) c.name c.place
+constants-last cs c ty =
+    ap (map (λ (x : TakenConstant). (x.name, x.place))) (filter-append (λ (x : TakenConstant). is_name x.type_name ty) cs (c ∷ []))
+    ∙ (map-append (λ (x : TakenConstant). (x.name, x.place)) (filter (λ (x : TakenConstant). is_name x.type_name ty) cs) (filter (λ (x : TakenConstant). is_name x.type_name ty) (c ∷ []))
+    ∙ ap (λ l. constants_of_type cs ty ++ l) (filter-one c ty (is_name c.type_name ty) refl))
+
+both-names : (a b : Bool) → (a && b ≡ true) → (a ≡ true) × (b ≡ true)
+both-names true true e = (refl, refl)
+both-names true false e = absurd (cc)
+both-names false b e = absurd (cc)
+
+no-place : (o : Option Location) (n : List ℕ) (at : Location) → option_map (λ (l : Location). name_already_exists n at l) o ≡ None → o ≡ None
+no-place None n at e = refl
+no-place (Some l) n at e = absurd (cc)
+
+-- an accepted constant, whose two names no earlier one has
+pub keeps-constant : (old new : List (ConstantName × Location)) (taken : List TakenConstant) (ty n : List ℕ) (p : Location)
+    → repeated_constant old ty n p ≡ None
+    → ((t q : List ℕ) → constant_place new t q ≡ cond (is_name t ty && is_name q n) (Some p) (constant_place old t q))
+    → KeepsConstants old taken
+    → KeepsConstants new (taken ++ record { type_name = ty; name = n; place = p } ∷ [])
+keeps-constant old new taken ty n p free more k t q =
+    let c : TakenConstant = record { type_name = ty; name = n; place = p } in
+    let none : found (constants_of_type taken ty) n ≡ None = sym (k ty n) ∙ no-place (constant_place old ty n) n p free in
+    more t q
+    ∙ (ap (cond (is_name t ty && is_name q n) (Some p)) (k t q)
+    ∙ (ap (λ (b : Bool). cond (b && is_name q n) (Some p) (found (constants_of_type taken t) q)) (is_eq-swap t ty)
+    ∙ (last-step (is_name ty t && is_name q n) p (found (constants_of_type taken t) q)
+    (λ both. let names = both-names (is_name ty t) (is_name q n) both in
+    subst (λ x. found (constants_of_type taken x) q ≡ None) (tells_apart exact_bytes ty t names.0) (subst (λ x. found (constants_of_type taken ty) x ≡ None) (sym (tells_apart exact_bytes q n names.1)) none))
+    ∙ (sym (one-found (is_name ty t) n p (constants_of_type taken t) q) ∙ ap (λ l. found l q) (sym (constants-last taken c t))))))
+
+-- a constant needs no entry
+pub fits-constant : (ds new : List Definition) (t : DefinitionTree) (es : List (List ℕ × Entry)) → map definition_tree new ≡ map definition_tree ds ++ t ∷ []
+    → introduced t ≡ None → DefinitionsFit ds es → DefinitionsFit new es
+fits-constant ds new t es appended unnamed fits =
+    subst (λ (l : List DefinitionTree). Fits introduced entry_tree l es) (sym appended) (fits-unnamed introduced entry_tree (map definition_tree ds) t es unnamed fits)
+
+-- ---- answers, one by one
+
+pub ok-by : {A E : Type 0} (r : Result A E) (P Q : Type 0) → (P → Q) → OnOk r P → OnOk r Q
+ok-by (Ok a) P Q f p = f p
+ok-by (Err e) P Q f p = tt
+
+pub err-by : {A E : Type 0} (r : Result A E) (P Q : E → Type 0) → ((e : E) → P e → Q e) → IfErr r P → IfErr r Q
+err-by (Ok a) P Q f p = tt
+err-by (Err e) P Q f p = f e p
+
+pub on-err-by : {A E : Type 0} (r : Result A E) (P Q : Type 0) → (P → Q) → OnErr r P → OnErr r Q
+on-err-by (Ok a) P Q f p = tt
+on-err-by (Err e) P Q f p = f p
+
+pub blames-by : (e : CheckError) (xs ys : List Check) → xs ≡ ys → Blames e (first_fault xs) → Blames e (first_fault ys)
+blames-by e xs ys same b = subst (λ l. Blames e (first_fault l)) same b
+
+pub none-by : (xs ys : List Check) → xs ≡ ys → first_fault xs ≡ None → first_fault ys ≡ None
+none-by xs ys same b = subst (λ l. first_fault l ≡ None) same b
+
+pub ruleset decl_rules = (typename-checks-by, module-checks-by, constant-check-by, typename-tree-by, module-tree-by, keeps-constant, fits-constant)

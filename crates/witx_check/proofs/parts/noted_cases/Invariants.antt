@@ -1,0 +1,16 @@
+use Rattle.std.proofs.Common.{◌≡◌, ℕ, ◌++◌, ◌+◌, drop, map, [], length, ◌≤◌}
+use Rattle.witx_ast.specs.Tree.{arms_of}
+use Rattle.witx_ast.specs.Reads.{member_field, case_arm}
+use Rattle.witx_check.specs.Faults.{first_fault}
+use Rattle.witx_check.specs.Checks.{member_checks}
+use Rattle.witx_check.specs.Trees.{member_arm, flag_field, arm_called}
+use Rattle.witx_check.specs.Tags.{has_name, arm_names}
+use Rattle.witx_check.specs.Slices.{member_views}
+use Rattle.witx_check.specs.Senses.{here_of}
+use Rattle.witx_check.proofs.parts.noted_cases.Given as goal
+
+abbrev pub invariant-loop-member : goal.invariant-loop-member
+invariant-loop-member l = record {
+  checks : first_fault (member_checks (here_of l.scope) l.names (member_views (drop l.member-index l.members))) ≡ first_fault (member_checks (here_of l.scope) [] (member_views l.members));
+  parts : map case_arm l.cases ++ map member_arm (member_views (drop l.member-index l.members)) ≡ map member_arm (member_views l.members);
+}

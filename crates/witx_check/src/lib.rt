@@ -1,0 +1,23 @@
+//! Scoping and validation: the first fault of a declaration, or its definition.
+#![tactic(auto)]
+
+mod cases;
+mod constants;
+mod error;
+mod functions;
+mod laws;
+mod line_table;
+mod modules;
+mod parts;
+mod report;
+mod scope;
+#[cfg(test)]
+mod tests;
+mod typenames;
+mod types;
+mod validate;
+mod validator;
+
+pub use error::{CheckError, ValidationError};
+pub use laws::{names_by_position, nothing_by_position};
+pub use validator::{DocValidation, DocValidationScope};

@@ -1,0 +1,177 @@
+ghost use Rattle.std.specs.Prelude.{◌≡◌, ◌∷◌, ◌++◌, [], IfOk, IfErr, OnOk, OnErr, None, Some, map, option_map, cond};
+ghost use Rattle.witx_base.specs.Found.{found};
+ghost use Rattle.witx_ast.specs.Items.{item_tree, entry_item, ItemsFit};
+ghost use Rattle.witx_ast.specs.Definitions.{module_tree};
+ghost use Rattle.witx_comments.specs.Docs.{documentation_of};
+ghost use Rattle.witx_tree.specs.Views.{noted_decl, comments_view, name_view};
+ghost use Rattle.witx_check.specs.Places.{location_in};
+ghost use Rattle.witx_check.specs.Faults.{first_fault};
+ghost use Rattle.witx_check.specs.Names.{new_mark};
+ghost use Rattle.witx_check.specs.Blame.{Blames};
+ghost use Rattle.witx_check.specs.Answers.{IsFault};
+ghost use Rattle.witx_check.specs.Senses.{here_of};
+ghost use Rattle.witx_check.specs.DeclarationForms.{items_in};
+ghost use Rattle.witx_check.specs.Modules.{with_name, item_called, item_checks, items_checks, item_meant};
+ghost use Rattle.witx_check.specs.Positions.{is_name};
+ghost use Rattle.witx_check.specs.Inside.{within, module_checks, module_meant, TakesAtMost, Refuses};
+
+use crate::error::CheckError;
+use crate::functions::checked_func;
+use crate::scope::{Marks, Names, Scope, introduce, introduce_mark};
+use std::alloc::Global;
+use std::rc::Rc;
+use witx_ast::{
+    Entries, Module, ModuleDefinition, ModuleDefinitions, ModuleEntries, ModuleEntry, ModuleImport,
+    ModuleImportVariant,
+};
+use witx_base::{Duplicate, Id, OutOfMemory, WitxPath};
+use witx_files::Location;
+use witx_tree::{CommentSyntax, Documented, ModuleDeclSyntax, ModuleImportSyntax, ModuleSyntax};
+
+/// The items of a module, in order and by name.
+#[derive(Drop)]
+pub struct Contents {
+    pub definitions: ModuleDefinitions,
+    pub entries: ModuleEntries,
+}
+
+fn checked_import(
+    import: &ModuleImportSyntax,
+    scope: &Scope<'_>,
+    marks: &mut Marks,
+    comments: &CommentSyntax<'_>,
+) -> Result<ModuleImport, CheckError>
+    ensures ok { OnOk result (new_mark (here_of scope.now) marks.old import.now.name import.now.name_loc.start ≡ None) }
+    ensures name { IfOk result (λ made. made.name ≡ import.now.name) }
+    ensures docs { IfOk result (λ made. made.docs ≡ documentation_of (comments_view comments.now)) }
+    ensures kept { (q : _) → OnOk result (found marks.new q ≡ found ((import.now.name, import.now.name_loc.start) ∷ marks.old) q) }
+    ensures fault { IfErr result (λ e. Blames e (new_mark (here_of scope.now) marks.old import.now.name import.now.name_loc.start)) }
+{
+    let name = introduce_mark(marks, scope, import.name.as_str(), import.name_loc.start)?;
+    Ok(ModuleImport {
+        name,
+        variant: ModuleImportVariant::Memory,
+        docs: comments.docs(scope.alloc)?,
+    })
+}
+
+/// An item of a module, whose name is taken in before the item is checked.
+#[tactic(auto, using(crate::proofs::ModuleItems::item_rules))]
+fn checked_item(
+    decl: &Documented<'_, ModuleDeclSyntax<'_>>,
+    scope: &Scope<'_>,
+    marks: &mut Marks,
+) -> Result<ModuleDefinition, CheckError>
+    ensures ok { OnOk result (first_fault (item_checks (here_of scope.now) marks.old (noted_decl decl.now).decl) ≡ None) }
+    ensures tree { IfOk result (λ made. item_tree made ≡ item_meant (here_of scope.now) (noted_decl decl.now)) }
+    ensures kept { (q : _) → OnOk result (found marks.new q ≡ found (with_name (noted_decl decl.now).decl marks.old) q) }
+    ensures fault { IfErr result (λ e. Blames e (first_fault (item_checks (here_of scope.now) marks.old (noted_decl decl.now).decl))) }
+{
+    match &decl.item {
+        ModuleDeclSyntax::Import(import) => {
+            let made = checked_import(import, scope, marks, &decl.comments)?;
+            Ok(ModuleDefinition::Import(Rc::new(scope.alloc, made)?))
+        }
+        ModuleDeclSyntax::Func(func) => {
+            let made = checked_func(func, scope, marks, &decl.comments)?;
+            Ok(ModuleDefinition::Func(Rc::new(scope.alloc, made)?))
+        }
+    }
+}
+
+/// The name of an item.
+fn item_name(item: &ModuleDefinition) -> Result<Id, OutOfMemory>
+    ensures { IfOk result (λ name. name ≡ item_called (item_tree item.now)) }
+{
+    match item {
+        ModuleDefinition::Import(import) => import.name.copy(),
+        ModuleDefinition::Func(func) => func.name.copy(),
+    }
+}
+
+/// The item as an entry.
+fn item_entry(item: &ModuleDefinition) -> Result<ModuleEntry, OutOfMemory>
+    ensures { IfOk result (λ entry. entry_item entry ≡ item_tree item.now) }
+{
+    match item {
+        ModuleDefinition::Import(import) => Ok(ModuleEntry::Import(import.clone()?)),
+        ModuleDefinition::Func(func) => Ok(ModuleEntry::Func(func.clone()?)),
+    }
+}
+
+/// Puts an item in, behind the others and under its name.
+#[tactic(auto, using(crate::proofs::ModuleItems::entry_rules))]
+fn add_item(contents: &mut Contents, item: ModuleDefinition) -> Result<(), OutOfMemory>
+    ensures definitions { OnOk result (contents.new.definitions ≡ contents.old.definitions ++ item ∷ []) }
+    ensures entries { (q : _) → OnOk result (option_map entry_item (found contents.new.entries q) ≡ cond (is_name q (item_called (item_tree item))) (Some (item_tree item)) (option_map entry_item (found contents.old.entries q))) }
+{
+    let name = item_name(&item)?;
+    let entry = item_entry(&item)?;
+    contents.entries.insert(name, entry)?;
+    contents.definitions.push(item)?;
+    Ok(())
+}
+
+/// The items of a module.
+#[tactic(auto, using(crate::proofs::ModuleItems::items_rules))]
+fn checked_items(
+    decls: &[Documented<'_, ModuleDeclSyntax<'_>>],
+    scope: &Scope<'_>,
+) -> Result<Contents, CheckError>
+    ensures ok { OnOk result (first_fault (items_checks (here_of scope.now) [] (items_in decls.now)) ≡ None) }
+    ensures tree { IfOk result (λ made. map item_tree made.definitions ≡ map (item_meant (here_of scope.now)) (items_in decls.now)) }
+    ensures fits { IfOk result (λ made. ItemsFit made.definitions made.entries) }
+    ensures fault { IfErr result (λ e. Blames e (first_fault (items_checks (here_of scope.now) [] (items_in decls.now)))) }
+{
+    let mut contents = Contents {
+        definitions: ModuleDefinitions::new(scope.alloc),
+        entries: ModuleEntries::new(scope.alloc),
+    };
+    let mut marks = Marks::new(scope.alloc);
+    for decl in decls {
+        let item = checked_item(decl, scope, &mut marks)?;
+        add_item(&mut contents, item)?;
+    }
+    Ok(contents)
+}
+
+/// The module of a declaration whose name stands at `place`, and is taken in before the items are
+/// checked.
+#[tactic(auto, using(crate::proofs::Within::takes_rules))]
+pub fn checked_module(
+    names: &mut Names,
+    entries: &Entries,
+    text: &str,
+    path: &WitxPath,
+    alloc: Global,
+    place: Location,
+    decl: &ModuleSyntax<'_>,
+    comments: &CommentSyntax<'_>,
+) -> Result<Module, CheckError>
+    requires { place ≡ location_in text.now path.now decl.now.name.span.start }
+    ensures ok { OnOk result (first_fault (module_checks names.old (within names.old entries.now (location_in text.now path.now) (name_view decl.now.name)) (name_view decl.now.name) (items_in decl.now.decls)) ≡ None) }
+    ensures tree { IfOk result (λ m. module_tree m ≡ module_meant (within names.old entries.now (location_in text.now path.now) (name_view decl.now.name)) decl.now.name.name.now (items_in decl.now.decls) (comments_view comments.now)) }
+    ensures name { IfOk result (λ m. m.name ≡ decl.now.name.name.now) }
+    ensures fault { IfErr result (λ e. Blames e (first_fault (module_checks names.old (within names.old entries.now (location_in text.now path.now) (name_view decl.now.name)) (name_view decl.now.name) (items_in decl.now.decls)))) }
+    ensures kept { (q : _) → OnOk result (found names.new q ≡ found ((decl.now.name.name.now, location_in text.now path.now decl.now.name.span.start) ∷ names.old) q) }
+    ensures refused { IfErr result (λ e. IsFault e → Refuses names.old names.new decl.now.name.name.now (location_in text.now path.now decl.now.name.span.start)) }
+    ensures left { OnErr result (TakesAtMost names.old names.new decl.now.name.name.now (location_in text.now path.now decl.now.name.span.start)) }
+{
+    let name = match introduce(names, alloc, decl.name.name, place) {
+        Ok(name) => name,
+        Err(error) => return Err(error),
+    };
+    let scope = Scope {
+        names,
+        entries,
+        text,
+        path,
+        alloc,
+    };
+    let contents = match checked_items(decl.decls.as_slice(), &scope) {
+        Ok(contents) => contents,
+        Err(error) => return Err(error),
+    };
+    let docs = comments.docs(alloc)?;
+    Ok(Module::new(name, contents.definitions, contents.entries, docs))
+}

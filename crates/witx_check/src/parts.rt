@@ -1,0 +1,345 @@
+ghost use Rattle.std.specs.Prelude.{◌≡◌, ◌∷◌, IfOk, IfErr, OnOk, Some, None, [], map, option_map};
+ghost use Rattle.witx_ast.specs.Tree.{behind, arms_of};
+ghost use Rattle.witx_ast.specs.Reads.{tree_of, datatype_tree, record_tree, variant_tree, member_field, case_arm};
+ghost use Rattle.witx_check.specs.Faults.{first_fault};
+ghost use Rattle.witx_check.specs.Checks.{member_checks};
+ghost use Rattle.witx_check.specs.Trees.{member_arm, flag_field, bool_tree, string_tree, expected_tree, number_name, union_name, enum_tree, flags_tree};
+ghost use Rattle.witx_check.specs.Tags.{builtin_type, repr_check, repr_meant, repr_of, has_name, case_check, size_check, tag_check, repr_in, names_in, arm_names};
+ghost use Rattle.witx_check.specs.Slices.{member_views};
+ghost use Rattle.witx_check.specs.Blame.{Blames};
+ghost use Rattle.witx_check.specs.Senses.{here_of};
+ghost use Rattle.std.specs.Map.{keys_of};
+
+use crate::cases::{TagNames, case_names, case_with};
+use crate::error::CheckError;
+use crate::scope::{
+    Marks, Scope, bad_field, bad_tag, introduce_mark, repr, wrong_kind, wrong_size,
+};
+use std::alloc::Global;
+use std::rc::Rc;
+use witx_ast::{
+    BuiltinType, Case, Cases, Datatype, IntRepr, Members, RecordDatatype, RecordKind, RecordMember,
+    TypeRef, Variant,
+};
+use witx_base::{Duplicate, Id, OutOfMemory};
+use witx_tree::{BuiltinSyntax, Documented, EnumSyntax, FlagsSyntax, IdSyntax};
+
+#[tactic(auto, using(crate::proofs::Steps::step_rules))]
+pub fn value(alloc: Global, datatype: Datatype) -> Result<TypeRef, OutOfMemory>
+    ensures { IfOk result (λ t. tree_of t ≡ datatype_tree datatype) }
+{
+    Ok(TypeRef::Value(Rc::new(alloc, datatype)?))
+}
+
+pub fn builtin_type(syntax: BuiltinSyntax) -> BuiltinType
+    ensures { result ≡ builtin_type syntax }
+{
+    match syntax {
+        BuiltinSyntax::Char => BuiltinType::Char,
+        BuiltinSyntax::U8 { lang_c_char } => BuiltinType::U8 { lang_c_char },
+        BuiltinSyntax::U16 => BuiltinType::U16,
+        BuiltinSyntax::U32 { lang_ptr_size } => BuiltinType::U32 { lang_ptr_size },
+        BuiltinSyntax::U64 => BuiltinType::U64,
+        BuiltinSyntax::S8 => BuiltinType::S8,
+        BuiltinSyntax::S16 => BuiltinType::S16,
+        BuiltinSyntax::S32 => BuiltinType::S32,
+        BuiltinSyntax::S64 => BuiltinType::S64,
+        BuiltinSyntax::F32 => BuiltinType::F32,
+        BuiltinSyntax::F64 => BuiltinType::F64,
+    }
+}
+
+pub fn number_name(alloc: Global, i: usize) -> Result<Id, OutOfMemory>
+    ensures { IfOk result (λ id. id ≡ number_name i) }
+{
+    let text = format!(in alloc; "{i}")?;
+    Ok(Id::new(alloc, text.as_str())?)
+}
+
+#[tactic(auto, using(crate::proofs::Steps::step_rules))]
+pub fn string_type(alloc: Global) -> Result<TypeRef, OutOfMemory>
+    ensures { IfOk result (λ t. tree_of t ≡ string_tree) }
+{
+    let char = value(alloc, Datatype::Builtin(BuiltinType::Char))?;
+    value(alloc, Datatype::List(char))
+}
+
+fn two_cases(alloc: Global, first: Case, second: Case) -> Result<Cases, OutOfMemory>
+    ensures { IfOk result (λ cs. cs ≡ first ∷ second ∷ []) }
+{
+    let mut cases = Cases::new(alloc);
+    cases.push(first)?;
+    cases.push(second)?;
+    Ok(cases)
+}
+
+#[tactic(auto, using(crate::proofs::Steps::step_rules))]
+pub fn bool_type(alloc: Global) -> Result<TypeRef, OutOfMemory>
+    ensures { IfOk result (λ t. tree_of t ≡ bool_tree) }
+{
+    let no = case_with(alloc, "false", None)?;
+    let yes = case_with(alloc, "true", None)?;
+    let cases = two_cases(alloc, no, yes)?;
+    value(
+        alloc,
+        Datatype::Variant(Variant {
+            tag_repr: IntRepr::U32,
+            cases,
+        }),
+    )
+}
+
+#[tactic(auto, using(crate::proofs::Steps::step_rules))]
+pub fn expected_variant(
+    alloc: Global,
+    ok: Option<TypeRef>,
+    err: Option<TypeRef>,
+) -> Result<Variant, OutOfMemory>
+    ensures { IfOk result (λ v. variant_tree v ≡ expected_tree (option_map tree_of ok) (option_map tree_of err)) }
+{
+    let ok = case_with(alloc, "ok", ok)?;
+    let err = case_with(alloc, "err", err)?;
+    Ok(Variant {
+        tag_repr: IntRepr::U32,
+        cases: two_cases(alloc, ok, err)?,
+    })
+}
+
+pub fn unsigned(of: BuiltinType) -> Option<IntRepr>
+    ensures { result ≡ repr_of of }
+{
+    match of {
+        BuiltinType::U8 { .. } => Some(IntRepr::U8),
+        BuiltinType::U16 => Some(IntRepr::U16),
+        BuiltinType::U32 { .. } => Some(IntRepr::U32),
+        BuiltinType::U64 => Some(IntRepr::U64),
+        BuiltinType::Char
+        | BuiltinType::S8
+        | BuiltinType::S16
+        | BuiltinType::S32
+        | BuiltinType::S64
+        | BuiltinType::F32
+        | BuiltinType::F64 => None,
+    }
+}
+
+#[tactic(auto, using(crate::proofs::Steps::step_rules))]
+fn checked_repr(
+    of: &Option<BuiltinSyntax>,
+    scope: &Scope<'_>,
+    near: usize,
+) -> Result<IntRepr, CheckError>
+    ensures ok { OnOk result (repr_check of.now ((here_of scope.now).place near) ≡ None) }
+    ensures meant { IfOk result (λ r. r ≡ repr_meant of.now) }
+    ensures fault { IfErr result (λ e. Blames e (repr_check of.now ((here_of scope.now).place near))) }
+{
+    match of {
+        None => Ok(IntRepr::U32),
+        Some(of) => {
+            let of = builtin_type(*of);
+            match unsigned(of) {
+                Some(repr) => Ok(repr),
+                None => Err(repr(scope, of, near)),
+            }
+        }
+    }
+}
+
+#[tactic(auto, using(crate::proofs::Onward::noted_rules))]
+fn noted_cases(
+    members: &[Documented<'_, IdSyntax<'_>>],
+    scope: &Scope<'_>,
+) -> Result<Cases, CheckError>
+    ensures ok { OnOk result (first_fault (member_checks (here_of scope.now) [] (member_views members.now)) ≡ None) }
+    ensures tree { IfOk result (λ cs. map case_arm cs ≡ map member_arm (member_views members.now)) }
+    ensures fault { IfErr result (λ e. Blames e (first_fault (member_checks (here_of scope.now) [] (member_views members.now)))) }
+{
+    let mut names = Marks::new(scope.alloc);
+    let mut cases = Cases::new(scope.alloc);
+    for member in members {
+        let name = introduce_mark(&mut names, scope, member.item.name, member.item.span.start)?;
+        let docs = member.comments.docs(scope.alloc)?;
+        cases.push(Case {
+            name,
+            tref: None,
+            docs,
+        })?;
+    }
+    Ok(cases)
+}
+
+#[tactic(auto, using(crate::proofs::Onward::noted_rules))]
+fn noted_flags(
+    flags: &[Documented<'_, IdSyntax<'_>>],
+    scope: &Scope<'_>,
+    bool_type: &TypeRef,
+) -> Result<Members, CheckError>
+    requires { tree_of bool_type.now ≡ bool_tree }
+    ensures ok { OnOk result (first_fault (member_checks (here_of scope.now) [] (member_views flags.now)) ≡ None) }
+    ensures tree { IfOk result (λ ms. map member_field ms ≡ map flag_field (member_views flags.now)) }
+    ensures fault { IfErr result (λ e. Blames e (first_fault (member_checks (here_of scope.now) [] (member_views flags.now)))) }
+{
+    let mut names = Marks::new(scope.alloc);
+    let mut members = Members::new(scope.alloc);
+    for flag in flags {
+        let name = introduce_mark(&mut names, scope, flag.item.name, flag.item.span.start)?;
+        let docs = flag.comments.docs(scope.alloc)?;
+        members.push(RecordMember {
+            name,
+            tref: bool_type.clone()?,
+            docs,
+        })?;
+    }
+    Ok(members)
+}
+
+#[tactic(auto, using(crate::proofs::Onward::enum_rules))]
+pub fn checked_enum(
+    syntax: &EnumSyntax<'_>,
+    scope: &Scope<'_>,
+    near: usize,
+) -> Result<Variant, CheckError>
+    ensures ok { OnOk result (first_fault (repr_check syntax.now.repr ((here_of scope.now).place near) ∷ member_checks (here_of scope.now) [] (member_views syntax.now.members)) ≡ None) }
+    ensures tree { IfOk result (λ v. variant_tree v ≡ enum_tree syntax.now.repr (member_views syntax.now.members)) }
+    ensures fault { IfErr result (λ e. Blames e (first_fault (repr_check syntax.now.repr ((here_of scope.now).place near) ∷ member_checks (here_of scope.now) [] (member_views syntax.now.members)))) }
+{
+    let tag_repr = checked_repr(&syntax.repr, scope, near)?;
+    let cases = noted_cases(syntax.members.as_slice(), scope)?;
+    Ok(Variant { tag_repr, cases })
+}
+
+#[tactic(auto, using(crate::proofs::Onward::enum_rules))]
+pub fn checked_flags(
+    syntax: &FlagsSyntax<'_>,
+    scope: &Scope<'_>,
+    near: usize,
+) -> Result<RecordDatatype, CheckError>
+    ensures ok { OnOk result (first_fault (repr_check syntax.now.repr ((here_of scope.now).place near) ∷ member_checks (here_of scope.now) [] (member_views syntax.now.flags)) ≡ None) }
+    ensures tree { IfOk result (λ v. record_tree v ≡ flags_tree syntax.now.repr (member_views syntax.now.flags)) }
+    ensures fault { IfErr result (λ e. Blames e (first_fault (repr_check syntax.now.repr ((here_of scope.now).place near) ∷ member_checks (here_of scope.now) [] (member_views syntax.now.flags)))) }
+{
+    let repr = checked_repr(&syntax.repr, scope, near)?;
+    let bool_type = bool_type(scope.alloc)?;
+    let members = noted_flags(syntax.flags.as_slice(), scope, &bool_type)?;
+    Ok(RecordDatatype {
+        kind: RecordKind::Bitflags(repr),
+        members,
+    })
+}
+
+/// What a union or a variant takes from its tag.
+#[derive(Drop)]
+pub struct Tag {
+    pub repr: IntRepr,
+    pub names: Option<TagNames>,
+}
+
+fn tag_names(alloc: Global, cases: &[Case]) -> Result<TagNames, OutOfMemory>
+    ensures { IfOk result (λ ns. ns ≡ arm_names (arms_of (map case_arm cases.now))) }
+{
+    TagNames::new(alloc, case_names(alloc, cases)?)
+}
+
+#[tactic(auto, using(crate::proofs::Onward::case_rules))]
+pub fn tag_of(tag: &TypeRef, scope: &Scope<'_>, near: usize) -> Result<Tag, CheckError>
+    ensures ok { OnOk result (tag_check (behind (tree_of tag.now)) ((here_of scope.now).place near) ≡ None) }
+    ensures repr { IfOk result (λ t. t.repr ≡ repr_in (behind (tree_of tag.now))) }
+    ensures names { IfOk result (λ t. t.names ≡ names_in (behind (tree_of tag.now))) }
+    ensures fault { IfErr result (λ e. Blames e (tag_check (behind (tree_of tag.now)) ((here_of scope.now).place near))) }
+{
+    let datatype = tag.type_();
+    match &**datatype {
+        Datatype::Variant(variant) => {
+            if !variant.is_enum() {
+                return Err(bad_tag(scope, "all variant cases should have empty payloads", near));
+            }
+            Ok(Tag {
+                repr: variant.tag_repr,
+                names: Some(tag_names(scope.alloc, variant.cases.as_slice())?),
+            })
+        }
+        Datatype::Builtin(of) => match unsigned(*of) {
+            Some(repr) => Ok(Tag { repr, names: None }),
+            None => Err(wrong_kind(scope, "tag", "enum or builtin", "builtin", near)),
+        },
+        Datatype::Record(_) => Err(wrong_kind(scope, "tag", "enum or builtin", "record", near)),
+        Datatype::Handle(_) => Err(wrong_kind(scope, "tag", "enum or builtin", "handle", near)),
+        Datatype::List(_) => Err(wrong_kind(scope, "tag", "enum or builtin", "list", near)),
+        Datatype::Pointer(_) => Err(wrong_kind(scope, "tag", "enum or builtin", "pointer", near)),
+        Datatype::ConstPointer(_) => Err(wrong_kind(
+            scope,
+            "tag",
+            "enum or builtin",
+            "constpointer",
+            near,
+        )),
+    }
+}
+
+pub fn checked_size(
+    names: &Option<TagNames>,
+    found: usize,
+    scope: &Scope<'_>,
+    near: usize,
+) -> Result<(), CheckError>
+    ensures ok { OnOk result (size_check names.now found ((here_of scope.now).place near) ≡ None) }
+    ensures fault { IfErr result (λ e. Blames e (size_check names.now found ((here_of scope.now).place near))) }
+{
+    match names {
+        Some(names) => {
+            if names.len() == found {
+                Ok(())
+            } else {
+                Err(wrong_size(scope, names.len(), found, near))
+            }
+        }
+        None => Ok(()),
+    }
+}
+
+/// Whether the name is one of those taken in.
+fn is_marked(marks: &Marks, name: &Id) -> bool
+    ensures { result ≡ has_name (keys_of marks.now) name.now }
+{
+    marks.get(name).is_some()
+}
+
+/// A case under a tag with names has one of them, and is the first that has it.
+pub fn checked_case(
+    names: &Option<TagNames>,
+    before: &Marks,
+    name: &Id,
+    scope: &Scope<'_>,
+    at: usize,
+) -> Result<(), CheckError>
+    ensures ok { OnOk result (case_check names.now (keys_of before.now) name.now ((here_of scope.now).place at) ≡ None) }
+    ensures fault { IfErr result (λ e. Blames e (case_check names.now (keys_of before.now) name.now ((here_of scope.now).place at))) }
+{
+    match names {
+        Some(names) => {
+            if names.has(name) && !is_marked(before, name) {
+                Ok(())
+            } else {
+                Err(bad_field(
+                    scope,
+                    name.as_str(),
+                    "does not correspond to variant in tag `tag`",
+                    at,
+                ))
+            }
+        }
+        None => Ok(()),
+    }
+}
+
+pub fn union_name(alloc: Global, names: &Option<TagNames>, i: usize) -> Result<Id, OutOfMemory>
+    ensures { IfOk result (λ id. id ≡ union_name names.now i) }
+{
+    match names {
+        Some(names) => match names.get(i) {
+            Some(name) => name.copy(),
+            None => Id::new(alloc, ""),
+        },
+        None => number_name(alloc, i),
+    }
+}

@@ -1,0 +1,352 @@
+ghost use Rattle.std.specs.Prelude.{◌≡◌, IfOk, IfErr, OnOk, Some, None, ◌∷◌};
+ghost use Rattle.witx_base.specs.Found.{found};
+ghost use Rattle.witx_check.specs.Places.{location_in};
+ghost use Rattle.witx_check.specs.Names.{new_mark, new_name, use_check, sense_tree};
+ghost use Rattle.witx_check.specs.Faults.{unknown_name, recursive, wrong_kind_name, name_already_exists, anonymous_record, invalid_repr, invalid_union_tag, abi, union_size_mismatch, invalid_union_field};
+ghost use Rattle.witx_check.specs.Blame.{Blames, Says, fault_of};
+ghost use Rattle.witx_check.specs.Senses.{here_of};
+ghost use Rattle.witx_ast.specs.Reads.{tree_of};
+
+use crate::error::{CheckError, ValidationError};
+use std::alloc::Global;
+use witx_ast::{BuiltinType, Entries, Entry, TypeRef};
+use witx_base::{Duplicate, Id, NameMap, OutOfMemory, Text, WitxPath};
+use witx_files::Location;
+use witx_lex::line_column;
+use witx_tree::IdSyntax;
+
+/// Names of the document, and where each stands.
+pub type Names = NameMap<Location>;
+
+/// Names inside one declaration, and the offset at which each stands.
+pub type Marks = NameMap<usize>;
+
+/// The location of the byte at an offset.
+#[tactic(auto, unfolding(crate::specs::Places::location_in))]
+pub fn locate(text: &str, path: &WitxPath, at: usize) -> Result<Location, OutOfMemory>
+    ensures { IfOk result (λ l. l ≡ location_in text.now path.now at) }
+{
+    let (line, column) = line_column(text, at);
+    Ok(Location {
+        path: path.copy()?,
+        line,
+        column,
+    })
+}
+
+/// What the checks of a declaration read.
+#[derive(Drop)]
+pub struct Scope<'a> {
+    pub names: &'a Names,
+    pub entries: &'a Entries,
+    pub text: &'a str,
+    pub path: &'a WitxPath,
+    pub alloc: Global,
+}
+
+impl<'a> Scope<'a> {
+    #[tactic(auto, unfolding(crate::specs::Senses::here_of))]
+    pub fn location(&self, at: usize) -> Result<Location, OutOfMemory>
+        ensures { IfOk result (λ l. l ≡ (here_of self.now).place at) }
+    {
+        locate(self.text, self.path, at)
+    }
+}
+
+fn fault(made: Result<ValidationError, OutOfMemory>) -> CheckError
+    ensures { Says result made }
+{
+    match made {
+        Ok(fault) => CheckError::Validation(fault),
+        Err(_) => CheckError::OutOfMemory,
+    }
+}
+
+fn make_unknown(scope: &Scope<'_>, name: &str, at: usize) -> Result<ValidationError, OutOfMemory>
+    ensures { IfOk result (λ f. fault_of f ≡ unknown_name name.now ((here_of scope.now).place at)) }
+{
+    Ok(ValidationError::UnknownName {
+        name: Text::new(scope.alloc, name)?,
+        location: scope.location(at)?,
+    })
+}
+
+fn make_recursive(scope: &Scope<'_>, name: &str, at: usize) -> Result<ValidationError, OutOfMemory>
+    ensures { IfOk result (λ f. fault_of f ≡ recursive name.now ((here_of scope.now).place at)) }
+{
+    Ok(ValidationError::Recursive {
+        name: Text::new(scope.alloc, name)?,
+        location: scope.location(at)?,
+    })
+}
+
+fn make_wrong_kind(
+    scope: &Scope<'_>,
+    name: &str,
+    expected: &'static str,
+    got: &'static str,
+    at: usize,
+) -> Result<ValidationError, OutOfMemory>
+    ensures { IfOk result (λ f. fault_of f ≡ wrong_kind_name name.now expected.now got.now ((here_of scope.now).place at)) }
+{
+    Ok(ValidationError::WrongKindName {
+        name: Text::new(scope.alloc, name)?,
+        expected,
+        got,
+        location: scope.location(at)?,
+    })
+}
+
+pub fn unknown(scope: &Scope<'_>, name: &str, at: usize) -> CheckError
+    ensures { Blames result (Some (unknown_name name.now ((here_of scope.now).place at))) }
+{
+    fault(make_unknown(scope, name, at))
+}
+
+pub fn recursive(scope: &Scope<'_>, name: &str, at: usize) -> CheckError
+    ensures { Blames result (Some (recursive name.now ((here_of scope.now).place at))) }
+{
+    fault(make_recursive(scope, name, at))
+}
+
+pub fn wrong_kind(
+    scope: &Scope<'_>,
+    name: &str,
+    expected: &'static str,
+    got: &'static str,
+    at: usize,
+) -> CheckError
+    ensures { Blames result (Some (wrong_kind_name name.now expected.now got.now ((here_of scope.now).place at))) }
+{
+    fault(make_wrong_kind(scope, name, expected, got, at))
+}
+
+fn make_repr(
+    scope: &Scope<'_>,
+    repr: BuiltinType,
+    at: usize,
+) -> Result<ValidationError, OutOfMemory>
+    ensures { IfOk result (λ f. fault_of f ≡ invalid_repr repr ((here_of scope.now).place at)) }
+{
+    Ok(ValidationError::InvalidRepr {
+        repr,
+        location: scope.location(at)?,
+    })
+}
+
+pub fn repr(scope: &Scope<'_>, repr: BuiltinType, at: usize) -> CheckError
+    ensures { Blames result (Some (invalid_repr repr ((here_of scope.now).place at))) }
+{
+    fault(make_repr(scope, repr, at))
+}
+
+fn make_bad_tag(
+    scope: &Scope<'_>,
+    reason: &'static str,
+    at: usize,
+) -> Result<ValidationError, OutOfMemory>
+    ensures { IfOk result (λ f. fault_of f ≡ invalid_union_tag reason.now ((here_of scope.now).place at)) }
+{
+    Ok(ValidationError::InvalidUnionTag {
+        reason,
+        location: scope.location(at)?,
+    })
+}
+
+pub fn bad_tag(scope: &Scope<'_>, reason: &'static str, at: usize) -> CheckError
+    ensures { Blames result (Some (invalid_union_tag reason.now ((here_of scope.now).place at))) }
+{
+    fault(make_bad_tag(scope, reason, at))
+}
+
+fn make_abi_fault(
+    scope: &Scope<'_>,
+    reason: &'static str,
+    at: usize,
+) -> Result<ValidationError, OutOfMemory>
+    ensures { IfOk result (λ f. fault_of f ≡ abi reason.now ((here_of scope.now).place at)) }
+{
+    Ok(ValidationError::Abi {
+        reason,
+        location: scope.location(at)?,
+    })
+}
+
+pub fn abi_fault(scope: &Scope<'_>, reason: &'static str, at: usize) -> CheckError
+    ensures { Blames result (Some (abi reason.now ((here_of scope.now).place at))) }
+{
+    fault(make_abi_fault(scope, reason, at))
+}
+
+fn make_anonymous_type(scope: &Scope<'_>, at: usize) -> Result<ValidationError, OutOfMemory>
+    ensures { IfOk result (λ f. fault_of f ≡ anonymous_record ((here_of scope.now).place at)) }
+{
+    Ok(ValidationError::AnonymousRecord {
+        location: scope.location(at)?,
+    })
+}
+
+pub fn anonymous_type(scope: &Scope<'_>, at: usize) -> CheckError
+    ensures { Blames result (Some (anonymous_record ((here_of scope.now).place at))) }
+{
+    fault(make_anonymous_type(scope, at))
+}
+
+fn make_wrong_size(
+    scope: &Scope<'_>,
+    expected: usize,
+    found: usize,
+    at: usize,
+) -> Result<ValidationError, OutOfMemory>
+    ensures { IfOk result (λ f. fault_of f ≡ union_size_mismatch expected found ((here_of scope.now).place at)) }
+{
+    Ok(ValidationError::UnionSizeMismatch {
+        expected,
+        found,
+        location: scope.location(at)?,
+    })
+}
+
+pub fn wrong_size(scope: &Scope<'_>, expected: usize, found: usize, at: usize) -> CheckError
+    ensures { Blames result (Some (union_size_mismatch expected found ((here_of scope.now).place at))) }
+{
+    fault(make_wrong_size(scope, expected, found, at))
+}
+
+fn make_bad_field(
+    scope: &Scope<'_>,
+    name: &str,
+    reason: &'static str,
+    at: usize,
+) -> Result<ValidationError, OutOfMemory>
+    ensures { IfOk result (λ f. fault_of f ≡ invalid_union_field name.now reason.now ((here_of scope.now).place at)) }
+{
+    Ok(ValidationError::InvalidUnionField {
+        name: Text::new(scope.alloc, name)?,
+        reason,
+        location: scope.location(at)?,
+    })
+}
+
+pub fn bad_field(scope: &Scope<'_>, name: &str, reason: &'static str, at: usize) -> CheckError
+    ensures { Blames result (Some (invalid_union_field name.now reason.now ((here_of scope.now).place at))) }
+{
+    fault(make_bad_field(scope, name, reason, at))
+}
+
+fn make_known(
+    alloc: Global,
+    name: &Id,
+    at: &Location,
+    before: &Location,
+) -> Result<ValidationError, OutOfMemory>
+    ensures { IfOk result (λ f. fault_of f ≡ name_already_exists name.now at.now before.now) }
+{
+    Ok(ValidationError::NameAlreadyExists {
+        name: Text::new(alloc, name.as_str())?,
+        at_location: at.copy()?,
+        previous_location: before.copy()?,
+    })
+}
+
+pub fn known(alloc: Global, name: &Id, at: &Location, before: &Location) -> CheckError
+    ensures { Blames result (Some (name_already_exists name.now at.now before.now)) }
+{
+    fault(make_known(alloc, name, at, before))
+}
+
+fn make_known_mark(
+    scope: &Scope<'_>,
+    name: &Id,
+    at: usize,
+    before: usize,
+) -> Result<ValidationError, OutOfMemory>
+    ensures { IfOk result (λ f. fault_of f ≡ name_already_exists name.now ((here_of scope.now).place at) ((here_of scope.now).place before)) }
+{
+    Ok(ValidationError::NameAlreadyExists {
+        name: Text::new(scope.alloc, name.as_str())?,
+        at_location: scope.location(at)?,
+        previous_location: scope.location(before)?,
+    })
+}
+
+fn known_mark(scope: &Scope<'_>, name: &Id, at: usize, before: usize) -> CheckError
+    ensures { Blames result (Some (name_already_exists name.now ((here_of scope.now).place at) ((here_of scope.now).place before))) }
+{
+    fault(make_known_mark(scope, name, at, before))
+}
+
+/// Takes a name into a scope inside the declaration.
+#[tactic(auto, using(crate::proofs::Steps::step_rules))]
+pub fn introduce_mark(
+    marks: &mut Marks,
+    scope: &Scope<'_>,
+    name: &str,
+    at: usize,
+) -> Result<Id, CheckError>
+    ensures ok { OnOk result (new_mark (here_of scope.now) marks.old name.now at ≡ None) }
+    ensures id { IfOk result (λ id. id ≡ name.now) }
+    ensures kept { (q : _) → OnOk result (found marks.new q ≡ found ((name.now, at) ∷ marks.old) q) }
+    ensures fault { IfErr result (λ e. Blames e (new_mark (here_of scope.now) marks.old name.now at)) }
+{
+    let id = Id::new(scope.alloc, name)?;
+    match marks.get(&id) {
+        Some(before) => Err(known_mark(scope, &id, at, *before)),
+        None => {
+            marks.insert(id.copy()?, at)?;
+            Ok(id)
+        }
+    }
+}
+
+/// Takes a name that may stand there into a scope inside the declaration.
+#[tactic(auto, using(crate::proofs::Steps::step_rules))]
+pub fn mark(marks: &mut Marks, name: &Id, at: usize) -> Result<(), OutOfMemory>
+    ensures { (q : _) → OnOk result (found marks.new q ≡ found ((name.now, at) ∷ marks.old) q) }
+{
+    marks.insert(name.copy()?, at)?;
+    Ok(())
+}
+
+/// Takes a name into the scope of the document.
+#[tactic(auto, using(crate::proofs::Steps::step_rules))]
+pub fn introduce(
+    names: &mut Names,
+    alloc: Global,
+    name: &str,
+    at: Location,
+) -> Result<Id, CheckError>
+    ensures ok { OnOk result (new_name names.old name.now at ≡ None) }
+    ensures id { IfOk result (λ id. id ≡ name.now) }
+    ensures kept { (q : _) → OnOk result (found names.new q ≡ found ((name.now, at) ∷ names.old) q) }
+    ensures fault { IfErr result (λ e. Blames e (new_name names.old name.now at)) }
+    ensures err { IfErr result (λ _. names.new ≡ names.old) }
+{
+    let id = Id::new(alloc, name)?;
+    match names.get(&id) {
+        Some(before) => Err(known(alloc, &id, &at, before)),
+        None => {
+            names.insert(id.copy()?, at)?;
+            Ok(id)
+        }
+    }
+}
+
+/// The type that a name denotes.
+#[tactic(auto, using(crate::proofs::Steps::step_rules), unfolding(crate::specs::Senses::here_of))]
+pub fn used(scope: &Scope<'_>, name: &IdSyntax<'_>) -> Result<TypeRef, CheckError>
+    ensures ok { OnOk result (use_check name.now.name.now ((here_of scope.now).place name.now.span.start) ((here_of scope.now).sense name.now.name.now) ≡ None) }
+    ensures tree { IfOk result (λ t. tree_of t ≡ sense_tree ((here_of scope.now).sense name.now.name.now)) }
+    ensures fault { IfErr result (λ e. Blames e (use_check name.now.name.now ((here_of scope.now).place name.now.span.start) ((here_of scope.now).sense name.now.name.now))) }
+{
+    let at = name.span.start;
+    let id = Id::new(scope.alloc, name.name)?;
+    if scope.names.get(&id).is_none() {
+        return Err(unknown(scope, name.name, at));
+    }
+    match scope.entries.get(&id) {
+        Some(Entry::Typename(named)) => Ok(TypeRef::Name(named.clone()?)),
+        Some(Entry::Module(_)) => Err(wrong_kind(scope, name.name, "datatype", "module", at)),
+        None => Err(recursive(scope, name.name, at)),
+    }
+}
