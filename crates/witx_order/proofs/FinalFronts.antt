@@ -103,7 +103,7 @@ module _ {F : Type 0} (w : World F) where
   checked-on None n b m c x e q = (refl, as-go refl e q)
   checked-on (Some f) n b m c x e q = absurd (no-turn refl e)
 
-  turned-on : (n : Next F) (ds : List Declared) (m : Mark) (c : Place) → turned w ds n ≡ on m c → (n ≡ go m c) × AreSound w ds (declarations (m ∷ []))
+  pub turned-on : (n : Next F) (ds : List Declared) (m : Mark) (c : Place) → turned w ds n ≡ on m c → (n ≡ go m c) × AreSound w ds (declarations (m ∷ []))
   turned-on (go (decl δ) b) ds m c e =
       let h = checked-on (w.fault_of ds δ) (decl δ) b m c (go (decl δ) b) e refl in
       let P : Mark → Type 0 = λ x. AreSound w ds (declarations (x ∷ [])) in

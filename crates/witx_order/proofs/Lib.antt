@@ -4,3 +4,4 @@ pub mod OnlyOne
 pub mod Ending
 pub mod FinalFronts
 pub mod Grouping
+pub mod Taking
