@@ -1,14 +1,13 @@
 -- Each clause of `validate_decl`, from the clause of the kind of declaration.
-use Rattle.std.specs.Prelude.{◌≡◌, ◌⊎◌, ℕ, List, [], ◌∷◌, ◌++◌, ◌&&◌, Option, Some, None, map, cond, Result, Ok, Err, OnOk, OnErr, IfErr}
+use Rattle.std.specs.Prelude.{◌≡◌, ◌⊎◌, ℕ, List, [], ◌∷◌, ◌++◌, ◌&&◌, Some, None, map, cond, Result, Ok, Err, OnOk, OnErr, IfErr}
 use Rattle.std.proofs.Common.{refl, sym, ap, subst, inl, inr, ◌∙◌}
 use Rattle.witx_files.specs.declared.location.Location.{Location}
 use Rattle.witx_comments.specs.Docs.{documentation_of}
 use Rattle.witx_tree.specs.Trees.{TypeTree, Name, NotedDecl}
-use Rattle.witx_ast.specs.Tree.{Tree, named}
-use Rattle.witx_ast.specs.Entries.{Fits}
+use Rattle.witx_ast.specs.Tree.{named}
 use Rattle.witx_ast.specs.Closed.{IsClosed}
-use Rattle.witx_ast.specs.Ordered.{IsOrdered, DefinitionStands, OrderedAfter}
-use Rattle.witx_ast.specs.Definitions.{DefinitionTree, ModuleTree, typename_of, module_of, constant_of, definition_tree, entry_tree, introduced, DefinitionsFit}
+use Rattle.witx_ast.specs.Ordered.{IsOrdered}
+use Rattle.witx_ast.specs.Definitions.{DefinitionTree, ModuleTree, typename_of, module_of, constant_of, definition_tree, DefinitionsFit}
 use Rattle.witx_ast.specs.declared.definition.Definition.{Definition}
 use Rattle.witx_ast.specs.declared.definition.Constant.{Constant}
 use Rattle.witx_ast.specs.declared.definition.Entry.{Entry}
@@ -16,14 +15,14 @@ use Rattle.witx_check.specs.declared.error.CheckError.{CheckError}
 use Rattle.witx_check.specs.declared.constants.ConstantName.{ConstantName}
 use Rattle.witx_check.specs.Answers.{IsFault}
 use Rattle.witx_check.specs.Blame.{Blames}
-use Rattle.witx_check.specs.Faults.{Check, Fault, first_fault}
+use Rattle.witx_check.specs.Faults.{Check, first_fault}
 use Rattle.witx_check.specs.Names.{Names, Here}
 use Rattle.witx_check.specs.Trees.{tree_meant}
-use Rattle.witx_check.specs.DeclarationForms.{DeclForm, typename_form, module_form, constant_form}
+use Rattle.witx_check.specs.DeclarationForms.{typename_form, module_form, constant_form}
 use Rattle.witx_check.specs.Constants.{constant_place, repeated_constant}
 use Rattle.witx_check.specs.Inside.{within, typename_checks, module_checks, module_meant}
-use Rattle.witx_check.specs.Positions.{Taken, Outcome, made_type, made_module, refused, is_name, after}
-use Rattle.witx_check.specs.Declarations.{Past, TakenConstant, decl_checks, decl_tree, accepted, rejected}
+use Rattle.witx_check.specs.Positions.{made_type, made_module, refused, is_name}
+use Rattle.witx_check.specs.Declarations.{Past, decl_checks, decl_tree, accepted}
 use Rattle.witx_check.specs.Kept.{Kept, Keeps, KeepsNames, KeepsConstants}
 use Rattle.witx_check.proofs.ByPosition.{within-by-position}
 use Rattle.witx_check.proofs.Finished.{taken_as}

@@ -6,10 +6,10 @@ use Rattle.witx_files.specs.declared.location.Location.{Location}
 use Rattle.witx_tree.specs.Trees.{Name}
 use Rattle.witx_ast.specs.declared.definition.Entry.{Entry}
 use Rattle.witx_ast.specs.declared.definition.Entry.TheVariants as entry
-use Rattle.witx_check.specs.Names.{Names, Sense, Here, a_type, unfinished, a_module}
+use Rattle.witx_check.specs.Names.{Names, Sense, unfinished}
 use Rattle.witx_check.specs.Senses.{kept_sense, sense_at, entry_sense}
 use Rattle.witx_check.specs.Inside.{within}
-use Rattle.witx_check.specs.Positions.{Taken, Outcome, refused, made_type, made_module, introducer, is_name, denotes, sense_after, own_sense, sense_from, after, first_place}
+use Rattle.witx_check.specs.Positions.{Taken, Outcome, refused, made_type, made_module, introducer, is_name, denotes, sense_after, sense_from, after}
 use Rattle.witx_check.specs.Kept.{Keeps, KeepsNames, finished_sense, entry_sense_of, finished}
 use Rattle.witx_check.specs.Declarations.{nothing_before}
 use Rattle.witx_check.specs.Validators.{nothing_kept}

@@ -1,6 +1,6 @@
 -- `key-found`: the map of constants, as its contract tells it, looks a constant up by its two names.
-use Rattle.std.specs.Prelude.{◌≡◌, ℕ, List, [], ◌∷◌, Option, Some, None, cond, Bool, true, false, ◌&&◌}
-use Rattle.std.proofs.Common.{refl, sym, ap, ◌∙◌}
+use Rattle.std.specs.Prelude.{◌≡◌, List, ◌&&◌}
+use Rattle.std.proofs.Common.{refl, ap}
 use Rattle.std.specs.Map.{lookup}
 use Rattle.std.specs.declared.cmp.Ordering.{Ordering}
 use Rattle.std.specs.declared.cmp.Ordering.TheVariants.{Less, Equal, Greater}
@@ -8,7 +8,7 @@ use Rattle.std.specs.Ordering.{is_eq, nat_cmp, ordering_then}
 use Rattle.std.specs.Cmp.Lexicographic.{slice_cmp}
 use Rattle.witx_files.specs.declared.location.Location.{Location}
 use Rattle.witx_check.specs.declared.constants.ConstantName.{ConstantName}
-use Rattle.witx_check.specs.Constants.{is_constant, constant_place}
+use Rattle.witx_check.specs.Constants.{constant_place}
 use Rattle.witx_check.proofs.Within.{funext}
 
 abbrev pub constant_cmp : ConstantName → ConstantName → Ordering

@@ -1,13 +1,12 @@
 -- `places-more`: an accepted constant is kept under its two names.
-use Rattle.std.specs.Prelude.{◌≡◌, ℕ, List, [], ◌∷◌, ◌++◌, Option, Some, None, cond, Bool, true, false, ◌&&◌, map, filter, option_map, if◌then◌else◌}
-use Rattle.std.proofs.Common.{refl, sym, ap, subst, ◌∙◌}
+use Rattle.std.specs.Prelude.{◌≡◌, ℕ, List, Some, cond, ◌&&◌}
+use Rattle.std.proofs.Common.{sym, ap, ◌∙◌}
 use Rattle.std.specs.Map.{lookup}
 use Rattle.std.specs.Ordering.{is_eq, nat_cmp}
 use Rattle.std.specs.Cmp.Lexicographic.{slice_cmp}
-use Rattle.witx_base.specs.Found.{found}
 use Rattle.witx_files.specs.declared.location.Location.{Location}
 use Rattle.witx_check.specs.declared.constants.ConstantName.{ConstantName}
-use Rattle.witx_check.specs.Constants.{constant_place, is_constant, repeated_constant}
+use Rattle.witx_check.specs.Constants.{constant_place}
 use Rattle.witx_check.specs.Positions.{is_name}
 use Rattle.witx_check.proofs.ConstantKeys.{constant_cmp, key-found, both-equal}
 use Rattle.witx_check.proofs.Steps.{is_eq-swap}

@@ -1,20 +1,17 @@
 -- `keeps-typename`, `keeps-module`, `keeps-refused`: what a validator keeps after a declaration.
-use Rattle.std.specs.Prelude.{◌≡◌, ◌⊎◌, ℕ, List, [], ◌∷◌, ◌++◌, Option, Some, None, option_map, map, cond, Bool, true, false}
+use Rattle.std.specs.Prelude.{◌≡◌, ◌⊎◌, ℕ, List, [], ◌∷◌, ◌++◌, Option, Some, None, option_map, cond, Bool, true, false}
 use Rattle.std.proofs.Common.{refl, sym, ap, subst, inl, inr, ◌∙◌}
-use Rattle.std.proofs.lemmas.List.{map-append}
 use Rattle.std.proofs.lemmas.Map.Lookups.{exact_bytes}
 use Rattle.std.proofs.lemmas.Map.Views.{tells_apart}
 use Rattle.std.specs.Ordering.{is_eq, nat_cmp}
 use Rattle.std.specs.Cmp.Lexicographic.{slice_cmp}
 use Rattle.witx_base.specs.Found.{found}
 use Rattle.witx_files.specs.declared.location.Location.{Location}
-use Rattle.witx_tree.specs.Trees.{TypeTree, Name}
-use Rattle.witx_ast.specs.Tree.{Tree}
 use Rattle.witx_ast.specs.declared.definition.Entry.{Entry}
-use Rattle.witx_check.specs.Faults.{Check, Fault, first_fault, name_already_exists}
-use Rattle.witx_check.specs.Names.{Names, Sense, Here, a_type, a_module, new_name}
+use Rattle.witx_check.specs.Faults.{name_already_exists}
+use Rattle.witx_check.specs.Names.{Names, Sense, new_name}
 use Rattle.witx_check.specs.Inside.{Takes, TakesAtMost, Refuses}
-use Rattle.witx_check.specs.Positions.{Taken, Outcome, made_type, made_module, refused, is_name, introducer, first_place}
+use Rattle.witx_check.specs.Positions.{Taken, Outcome, refused, is_name, introducer, first_place}
 use Rattle.witx_check.specs.Kept.{KeepsNames, entry_sense_of, finished_sense, finished}
 use Rattle.witx_check.proofs.Steps.{is_eq-swap}
 use Rattle.witx_check.proofs.ByPosition.{keeps-more, keeps-same, taken_place}

@@ -1,34 +1,27 @@
 -- What finishing a declaration adds to the entries and the definitions, and that they still fit.
-use Rattle.std.specs.Prelude.{◌≡◌, ◌≤◌, ◌⊎◌, ℕ, List, [], ◌∷◌, ◌++◌, Option, Some, None, option_map, map, cond, Bool, true, false, length, take}
-use Rattle.std.proofs.Common.{refl, sym, ap, subst, inl, inr, ◌∙◌}
+use Rattle.std.specs.Prelude.{◌≡◌, ◌⊎◌, ℕ, List, [], ◌∷◌, ◌++◌, Option, Some, None, option_map, map, cond, Bool, true, false, length, take}
+use Rattle.std.proofs.Common.{refl, sym, ap, subst, inr, ◌∙◌}
 use Rattle.std.proofs.lemmas.List.{map-append}
 use Rattle.std.proofs.Math.Seq.{take-append_seam}
 use Rattle.std.specs.Ordering.{is_eq, nat_cmp}
 use Rattle.std.specs.Cmp.Lexicographic.{slice_cmp}
-use Rattle.std.specs.declared.alloc.Global.{Global}
-use Rattle.std.specs.declared.rc.Rc.{Rc}
 use Rattle.witx_base.specs.Found.{found}
 use Rattle.witx_files.specs.declared.location.Location.{Location}
 use Rattle.witx_tree.specs.Trees.{TypeTree, Name}
 use Rattle.witx_ast.specs.Tree.{Tree}
-use Rattle.witx_ast.specs.Reads.{tree_of, named_tree}
-use Rattle.witx_ast.specs.Definitions.{DefinitionTree, definition_tree, entry_tree, introduced, DefinitionsFit, ModuleTree, module_tree, typename_of, module_of}
+use Rattle.witx_ast.specs.Definitions.{DefinitionTree, definition_tree, entry_tree, introduced, DefinitionsFit}
 use Rattle.witx_ast.specs.Entries.{Fits}
-use Rattle.witx_ast.specs.declared.types.NamedType.{NamedType}
-use Rattle.witx_ast.specs.declared.module.Module.{Module}
 use Rattle.witx_ast.specs.declared.definition.Definition.{Definition}
-use Rattle.witx_ast.specs.declared.definition.Definition.TheVariants as definition
 use Rattle.witx_ast.specs.declared.definition.Entry.{Entry}
 use Rattle.witx_ast.specs.declared.definition.Entry.TheVariants as entry
 use Rattle.witx_ast.proofs.Trees.{tree_rules}
 use Rattle.witx_check.specs.Faults.{Check, Fault, first_fault, name_already_exists}
-use Rattle.witx_check.specs.Names.{Names, Sense, Here, a_type, a_module, new_name}
+use Rattle.witx_check.specs.Names.{Names, Here, a_type, a_module}
 use Rattle.witx_tree.specs.Trees.{NotedDecl}
-use Rattle.witx_check.specs.Inside.{typename_checks, module_checks, Takes, TakesAtMost, Refuses}
-use Rattle.witx_check.specs.Positions.{Taken, Outcome, made_type, made_module, refused, is_name, introducer, first_place}
+use Rattle.witx_check.specs.Inside.{typename_checks, module_checks}
+use Rattle.witx_check.specs.Positions.{Taken, made_type, made_module, refused, is_name, introducer}
 use Rattle.witx_check.specs.Kept.{KeepsNames, entry_sense_of, finished_sense}
 use Rattle.witx_check.proofs.Steps.{is_eq-swap}
-use Rattle.witx_check.proofs.ByPosition.{taken_place}
 use Rattle.witx_check.proofs.Finished.{entries-more, keeps-made, keeps-taken, keeps-refused, keeps-left, none-taken}
 use Rattle.witx_check.proofs.Fits.{fits-more}
 

@@ -1,13 +1,12 @@
 -- A function's checks in turn.
-use Rattle.std.specs.Prelude.{◌≡◌, ℕ, List, [], ◌∷◌, ◌++◌, Option, Some, None, option_map}
-use Rattle.std.proofs.Common.{refl, sym, ap, subst, ◌∙◌}
+use Rattle.std.specs.Prelude.{◌≡◌, ℕ, List, [], ◌∷◌, ◌++◌, Some, None, option_map}
+use Rattle.std.proofs.Common.{sym, ap, ◌∙◌}
 use Rattle.witx_base.specs.Found.{found}
-use Rattle.witx_files.specs.declared.location.Location.{Location}
 use Rattle.witx_tree.specs.Trees.{QuotedText, Fields}
 use Rattle.witx_ast.specs.Results.{results_reason}
 use Rattle.witx_check.specs.declared.error.CheckError.{CheckError}
 use Rattle.witx_check.specs.Blame.{Blames}
-use Rattle.witx_check.specs.Faults.{Fault, Check, first_fault, abi}
+use Rattle.witx_check.specs.Faults.{Check, first_fault, abi}
 use Rattle.witx_check.specs.Names.{Here, Marks, new_mark}
 use Rattle.witx_check.specs.Checks.{field_checks}
 use Rattle.witx_check.specs.Trees.{fields_meant}

@@ -6,9 +6,8 @@ use Rattle.std.specs.Map.{keys_of}
 use Rattle.std.specs.Ordering.{is_eq, nat_cmp}
 use Rattle.std.specs.Cmp.Lexicographic.{slice_cmp}
 use Rattle.std.proofs.Common.{refl, sym, ap, arith, suc, get_or, append_assoc, ◌∙◌}
-use Rattle.std.proofs.lemmas.List.{drop_more, drop_all, map-append, append-nil, length-append}
+use Rattle.std.proofs.lemmas.List.{drop_more, drop_all, map-append, append-nil}
 use Rattle.std.proofs.lemmas.Map.Text.{is_eq-slice_cmp}
-use Rattle.std.proofs.lemmas.Option.{slice_get_read}
 use Rattle.witx_base.specs.Found.{found}
 use Rattle.witx_base.specs.Texts.{same_text}
 use Rattle.witx_ast.specs.declared.types.Case.{Case}
@@ -16,7 +15,7 @@ use Rattle.witx_ast.specs.Tree.{Arm, arms_of}
 use Rattle.witx_ast.specs.Reads.{case_arm}
 use Rattle.witx_ast.proofs.Trees.{tree-Case}
 use Rattle.witx_check.specs.Tags.{has_name, arm_names}
-use Rattle.witx_check.specs.Trees.{arm_called, bare_arm}
+use Rattle.witx_check.specs.Trees.{arm_called}
 use Rattle.witx_check.specs.NamePlaces.{place_in, case_or_bare, case_placed}
 use Rattle.witx_ast.proofs.EntryLaws.{key-decides}
 use Rattle.witx_check.proofs.Steps.{is_eq-swap}

@@ -1,12 +1,11 @@
 -- One check, and one part, more.
-use Rattle.std.specs.Prelude.{◌≡◌, ◌&&◌, ◌||◌, option_map, ℕ, List, [], ◌∷◌, ◌++◌, ◌+◌, ◌<◌, ◌≤◌, length, drop, Option, Some, None, map, Bool, true, false}
-use Rattle.std.proofs.Common.{refl, add-one, sym, ap, arith, get_or, append_assoc, ◌∙◌}
+use Rattle.std.specs.Prelude.{◌≡◌, ◌&&◌, ◌||◌, option_map, ℕ, List, [], ◌∷◌, ◌++◌, ◌+◌, ◌<◌, ◌≤◌, length, drop, Option, Some, None, map, true, false}
+use Rattle.std.proofs.Common.{refl, add-one, sym, ap, get_or, append_assoc, ◌∙◌}
 use Rattle.std.proofs.lemmas.List.{drop_more, drop_all, map-append, append-nil}
 use Rattle.witx_base.specs.Found.{found}
 use Rattle.witx_files.specs.declared.location.Location.{Location}
-use Rattle.witx_base.specs.Texts.{same_text}
 use Rattle.witx_comments.specs.Docs.{documentation_of}
-use Rattle.witx_tree.specs.Trees.{TypeTree, Name, Member, Fields, no_fields, one_field, Types, no_types, one_type, UnionFields, no_union_fields, one_union_field, Cases, no_cases, one_case, union_of, variant_of}
+use Rattle.witx_tree.specs.Trees.{Member, Fields, no_fields, one_field, no_types, one_type, no_union_fields, one_union_field, Cases, no_cases, one_case, union_of, variant_of}
 use Rattle.witx_tree.specs.Views.{type_view, name_view, member_view, comments_view, fields_view, types_view, union_fields_view, cases_view, boxed_view, maybe_of}
 use Rattle.witx_check.specs.Slices.{union_checks, variant_checks, member_views}
 use Rattle.witx_check.proofs.ArmNames.{arm_names-arm}
@@ -26,7 +25,7 @@ use Rattle.witx_ast.specs.Words.{all_arms_bare, is_bare}
 use Rattle.witx_ast.proofs.TreeKinds.{kind_rules}
 use Rattle.witx_tree.specs.declared.tree.TypedefSyntax.{TypedefSyntax}
 use Rattle.witx_ast.specs.declared.types.RecordMember.{RecordMember}
-use Rattle.witx_ast.specs.Tree.{Tree, Field, Arm, Arms, arm, arms_of}
+use Rattle.witx_ast.specs.Tree.{Tree, Field, Arm, arm, arms_of}
 use Rattle.witx_ast.specs.Reads.{tree_of, member_field, case_arm}
 use Rattle.witx_ast.proofs.Trees.{tree_rules, tree-RecordMember, tree-Case}
 use Rattle.witx_check.specs.declared.error.CheckError.{CheckError}
@@ -35,7 +34,7 @@ use Rattle.witx_check.specs.Blame.{Blames, fault_of}
 use Rattle.witx_check.specs.Faults.{Fault, Check, first_fault}
 use Rattle.witx_check.specs.Names.{Here, Marks, new_mark}
 use Rattle.witx_check.specs.Checks.{type_checks, field_checks, each_type_checks, union_field_checks, member_checks, case_checks, maybe_checks, union_fields_count, cases_count}
-use Rattle.witx_check.specs.Trees.{tree_meant, fields_meant, types_meant, number_name, member_arm, flag_field, bool_tree, arm_called, bare_arm, union_arms, union_name, case_arms, maybe_tree}
+use Rattle.witx_check.specs.Trees.{tree_meant, fields_meant, types_meant, number_name, member_arm, flag_field, bool_tree, union_arms, union_name, case_arms, maybe_tree}
 use Rattle.witx_check.specs.Tags.{has_name, arm_names, are_bare, case_check, tag_checks, tag_names, size_check}
 
 -- ---- the first fault of a list

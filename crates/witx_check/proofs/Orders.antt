@@ -5,27 +5,27 @@ use Rattle.std.proofs.Common.{refl, sym, ap, subst, ◌∙◌, append_assoc}
 use Rattle.std.proofs.lemmas.List.{append-nil}
 use Rattle.std.proofs.lemmas.Map.Lookups.{exact_bytes}
 use Rattle.std.proofs.lemmas.Map.Views.{tells_apart}
-use Rattle.std.specs.List.{cons_option, filter_map}
+use Rattle.std.specs.List.{cons_option}
 use Rattle.witx_base.specs.Found.{found}
 use Rattle.witx_base.specs.Texts.{same_text}
 use Rattle.witx_files.specs.declared.location.Location.{Location}
 use Rattle.witx_tree.specs.Trees as syntax
-use Rattle.witx_ast.specs.Tree.{Tree, Fields, Arms, Field, Arm, arm, arms_of, fields_of, behind}
-use Rattle.witx_ast.specs.Reads.{named_tree, tree_of}
+use Rattle.witx_ast.specs.Tree.{Tree, Arms, Field, Arm, arm, arms_of, fields_of}
+use Rattle.witx_ast.specs.Reads.{tree_of}
 use Rattle.witx_ast.proofs.Trees.{tree-NamedType}
 use Rattle.witx_ast.specs.Entries.{by_name, Fits}
-use Rattle.witx_ast.specs.Definitions.{DefinitionTree, typename_of, module_of, constant_of, introduced, entry_tree, typename_called, as_typename}
-use Rattle.witx_ast.specs.Ordered.{StandsBefore, NamesStand, FieldNamesStand, ArmNamesStand, DefinitionStands, OrderedAfter, IsOrdered}
+use Rattle.witx_ast.specs.Definitions.{DefinitionTree, typename_of, module_of, introduced, entry_tree, as_typename}
+use Rattle.witx_ast.specs.Ordered.{NamesStand, FieldNamesStand, ArmNamesStand, DefinitionStands, OrderedAfter, IsOrdered}
 use Rattle.witx_ast.specs.Closed.{ParamNamesStand, ItemNamesStand, AllNamesStand, ClosedAfter, IsClosed}
 use Rattle.witx_ast.specs.Items.{ItemTree}
 use Rattle.witx_check.specs.Modules.{decl_meant, item_meant}
 use Rattle.witx_check.specs.Inside.{module_meant}
 use Rattle.witx_ast.specs.declared.definition.Entry.{Entry}
 use Rattle.witx_ast.specs.declared.definition.Entry.TheVariants as entry
-use Rattle.witx_check.specs.Names.{Here, Sense, unknown, unfinished, a_module, a_type, sense_tree, Names}
-use Rattle.witx_check.specs.Senses.{kept_sense, sense_at, entry_sense}
+use Rattle.witx_check.specs.Names.{Here, Sense, sense_tree, Names}
+use Rattle.witx_check.specs.Senses.{kept_sense, sense_at}
 use Rattle.witx_check.specs.Tags.{tag_names}
-use Rattle.witx_check.specs.Trees.{tree_meant, maybe_tree, types_meant, union_arms, fields_meant, case_arms, in_order, arm_called, bare_arm, member_arm, flag_field, bool_tree}
+use Rattle.witx_check.specs.Trees.{tree_meant, maybe_tree, types_meant, union_arms, fields_meant, case_arms, in_order, arm_called, member_arm, flag_field}
 use Rattle.witx_check.specs.Positions.{is_name}
 
 -- ---- each definition is found under its own name

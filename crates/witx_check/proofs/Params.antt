@@ -1,9 +1,8 @@
 -- One parameter, and one result, more.
-use Rattle.std.specs.Prelude.{◌≡◌, ℕ, List, [], ◌∷◌, ◌++◌, ◌+◌, ◌<◌, ◌≤◌, length, drop, Option, Some, None, map, Bool, true, false}
-use Rattle.std.proofs.Common.{refl, sym, ap, get_or, append_assoc, ◌∙◌}
+use Rattle.std.specs.Prelude.{◌≡◌, ℕ, List, [], ◌∷◌, ◌++◌, ◌+◌, ◌<◌, ◌≤◌, length, drop, Option, None, map, false}
+use Rattle.std.proofs.Common.{refl, sym, get_or, append_assoc, ◌∙◌}
 use Rattle.std.proofs.lemmas.List.{map-append, append-nil}
 use Rattle.witx_base.specs.Found.{found}
-use Rattle.witx_files.specs.declared.location.Location.{Location}
 use Rattle.witx_tree.specs.Trees.{Fields, no_fields, one_field}
 use Rattle.witx_tree.specs.Views.{type_view, comments_view, fields_view}
 use Rattle.witx_comments.specs.Docs.{documentation_of}
@@ -17,7 +16,7 @@ use Rattle.witx_check.specs.declared.error.CheckError.{CheckError}
 use Rattle.witx_check.specs.Blame.{Blames}
 use Rattle.witx_check.specs.Faults.{Fault, Check, first_fault}
 use Rattle.witx_check.specs.Names.{Here, Marks, new_mark}
-use Rattle.witx_check.specs.Checks.{type_checks, field_checks}
+use Rattle.witx_check.specs.Checks.{type_checks}
 use Rattle.witx_check.specs.Trees.{tree_meant, fields_meant}
 use Rattle.witx_check.specs.Functions.{fields_scope, result_checks}
 use Rattle.witx_check.proofs.Onward.{row-next, row-known, row-wrong, row-none, rows-drop, rows-end, fault-past, fault-append, blames-to, blames-append, blames-head}

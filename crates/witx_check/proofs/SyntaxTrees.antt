@@ -1,9 +1,9 @@
 -- The syntax tree of each kind of type, and of a field and a case, by its parts.
-use Rattle.std.specs.Prelude.{◌≡◌, List, map, option_map, Option, Some, None}
-use Rattle.std.proofs.Common.{rules, refl}
+use Rattle.std.specs.Prelude.{◌≡◌, map, option_map}
+use Rattle.std.proofs.Common.{rules}
 use Rattle.std.specs.Global.{Box}
-use Rattle.witx_tree.specs.Trees.{TypeTree, Maybe, builtin, ident, string, boolean, handle, list_of, pointer_to, const_pointer_to, tuple_of, expected, enum_of, flags_of, record_of, union_of, variant_of}
-use Rattle.witx_tree.specs.Views.{type_view, field_view, case_view, name_view, member_view, fields_view, types_view, union_fields_view, cases_view, boxed_view, maybe_boxed, maybe_of}
+use Rattle.witx_tree.specs.Trees.{builtin, ident, string, boolean, handle, list_of, pointer_to, const_pointer_to, tuple_of, expected, enum_of, flags_of, record_of, union_of, variant_of}
+use Rattle.witx_tree.specs.Views.{type_view, field_view, case_view, name_view, member_view, fields_view, types_view, union_fields_view, cases_view, boxed_view, maybe_of}
 use Rattle.witx_tree.specs.declared.tree.BuiltinSyntax.{BuiltinSyntax}
 use Rattle.witx_tree.specs.declared.tree.IdSyntax.{IdSyntax}
 use Rattle.witx_tree.specs.declared.tree.HandleSyntax.{HandleSyntax}

@@ -1,7 +1,7 @@
 -- `typename-checks-by`, `module-checks-by`, `constant-checks-by`: the checks of a declaration by what a validator keeps are
 -- those by positions, and so are the trees and what is kept afterwards.
-use Rattle.std.specs.Prelude.{◌≡◌, ◌⊎◌, ℕ, List, [], ◌∷◌, ◌++◌, ◌&&◌, Option, Some, None, option_map, map, filter, cond, Bool, true, false, Result, Ok, Err, OnOk, OnErr, IfErr}
-use Rattle.std.proofs.Common.{refl, sym, ap, subst, inl, inr, ◌∙◌}
+use Rattle.std.specs.Prelude.{◌≡◌, ℕ, List, [], ◌∷◌, ◌++◌, ◌&&◌, Option, Some, None, option_map, map, filter, cond, Bool, true, false, Result, Ok, Err, OnOk, OnErr, IfErr}
+use Rattle.std.proofs.Common.{refl, sym, ap, subst, ◌∙◌}
 use Rattle.std.proofs.lemmas.List.{map-append, append-nil}
 use Rattle.std.proofs.lemmas.List.Elements.{filter-append}
 use Rattle.std.proofs.lemmas.Map.Lookups.{exact_bytes}
@@ -10,7 +10,6 @@ use Rattle.witx_base.specs.Found.{found}
 use Rattle.witx_files.specs.declared.location.Location.{Location}
 use Rattle.witx_comments.specs.Docs.{documentation_of}
 use Rattle.witx_tree.specs.Trees.{TypeTree, Name, NotedDecl}
-use Rattle.witx_ast.specs.Tree.{Tree, named}
 use Rattle.witx_ast.specs.Definitions.{DefinitionTree, typename_of, module_of, definition_tree, entry_tree, introduced, DefinitionsFit}
 use Rattle.witx_ast.specs.Entries.{Fits}
 use Rattle.witx_ast.specs.declared.definition.Definition.{Definition}
@@ -18,17 +17,17 @@ use Rattle.witx_ast.specs.declared.definition.Entry.{Entry}
 use Rattle.witx_check.specs.declared.error.CheckError.{CheckError}
 use Rattle.witx_check.specs.declared.constants.ConstantName.{ConstantName}
 use Rattle.witx_check.specs.Blame.{Blames}
-use Rattle.witx_check.specs.Faults.{Check, Fault, first_fault, name_already_exists}
+use Rattle.witx_check.specs.Faults.{Check, first_fault, name_already_exists}
 use Rattle.witx_check.specs.Names.{Names, Here, new_name}
 use Rattle.witx_check.specs.Trees.{tree_meant}
 use Rattle.witx_check.specs.Checks.{type_checks}
 use Rattle.witx_check.specs.Modules.{items_checks}
-use Rattle.witx_check.specs.DeclarationForms.{DeclForm, typename_form, module_form, constant_form}
+use Rattle.witx_check.specs.DeclarationForms.{typename_form, module_form}
 use Rattle.witx_check.specs.Constants.{constant_place, repeated_constant}
 use Rattle.witx_check.specs.Inside.{within, typename_checks, module_checks, module_meant}
-use Rattle.witx_check.specs.Positions.{Taken, Outcome, made_type, made_module, refused, is_name, after, first_place, declared_name}
-use Rattle.witx_check.specs.Declarations.{Past, TakenConstant, constants_of_type, decl_checks, decl_tree, accepted, rejected, with_taken}
-use Rattle.witx_check.specs.Kept.{Kept, Keeps, KeepsNames, KeepsConstants}
+use Rattle.witx_check.specs.Positions.{is_name, after}
+use Rattle.witx_check.specs.Declarations.{Past, TakenConstant, constants_of_type, decl_checks, decl_tree}
+use Rattle.witx_check.specs.Kept.{KeepsNames, KeepsConstants}
 use Rattle.witx_check.proofs.ByPosition.{within-by-position}
 use Rattle.witx_check.proofs.Finished.{name-by-position}
 use Rattle.witx_check.proofs.Fits.{found-last, first_or, last-step, fits-unnamed}

@@ -1,7 +1,7 @@
 -- What an error of the code says.
-use Rattle.std.specs.Prelude.{◌≡◌, ℕ, List, Option, Some, None, Bool, Result, Ok, Err}
+use Rattle.std.specs.Prelude.{◌≡◌, Option, Some, Result, Ok, Err}
 use Rattle.witx_base.specs.declared.memory.OutOfMemory.{OutOfMemory}
-use Rattle.witx_check.specs.Faults.{Fault, Check, unknown_name, recursive, name_already_exists, wrong_kind_name, invalid_repr, abi, invalid_union_tag, anonymous_record, union_size_mismatch, invalid_union_field}
+use Rattle.witx_check.specs.Faults.{Fault, unknown_name, recursive, name_already_exists, wrong_kind_name, invalid_repr, abi, invalid_union_tag, anonymous_record, union_size_mismatch, invalid_union_field}
 use Rattle.witx_check.specs.declared.error.ValidationError.{ValidationError}
 use Rattle.witx_check.specs.declared.error.ValidationError.TheVariants as error
 use Rattle.witx_check.specs.declared.error.CheckError.{CheckError}

@@ -1,5 +1,5 @@
 -- The checks of a function's parameters and results, and of what it returns.
-use Rattle.std.specs.Prelude.{ℕ, List, [], ◌∷◌, ◌++◌, option_map, false}
+use Rattle.std.specs.Prelude.{List, [], ◌∷◌, ◌++◌, option_map, false}
 use Rattle.witx_files.specs.declared.location.Location.{Location}
 use Rattle.witx_tree.specs.Trees.{Fields, no_fields, one_field, QuotedText}
 use Rattle.witx_ast.specs.Tree.{Field}

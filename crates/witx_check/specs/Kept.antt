@@ -1,6 +1,6 @@
 -- What a validator keeps, and when it keeps what the declarations so far have left: each introduced name with its first
 -- place, the finished typenames and modules, and the accepted constants of each type name.
-use Rattle.std.specs.Prelude.{◌≡◌, ℕ, List, [], ◌∷◌, Option, Some, None}
+use Rattle.std.specs.Prelude.{◌≡◌, ℕ, List, Option, Some, None}
 use Rattle.witx_base.specs.Found.{found}
 use Rattle.witx_files.specs.declared.location.Location.{Location}
 use Rattle.witx_ast.specs.Reads.{named_tree}

@@ -1,5 +1,5 @@
 -- Where the lines of a text start: the line numbered k from 0 starts at the first place that has k line feeds before it.
-use Rattle.std.specs.Prelude.{◌≡◌, ℕ, ◌+◌, ◌<◌, ◌≤◌, List, length, take, count_by}
+use Rattle.std.specs.Prelude.{◌≡◌, ℕ, ◌+◌, ◌<◌, List, length, take, count_by}
 use Rattle.std.specs.List.{slice_index}
 use Rattle.witx_lex.specs.Places.{is_line_feed}
 

@@ -1,7 +1,7 @@
 -- Names by position. The declarations of typenames and modules stand in one list, in reading order; a name is introduced
 -- by the first declaration of that name. A name that is used inside a declaration denotes what came of the declaration
 -- before it that introduces the name; the declaration itself, and one that was refused, count as unfinished.
-use Rattle.std.specs.Prelude.{◌≡◌, ℕ, List, [], ◌∷◌, Option, Some, None, option_map, cond, Bool, true, false}
+use Rattle.std.specs.Prelude.{ℕ, List, [], ◌∷◌, Option, Some, None, option_map, cond, Bool, true, false}
 use Rattle.std.specs.Ordering.{is_eq, nat_cmp}
 use Rattle.std.specs.Cmp.Lexicographic.{slice_cmp}
 use Rattle.witx_files.specs.declared.location.Location.{Location}

@@ -1,5 +1,5 @@
 -- What the kept tables say of names.
-use Rattle.std.specs.Prelude.{◌≡◌, ℕ, List, [], ◌∷◌, Option, Some, None}
+use Rattle.std.specs.Prelude.{ℕ, List, Option, Some, None}
 use Rattle.witx_base.specs.Found.{found}
 use Rattle.witx_files.specs.declared.location.Location.{Location}
 use Rattle.witx_check.specs.Places.{location_in}

@@ -6,7 +6,6 @@ use Rattle.witx_base.specs.Found.{found}
 use Rattle.witx_base.specs.Texts.{same_text}
 use Rattle.witx_files.specs.declared.location.Location.{Location}
 use Rattle.witx_tree.specs.declared.tree.BuiltinSyntax.{BuiltinSyntax}
-use Rattle.witx_tree.specs.Trees.{builtin}
 use Rattle.witx_ast.specs.declared.types.BuiltinType.{BuiltinType}
 use Rattle.witx_ast.specs.declared.types.IntRepr.{IntRepr}
 use Rattle.witx_ast.specs.Tree.{Tree, behind, Arms, no_arms, bare, carries}

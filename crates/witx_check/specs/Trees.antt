@@ -1,6 +1,6 @@
 -- The type that a form means: its tree, with documentation and with the types of names.
 -- Where a check of the form fails its tree is not used.
-use Rattle.std.specs.Prelude.{ℕ, List, [], ◌∷◌, ◌+◌, Option, Some, None, map, true, false, cond, codes, slice_get}
+use Rattle.std.specs.Prelude.{ℕ, List, [], ◌∷◌, ◌+◌, Option, Some, None, map, cond, codes, slice_get}
 use Rattle.std.specs.Fmt.{decimal}
 use Rattle.witx_base.specs.Texts.{same_text}
 use Rattle.witx_tree.specs.declared.tree.BuiltinSyntax.{BuiltinSyntax}

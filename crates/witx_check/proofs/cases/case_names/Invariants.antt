@@ -1,12 +1,7 @@
-use Rattle.std.proofs.Common.{◌≡◌, ℕ, ◌++◌, ◌+◌, drop, map, [], length, ◌≤◌}
+use Rattle.std.proofs.Common.{◌≡◌, ◌++◌, drop, map}
 use Rattle.witx_ast.specs.Tree.{arms_of}
-use Rattle.witx_ast.specs.Reads.{member_field, case_arm}
-use Rattle.witx_check.specs.Faults.{first_fault}
-use Rattle.witx_check.specs.Checks.{member_checks}
-use Rattle.witx_check.specs.Trees.{member_arm, flag_field, arm_called}
-use Rattle.witx_check.specs.Tags.{has_name, arm_names}
-use Rattle.witx_check.specs.Slices.{member_views}
-use Rattle.witx_check.specs.Senses.{here_of}
+use Rattle.witx_ast.specs.Reads.{case_arm}
+use Rattle.witx_check.specs.Tags.{arm_names}
 use Rattle.witx_check.proofs.cases.case_names.Given as goal
 
 abbrev pub invariant-loop-case : goal.invariant-loop-case

@@ -1,4 +1,4 @@
-use Rattle.std.proofs.Common.{sym, ap, ◌∙◌, ◌≡◌}
+use Rattle.std.proofs.Common.{sym, ap, ◌∙◌}
 use Rattle.witx_check.specs.Senses.{here_of}
 use Rattle.witx_tree.specs.Views.{fields_view}
 use Rattle.witx_ast.specs.Results.{results_reason}

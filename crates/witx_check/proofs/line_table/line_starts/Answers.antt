@@ -1,4 +1,4 @@
-use Rattle.std.proofs.Common.{◌≡◌, ◌<◌, length, arith, ℕ, get_or, sym, ap, ◌∙◌}
+use Rattle.std.proofs.Common.{◌≡◌, ◌<◌, length, arith, get_or, sym, ap, ◌∙◌}
 use Rattle.witx_check.proofs.LineStarts.{starts-at-feed, starts-at-other}
 use Rattle.witx_check.proofs.line_table.line_starts.Goals as goal
 use Rattle.witx_check.proofs.line_table.line_starts.Goals.{then-byte-eq10+in_ok-push-2, else-byte-eq10}

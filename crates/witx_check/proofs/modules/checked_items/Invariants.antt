@@ -1,4 +1,4 @@
-use Rattle.std.proofs.Common.{◌≡◌, ℕ, ◌++◌, drop, map, []}
+use Rattle.std.proofs.Common.{◌≡◌, ◌++◌, drop, map, []}
 use Rattle.witx_ast.specs.Items.{item_tree, ItemsFit}
 use Rattle.witx_check.specs.Faults.{first_fault}
 use Rattle.witx_check.specs.Senses.{here_of}

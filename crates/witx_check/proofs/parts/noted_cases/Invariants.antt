@@ -1,10 +1,8 @@
-use Rattle.std.proofs.Common.{◌≡◌, ℕ, ◌++◌, ◌+◌, drop, map, [], length, ◌≤◌}
-use Rattle.witx_ast.specs.Tree.{arms_of}
-use Rattle.witx_ast.specs.Reads.{member_field, case_arm}
+use Rattle.std.proofs.Common.{◌≡◌, ◌++◌, drop, map, []}
+use Rattle.witx_ast.specs.Reads.{case_arm}
 use Rattle.witx_check.specs.Faults.{first_fault}
 use Rattle.witx_check.specs.Checks.{member_checks}
-use Rattle.witx_check.specs.Trees.{member_arm, flag_field, arm_called}
-use Rattle.witx_check.specs.Tags.{has_name, arm_names}
+use Rattle.witx_check.specs.Trees.{member_arm}
 use Rattle.witx_check.specs.Slices.{member_views}
 use Rattle.witx_check.specs.Senses.{here_of}
 use Rattle.witx_check.proofs.parts.noted_cases.Given as goal

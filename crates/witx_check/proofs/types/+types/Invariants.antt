@@ -1,4 +1,4 @@
-use Rattle.std.proofs.Common.{◌≡◌, ℕ, ◌++◌, ◌+◌, drop, map, [], length, ◌≤◌}
+use Rattle.std.proofs.Common.{◌≡◌, ◌++◌, drop, map, []}
 use Rattle.std.specs.Map.{keys_of}
 use Rattle.witx_ast.specs.Reads.{member_field, case_arm}
 use Rattle.witx_check.specs.Faults.{first_fault}

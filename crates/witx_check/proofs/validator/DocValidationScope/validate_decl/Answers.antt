@@ -1,6 +1,5 @@
 use Rattle.std.proofs.Common.{◌≡◌, ap, arith}
 use Rattle.std.proofs.lemmas.Grind.{common_steps}
-use Rattle.witx_files.specs.declared.location.Location.{Location}
 use Rattle.witx_comments.specs.Docs.{documentation_of}
 use Rattle.witx_tree.specs.Views.{name_view, type_view, comments_view}
 use Rattle.witx_ast.specs.declared.definition.Constant.{Constant}
