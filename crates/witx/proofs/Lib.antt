@@ -1,5 +1,3 @@
 pub mod Adding
-pub mod Appending
-pub mod ListingSteps
 pub mod Reading
 pub mod Writing

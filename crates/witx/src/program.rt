@@ -7,18 +7,17 @@ ghost use Rattle.witx.specs.Words.{has_form};
 ghost use Rattle.witx.specs.Streams.{Finished, TookPrefix};
 ghost use Rattle.witx.specs.Texts.{IsRefused, status_of, text_of};
 ghost use Rattle.witx.specs.Causes.{Cause, IsAnswered, IsCause, IsTold, StopCause};
-ghost use Rattle.witx.specs.Listings.{listing_text};
+ghost use Rattle.witx_adapt.specs.Listings.{listing_text};
 
-use crate::adapted::Adapted;
 use crate::adapting::adapt_texts;
 use crate::input::{InputError, read_bundle};
-use crate::listings::listing;
 use crate::output::put_text;
 use crate::reader::ReadError;
 use crate::refusal::{Refusal, Stop};
 use crate::refused::{NO_MEMORY, UNWRITTEN, put_refusal};
 use crate::words::has_form;
 use std::alloc::Global;
+use witx_adapt::{Adapted, listing};
 use witx_base::{Sink, Source, Text};
 
 /// How a run ended.

@@ -42,7 +42,7 @@ abbrev pub first_unlowered : List Owned → Option Unlowered
 first_unlowered [] = None
 first_unlowered (p ∷ ps) = option_or (unlowered p) (first_unlowered ps)
 
--- ADAPTABLE
+-- the document can be adapted
 pub record IsAdaptable (ds : List DefinitionTree) : Type 0 where
   pub fits : first_misfit ds ≡ None
   pub sizes : first_large ds ≡ None
