@@ -53,40 +53,54 @@ fn lists(rt: HostRuntime) -> Result<(), Fail> {
     Ok(())
 }
 
+// A path, as it is written, its file name and its parent.
+const PATHS: &[(&str, &str, Option<&str>, Option<&str>)] = &[
+    ("", "", None, None),
+    ("/", "/", None, None),
+    ("//", "/", None, None),
+    ("/.", "/", None, None),
+    (".", ".", None, Some("")),
+    ("./", ".", None, Some("")),
+    ("./.", ".", None, Some("")),
+    ("..", "..", None, Some("")),
+    ("../.", "..", None, Some("")),
+    ("./..", "./..", None, Some(".")),
+    ("/..", "/..", None, Some("/")),
+    ("a/..", "a/..", None, Some("a")),
+    ("a/../b/..", "a/../b/..", None, Some("a/../b")),
+    ("a", "a", Some("a"), Some("")),
+    ("a/", "a", Some("a"), Some("")),
+    ("a//", "a", Some("a"), Some("")),
+    ("a/.", "a", Some("a"), Some("")),
+    ("/a", "/a", Some("a"), Some("/")),
+    ("//a", "/a", Some("a"), Some("/")),
+    ("/a/", "/a", Some("a"), Some("/")),
+    ("/./a", "/a", Some("a"), Some("/")),
+    ("./a", "./a", Some("a"), Some(".")),
+    ("././a", "./a", Some("a"), Some(".")),
+    ("../a", "../a", Some("a"), Some("..")),
+    ("a/b", "a/b", Some("b"), Some("a")),
+    ("a//b/", "a/b", Some("b"), Some("a")),
+    ("a/./b", "a/b", Some("b"), Some("a")),
+    ("a/b/c", "a/b/c", Some("c"), Some("a/b")),
+    ("/d/../x", "/d/../x", Some("x"), Some("/d/..")),
+    ("/d/a.witx", "/d/a.witx", Some("a.witx"), Some("/d")),
+    ("...", "...", Some("..."), Some("")),
+    (".a", ".a", Some(".a"), Some("")),
+    (" ", " ", Some(" "), Some("")),
+    ("ä/b c", "ä/b c", Some("b c"), Some("ä")),
+];
+
 #[test]
 fn paths(rt: HostRuntime) -> Result<(), Fail> {
     let alloc = rt.alloc();
-    for (text, written, name) in [
-        ("/", "/", None),
-        ("", "", None),
-        (".", ".", None),
-        ("a/..", "a/..", None),
-        ("a/.", "a", Some("a")),
-        ("./a", "./a", Some("a")),
-        ("a//b/", "a/b", Some("b")),
-        ("/d/../x", "/d/../x", Some("x")),
-    ] {
+    for (text, written, name, parent) in PATHS {
         let path = WitxPath::new(alloc, text)?;
-        assert_eq!(rt; path.as_str(), written);
-        assert_eq!(rt; path.file_name(), name);
+        assert_eq!(rt; path.as_str(), *written);
+        assert_eq!(rt; path.file_name(), *name);
+        let found = path.parent()?;
+        assert_eq!(rt; found.as_ref().map(WitxPath::as_str), *parent);
         assert!(rt; path.copy()? == path);
-    }
-    Ok(())
-}
-
-#[test]
-fn parents(rt: HostRuntime) -> Result<(), Fail> {
-    let alloc = rt.alloc();
-    for (text, wanted) in [
-        ("/", None),
-        ("", None),
-        ("a", Some("")),
-        ("/a", Some("/")),
-        ("a/..", Some("a")),
-        ("/d/../x", Some("/d/..")),
-    ] {
-        let parent = WitxPath::new(alloc, text)?.parent()?;
-        assert_eq!(rt; parent.as_ref().map(WitxPath::as_str), wanted);
     }
     Ok(())
 }
