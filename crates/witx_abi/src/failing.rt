@@ -1,4 +1,4 @@
-ghost use Rattle.std.specs.Prelude.{◌≡◌, [], map, Some, is_some, vec_len, OnOk};
+ghost use Rattle.std.specs.Prelude.{◌≡◌, [], map, All, Some, is_some, vec_len, OnOk};
 ghost use Rattle.witx_base.specs.Calls.{counted, fails_next, no_calls};
 ghost use Rattle.witx_ast.specs.Reads.{named_tree};
 ghost use Rattle.witx_machine.specs.Events.{emit, space, push, finish};
@@ -65,6 +65,7 @@ impl Bindgen for FailingBindgen {
         requires operands { vec_len operands.old ≡ operands_count (step_of inst.now) }
         requires results { results.old.items ≡ [] }
         ensures filled { OnOk result (vec_len results.new ≡ results_count (step_of inst.now)) }
+        ensures zeros { OnOk result (All (λ operand. operand ≡ 0) results.new.items) }
         ensures event { Some (map event_of self.new.trace.events) ≡ told_after result (emit (step_of inst.now)) (Some (map event_of self.old.trace.events)) }
         ensures cause { Counts (is_fault result) self.old.calls.faults self.new.calls.faults }
         ensures fails { is_fault result ≡ fails_next self.old.calls }

@@ -1,6 +1,7 @@
-ghost use Rattle.std.specs.Prelude.{◌≡◌, [], map, Some, is_some};
-ghost use Rattle.witx_machine.specs.Events.{finish};
-ghost use Rattle.witx_abi.specs.Reads.{event_of};
+ghost use Rattle.std.specs.Prelude.{◌≡◌, [], map, All, OnOk, Some, is_some, vec_len};
+ghost use Rattle.witx_machine.specs.Events.{emit, finish};
+ghost use Rattle.witx_machine.specs.Rows.{operands_count, results_count};
+ghost use Rattle.witx_abi.specs.Reads.{event_of, step_of};
 ghost use Rattle.witx_abi.specs.Told.{told_after, is_fault, Counts};
 
 use crate::bindgen::{Bindgen, BindgenError};
@@ -47,7 +48,14 @@ impl Bindgen for Trace {
         inst: &Instruction<'_>,
         _operands: &mut Vec<u8>,
         results: &mut Vec<u8>,
-    ) -> Result<(), BindgenError> {
+    ) -> Result<(), BindgenError>
+        requires operands { vec_len _operands.old ≡ operands_count (step_of inst.now) }
+        requires results { results.old.items ≡ [] }
+        ensures filled { OnOk result (vec_len results.new ≡ results_count (step_of inst.now)) }
+        ensures zeros { OnOk result (All (λ operand. operand ≡ 0) results.new.items) }
+        ensures event { Some (map event_of self.new.events) ≡ told_after result (emit (step_of inst.now)) (Some (map event_of self.old.events)) }
+        ensures cause { Counts (is_fault result) 0 0 }
+    {
         let step = Step::of(self.events.allocator(), inst)?;
         results.resize(inst.results_len(), 0)?;
         self.events.push(Event::Emit(step))?;

@@ -11,12 +11,21 @@ use witx_ast::{
     BuiltinType, Case, Datatype, HandleDatatype, IntRepr, NamedType, RecordDatatype, RecordKind,
     RecordMember, TypeRef, Variant,
 };
+use witx_base::{Duplicate, OutOfMemory};
 
 /// A size and an alignment, in bytes.
 #[derive(Clone, Copy, PartialEq, Eq, Hash, PartialOrd, Ord, Debug)]
 pub struct SizeAlign {
     pub size: usize,
     pub align: usize,
+}
+
+impl Duplicate for SizeAlign {
+    ghost is_copy = { λ layout made. made ≡ layout };
+
+    fn copy(&self) -> Result<SizeAlign, OutOfMemory> {
+        Ok(*self)
+    }
 }
 
 /// The exact number exceeds `usize::MAX`.
