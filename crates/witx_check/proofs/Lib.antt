@@ -8,7 +8,7 @@ pub mod Finished
 pub mod Finishing
 pub mod Fits
 pub mod Funcs
-pub mod LineStarts
+pub mod LinePlaces
 pub mod ModuleItems
 pub mod NamePlaces
 pub mod Onward

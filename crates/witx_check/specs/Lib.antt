@@ -8,7 +8,6 @@ pub mod Faults
 pub mod Functions
 pub mod Inside
 pub mod Kept
-pub mod LineStarts
 pub mod Messages
 pub mod Modules
 pub mod NamePlaces

@@ -6,11 +6,13 @@ mod constants;
 mod error;
 mod functions;
 mod laws;
-mod line_table;
+mod line_cursor;
 mod modules;
 mod parts;
 mod report;
 mod scope;
+#[cfg(test)]
+mod tests;
 mod typenames;
 mod types;
 mod validate;
@@ -18,4 +20,5 @@ mod validator;
 
 pub use error::{CheckError, ValidationError};
 pub use laws::{names_by_position, nothing_by_position};
+pub use line_cursor::LineCursor;
 pub use validator::{DocValidation, DocValidationScope};

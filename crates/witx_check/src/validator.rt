@@ -14,7 +14,7 @@ ghost use Rattle.witx_check.specs.Validators.{kept_by, nothing_kept};
 
 use crate::constants::ConstantPlaces;
 use crate::error::CheckError;
-use crate::line_table::LineTable;
+use crate::line_cursor::LineCursor;
 use crate::scope::Names;
 use crate::validate::{validate_constant, validate_module, validate_typename};
 use std::alloc::Global;
@@ -52,12 +52,76 @@ impl DocValidation {
         ensures text { result.text.now ≡ text.now }
         ensures path { result.path.now ≡ path.now }
     {
-        let lines = LineTable::new(self.alloc, text);
+        let lines = LineCursor::new(text);
         DocValidationScope {
             doc: self,
             text,
             path,
             lines,
+        }
+    }
+
+    /// Appends the definition of a declaration of the file at `path`, whose spans lie in the text of
+    /// `lines`, or answers the first fault of its checks. The cursor moves on to the declaration.
+    ///
+    /// After a fault and after want of memory `definitions` is unchanged. A refused typename or
+    /// module keeps its name introduced, a refused constant leaves nothing, and want of memory
+    /// leaves at most the name.
+    #[tactic(auto, using(crate::proofs::Answered::answer_rules))]
+    pub fn validate_decl(
+        &mut self,
+        lines: &mut LineCursor<'_>,
+        path: &WitxPath,
+        decl: &DeclSyntax<'_>,
+        comments: &CommentSyntax<'_>,
+        definitions: &mut Definitions,
+    ) -> Result<(), CheckError>
+        ensures ok { (past : Past) → OnOk result (Keeps (kept_by self.old) past → first_fault (decl_checks past (location_in lines.old.text.now path.now) (decl_form_of decl.now)) ≡ None) }
+        ensures appended { (past : Past) → OnOk result (Keeps (kept_by self.old) past → map definition_tree definitions.new ≡ map definition_tree definitions.old ++ decl_tree past (location_in lines.old.text.now path.now) (comments_view comments.now) (decl_form_of decl.now) ∷ []) }
+        ensures accepted { (past : Past) → OnOk result (Keeps (kept_by self.old) past → Keeps (kept_by self.new) (accepted past (location_in lines.old.text.now path.now) (comments_view comments.now) (decl_form_of decl.now))) }
+        ensures fault { (past : Past) → IfErr result (λ e. Keeps (kept_by self.old) past → Blames e (first_fault (decl_checks past (location_in lines.old.text.now path.now) (decl_form_of decl.now)))) }
+        ensures rejected { (past : Past) → IfErr result (λ e. IsFault e → Keeps (kept_by self.old) past → Keeps (kept_by self.new) (rejected past (location_in lines.old.text.now path.now) (decl_form_of decl.now))) }
+        ensures unchanged { OnErr result (definitions.new ≡ definitions.old) }
+        ensures out_of_memory { (past : Past) → OnErr result (Keeps (kept_by self.old) past → Keeps (kept_by self.new) past ⊎ Keeps (kept_by self.new) (rejected past (location_in lines.old.text.now path.now) (decl_form_of decl.now))) }
+        ensures fits { (past : Past) → Keeps (kept_by self.old) past → DefinitionsFit definitions.old (kept_by self.old).entries → DefinitionsFit definitions.new (kept_by self.new).entries }
+        ensures ordered { DefinitionsFit definitions.old (kept_by self.old).entries → IsOrdered (map definition_tree definitions.old) → IsOrdered (map definition_tree definitions.new) }
+        ensures closed { DefinitionsFit definitions.old (kept_by self.old).entries → IsClosed (map definition_tree definitions.old) → IsClosed (map definition_tree definitions.new) }
+        ensures text { lines.new.text.now ≡ lines.old.text.now }
+    {
+        let text = lines.text;
+        match decl {
+            DeclSyntax::Typename(decl) => {
+                let place = lines.location(path, decl.ident.span.start)?;
+                validate_typename(
+                    &mut self.names,
+                    &mut self.entries,
+                    text,
+                    path,
+                    self.alloc,
+                    place,
+                    decl,
+                    comments,
+                    definitions,
+                )
+            }
+            DeclSyntax::Module(decl) => {
+                let place = lines.location(path, decl.name.span.start)?;
+                validate_module(
+                    &mut self.names,
+                    &mut self.entries,
+                    text,
+                    path,
+                    self.alloc,
+                    place,
+                    decl,
+                    comments,
+                    definitions,
+                )
+            }
+            DeclSyntax::Const(decl) => {
+                let place = lines.location(path, decl.item.name.span.start)?;
+                validate_constant(&mut self.constants, place, self.alloc, decl, definitions)
+            }
         }
     }
 
@@ -74,14 +138,27 @@ impl DocValidation {
 }
 
 /// A validator at one file.
-#[derive(Drop)]
 pub struct DocValidationScope<'a> {
     doc: &'a mut DocValidation,
     text: &'a str,
     path: &'a WitxPath,
-    /// The lines of the text, counted at the first declaration.
-    lines: LineTable<'a>,
-    ghost same_text: { lines ≡ text.now },
+    /// Where the lines of the text are counted from.
+    lines: LineCursor<'a>,
+    ghost same_text: { lines.text.now ≡ text.now },
+}
+
+/// Lets the validator go on as the scope left it.
+impl<'a> Drop for DocValidationScope<'a> {
+    fn drop(self)
+        ensures { self.exit.0.now ≡ self.entry.doc.now }
+    {
+        let DocValidationScope {
+            doc: _doc,
+            text: _text,
+            path: _path,
+            lines: _lines,
+        } = self;
+    }
 }
 
 impl<'a> DocValidationScope<'a> {
@@ -90,7 +167,6 @@ impl<'a> DocValidationScope<'a> {
     /// After a fault and after want of memory `definitions` is unchanged. A refused typename or
     /// module keeps its name introduced, a refused constant leaves nothing, and want of memory
     /// leaves at most the name.
-    #[tactic(auto, using(crate::proofs::Answered::answer_rules))]
     pub fn validate_decl(
         &mut self,
         decl: &DeclSyntax<'_>,
@@ -111,40 +187,7 @@ impl<'a> DocValidationScope<'a> {
         ensures text { self.new.text.now ≡ self.old.text.now }
         ensures path { self.new.path.now ≡ self.old.path.now }
     {
-        let doc = &mut *self.doc;
-        match decl {
-            DeclSyntax::Typename(decl) => {
-                let place = self.lines.location(self.path, decl.ident.span.start)?;
-                validate_typename(
-                    &mut doc.names,
-                    &mut doc.entries,
-                    self.text,
-                    self.path,
-                    doc.alloc,
-                    place,
-                    decl,
-                    comments,
-                    definitions,
-                )
-            }
-            DeclSyntax::Module(decl) => {
-                let place = self.lines.location(self.path, decl.name.span.start)?;
-                validate_module(
-                    &mut doc.names,
-                    &mut doc.entries,
-                    self.text,
-                    self.path,
-                    doc.alloc,
-                    place,
-                    decl,
-                    comments,
-                    definitions,
-                )
-            }
-            DeclSyntax::Const(decl) => {
-                let place = self.lines.location(self.path, decl.item.name.span.start)?;
-                validate_constant(&mut doc.constants, place, doc.alloc, decl, definitions)
-            }
-        }
+        self.doc
+            .validate_decl(&mut self.lines, self.path, decl, comments, definitions)
     }
 }

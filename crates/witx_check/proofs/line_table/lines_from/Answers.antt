@@ -1,9 +1,0 @@
-use Rattle.std.proofs.Common.{leb, rules}
-use Rattle.std.proofs.lemmas.List.Sorted.{IsPartitionPoint-from_clause, IsPartitionedBy-leb}
-use Rattle.witx_check.proofs.line_table.lines_from.Goals as goal
-
-pub returns-clause-point : goal.returns-clause-point
-returns-clause-point c =
-    IsPartitionPoint-from_clause (λ start. leb start c.args.at) _ _ c.partition_point.ensures.partitioned
-    (IsPartitionedBy-leb (λ n. n) c.args.starts.now c.args.at c.requires)
-    (λ a r q k. search rules)
