@@ -1,0 +1,8 @@
+pub mod Declarations
+pub mod Starting
+pub mod PathSets
+pub mod Reached
+pub mod Items
+pub mod Whole
+pub mod OneFile
+pub mod ReadTexts

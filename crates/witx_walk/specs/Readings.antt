@@ -1,0 +1,20 @@
+-- The reading of texts as a function: the items of each text that is a document, the fault of each that is none.
+-- The grammar's definition is a relation; its laws say that there is exactly one such function.
+use Rattle.std.specs.Prelude.{◌≡◌, ℕ, List, Result, Ok, Err}
+use Rattle.witx_tree.specs.Trees.{Document}
+use Rattle.witx_syntax.specs.Reads.{Reads, IsFaultOf, Told}
+use Rattle.witx_order.specs.Items.{Item, items_of, SyntaxFault}
+
+abbrev pub Reading : Type 0
+Reading = List ℕ → Result (List Item) SyntaxFault
+
+abbrev pub syntax_fault : Told → SyntaxFault
+syntax_fault fault = record { message = fault.message; line = fault.line; column = fault.column }
+
+pub record IsReading (reading : Reading) : Type 0 where
+  pub documents : (text : List ℕ) (document : Document) → Reads text document → reading text ≡ Ok (items_of document)
+  pub faults : (text : List ℕ) (fault : Told) → IsFaultOf text fault → reading text ≡ Err (syntax_fault fault)
+
+-- there is a reading, and each other gives every text the same
+abbrev pub OneReading : Type 0
+OneReading = (reading : Reading) × (IsReading reading × ((other : Reading) → IsReading other → (text : List ℕ) → other text ≡ reading text))

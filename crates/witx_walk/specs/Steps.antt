@@ -1,0 +1,93 @@
+-- For proofs between code and definitions: what the steps of reading answer, and what the code keeps.
+use Rattle.std.specs.Prelude.{◌≡◌, ◌≤◌, ◌++◌, ◌∷◌, [], ℕ, List, map, length, Option, Some, None, Result, Ok, Err, Bool}
+use Rattle.std.specs.Ordering.{nat_cmp}
+use Rattle.std.specs.Cmp.Lexicographic.{slice_cmp}
+use Rattle.std.specs.BTreeSet.{BTreeSet, contains, btree_set_len}
+use Rattle.witx_base.specs.Causes.{Rose}
+use Rattle.witx_base.specs.Paths.{Path}
+use Rattle.witx_files.specs.Files.{Files, Aliases}
+use Rattle.witx_files.specs.Answers.{Holds, Lacks, StandsFor}
+use Rattle.witx_files.specs.declared.fault.IoFault.TheVariants.{NotFound, LineNotFound, Failed}
+use Rattle.witx_ast.specs.Definitions.{definition_tree, DefinitionsFit}
+use Rattle.witx_ast.specs.Ordered.{IsOrdered}
+use Rattle.witx_ast.specs.Closed.{IsClosed}
+use Rattle.witx_check.specs.Faults.{Fault}
+use Rattle.witx_check.specs.Blame.{fault_of}
+use Rattle.witx_check.specs.Kept.{Keeps}
+use Rattle.witx_check.specs.Validators.{kept_by}
+use Rattle.witx_order.specs.Items.{Declared}
+use Rattle.witx_order.specs.Walks.{World, Place, is_taken}
+use Rattle.witx_order.specs.Verdicts.{Leads}
+use Rattle.witx_walk.specs.Meaning.{past_of, definitions_of}
+use Rattle.witx_walk.specs.Answers.{Refuses}
+use Rattle.witx_walk.specs.declared.error.WitxError.{WitxError}
+use Rattle.witx_walk.specs.declared.error.WitxError.TheVariants.{Io, Parse, Validation, BadPath, TooManyFiles, OutOfMemory}
+use Rattle.witx_walk.specs.declared.walk.Walking.{Walking}
+
+-- whether a set of paths has a path
+abbrev pub has_path : BTreeSet Path → Path → Bool
+has_path paths path = contains (slice_cmp (slice_cmp nat_cmp)) paths path
+
+-- the set has the paths of the list, each once
+pub record HasPaths (paths : BTreeSet Path) (taken : List Path) : Type 0 where
+  pub known : (path : Path) → has_path paths path ≡ is_taken taken path
+  pub count : btree_set_len paths ≡ length taken
+
+-- the checker and the definitions are what these declarations leave
+pub record Holding (walk : Walking) (declared : List Declared) : Type 0 where
+  pub keeps : Keeps (kept_by walk.validation) (past_of declared)
+  pub definitions : map definition_tree walk.definitions ≡ definitions_of declared
+  pub fits : DefinitionsFit walk.definitions (kept_by walk.validation).entries
+  pub ordered : IsOrdered (map definition_tree walk.definitions)
+  pub closed : IsClosed (map definition_tree walk.definitions)
+
+pub record Tracks (walk : Walking) (taken : List Path) (declared : List Declared) : Type 0 where
+  pub paths : HasPaths walk.taken.paths taken
+  pub holding : Holding walk declared
+
+-- what is kept is what some declarations leave
+abbrev pub IsWell : Walking → Type 0
+IsWell walk = (declared : List Declared) × Holding walk declared
+
+-- what is kept has a place to which the marks lead
+abbrev pub Reaches : World Fault → Walking → Place → (List Path → List Declared → Place) → Type 0
+Reaches w walk at behind = (taken : List Path) × ((declared : List Declared) × (Tracks walk taken declared × Leads w at (behind taken declared)))
+
+-- an answer over told files: Ok leads on, each refusal is where the marks end
+abbrev pub Outcome : {U : Type 0} → World Fault → Place → (List Path → List Declared → Place) → Walking → ℕ → ℕ → Result U WitxError → Type 0
+Outcome w at behind walk before now (Ok u) = (now ≡ before) × Reaches w walk at behind
+Outcome w at behind walk before now (Err e) = Refuses w at before now e
+
+abbrev pub Never : Path → Type 0
+Never path = ⊥
+
+abbrev pub IsReached : Option Aliases → Path → ℕ → ℕ → Result Path WitxError → Type 0
+IsReached aliases joined before now (Ok path) = StandsFor aliases joined path × (now ≡ before)
+IsReached aliases joined before now (Err (Io path Failed)) = (path ≡ joined) × Rose before now × (before ≤ now)
+IsReached aliases joined before now (Err OutOfMemory) = now ≡ before
+IsReached aliases joined before now (Err (Io path NotFound)) = ⊥
+IsReached aliases joined before now (Err (Io path LineNotFound)) = ⊥
+IsReached aliases joined before now (Err (BadPath path)) = ⊥
+IsReached aliases joined before now (Err (TooManyFiles path)) = ⊥
+IsReached aliases joined before now (Err (Parse e)) = ⊥
+IsReached aliases joined before now (Err (Validation e)) = ⊥
+
+abbrev pub IsGot : Option Files → Path → ℕ → ℕ → Result (List ℕ) WitxError → Type 0
+IsGot files asked before now (Ok text) = Holds files asked text × (now ≡ before)
+IsGot files asked before now (Err (Io path Failed)) = (path ≡ asked) × Rose before now × (before ≤ now)
+IsGot files asked before now (Err (Io path NotFound)) = (path ≡ asked) × Lacks files asked × (now ≡ before)
+IsGot files asked before now (Err OutOfMemory) = now ≡ before
+IsGot files asked before now (Err (Io path LineNotFound)) = ⊥
+IsGot files asked before now (Err (BadPath path)) = ⊥
+IsGot files asked before now (Err (TooManyFiles path)) = ⊥
+IsGot files asked before now (Err (Parse e)) = ⊥
+IsGot files asked before now (Err (Validation e)) = ⊥
+
+abbrev pub IsDeclared : {U : Type 0} → Option Fault → List Declared → Declared → Walking → Result U WitxError → Type 0
+IsDeclared fault before δ walk (Ok u) = (fault ≡ None) × Holding walk (before ++ δ ∷ [])
+IsDeclared fault before δ walk (Err (Validation e)) = fault ≡ Some (fault_of e)
+IsDeclared fault before δ walk (Err OutOfMemory) = Unit {0}
+IsDeclared fault before δ walk (Err (Io path f)) = ⊥
+IsDeclared fault before δ walk (Err (BadPath path)) = ⊥
+IsDeclared fault before δ walk (Err (TooManyFiles path)) = ⊥
+IsDeclared fault before δ walk (Err (Parse e)) = ⊥

@@ -1,0 +1,45 @@
+ghost use Rattle.std.specs.Prelude.{◌≡◌, ◌+◌, [], cond, true, false, OnOk};
+ghost use Rattle.std.specs.BTreeSet.{btree_set_len};
+ghost use Rattle.witx_base.specs.Paths.{Path};
+ghost use Rattle.witx_files.specs.Files.{same_path};
+ghost use Rattle.witx_walk.specs.Steps.{has_path, HasPaths};
+
+use std::alloc::Global;
+use std::collections::BTreeSet;
+use witx_base::{Duplicate, OutOfMemory, WitxPath};
+
+/// The canonical paths of the files that were taken in.
+#[derive(Drop)]
+pub struct TakenPaths {
+    paths: BTreeSet<WitxPath>,
+}
+
+impl TakenPaths {
+    pub fn new(alloc: Global) -> TakenPaths
+        ensures { HasPaths result.paths [] }
+    {
+        TakenPaths {
+            paths: BTreeSet::new(alloc),
+        }
+    }
+
+    pub fn len(&self) -> usize
+        ensures { result ≡ btree_set_len self.now.paths }
+    {
+        self.paths.len()
+    }
+
+    pub fn contains(&self, path: &WitxPath) -> bool
+        ensures { result ≡ has_path self.now.paths path.now }
+    {
+        self.paths.contains(path)
+    }
+
+    pub fn insert(&mut self, path: &WitxPath) -> Result<(), OutOfMemory>
+        ensures known { OnOk result ((q : Path) → has_path self.new.paths q ≡ cond (same_path path.now q) true (has_path self.old.paths q)) }
+        ensures count { OnOk result (has_path self.old.paths path.now ≡ false → btree_set_len self.new.paths ≡ btree_set_len self.old.paths + 1) }
+    {
+        self.paths.insert(path.copy()?)?;
+        Ok(())
+    }
+}
