@@ -1,3 +1,6 @@
-pub mod Adding
+pub mod Paths
+pub mod Exclusion
 pub mod Reading
+pub mod Refusing
+pub mod Running
 pub mod Writing

@@ -1,10 +1,20 @@
--- When a run refuses, and what the bytes of its source say then, where these are told.
-use Rattle.std.specs.Prelude.{◌≡◌, ℕ, List, Bool, true, false, Option, None, Some, Result, Ok, Err}
+-- When a run refuses or has its output, and what the bytes of its source say then, where these are told.
+use Rattle.std.specs.Prelude.{◌≡◌, ℕ, ◌^◌, ◌<◌, List, All, Bool, true, false, Option, None, Some, Result, Ok, Err, IsSome}
 use Rattle.witx_base.specs.Causes.{Rose}
+use Rattle.witx_base.specs.Paths.{Path}
 use Rattle.witx_files.specs.Files.{Files}
 use Rattle.witx_bundle.specs.Bundles.{IsRead}
 use Rattle.witx_bundle.specs.declared.error.BundleError.{BundleError}
 use Rattle.witx_bundle.specs.declared.error.BundleError.TheVariants as bundle
+use Rattle.witx_ast.specs.Definitions.{DefinitionTree}
+use Rattle.witx_layout.specs.LayoutsText.{layouts_text, typename_sizes}
+use Rattle.witx_adapt.specs.declared.adapted.Adapted.{Adapted}
+use Rattle.witx_adapt.specs.Adaptable.{IsAdaptable}
+use Rattle.witx_adapt.specs.Listings.{listing_text}
+use Rattle.witx.specs.Adapting.{IsAdapted, Parses, defined}
+use Rattle.witx.specs.Reports.{CommandRefuses}
+use Rattle.witx.specs.declared.words.Command.{Command}
+use Rattle.witx.specs.declared.words.Command.TheVariants as command
 use Rattle.witx.specs.declared.input.InputError.{InputError}
 use Rattle.witx.specs.declared.input.InputError.TheVariants as input
 use Rattle.witx.specs.Streams.{Finished}
@@ -34,26 +44,47 @@ InputCause left before now input.Source = Rose before now
 InputCause left before now (input.Bundle e) = (now ≡ before) × IsCause e × Reads left (Err e)
 InputCause left before now input.OutOfMemory = now ≡ before
 
--- what is so where a run refuses: form says whether the words have one, left which bytes the source had left, and
--- before and now are its count of faults
-abbrev pub Cause : (form : Bool) → (left : Option (List ℕ)) → (before now : ℕ) → Refusal → Type 0
-Cause form left before now refusal.Usage = (form ≡ false) × (now ≡ before)
-Cause form left before now refusal.Source = (form ≡ true) × Rose before now
-Cause form left before now (refusal.Bundle e) = (form ≡ true) × (now ≡ before) × IsCause e × Reads left (Err e)
-Cause form left before now refusal.NotBuilt = (form ≡ true) × (now ≡ before) × (files : Files) × Reads left (Ok files)
+-- the command of a form refuses
+abbrev pub FormRefuses : Option Command → Files → List Path → List ℕ → Type 0
+FormRefuses None files handed report = ⊥
+FormRefuses (Some c) files handed report = CommandRefuses c files handed report
+
+-- what is so where a run refuses: form is the command of the words, where they have a form; left says which bytes the
+-- source had left, and before and now are its count of faults
+abbrev pub Cause : (form : Option Command) → (left : Option (List ℕ)) → (handed : List Path) → (before now : ℕ) → Refusal → Type 0
+Cause form left handed before now refusal.Usage = (form ≡ None) × (now ≡ before)
+Cause form left handed before now refusal.Source = IsSome form × Rose before now
+Cause form left handed before now (refusal.Bundle e) = IsSome form × (now ≡ before) × IsCause e × Reads left (Err e)
+Cause form left handed before now (refusal.Command report) = (now ≡ before) × (files : Files) × Reads left (Ok files) × FormRefuses form files handed report
 
 -- why a run has no output
-abbrev pub StopCause : (form : Bool) → (left : Option (List ℕ)) → (before now : ℕ) → Stop → Type 0
-StopCause form left before now (stop.Refused r) = Cause form left before now r
-StopCause form left before now stop.OutOfMemory = now ≡ before
+abbrev pub StopCause : (form : Option Command) → (left : Option (List ℕ)) → (handed : List Path) → (before now : ℕ) → Stop → Type 0
+StopCause form left handed before now (stop.Refused r) = Cause form left handed before now r
+StopCause form left handed before now stop.OutOfMemory = now ≡ before
 
--- what is so where a run has its output: the words have a form, and the source was read to its end and gave a bundle
-pub record IsAnswered (form : Bool) (left after : Option (List ℕ)) (before now : ℕ) : Type 0 where
-  pub has_form : form ≡ true
+-- the text that a command writes over the files of a bundle, and the value that it lists
+unfoldable pub IsOutput : Option Command → Files → List Path → List ℕ → Option Adapted → Type 0
+IsOutput (Some command.Adapt) files handed text (Some a) = Parses files handed (Ok (defined a)) × IsAdapted a × (text ≡ listing_text a)
+IsOutput (Some command.Layouts) files handed text None = (ds : List DefinitionTree) × Parses files handed (Ok ds) × All (λ size. size < 2 ^ 64) (typename_sizes ds) × (text ≡ layouts_text ds)
+IsOutput _ files handed text adapted = ⊥
+
+-- the files mean a document of which the command tells everything
+abbrev pub IsValidFor : Command → Files → List Path → Type 0
+IsValidFor command.Adapt files handed = (ds : List DefinitionTree) × Parses files handed (Ok ds) × IsAdaptable ds
+IsValidFor command.Layouts files handed = (ds : List DefinitionTree) × Parses files handed (Ok ds) × All (λ size. size < 2 ^ 64) (typename_sizes ds)
+
+-- what is so where a run has its output: the source was read to its end and gave a bundle, over whose files it is
+pub record IsAnswered (form : Option Command) (left after : Option (List ℕ)) (handed : List Path) (before now : ℕ) (text : List ℕ) (adapted : Option Adapted) : Type 0 where
   pub finished : Finished left after
   pub no_fault : now ≡ before
   pub files : Files
   pub bundle : Reads left (Ok files)
+  pub output : IsOutput form files handed text adapted
+
+-- the definitions of the document that the bytes of a bundle mean, where they are told
+abbrev pub IsMeaning : (left : Option (List ℕ)) → (handed : List Path) → List DefinitionTree → Type 0
+IsMeaning None handed ds = Unit {0}
+IsMeaning (Some bytes) handed ds = (files : Files) × IsRead bytes (Ok files) × Parses files handed (Ok ds)
 
 -- a status with which something is told
 abbrev pub IsTold : ℕ → Type 0

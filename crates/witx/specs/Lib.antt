@@ -1,4 +1,8 @@
-pub mod Causes
-pub mod Streams
-pub mod Texts
 pub mod Words
+pub mod Streams
+pub mod Adapting
+pub mod Reports
+pub mod Causes
+pub mod Laws
+pub mod Stops
+pub mod Texts

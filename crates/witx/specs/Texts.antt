@@ -1,4 +1,4 @@
--- What a run writes on its second sink: the usage text where the words have no form, else one line that names the refusal.
+-- What a run writes on its second sink: the usage text where the words have no form, else the report of the refusal.
 use Rattle.std.specs.Prelude.{◌≡◌, ◌⊎◌, ℕ, List, [], ◌∷◌, ◌++◌, codes}
 use Rattle.std.specs.Fmt.{decimal}
 use Rattle.witx.specs.declared.refusal.Refusal.{Refusal}
@@ -17,14 +17,14 @@ bundle_text (bundle.BeforeFirst at) = codes "text before the first file at byte 
 bundle_text bundle.OutOfMemory = codes "out of memory"
 
 abbrev pub text_of : Refusal → List ℕ
-text_of refusal.Usage = line (codes "usage: witx adapt PATH..")
+text_of refusal.Usage = line (codes "usage: witx adapt PATH..") ++ line (codes "       witx layouts PATH..")
 text_of refusal.Source = line (codes "witx: cannot read input")
 text_of (refusal.Bundle e) = line (codes "witx: " ++ bundle_text e)
-text_of refusal.NotBuilt = line (codes "witx: not built yet")
+text_of (refusal.Command report) = line (codes "witx: " ++ report)
 
 -- the status of a refusal
 abbrev pub status_of : Refusal → ℕ
-status_of refusal.NotBuilt = 1
+status_of (refusal.Command report) = 1
 status_of refusal.Usage = 2
 status_of refusal.Source = 3
 status_of (refusal.Bundle e) = 6

@@ -2,21 +2,34 @@
 #![tactic(auto)]
 
 mod adapting;
-mod cursor;
-mod documents;
+mod commands;
+#[cfg(test)]
+mod declaration_tests;
+#[cfg(test)]
+mod device_tests;
+mod error;
 mod input;
+mod laws;
 mod output;
+mod parsing;
 mod program;
-mod reader;
 mod refusal;
 mod refused;
+mod report;
 #[cfg(test)]
 mod tests;
+#[cfg(test)]
+mod walk_tests;
 mod words;
 
+pub use adapting::adapt;
+pub use error::AdaptError;
 pub use input::{InputError, read_bundle};
+pub use laws::{output_or_refusal, valid_files_are_not_refused, valid_is_not_refused};
 pub use output::put_text;
 pub use program::{Ran, run};
 pub use refusal::Refusal;
 pub use witx_adapt::{Adapted, AdaptedFunc, AdaptedFuncs, SizeAligns, listing};
-pub use words::has_form;
+pub use witx_bundle::{Bundle, BundleError};
+pub use witx_walk::{WitxError, parse, parse_witx_with};
+pub use words::{Command, command_of};

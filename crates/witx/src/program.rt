@@ -1,23 +1,29 @@
-ghost use Rattle.std.specs.Prelude.{◌≡◌, ◌<◌, ◌≤◌, ◌+◌, ◌⊎◌, ℕ, List, Bool, true, false, Some, None, Ok, Err, IfOk, IfErr, OnOk, IfSome, is_some, ◌==◌, if◌then◌else◌};
+ghost use Rattle.std.specs.Prelude.{◌≡◌, ◌<◌, ◌≤◌, ◌+◌, ◌⊎◌, ℕ, List, Option, All, None, Some, Ok, Err, IfErr, IfOk, IfSome, IsSome, map, ◌==◌, if◌then◌else◌};
 ghost use Rattle.std.specs.Io.KnownBytes.{Appends, Keeps};
 ghost use Rattle.witx_base.specs.Causes.{Rose};
 ghost use Rattle.witx_bundle.specs.Bundles.{IsRead};
 ghost use Rattle.witx_bundle.specs.declared.error.BundleError.{BundleError};
-ghost use Rattle.witx.specs.Words.{has_form};
-ghost use Rattle.witx.specs.Streams.{Finished, TookPrefix};
-ghost use Rattle.witx.specs.Texts.{IsRefused, status_of, text_of};
-ghost use Rattle.witx.specs.Causes.{Cause, IsAnswered, IsCause, IsTold, StopCause};
+ghost use Rattle.witx_adapt.specs.Entries.{IsFaithful, all_functions, all_layouts, entry_for, entry_of};
 ghost use Rattle.witx_adapt.specs.Listings.{listing_text};
+ghost use Rattle.witx_adapt.specs.declared.adapted.Adapted.{Adapted};
+ghost use Rattle.witx.specs.Words.{command_of, handed_by};
+ghost use Rattle.witx.specs.Streams.{TookPrefix};
+ghost use Rattle.witx.specs.Texts.{IsRefused, status_of, text_of};
+ghost use Rattle.witx.specs.Adapting.{defined};
+ghost use Rattle.witx.specs.Reports.{CommandRefuses};
+ghost use Rattle.witx_files.specs.Files.{Files};
+ghost use Rattle.witx.specs.declared.words.Command.{Command};
+ghost use Rattle.witx.specs.Causes.{Cause, IsAnswered, IsCause, IsMeaning, IsTold, IsValidFor, StopCause};
 
-use crate::adapting::adapt_texts;
+use crate::commands::{Output, perform};
 use crate::input::{InputError, read_bundle};
+use crate::laws::{output_or_refusal, valid_is_not_refused};
 use crate::output::put_text;
-use crate::reader::ReadError;
 use crate::refusal::{Refusal, Stop};
 use crate::refused::{NO_MEMORY, UNWRITTEN, put_refusal};
-use crate::words::has_form;
+use crate::words::{Command, command_of, handed_by};
 use std::alloc::Global;
-use witx_adapt::{Adapted, listing};
+use witx_adapt::Adapted;
 use witx_base::{Sink, Source, Text};
 
 /// How a run ended.
@@ -25,12 +31,13 @@ use witx_base::{Sink, Source, Text};
 pub struct Ran {
     /// 0 done, 1 refused, 2 no form, 3 the source failed, 4 a sink failed, 5 no memory, 6 no bundle.
     pub status: u8,
-    /// The value whose listing was written; there exactly where the status is 0.
+    /// The value whose listing was written; there exactly where the status is 0 and the command is
+    /// `adapt`.
     pub adapted: Option<Adapted>,
 }
 
-/// The program: reads the words, then the source, and writes the listing on `out` or what is refused
-/// on `err`.
+/// The program: reads the words, then the source, and writes what the command asks for on `out` or
+/// what is refused on `err`.
 pub fn run<S: Source, O: Sink, E: Sink>(
     alloc: Global,
     words: &[Text],
@@ -38,29 +45,47 @@ pub fn run<S: Source, O: Sink, E: Sink>(
     out: &mut O,
     err: &mut E,
 ) -> Ran
-    ensures done { result.status ≡ 0 → IsAnswered (has_form words.now) (S.left source.old) (S.left source.new) (S.faults source.old) (S.faults source.new)
-        × IfSome result.adapted (λ a. Appends (O.taken out.old) (O.taken out.new) (listing_text a)) × (err.new ≡ err.old) }
-    ensures adapted { is_some result.adapted ≡ (result.status == 0) }
-    ensures usage { has_form words.now ≡ false → IsRefused 2 result.status }
-    ensures nothing_read { has_form words.now ≡ false → source.new ≡ source.old }
-    ensures told { IsTold result.status → (r : Refusal) × (status_of r ≡ result.status) × Cause (has_form words.now) (S.left source.old) (S.faults source.old) (S.faults source.new) r
+    ensures done { result.status ≡ 0 → (text : List ℕ)
+        × IsAnswered (command_of words.now) (S.left source.old) (S.left source.new) (handed_by words.now) (S.faults source.old) (S.faults source.new) text result.adapted
+        × Appends (O.taken out.old) (O.taken out.new) text × (err.new ≡ err.old) }
+    ensures listing { IfSome result.adapted (λ a. Appends (O.taken out.old) (O.taken out.new) (listing_text a)) }
+    ensures document { IfSome result.adapted (λ a. IsMeaning (S.left source.old) (handed_by words.now) (defined a)) }
+    ensures functions { IfSome result.adapted (λ a. map entry_of a.functions ≡ map entry_for (all_functions (defined a))) }
+    ensures layouts { IfSome result.adapted (λ a. a.layouts ≡ all_layouts (defined a)) }
+    ensures faithful { IfSome result.adapted (λ a. All IsFaithful a.functions) }
+    ensures adapted { IsSome result.adapted → (result.status ≡ 0) × (command_of words.now ≡ Some Command.Adapt) }
+    ensures listed { result.status ≡ 0 → command_of words.now ≡ Some Command.Adapt → IsSome result.adapted }
+    ensures usage { command_of words.now ≡ None → IsRefused 2 result.status }
+    ensures nothing_read { command_of words.now ≡ None → source.new ≡ source.old }
+    ensures told { IsTold result.status → (r : Refusal) × (status_of r ≡ result.status) × Cause (command_of words.now) (S.left source.old) (handed_by words.now) (S.faults source.old) (S.faults source.new) r
         × Appends (E.taken err.old) (E.taken err.new) (text_of r) × (out.new ≡ out.old) }
-    ensures no_bundle { (bytes : List ℕ) (e : BundleError) → has_form words.now ≡ true → S.left source.old ≡ Some bytes → IsCause e → IsRead bytes (Err e)
+    ensures no_bundle { (bytes : List ℕ) (e : BundleError) → IsSome (command_of words.now) → S.left source.old ≡ Some bytes → IsCause e → IsRead bytes (Err e)
         → (Rose (S.faults source.old) (S.faults source.new) → ⊥) → IsRefused 6 result.status }
+    ensures complete { (bytes : List ℕ) (files : Files) (c : Command) → S.left source.old ≡ Some bytes → IsRead bytes (Ok files) → command_of words.now ≡ Some c
+        → IsValidFor c files (handed_by words.now) → (Rose (S.faults source.old) (S.faults source.new) → ⊥) → (Rose (O.faults out.old) (O.faults out.new) → ⊥)
+        → (result.status ≡ 0) ⊎ (result.status ≡ 5) }
+    ensures refused { (bytes : List ℕ) (files : Files) (c : Command) (report : List ℕ) → S.left source.old ≡ Some bytes → IsRead bytes (Ok files) → command_of words.now ≡ Some c
+        → CommandRefuses c files (handed_by words.now) report → (Rose (S.faults source.old) (S.faults source.new) → ⊥) → IsRefused 1 result.status }
     ensures source_failed { S.faults source.old < S.faults source.new → IsRefused 3 result.status }
     ensures unwritten { result.status ≡ 4 →
-        (Rose (O.faults out.old) (O.faults out.new) × (err.new ≡ err.old) × (a : Adapted) × TookPrefix (O.taken out.old) (O.taken out.new) (listing_text a))
-        ⊎ (Rose (E.faults err.old) (E.faults err.new) × (out.new ≡ out.old) × (r : Refusal) × Cause (has_form words.now) (S.left source.old) (S.faults source.old) (S.faults source.new) r
+        (Rose (O.faults out.old) (O.faults out.new) × (err.new ≡ err.old) × (text : List ℕ) × (adapted : Option Adapted) × IsAnswered (command_of words.now) (S.left source.old) (S.left source.new) (handed_by words.now) (S.faults source.old) (S.faults source.new) text adapted
+        × TookPrefix (O.taken out.old) (O.taken out.new) text)
+        ⊎ (Rose (E.faults err.old) (E.faults err.new) × (out.new ≡ out.old) × (r : Refusal) × Cause (command_of words.now) (S.left source.old) (handed_by words.now) (S.faults source.old) (S.faults source.new) r
         × TookPrefix (E.taken err.old) (E.taken err.new) (text_of r)) }
     ensures out_failed { O.faults out.old < O.faults out.new → result.status ≡ 4 }
     ensures err_failed { E.faults err.old < E.faults err.new → result.status ≡ 4 }
-    ensures no_memory { result.status ≡ 5 → Keeps (O.taken out.old) (O.taken out.new) × Keeps (E.taken err.old) (E.taken err.new) }
+    ensures no_memory { result.status ≡ 5 → (out.new ≡ out.old) × (err.new ≡ err.old) }
+    ensures source_later { S.faults source.old ≤ S.faults source.new }
+    ensures out_later { O.faults out.old ≤ O.faults out.new }
+    ensures err_later { E.faults err.old ≤ E.faults err.new }
     ensures reads { S.reads source.new ≤ S.reads source.old + 4194305 }
 {
-    match answer(alloc, words, source) {
-        Ok(adapted) => put_listing(alloc, adapted, out),
+    output_or_refusal();
+    valid_is_not_refused();
+    match prepare(alloc, words, source) {
+        Ok(output) => put_output(output, out),
         Err(Stop::Refused(refusal)) => Ran {
-            status: put_refusal(alloc, refusal, err),
+            status: put_refusal(alloc, &refusal, err),
             adapted: None,
         },
         Err(Stop::OutOfMemory) => Ran {
@@ -70,45 +95,57 @@ pub fn run<S: Source, O: Sink, E: Sink>(
     }
 }
 
-/// What a run is to list, by its words and its source.
-fn answer<S: Source>(alloc: Global, words: &[Text], source: &mut S) -> Result<Adapted, Stop>
-    ensures answered { OnOk result (IsAnswered (has_form words.now) (S.left source.old) (S.left source.new) (S.faults source.old) (S.faults source.new)) }
-    ensures stopped { IfErr result (StopCause (has_form words.now) (S.left source.old) (S.faults source.old) (S.faults source.new)) }
-    ensures usage { has_form words.now ≡ false → result ≡ Err (Stop.Refused Refusal.Usage) }
-    ensures nothing_read { has_form words.now ≡ false → source.new ≡ source.old }
+/// What a run is to write, by its words and its source.
+fn prepare<S: Source>(alloc: Global, words: &[Text], source: &mut S) -> Result<Output, Stop>
+    ensures answered { IfOk result (λ o. IsAnswered (command_of words.now) (S.left source.old) (S.left source.new) (handed_by words.now) (S.faults source.old) (S.faults source.new) o.text o.adapted) }
+    ensures stopped { IfErr result (StopCause (command_of words.now) (S.left source.old) (handed_by words.now) (S.faults source.old) (S.faults source.new)) }
+    ensures usage { command_of words.now ≡ None → result ≡ Err (Stop.Refused Refusal.Usage) }
+    ensures nothing_read { command_of words.now ≡ None → source.new ≡ source.old }
+    ensures later { S.faults source.old ≤ S.faults source.new }
     ensures reads { S.reads source.new ≤ S.reads source.old + 4194305 }
 {
-    if !has_form(words) {
-        return Err(Stop::Refused(Refusal::Usage));
+    match command_of(words) {
+        Some(command) => prepare_command(alloc, command, words, source),
+        None => Err(Stop::Refused(Refusal::Usage)),
     }
+}
+
+#[tactic(auto, using(crate::proofs::Refusing::command_rules))]
+fn prepare_command<S: Source>(
+    alloc: Global,
+    command: Command,
+    words: &[Text],
+    source: &mut S,
+) -> Result<Output, Stop>
+    ensures answered { IfOk result (λ o. IsAnswered (Some command) (S.left source.old) (S.left source.new) (handed_by words.now) (S.faults source.old) (S.faults source.new) o.text o.adapted) }
+    ensures stopped { IfErr result (StopCause (Some command) (S.left source.old) (handed_by words.now) (S.faults source.old) (S.faults source.new)) }
+    ensures later { S.faults source.old ≤ S.faults source.new }
+    ensures reads { S.reads source.new ≤ S.reads source.old + 4194305 }
+{
     match read_bundle(alloc, source) {
-        Ok(mut files) => match adapt_texts(alloc, &words[1..], &mut files) {
-            Ok(adapted) => Ok(adapted),
-            Err(ReadError::NotBuilt) => Err(Stop::Refused(Refusal::NotBuilt)),
-            Err(ReadError::OutOfMemory) => Err(Stop::OutOfMemory),
-        },
+        Ok(mut files) => {
+            let paths = handed_by(alloc, words)?;
+            perform(alloc, command, paths.as_slice(), &mut files)
+        }
         Err(InputError::Source) => Err(Stop::Refused(Refusal::Source)),
         Err(InputError::Bundle(error)) => Err(Stop::Refused(Refusal::Bundle(error))),
         Err(InputError::OutOfMemory) => Err(Stop::OutOfMemory),
     }
 }
 
-/// Writes the listing, and keeps the value where it was written whole.
-fn put_listing<O: Sink>(alloc: Global, adapted: Adapted, out: &mut O) -> Ran
-    ensures status { (result.status ≡ 0) ⊎ (result.status ≡ 4) ⊎ (result.status ≡ 5) }
-    ensures done { result.status ≡ 0 → Appends (O.taken out.old) (O.taken out.new) (listing_text adapted) }
-    ensures adapted { result.adapted ≡ (if result.status == 0 then Some adapted else None) }
-    ensures unwritten { result.status ≡ 4 → Rose (O.faults out.old) (O.faults out.new) × TookPrefix (O.taken out.old) (O.taken out.new) (listing_text adapted) }
-    ensures no_memory { result.status ≡ 5 → Keeps (O.taken out.old) (O.taken out.new) }
+/// Writes an output, and keeps its value where it was written whole.
+fn put_output<O: Sink>(output: Output, out: &mut O) -> Ran
+    ensures status { (result.status ≡ 0) ⊎ (result.status ≡ 4) }
+    ensures done { result.status ≡ 0 → Appends (O.taken out.old) (O.taken out.new) output.text }
+    ensures adapted { result.adapted ≡ (if result.status == 0 then output.adapted else None) }
+    ensures unwritten { result.status ≡ 4 → Rose (O.faults out.old) (O.faults out.new) × TookPrefix (O.taken out.old) (O.taken out.new) output.text }
     ensures failed { O.faults out.old < O.faults out.new → result.status ≡ 4 }
+    ensures later { O.faults out.old ≤ O.faults out.new }
 {
-    let status = match listing(alloc, &adapted) {
-        Ok(text) => put_whole(out, text.as_str()),
-        Err(_) => NO_MEMORY,
-    };
+    let status = put_whole(out, output.text.as_str());
     Ran {
         status,
-        adapted: if status == 0 { Some(adapted) } else { None },
+        adapted: if status == 0 { output.adapted } else { None },
     }
 }
 
@@ -117,6 +154,7 @@ fn put_whole<O: Sink>(out: &mut O, text: &str) -> u8
     ensures status { (result ≡ 0) ⊎ (result ≡ 4) }
     ensures done { result ≡ 0 → Appends (O.taken out.old) (O.taken out.new) text.now × (O.faults out.new ≡ O.faults out.old) }
     ensures unwritten { result ≡ 4 → Rose (O.faults out.old) (O.faults out.new) × TookPrefix (O.taken out.old) (O.taken out.new) text.now }
+    ensures later { O.faults out.old ≤ O.faults out.new }
 {
     match put_text(out, text) {
         Ok(()) => 0,

@@ -1,12 +1,12 @@
-ghost use Rattle.std.specs.Prelude.{◌≡◌, IfOk, string_bytes};
-ghost use Rattle.witx.specs.Texts.{status_of, text_of};
+ghost use Rattle.std.specs.Prelude.{◌≡◌, ◌++◌, IfOk, codes};
+ghost use Rattle.witx.specs.Texts.{line, status_of, text_of};
 
 use std::alloc::Global;
 use witx_base::{OutOfMemory, Text};
 use witx_bundle::BundleError;
 
 /// Why a run ends without its output, where it says so.
-#[derive(Clone, Copy, PartialEq, Eq, Debug)]
+#[derive(PartialEq, Eq, Debug, Drop)]
 pub enum Refusal {
     /// The words have no form of the usage text.
     Usage,
@@ -14,17 +14,17 @@ pub enum Refusal {
     Source,
     /// The input is no bundle.
     Bundle(BundleError),
-    /// The texts hold what isn't built yet.
-    NotBuilt,
+    /// The command's call refused the files, with this report.
+    Command(Text),
 }
 
 impl Refusal {
     /// The status with which the program ends.
-    pub fn status(self) -> u8
-        ensures { result ≡ status_of self }
+    pub fn status(&self) -> u8
+        ensures { result ≡ status_of self.now }
     {
         match self {
-            Refusal::NotBuilt => 1,
+            Refusal::Command(_) => 1,
             Refusal::Usage => 2,
             Refusal::Source => 3,
             Refusal::Bundle(_) => 6,
@@ -32,16 +32,25 @@ impl Refusal {
     }
 
     /// What the program writes about it.
-    pub fn text(self, alloc: Global) -> Result<Text, OutOfMemory>
-        ensures { IfOk result (λ t. t ≡ text_of self) }
+    pub fn text(&self, alloc: Global) -> Result<Text, OutOfMemory>
+        ensures { IfOk result (λ t. t ≡ text_of self.now) }
     {
         match self {
-            Refusal::Usage => Text::new(alloc, "usage: witx adapt PATH..\n"),
+            Refusal::Usage => Text::new(
+                alloc,
+                "usage: witx adapt PATH..\n       witx layouts PATH..\n",
+            ),
             Refusal::Source => Text::new(alloc, "witx: cannot read input\n"),
-            Refusal::Bundle(error) => bundle_text(alloc, error),
-            Refusal::NotBuilt => Text::new(alloc, "witx: not built yet\n"),
+            Refusal::Bundle(error) => bundle_text(alloc, *error),
+            Refusal::Command(report) => command_text(alloc, report.as_str()),
         }
     }
+}
+
+fn command_text(alloc: Global, report: &str) -> Result<Text, OutOfMemory>
+    ensures { IfOk result (λ t. t ≡ line (codes "witx: " ++ report.now)) }
+{
+    Ok(Text::from_string(format!(in alloc; "witx: {report}\n")?))
 }
 
 fn bundle_text(alloc: Global, error: BundleError) -> Result<Text, OutOfMemory>
@@ -60,8 +69,18 @@ fn bundle_text(alloc: Global, error: BundleError) -> Result<Text, OutOfMemory>
 }
 
 /// Why a run has no output.
-#[derive(Clone, Copy, PartialEq, Eq, Debug)]
+#[derive(PartialEq, Eq, Debug, Drop)]
 pub enum Stop {
     Refused(Refusal),
     OutOfMemory,
+}
+
+impl From<OutOfMemory> for Stop {
+    ghost use Rattle.witx.specs.declared.refusal.Stop.TheVariants as stop;
+
+    ghost from_gives = { λ _ e. e ≡ stop.OutOfMemory };
+
+    fn from(_: OutOfMemory) -> Stop {
+        Stop::OutOfMemory
+    }
 }

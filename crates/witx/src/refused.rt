@@ -17,11 +17,11 @@ pub const NO_MEMORY: u8 = 5;
 
 /// Writes what is to be said of a refusal, and answers the status: that of the refusal, or 4 where the
 /// sink failed, or 5 where there was no memory for the text.
-pub fn put_refusal<E: Sink>(alloc: Global, refusal: Refusal, err: &mut E) -> u8
-    ensures status { IsRefused (status_of refusal) result }
-    ensures told { result ≡ status_of refusal → Appends (E.taken err.old) (E.taken err.new) (text_of refusal) }
-    ensures unwritten { result ≡ 4 → Rose (E.faults err.old) (E.faults err.new) × TookPrefix (E.taken err.old) (E.taken err.new) (text_of refusal) }
-    ensures no_memory { result ≡ 5 → Keeps (E.taken err.old) (E.taken err.new) }
+pub fn put_refusal<E: Sink>(alloc: Global, refusal: &Refusal, err: &mut E) -> u8
+    ensures status { IsRefused (status_of refusal.now) result }
+    ensures told { result ≡ status_of refusal.now → Appends (E.taken err.old) (E.taken err.new) (text_of refusal.now) }
+    ensures unwritten { result ≡ 4 → Rose (E.faults err.old) (E.faults err.new) × TookPrefix (E.taken err.old) (E.taken err.new) (text_of refusal.now) }
+    ensures no_memory { result ≡ 5 → err.new ≡ err.old }
     ensures failed { E.faults err.old < E.faults err.new → result ≡ 4 }
     ensures later { E.faults err.old ≤ E.faults err.new }
 {

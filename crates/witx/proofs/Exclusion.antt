@@ -1,0 +1,182 @@
+-- Files that mean a document aren't refused, nor are other files that tell the same texts: there is one verdict.
+use Rattle.std.specs.Prelude.{◌≡◌, ◌⊎◌, ℕ, ◌+◌, ◌^◌, ◌<◌, ◌≤◌, List, [], ◌∷◌, length, All, Any, Option, Some, None, Result, Ok, Err}
+use Rattle.std.proofs.Common.{refl, sym, ap, ◌∙◌, subst, inl, inr, arith, get_or}
+use mathlib.Core.Path.{fun_ext}
+use Rattle.witx_base.specs.Paths.{Path}
+use Rattle.witx_base.specs.Causes.{Rose}
+use Rattle.witx_files.specs.Files.{Aliases, Files, canonical, held}
+use Rattle.witx_files.specs.declared.fault.IoFault.TheVariants.{NotFound, LineNotFound, Failed}
+use Rattle.witx_bundle.specs.Bundles.{IsRead, told_at, lines_of, limit}
+use Rattle.witx_bundle.specs.declared.error.BundleError.{BundleError}
+use Rattle.witx_bundle.specs.declared.error.BundleError.TheVariants as bundle
+use Rattle.witx_ast.specs.Misfits.{Misfit, first_misfit}
+use Rattle.witx_ast.specs.Definitions.{DefinitionTree}
+use Rattle.witx_check.specs.Faults.{Fault}
+use Rattle.witx_check.specs.Blame.{fault_of}
+use Rattle.witx_layout.specs.LayoutsText.{typename_sizes}
+use Rattle.witx_layout.specs.Refusals.{tag_refusal}
+use Rattle.witx_layout.specs.declared.tags.TagTooNarrow.{TagTooNarrow}
+use Rattle.witx_order.specs.Items.{Declared}
+use Rattle.witx_order.specs.Walks.{World, Place, Refusal, bad_path, too_many, missing, unreadable, faulty, beginning}
+use Rattle.witx_order.specs.Verdicts.{Verdict, fine, refused, Ends, IsVerdict}
+use Rattle.witx_order.proofs.OnlyOne.{one-verdict}
+use Rattle.witx_order.proofs.FinalFronts.{means-fine}
+use Rattle.witx_walk.specs.Readings.{Reading, IsReading}
+use Rattle.witx_walk.specs.Meaning.{world, definitions_of, fault_behind, MeansDocument}
+use Rattle.witx_walk.specs.Answers.{Answer, Answers, told_fault}
+use Rattle.witx_walk.specs.Answers as walk
+use Rattle.witx_walk.specs.declared.error.WitxError.{WitxError}
+use Rattle.witx_walk.specs.declared.error.WitxError.TheVariants as witx_error
+use Rattle.witx_adapt.specs.declared.adapted.Adapted.{Adapted}
+use Rattle.witx_adapt.specs.declared.error.DocumentError.{DocumentError}
+use Rattle.witx_adapt.specs.declared.error.DocumentError.TheVariants as document_error
+use Rattle.witx_adapt.specs.Adaptable.{IsAdaptable, Refuses, first_large}
+use Rattle.witx.specs.declared.error.AdaptError.{AdaptError}
+use Rattle.witx.specs.declared.error.AdaptError.TheVariants as adapt_error
+use Rattle.witx.specs.declared.words.Command.{Command}
+use Rattle.witx.specs.declared.words.Command.TheVariants as command
+use Rattle.witx.specs.Adapting.{AdaptRefuses, AdaptRefusesBundle, IsParsed, IsTextRefusal, Parses, defined}
+use Rattle.witx.specs.Reports.{CommandRefuses, IsAdaptReport, IsTextReport}
+use Rattle.witx.specs.Causes.{IsCause, IsOutput, IsValidFor}
+
+-- a refusal where no call failed is the verdict
+refusal-ends : (w : World Fault) (at : Place) (before now : ℕ) (e : WitxError) → (Rose before now → ⊥) → IsTextRefusal e → walk.Refuses w at before now e
+    → (r : Refusal Fault) × Ends w at (refused r)
+refusal-ends w at before now (witx_error.BadPath p) none i h = (bad_path p, h.1)
+refusal-ends w at before now (witx_error.TooManyFiles p) none i h = (too_many p, h.1)
+refusal-ends w at before now (witx_error.Io p NotFound) none i h = (missing p, h.1)
+refusal-ends w at before now (witx_error.Io p LineNotFound) none i h = absurd h
+refusal-ends w at before now (witx_error.Io p Failed) none i h = absurd (none h.0)
+refusal-ends w at before now (witx_error.Parse e) none i h = (unreadable e.path (told_fault e), h.1)
+refusal-ends w at before now (witx_error.Validation e) none i h = (faulty (fault_of e), h.1)
+refusal-ends w at before now witx_error.OutOfMemory none i h = absurd i
+
+not-both : (w : World Fault) (handed : List Path) (ds : List DefinitionTree) (before now : ℕ) (e : WitxError) → (Rose before now → ⊥) → MeansDocument w handed ds
+    → IsTextRefusal e → walk.Refuses w (beginning handed) before now e → ⊥
+not-both w handed ds before now e none (declared, (means, made)) i h =
+    let k = refusal-ends w (beginning handed) before now e none i h in
+    let same : fine declared ≡ refused k.0 = one-verdict w handed (fine declared) (refused k.0) (means-fine w handed declared means.0 means.1.0 means.1.1) k.1 in
+    cc
+
+-- the verdict of these declarations, of the faults of the checker
+abbrev fine-of : List Declared → Verdict Fault
+fine-of declared = fine declared
+
+same-document : (w : World Fault) (handed : List Path) (ds es : List DefinitionTree) → MeansDocument w handed ds → MeansDocument w handed es → ds ≡ es
+same-document w handed ds es (declared, (means, made)) (other, (meant, done)) =
+    let same : fine-of declared ≡ fine-of other = one-verdict w handed (fine-of declared) (fine-of other) (means-fine w handed declared means.0 means.1.0 means.1.1) (means-fine w handed other meant.0 meant.1.0 meant.1.1) in
+    let k : declared ≡ other = cc in
+    made ∙ ap definitions_of k ∙ sym done
+
+-- no count rises from 0 to 0
+never-rose : Rose 0 0 → ⊥
+never-rose rose = omega arith
+
+-- an adaptable document isn't refused
+tag-excluded : (m : Option Misfit) (t : TagTooNarrow) → m ≡ None → tag_refusal m ≡ Err t → ⊥
+tag-excluded None t h e = cc
+tag-excluded (Some m) t h e = cc
+
+-- any refusal of a document but want of memory
+IsDocumentRefusal : DocumentError → Type 0
+IsDocumentRefusal document_error.OutOfMemory = ⊥
+IsDocumentRefusal _ = Unit {0}
+
+document-excluded : (ds : List DefinitionTree) (e : DocumentError) → IsAdaptable ds → IsDocumentRefusal e → Refuses ds e → ⊥
+unfolding IsDocumentRefusal
+document-excluded ds (document_error.TagTooNarrow t) a i h = tag-excluded (first_misfit ds) t a.fits h
+document-excluded ds (document_error.TooLarge n) a i h = let l = a.sizes in let m = h.1 in cc
+document-excluded ds (document_error.Unlowerable m f p) a i h = let l = a.lowerable in let k = h.2 in cc
+document-excluded ds document_error.OutOfMemory a i h = absurd i
+
+sizes-excluded : (sizes : List ℕ) → All (λ size. size < 2 ^ 64) sizes → Any (λ size. 2 ^ 64 ≤ size) sizes → ⊥
+sizes-excluded sizes a (k, x, l, e, h) = let small : get_or sizes k x < 2 ^ 64 = a k x l in omega (arith, small, e, h)
+
+abbrev world-with : Reading → (Path → Option (List ℕ)) → World Fault
+world-with reading texts = record { text_at = texts; canonical = canonical []; reading = reading; fault_of = fault_behind }
+
+same-world : (fs gs : Files) (reading : Reading) → ((q : Path) → held fs q ≡ held gs q) → world fs [] reading ≡ world gs [] reading
+same-world fs gs reading h =
+    ap (λ (texts : Path → Option (List ℕ)). world-with reading texts) (fun_ext h)
+
+module _ (reading : Reading) (is : IsReading reading) (fs gs : Files) (same : (q : Path) → held fs q ≡ held gs q) (handed : List Path) where
+  here-answers : (r : Answer) → Parses gs handed r → Answers (world gs [] reading) handed 0 0 r
+  unfolding IsParsed
+  here-answers r h = h gs [] reading refl refl is
+
+  there-answers : (r : Answer) → Parses fs handed r → Answers (world gs [] reading) handed 0 0 r
+  unfolding IsParsed
+  there-answers r h = subst (λ w. Answers w handed 0 0 r) (same-world fs gs reading same) (h fs [] reading refl refl is)
+
+  text-excluded : (ds : List DefinitionTree) (e : WitxError) → Parses gs handed (Ok ds) → IsTextRefusal e → Parses fs handed (Err e) → ⊥
+  text-excluded ds e p i h = not-both (world gs [] reading) handed ds 0 0 e never-rose (here-answers (Ok ds) p).1 i (there-answers (Err e) h)
+
+  parses-same : (ds es : List DefinitionTree) → Parses gs handed (Ok ds) → Parses fs handed (Ok es) → es ≡ ds
+  parses-same ds es p h = same-document (world gs [] reading) handed es ds (there-answers (Ok es) h).1 (here-answers (Ok ds) p).1
+
+  meant-excluded : (ds es : List DefinitionTree) (e : DocumentError) → Parses gs handed (Ok ds) → IsAdaptable ds → IsDocumentRefusal e → Parses fs handed (Ok es) → Refuses es e → ⊥
+  meant-excluded ds es e p a i h r = document-excluded ds e a i (subst (λ xs. Refuses xs e) (parses-same ds es p h) r)
+
+  adapt-excluded : (ds : List DefinitionTree) → Parses gs handed (Ok ds) → IsAdaptable ds → (e : AdaptError) (report : List ℕ) → IsAdaptReport fs handed e report → AdaptRefusesBundle fs handed e → ⊥
+  unfolding IsDocumentRefusal IsAdaptReport AdaptRefusesBundle
+  adapt-excluded ds p a (adapt_error.Refused e) report i h = text-excluded ds e p h.0 h.1
+  adapt-excluded ds p a (adapt_error.TagTooNarrow t) report i h = meant-excluded ds h.0 (document_error.TagTooNarrow t) p a tt h.1 h.2
+  adapt-excluded ds p a (adapt_error.TooLarge n) report i h = meant-excluded ds h.0 (document_error.TooLarge n) p a tt h.1 h.2
+  adapt-excluded ds p a (adapt_error.Unlowerable m f q) report i h = meant-excluded ds h.0 (document_error.Unlowerable m f q) p a tt h.1 h.2
+  adapt-excluded ds p a adapt_error.OutOfMemory report i h = absurd i
+
+  layouts-excluded : (ds : List DefinitionTree) → Parses gs handed (Ok ds) → All (λ size. size < 2 ^ 64) (typename_sizes ds) → (report : List ℕ) → CommandRefuses command.Layouts fs handed report → ⊥
+  unfolding CommandRefuses IsTextReport
+  layouts-excluded ds p a report (inl (e, h, k)) = text-excluded ds e p k.0 h
+  layouts-excluded ds p a report (inr (es, h, k)) =
+      sizes-excluded (typename_sizes ds) a (subst (λ xs. Any (λ size. 2 ^ 64 ≤ size) (typename_sizes xs)) (parses-same ds es p h) k.0)
+
+  -- a command that has its output doesn't refuse
+  pub output-excluded : (c : Command) (text : List ℕ) (adapted : Option Adapted) (report : List ℕ) → IsOutput (Some c) gs handed text adapted → CommandRefuses c fs handed report → ⊥
+  unfolding IsOutput CommandRefuses
+  output-excluded command.Adapt text (Some a) report o (e, h, k) = adapt-excluded (defined a) o.0 o.1.adaptable e report k h
+  output-excluded command.Adapt text None report o h = absurd o
+  output-excluded command.Layouts text (Some a) report o h = absurd o
+  output-excluded command.Layouts text None report (ds, p, all, k) h = layouts-excluded ds p all report h
+
+  -- valid input isn't refused
+  pub valid-excluded : (c : Command) (report : List ℕ) → IsValidFor c gs handed → CommandRefuses c fs handed report → ⊥
+  unfolding CommandRefuses
+  valid-excluded command.Adapt report (ds, p, a) (e, h, k) = adapt-excluded ds p a e report k h
+  valid-excluded command.Layouts report (ds, p, all) h = layouts-excluded ds p all report h
+
+-- told files and aliases that mean a document, over any reader
+module _ (reading : Reading) (is : IsReading reading) (files : Files) (aliases : Aliases) (handed : List Path) (ds : List DefinitionTree) where
+  told-answers : (before now : ℕ) (r : Answer) → IsParsed (Some files) (Some aliases) handed before now r → Answers (world files aliases reading) handed before now r
+  unfolding IsParsed
+  told-answers before now r h = h files aliases reading refl refl is
+
+  told-means : IsParsed (Some files) (Some aliases) handed 0 0 (Ok ds) → MeansDocument (world files aliases reading) handed ds
+  told-means p = (told-answers 0 0 (Ok ds) p).1
+
+  told-excluded : IsParsed (Some files) (Some aliases) handed 0 0 (Ok ds) → IsAdaptable ds → (before now : ℕ) (es : List DefinitionTree) (d : DocumentError) → IsDocumentRefusal d
+      → IsParsed (Some files) (Some aliases) handed before now (Ok es) → Refuses es d → ⊥
+  told-excluded p a before now es d i h r =
+      let same : es ≡ ds = same-document (world files aliases reading) handed es ds (told-answers before now (Ok es) h).1 (told-means p) in
+      document-excluded ds d a i (subst (λ xs. Refuses xs d) same r)
+
+  pub valid-files : IsParsed (Some files) (Some aliases) handed 0 0 (Ok ds) → IsAdaptable ds → (before now : ℕ) (e : AdaptError) → (Rose before now → ⊥)
+      → AdaptRefuses (Some files) (Some aliases) handed before now e → e ≡ adapt_error.OutOfMemory
+  unfolding IsDocumentRefusal
+  valid-files p a before now (adapt_error.Refused e) none h =
+      absurd (not-both (world files aliases reading) handed ds before now e none (told-means p) h.0 (told-answers before now (Err e) h.1))
+  valid-files p a before now (adapt_error.TagTooNarrow t) none h = absurd (told-excluded p a before now h.0 (document_error.TagTooNarrow t) tt h.1 h.2)
+  valid-files p a before now (adapt_error.TooLarge n) none h = absurd (told-excluded p a before now h.0 (document_error.TooLarge n) tt h.1 h.2)
+  valid-files p a before now (adapt_error.Unlowerable m f q) none h = absurd (told-excluded p a before now h.0 (document_error.Unlowerable m f q) tt h.1 h.2)
+  valid-files p a before now adapt_error.OutOfMemory none h = refl
+
+-- the files of one bundle tell the same texts
+pub same-files : (bytes : List ℕ) (fs gs : Files) → IsRead bytes (Ok fs) → IsRead bytes (Ok gs) → (q : Path) → held fs q ≡ held gs q
+same-files bytes fs gs h k q = h.3 q ∙ sym (k.3 q)
+
+-- the bytes of a bundle aren't refused as one
+pub bundle-excluded : (bytes : List ℕ) (files : Files) (e : BundleError) → IsRead bytes (Ok files) → IsCause e → IsRead bytes (Err e) → ⊥
+bundle-excluded bytes files bundle.TooLong h i k = let small : length bytes ≤ limit = h.0 in omega (arith, small, k)
+bundle-excluded bytes files (bundle.NotUtf8 at) h i k = k.1 h.1
+bundle-excluded bytes files (bundle.BeforeFirst at) h i k = let a = h.2 in let b = k.2 in cc
+bundle-excluded bytes files bundle.OutOfMemory h i k = absurd i

@@ -1,0 +1,81 @@
+-- What holds of an output holds of the value that is kept of it, where it was written whole.
+use Rattle.std.specs.Prelude.{◌≡◌, ℕ, List, All, Bool, true, false, cond, ◌==◌, if◌then◌else◌, Option, Some, None, Ok, IfSome, IsSome, map}
+use Rattle.std.proofs.Common.{refl, sym, ap, ◌∙◌, subst}
+use Rattle.std.proofs.lemmas.Bool.{eqb-true, eq-eqb}
+use Rattle.std.specs.Io.KnownBytes.{Appends}
+use Rattle.witx_base.specs.Paths.{Path}
+use Rattle.witx_files.specs.Files.{Files}
+use Rattle.witx_adapt.specs.declared.adapted.Adapted.{Adapted}
+use Rattle.witx_adapt.specs.Entries.{IsFaithful, all_functions, all_layouts, entry_for, entry_of}
+use Rattle.witx_adapt.specs.Listings.{listing_text}
+use Rattle.witx.specs.declared.words.Command.{Command}
+use Rattle.witx.specs.declared.words.Command.TheVariants as command
+use Rattle.witx.specs.Adapting.{IsAdapted, Parses, defined}
+use Rattle.witx.specs.Causes.{IsAnswered, IsMeaning, IsOutput, Reads}
+
+-- the facts of a listed value
+pub record IsListed (form : Option Command) (files : Files) (handed : List Path) (text : List ℕ) (a : Adapted) : Type 0 where
+  pub is_adapt : form ≡ Some command.Adapt
+  pub meant : Parses files handed (Ok (defined a))
+  pub parts : IsAdapted a
+  pub listed : text ≡ listing_text a
+
+listed-output : (form : Option Command) (files : Files) (handed : List Path) (text : List ℕ) (a : Adapted) → IsOutput form files handed text (Some a) → IsListed form files handed text a
+unfolding IsOutput
+listed-output None files handed text a h = absurd h
+listed-output (Some command.Adapt) files handed text a h = record { is_adapt = refl; meant = h.0; parts = h.1; listed = h.2 }
+listed-output (Some command.Layouts) files handed text a h = absurd h
+
+-- adapt's output has a value
+has-value : (files : Files) (handed : List Path) (text : List ℕ) (adapted : Option Adapted) → IsOutput (Some command.Adapt) files handed text adapted → IsSome adapted
+unfolding IsOutput
+has-value files handed text (Some a) h = refl
+has-value files handed text None h = absurd h
+
+meaning-of : (left : Option (List ℕ)) (files : Files) (handed : List Path) (a : Adapted) → Reads left (Ok files) → Parses files handed (Ok (defined a)) → IsMeaning left handed (defined a)
+meaning-of None files handed a r p = tt
+meaning-of (Some bytes) files handed a r p = (files, r, p)
+
+-- the value that is kept has what the output's value has
+kept-if : (b : Bool) (adapted r : Option Adapted) (P : Adapted → Type 0) → r ≡ cond b adapted None → (b ≡ true → IfSome adapted P) → IfSome r P
+kept-if true adapted r P e h = subst (λ o. IfSome o P) (sym e) (h refl)
+kept-if false adapted r P e h = subst (λ o. IfSome o P) (sym e) tt
+
+some-is : (Q : Type 0) (r : Option Adapted) → IsSome r → IfSome r (λ v. Q) → Q
+some-is Q (Some a) i h = h
+some-is Q None i h = absurd (cc)
+
+-- each value of an output is listed in it
+listed-in : (form : Option Command) (files : Files) (handed : List Path) (text : List ℕ) (adapted : Option Adapted) (P : Adapted → Type 0) → IsOutput form files handed text adapted
+    → ((a : Adapted) → IsListed form files handed text a → P a) → IfSome adapted P
+listed-in form files handed text None P o h = tt
+listed-in form files handed text (Some a) P o h = h a (listed-output form files handed text a o)
+
+module _ (form : Option Command) (left after : Option (List ℕ)) (handed : List Path) (before now : ℕ) (text : List ℕ) (adapted r : Option Adapted) (status : ℕ)
+    (x : IsAnswered form left after handed before now text adapted) (e : r ≡ (if status == 0 then adapted else None)) where
+  kept : (P : Adapted → Type 0) → (status ≡ 0 → (a : Adapted) → IsListed form x.files handed text a → P a) → IfSome r P
+  kept P h = kept-if (status == 0) adapted r P e (λ z. listed-in form x.files handed text adapted P x.output (h (eqb-true status 0 z)))
+
+  pub kept-listing : (a b : Option (List ℕ)) → (status ≡ 0 → Appends a b text) → IfSome r (λ v. Appends a b (listing_text v))
+  kept-listing a b h = kept (λ v. Appends a b (listing_text v)) (λ z v l. subst (Appends a b) l.listed (h z))
+
+  pub kept-document : IfSome r (λ v. IsMeaning left handed (defined v))
+  kept-document = kept (λ v. IsMeaning left handed (defined v)) (λ z v l. meaning-of left x.files handed v x.bundle l.meant)
+
+  pub kept-functions : IfSome r (λ v. map entry_of v.functions ≡ map entry_for (all_functions (defined v)))
+  kept-functions = kept (λ v. map entry_of v.functions ≡ map entry_for (all_functions (defined v))) (λ z v l. l.parts.functions)
+
+  pub kept-layouts : IfSome r (λ v. v.layouts ≡ all_layouts (defined v))
+  kept-layouts = kept (λ v. v.layouts ≡ all_layouts (defined v)) (λ z v l. l.parts.layouts)
+
+  pub kept-faithful : IfSome r (λ v. All IsFaithful v.functions)
+  kept-faithful = kept (λ v. All IsFaithful v.functions) (λ z v l. l.parts.faithful)
+
+  pub kept-adapted : IsSome r → (status ≡ 0) × (form ≡ Some command.Adapt)
+  kept-adapted i = some-is ((status ≡ 0) × (form ≡ Some command.Adapt)) r i (kept (λ v. (status ≡ 0) × (form ≡ Some command.Adapt)) (λ z v l. (z, l.is_adapt)))
+
+  pub kept-done : status ≡ 0 → IsAnswered form left after handed before now text r
+  kept-done z = subst (IsAnswered form left after handed before now text) (sym (e ∙ ap (λ b. cond b adapted None) (eq-eqb status 0 z))) x
+
+  pub kept-listed : status ≡ 0 → form ≡ Some command.Adapt → IsSome r
+  kept-listed z f = let y = kept-done z in has-value y.files handed text r (subst (λ o. IsOutput o y.files handed text r) f y.output)

@@ -1,0 +1,103 @@
+-- The report of a command's refusal, byte for byte. The names in it are those of the document that the files mean.
+use Rattle.std.specs.Prelude.{◌≡◌, ◌⊎◌, ℕ, ◌^◌, ◌≤◌, List, [], ◌++◌, Any, Option, Some, None, Ok, Err, slice_get, codes}
+use Rattle.std.specs.Option.{option_and_then}
+use Rattle.std.specs.Fmt.{decimal}
+use Rattle.witx_base.specs.Paths.{Path}
+use Rattle.witx_files.specs.Files.{Files}
+use Rattle.witx_ast.specs.Tree.{Field}
+use Rattle.witx_ast.specs.Functions.{FunctionTree}
+use Rattle.witx_ast.specs.Items.{func_called}
+use Rattle.witx_ast.specs.Definitions.{DefinitionTree, typename_of, module_of, constant_of, ModuleTree, module_called}
+use Rattle.witx_layout.specs.declared.tags.TagTooNarrow.{TagTooNarrow}
+use Rattle.witx_layout.specs.LayoutsText.{typename_sizes}
+use Rattle.witx_machine.specs.declared.surface.Place.{Place}
+use Rattle.witx_walk.specs.declared.error.WitxError.{WitxError}
+use Rattle.witx_walk.specs.ErrorReports.{IsErrorReport}
+use Rattle.witx.specs.declared.words.Command.{Command}
+use Rattle.witx.specs.declared.words.Command.TheVariants as command
+use Rattle.witx.specs.declared.error.AdaptError.{AdaptError}
+use Rattle.witx.specs.declared.error.AdaptError.TheVariants as adapt_error
+use Rattle.witx.specs.Adapting.{AdaptRefusesBundle, IsTextRefusal, Parses}
+
+abbrev pub definition_name : DefinitionTree → List ℕ
+definition_name (typename_of name t docs) = name
+definition_name (module_of m) = m.name
+definition_name (constant_of c) = c.name
+
+abbrev pub name_or_nothing : Option DefinitionTree → List ℕ
+name_or_nothing None = []
+name_or_nothing (Some d) = definition_name d
+
+-- the name of the definition of this number
+abbrev pub name_at : List DefinitionTree → ℕ → List ℕ
+name_at ds n = name_or_nothing (slice_get ds n)
+
+-- a name in backquotes, before what is said of it
+abbrev pub named_text : List ℕ → List ℕ
+named_text name = codes "`" ++ (name ++ codes "`: ")
+
+abbrev pub counts_text : (count most : ℕ) → List ℕ
+counts_text count most = decimal count ++ (codes " flags or cases, at most " ++ decimal most)
+
+abbrev pub tag_report : List ℕ → TagTooNarrow → List ℕ
+tag_report name t = named_text name ++ counts_text t.count t.most
+
+abbrev pub size_report : List ℕ → List ℕ
+size_report name = named_text name ++ codes "size too large"
+
+-- a parameter or a result of a function, at its place
+abbrev pub field_at : FunctionTree → Place → Option Field
+field_at f (Place.Param i) = slice_get f.params i
+field_at f (Place.Result i) = slice_get f.results i
+
+abbrev pub field_name : Option Field → List ℕ
+field_name None = []
+field_name (Some p) = p.called
+
+-- the name of that part of the function of the module
+abbrev pub part_name : List DefinitionTree → (owner function : List ℕ) → Place → List ℕ
+part_name ds owner function place =
+    field_name (option_and_then (λ f. field_at f place) (option_and_then (λ (m : ModuleTree). func_called m.items function) (module_called ds owner)))
+
+abbrev pub part_word : Place → List ℕ
+part_word (Place.Param i) = codes "parameter"
+part_word (Place.Result i) = codes "result"
+
+abbrev pub owner_text : List ℕ → List ℕ
+owner_text owner = codes "` of module `" ++ (owner ++ codes "`: ")
+
+abbrev pub function_text : (owner function : List ℕ) → List ℕ
+function_text owner function = codes "function `" ++ (function ++ owner_text owner)
+
+abbrev pub refused_text : List ℕ → List ℕ
+refused_text part = codes " `" ++ (part ++ codes "` cannot be lowered")
+
+abbrev pub part_text : (word part : List ℕ) → List ℕ
+part_text word part = word ++ refused_text part
+
+abbrev pub unlowerable_report : (owner function : List ℕ) → Place → (part : List ℕ) → List ℕ
+unlowerable_report owner function place part = function_text owner function ++ part_text (part_word place) part
+
+-- the report of a refusal of texts
+unfoldable pub IsTextReport : Files → WitxError → List ℕ → Type 0
+IsTextReport files e report = IsTextRefusal e × IsErrorReport (Some files) e 0 0 (Ok report)
+
+-- the report of each refusal of adapt, over the files of a bundle
+unfoldable pub IsAdaptReport : Files → List Path → AdaptError → List ℕ → Type 0
+IsAdaptReport files handed (adapt_error.Refused e) report = IsTextReport files e report
+IsAdaptReport files handed (adapt_error.TagTooNarrow t) report = (ds : List DefinitionTree) × Parses files handed (Ok ds) × (report ≡ tag_report (name_at ds t.definition) t)
+IsAdaptReport files handed (adapt_error.TooLarge n) report = (ds : List DefinitionTree) × Parses files handed (Ok ds) × (report ≡ size_report (name_at ds n))
+IsAdaptReport files handed (adapt_error.Unlowerable m f p) report =
+    (ds : List DefinitionTree) × Parses files handed (Ok ds) × (report ≡ unlowerable_report m f p (part_name ds m f p))
+IsAdaptReport files handed adapt_error.OutOfMemory report = ⊥
+
+-- the report where a typename is too large for its layout to be shown
+abbrev pub IsSizeReport : List DefinitionTree → List ℕ → Type 0
+IsSizeReport ds report = Any (λ size. 2 ^ 64 ≤ size) (typename_sizes ds) × (report ≡ codes "size too large")
+
+-- the command's call refuses the files of a bundle, with this report
+unfoldable pub CommandRefuses : Command → Files → List Path → List ℕ → Type 0
+CommandRefuses command.Adapt files handed report = (e : AdaptError) × AdaptRefusesBundle files handed e × IsAdaptReport files handed e report
+CommandRefuses command.Layouts files handed report =
+    ((e : WitxError) × Parses files handed (Err e) × IsTextReport files e report)
+    ⊎ ((ds : List DefinitionTree) × Parses files handed (Ok ds) × IsSizeReport ds report)

@@ -1,0 +1,146 @@
+ghost use Rattle.std.specs.Prelude.{◌≡◌, ◌^◌, ◌<◌, All, IfErr, IfOk, None, Ok, OnOk, Some, codes, map};
+ghost use Rattle.witx_ast.specs.Definitions.{definition_tree};
+ghost use Rattle.witx_adapt.specs.Listings.{listing_text};
+ghost use Rattle.witx_layout.specs.LayoutsText.{layouts_text as text_of_layouts, typename_sizes};
+ghost use Rattle.witx.specs.Adapting.{AdaptRefusesBundle, IsAdapted, Parses, defined};
+ghost use Rattle.witx.specs.Causes.{IsOutput};
+ghost use Rattle.witx.specs.Reports.{CommandRefuses, IsAdaptReport, IsSizeReport, IsTextReport};
+ghost use Rattle.witx.specs.Stops.{StopsWith};
+
+use crate::adapting::adapt;
+use crate::error::AdaptError;
+use crate::parsing::{parsed_bundle, text_report};
+use crate::refusal::{Refusal, Stop};
+use crate::report::adapt_report;
+use crate::words::Command;
+use std::alloc::Global;
+use witx_adapt::{Adapted, listing};
+use witx_ast::Document;
+use witx_base::{Text, WitxPath};
+use witx_files::MockFs;
+use witx_layout::{LayoutError, layouts_text};
+use witx_walk::WitxError;
+
+/// What a command is to write, and the value that it lists.
+#[derive(Debug, Drop)]
+pub struct Output {
+    pub text: Text,
+    pub adapted: Option<Adapted>,
+}
+
+/// The output of a command over the files of a bundle.
+pub fn perform(
+    alloc: Global,
+    command: Command,
+    paths: &[WitxPath],
+    files: &mut MockFs,
+) -> Result<Output, Stop>
+    ensures output { IfOk result (λ o. IsOutput (Some command) files.old paths.now o.text o.adapted) }
+    ensures stopped { IfErr result (StopsWith (CommandRefuses command files.old paths.now)) }
+{
+    match command {
+        Command::Adapt => adapt_files(alloc, paths, files),
+        Command::Layouts => layouts_of_files(alloc, paths, files),
+    }
+}
+
+/// The adapted document that the files of a bundle mean.
+#[tactic(auto, using(crate::proofs::Refusing::bundle_rules), unfolding(crate::specs::Adapting::AdaptRefusesBundle))]
+fn adapted_bundle(
+    alloc: Global,
+    paths: &[WitxPath],
+    files: &mut MockFs,
+) -> Result<Adapted, AdaptError>
+    ensures document { IfOk result (λ a. Parses files.old paths.now (Ok (defined a))) }
+    ensures parts { IfOk result IsAdapted }
+    ensures refused { IfErr result (AdaptRefusesBundle files.old paths.now) }
+    ensures kept { files.new ≡ files.old }
+{
+    adapt(alloc, paths, files)
+}
+
+/// The listing of the adapted document that the files mean.
+#[tactic(auto, using(crate::proofs::Refusing::command_rules))]
+fn adapt_files(alloc: Global, paths: &[WitxPath], files: &mut MockFs) -> Result<Output, Stop>
+    ensures output { IfOk result (λ o. IsOutput (Some Command.Adapt) files.old paths.now o.text o.adapted) }
+    ensures stopped { IfErr result (StopsWith (CommandRefuses Command.Adapt files.old paths.now)) }
+{
+    match adapted_bundle(alloc, paths, files) {
+        Ok(adapted) => listed(alloc, adapted),
+        Err(error) => Err(adapt_stop(alloc, paths, files, &error)),
+    }
+}
+
+/// An adapted document with its listing.
+fn listed(alloc: Global, adapted: Adapted) -> Result<Output, Stop>
+    ensures text { IfOk result (λ o. o.text ≡ listing_text adapted) }
+    ensures value { IfOk result (λ o. o.adapted ≡ Some adapted) }
+    ensures memory { IfErr result (λ e. e ≡ Stop.OutOfMemory) }
+{
+    match listing(alloc, &adapted) {
+        Ok(text) => Ok(Output {
+            text,
+            adapted: Some(adapted),
+        }),
+        Err(_) => Err(Stop::OutOfMemory),
+    }
+}
+
+/// The end of a run whose files `adapt` refuses.
+fn adapt_stop(alloc: Global, paths: &[WitxPath], files: &mut MockFs, error: &AdaptError) -> Stop
+    ensures { StopsWith (IsAdaptReport files.old paths.now error.now) result }
+{
+    match adapt_report(alloc, paths, files, error) {
+        Ok(report) => Stop::Refused(Refusal::Command(report)),
+        Err(_) => Stop::OutOfMemory,
+    }
+}
+
+/// The layouts of the typenames of the document that the files mean.
+#[tactic(auto, using(crate::proofs::Refusing::command_rules))]
+fn layouts_of_files(alloc: Global, paths: &[WitxPath], files: &mut MockFs) -> Result<Output, Stop>
+    ensures output { IfOk result (λ o. IsOutput (Some Command.Layouts) files.old paths.now o.text o.adapted) }
+    ensures stopped { IfErr result (StopsWith (CommandRefuses Command.Layouts files.old paths.now)) }
+{
+    match parsed_bundle(alloc, paths, files) {
+        Ok(document) => document_layouts(alloc, &document),
+        Err(error) => Err(text_stop(alloc, files, &error)),
+    }
+}
+
+/// The layouts of a document.
+#[tactic(auto, using(crate::proofs::Refusing::command_rules))]
+fn document_layouts(alloc: Global, document: &Document) -> Result<Output, Stop>
+    ensures text { IfOk result (λ o. o.text ≡ text_of_layouts (map definition_tree document.now.definitions)) }
+    ensures sizes { OnOk result (All (λ size. size < 2 ^ 64) (typename_sizes (map definition_tree document.now.definitions))) }
+    ensures value { IfOk result (λ o. o.adapted ≡ None) }
+    ensures too_large { IfErr result (StopsWith (IsSizeReport (map definition_tree document.now.definitions))) }
+{
+    match layouts_text(alloc, document) {
+        Ok(text) => Ok(Output {
+            text,
+            adapted: None,
+        }),
+        Err(LayoutError::TooLarge) => Err(too_large(alloc)),
+        Err(LayoutError::OutOfMemory) => Err(Stop::OutOfMemory),
+    }
+}
+
+fn too_large(alloc: Global) -> Stop
+    ensures { StopsWith (λ report. report ≡ codes "size too large") result }
+{
+    match Text::new(alloc, "size too large") {
+        Ok(report) => Stop::Refused(Refusal::Command(report)),
+        Err(_) => Stop::OutOfMemory,
+    }
+}
+
+/// The end of a run whose files mean no document.
+fn text_stop(alloc: Global, files: &mut MockFs, error: &WitxError) -> Stop
+    ensures { StopsWith (IsTextReport files.old error.now) result }
+{
+    match text_report(alloc, files, error) {
+        Ok(report) => Stop::Refused(Refusal::Command(report)),
+        Err(_) => Stop::OutOfMemory,
+    }
+}
