@@ -11,8 +11,6 @@ mod modules;
 mod parts;
 mod report;
 mod scope;
-#[cfg(test)]
-mod tests;
 mod typenames;
 mod types;
 mod validate;
