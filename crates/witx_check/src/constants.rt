@@ -5,12 +5,12 @@ ghost use Rattle.witx_check.specs.Blame.{Blames};
 ghost use Rattle.witx_check.specs.Constants.{repeated_constant};
 
 use crate::error::CheckError;
+use crate::place::SharedPlace;
 use crate::scope::known;
 use std::alloc::Global;
 use std::collections::BTreeMap;
 use witx_ast::Constant;
 use witx_base::Id;
-use witx_files::Location;
 use witx_tree::{ConstSyntax, Documented};
 
 /// A constant goes by its type's name and its own.
@@ -21,13 +21,13 @@ pub struct ConstantName {
 }
 
 /// The accepted constants, and where the name of each stands.
-pub type ConstantPlaces = BTreeMap<ConstantName, Location>;
+pub type ConstantPlaces = BTreeMap<ConstantName, SharedPlace>;
 
 /// The constant of a declaration whose name stands at `place`, if none of its type has the name.
 #[tactic(auto, using(crate::proofs::ConstantKeys::key_rules))]
 pub fn checked_constant(
     places: &ConstantPlaces,
-    place: &Location,
+    place: &SharedPlace,
     alloc: Global,
     decl: &Documented<'_, ConstSyntax<'_>>,
 ) -> Result<Constant, CheckError>

@@ -9,6 +9,7 @@ mod laws;
 mod line_cursor;
 mod modules;
 mod parts;
+mod place;
 mod report;
 mod scope;
 mod typenames;
@@ -19,4 +20,8 @@ mod validator;
 pub use error::{CheckError, ValidationError};
 pub use laws::{names_by_position, nothing_by_position};
 pub use line_cursor::LineCursor;
+pub use place::SharedPath;
 pub use validator::{DocValidation, DocValidationScope};
+
+#[cfg(test)]
+mod tests;

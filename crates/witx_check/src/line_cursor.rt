@@ -2,8 +2,8 @@ ghost use Rattle.std.specs.Prelude.{◌≡◌, ◌≤◌, length, IfOk};
 ghost use Rattle.witx_lex.specs.Places.{line_at, column_at};
 ghost use Rattle.witx_check.specs.Places.{location_in};
 
-use witx_base::{Duplicate, OutOfMemory, WitxPath};
-use witx_files::Location;
+use crate::place::{SharedPath, SharedPlace};
+use witx_base::OutOfMemory;
 use witx_lex::line_column;
 
 /// A text and a place in it, from which the lines and columns of later places are counted. So
@@ -33,19 +33,15 @@ impl<'a> LineCursor<'a> {
         }
     }
 
-    /// The location of the byte at an offset, in the file at `path`. The cursor moves on to the
-    /// offset, unless that comes before the cursor; then the line is counted from the start.
+    /// The place of the byte at an offset, in the file at `path`. The cursor moves on to the offset,
+    /// unless that comes before the cursor; then the line is counted from the start.
     #[tactic(auto, unfolding(crate::specs::Places::location_in))]
-    pub fn location(&mut self, path: &WitxPath, at: usize) -> Result<Location, OutOfMemory>
-        ensures location { IfOk result (λ l. l ≡ location_in self.old.text.now path.now at) }
+    pub fn place(&mut self, path: &SharedPath<'_>, at: usize) -> Result<SharedPlace, OutOfMemory>
+        ensures place { IfOk result (λ p. p ≡ location_in self.old.text.now path.now.path.now at) }
         ensures text { self.new.text.now ≡ self.old.text.now }
     {
         let (line, column) = self.line_column(at);
-        Ok(Location {
-            path: path.copy()?,
-            line,
-            column,
-        })
+        Ok(SharedPlace::new(path.share()?, line, column))
     }
 
     /// The line and the column of the byte at an offset.

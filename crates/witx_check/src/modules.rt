@@ -17,6 +17,7 @@ ghost use Rattle.witx_check.specs.Inside.{within, module_checks, module_meant, T
 
 use crate::error::CheckError;
 use crate::functions::checked_func;
+use crate::place::SharedPlace;
 use crate::scope::{Marks, Names, Scope, introduce, introduce_mark};
 use std::alloc::Global;
 use std::rc::Rc;
@@ -25,7 +26,6 @@ use witx_ast::{
     ModuleImportVariant,
 };
 use witx_base::{Duplicate, Id, OutOfMemory, WitxPath};
-use witx_files::Location;
 use witx_tree::{CommentSyntax, Documented, ModuleDeclSyntax, ModuleImportSyntax, ModuleSyntax};
 
 /// The items of a module, in order and by name.
@@ -144,7 +144,7 @@ pub fn checked_module(
     text: &str,
     path: &WitxPath,
     alloc: Global,
-    place: Location,
+    place: SharedPlace,
     decl: &ModuleSyntax<'_>,
     comments: &CommentSyntax<'_>,
 ) -> Result<Module, CheckError>

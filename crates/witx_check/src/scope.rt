@@ -8,6 +8,7 @@ ghost use Rattle.witx_check.specs.Senses.{here_of};
 ghost use Rattle.witx_ast.specs.Reads.{tree_of};
 
 use crate::error::{CheckError, ValidationError};
+use crate::place::SharedPlace;
 use std::alloc::Global;
 use witx_ast::{BuiltinType, Entries, Entry, TypeRef};
 use witx_base::{Duplicate, Id, NameMap, OutOfMemory, Text, WitxPath};
@@ -16,7 +17,7 @@ use witx_lex::line_column;
 use witx_tree::IdSyntax;
 
 /// Names of the document, and where each stands.
-pub type Names = NameMap<Location>;
+pub type Names = NameMap<SharedPlace>;
 
 /// Names inside one declaration, and the offset at which each stands.
 pub type Marks = NameMap<usize>;
@@ -237,19 +238,19 @@ pub fn bad_field(scope: &Scope<'_>, name: &str, reason: &'static str, at: usize)
 fn make_known(
     alloc: Global,
     name: &Id,
-    at: &Location,
-    before: &Location,
+    at: &SharedPlace,
+    before: &SharedPlace,
 ) -> Result<ValidationError, OutOfMemory>
     ensures { IfOk result (λ f. fault_of f ≡ name_already_exists name.now at.now before.now) }
 {
     Ok(ValidationError::NameAlreadyExists {
         name: Text::new(alloc, name.as_str())?,
-        at_location: at.copy()?,
-        previous_location: before.copy()?,
+        at_location: at.location()?,
+        previous_location: before.location()?,
     })
 }
 
-pub fn known(alloc: Global, name: &Id, at: &Location, before: &Location) -> CheckError
+pub fn known(alloc: Global, name: &Id, at: &SharedPlace, before: &SharedPlace) -> CheckError
     ensures { Blames result (Some (name_already_exists name.now at.now before.now)) }
 {
     fault(make_known(alloc, name, at, before))
@@ -314,7 +315,7 @@ pub fn introduce(
     names: &mut Names,
     alloc: Global,
     name: &str,
-    at: Location,
+    at: SharedPlace,
 ) -> Result<Id, CheckError>
     ensures ok { OnOk result (new_name names.old name.now at ≡ None) }
     ensures id { IfOk result (λ id. id ≡ name.now) }

@@ -12,12 +12,12 @@ ghost use Rattle.witx_check.specs.Answers.{IsFault};
 ghost use Rattle.witx_check.specs.Inside.{within, typename_checks, TakesAtMost, Refuses};
 
 use crate::error::CheckError;
+use crate::place::SharedPlace;
 use crate::scope::{Names, Scope, introduce};
 use crate::types::checked_type;
 use std::alloc::Global;
 use witx_ast::{Entries, NamedType};
 use witx_base::WitxPath;
-use witx_files::Location;
 use witx_tree::{CommentSyntax, TypenameSyntax};
 
 /// The named type of a declaration whose name stands at `place`, and is taken in before the type
@@ -29,7 +29,7 @@ pub fn checked_typename(
     text: &str,
     path: &WitxPath,
     alloc: Global,
-    place: Location,
+    place: SharedPlace,
     decl: &TypenameSyntax<'_>,
     comments: &CommentSyntax<'_>,
 ) -> Result<NamedType, CheckError>

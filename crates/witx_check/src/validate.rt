@@ -19,13 +19,13 @@ ghost use Rattle.witx_check.specs.Kept.{KeepsNames, entry_sense_of};
 use crate::constants::{ConstantName, ConstantPlaces, checked_constant};
 use crate::error::CheckError;
 use crate::modules::checked_module;
+use crate::place::SharedPlace;
 use crate::scope::Names;
 use crate::typenames::checked_typename;
 use std::alloc::Global;
 use std::rc::Rc;
 use witx_ast::{Definition, Definitions, Entries, Entry};
 use witx_base::{Duplicate, Id, OutOfMemory, WitxPath};
-use witx_files::Location;
 use witx_tree::{CommentSyntax, ConstSyntax, Documented, ModuleSyntax, TypenameSyntax};
 
 /// Puts a finished typename or module behind the definitions and under its name, or neither.
@@ -62,7 +62,7 @@ pub fn validate_typename(
     text: &str,
     path: &WitxPath,
     alloc: Global,
-    place: Location,
+    place: SharedPlace,
     decl: &TypenameSyntax<'_>,
     comments: &CommentSyntax<'_>,
     definitions: &mut Definitions,
@@ -114,7 +114,7 @@ pub fn validate_module(
     text: &str,
     path: &WitxPath,
     alloc: Global,
-    place: Location,
+    place: SharedPlace,
     decl: &ModuleSyntax<'_>,
     comments: &CommentSyntax<'_>,
     definitions: &mut Definitions,
@@ -162,7 +162,7 @@ pub fn validate_module(
 #[tactic(auto, using(crate::proofs::ConstantSteps::constant_rules))]
 pub fn validate_constant(
     places: &mut ConstantPlaces,
-    place: Location,
+    place: SharedPlace,
     alloc: Global,
     decl: &Documented<'_, ConstSyntax<'_>>,
     definitions: &mut Definitions,

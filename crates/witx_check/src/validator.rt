@@ -15,9 +15,11 @@ ghost use Rattle.witx_check.specs.Validators.{kept_by, nothing_kept};
 use crate::constants::ConstantPlaces;
 use crate::error::CheckError;
 use crate::line_cursor::LineCursor;
+use crate::place::{SharedPath, shared_path, with_shared};
 use crate::scope::Names;
 use crate::validate::{validate_constant, validate_module, validate_typename};
 use std::alloc::Global;
+use std::rc::Rc;
 use witx_ast::{Definitions, Document, Entries};
 use witx_base::{OutOfMemory, WitxPath};
 use witx_tree::{CommentSyntax, DeclSyntax};
@@ -29,6 +31,8 @@ pub struct DocValidation {
     names: Names,
     entries: Entries,
     constants: ConstantPlaces,
+    /// The path of the file that a scope was last at.
+    path: Option<Rc<WitxPath>>,
     alloc: Global,
 }
 
@@ -41,6 +45,7 @@ impl DocValidation {
             names: Names::new(alloc),
             entries: Entries::new(alloc),
             constants: ConstantPlaces::new(alloc),
+            path: None,
             alloc,
         })
     }
@@ -71,18 +76,18 @@ impl DocValidation {
     pub fn validate_decl(
         &mut self,
         lines: &mut LineCursor<'_>,
-        path: &WitxPath,
+        path: &SharedPath<'_>,
         decl: &DeclSyntax<'_>,
         comments: &CommentSyntax<'_>,
         definitions: &mut Definitions,
     ) -> Result<(), CheckError>
-        ensures ok { (past : Past) → OnOk result (Keeps (kept_by self.old) past → first_fault (decl_checks past (location_in lines.old.text.now path.now) (decl_form_of decl.now)) ≡ None) }
-        ensures appended { (past : Past) → OnOk result (Keeps (kept_by self.old) past → map definition_tree definitions.new ≡ map definition_tree definitions.old ++ decl_tree past (location_in lines.old.text.now path.now) (comments_view comments.now) (decl_form_of decl.now) ∷ []) }
-        ensures accepted { (past : Past) → OnOk result (Keeps (kept_by self.old) past → Keeps (kept_by self.new) (accepted past (location_in lines.old.text.now path.now) (comments_view comments.now) (decl_form_of decl.now))) }
-        ensures fault { (past : Past) → IfErr result (λ e. Keeps (kept_by self.old) past → Blames e (first_fault (decl_checks past (location_in lines.old.text.now path.now) (decl_form_of decl.now)))) }
-        ensures rejected { (past : Past) → IfErr result (λ e. IsFault e → Keeps (kept_by self.old) past → Keeps (kept_by self.new) (rejected past (location_in lines.old.text.now path.now) (decl_form_of decl.now))) }
+        ensures ok { (past : Past) → OnOk result (Keeps (kept_by self.old) past → first_fault (decl_checks past (location_in lines.old.text.now path.now.path.now) (decl_form_of decl.now)) ≡ None) }
+        ensures appended { (past : Past) → OnOk result (Keeps (kept_by self.old) past → map definition_tree definitions.new ≡ map definition_tree definitions.old ++ decl_tree past (location_in lines.old.text.now path.now.path.now) (comments_view comments.now) (decl_form_of decl.now) ∷ []) }
+        ensures accepted { (past : Past) → OnOk result (Keeps (kept_by self.old) past → Keeps (kept_by self.new) (accepted past (location_in lines.old.text.now path.now.path.now) (comments_view comments.now) (decl_form_of decl.now))) }
+        ensures fault { (past : Past) → IfErr result (λ e. Keeps (kept_by self.old) past → Blames e (first_fault (decl_checks past (location_in lines.old.text.now path.now.path.now) (decl_form_of decl.now)))) }
+        ensures rejected { (past : Past) → IfErr result (λ e. IsFault e → Keeps (kept_by self.old) past → Keeps (kept_by self.new) (rejected past (location_in lines.old.text.now path.now.path.now) (decl_form_of decl.now))) }
         ensures unchanged { OnErr result (definitions.new ≡ definitions.old) }
-        ensures out_of_memory { (past : Past) → OnErr result (Keeps (kept_by self.old) past → Keeps (kept_by self.new) past ⊎ Keeps (kept_by self.new) (rejected past (location_in lines.old.text.now path.now) (decl_form_of decl.now))) }
+        ensures out_of_memory { (past : Past) → OnErr result (Keeps (kept_by self.old) past → Keeps (kept_by self.new) past ⊎ Keeps (kept_by self.new) (rejected past (location_in lines.old.text.now path.now.path.now) (decl_form_of decl.now))) }
         ensures fits { (past : Past) → Keeps (kept_by self.old) past → DefinitionsFit definitions.old (kept_by self.old).entries → DefinitionsFit definitions.new (kept_by self.new).entries }
         ensures ordered { DefinitionsFit definitions.old (kept_by self.old).entries → IsOrdered (map definition_tree definitions.old) → IsOrdered (map definition_tree definitions.new) }
         ensures closed { DefinitionsFit definitions.old (kept_by self.old).entries → IsClosed (map definition_tree definitions.old) → IsClosed (map definition_tree definitions.new) }
@@ -91,12 +96,12 @@ impl DocValidation {
         let text = lines.text;
         match decl {
             DeclSyntax::Typename(decl) => {
-                let place = lines.location(path, decl.ident.span.start)?;
+                let place = lines.place(path, decl.ident.span.start)?;
                 validate_typename(
                     &mut self.names,
                     &mut self.entries,
                     text,
-                    path,
+                    path.path,
                     self.alloc,
                     place,
                     decl,
@@ -105,12 +110,12 @@ impl DocValidation {
                 )
             }
             DeclSyntax::Module(decl) => {
-                let place = lines.location(path, decl.name.span.start)?;
+                let place = lines.place(path, decl.name.span.start)?;
                 validate_module(
                     &mut self.names,
                     &mut self.entries,
                     text,
-                    path,
+                    path.path,
                     self.alloc,
                     place,
                     decl,
@@ -119,7 +124,7 @@ impl DocValidation {
                 )
             }
             DeclSyntax::Const(decl) => {
-                let place = lines.location(path, decl.item.name.span.start)?;
+                let place = lines.place(path, decl.item.name.span.start)?;
                 validate_constant(&mut self.constants, place, self.alloc, decl, definitions)
             }
         }
@@ -187,7 +192,10 @@ impl<'a> DocValidationScope<'a> {
         ensures text { self.new.text.now ≡ self.old.text.now }
         ensures path { self.new.path.now ≡ self.old.path.now }
     {
+        let alloc = self.doc.alloc;
+        let shared = shared_path(&mut self.doc.path, alloc, self.path)?;
+        let path = with_shared(self.path, &shared);
         self.doc
-            .validate_decl(&mut self.lines, self.path, decl, comments, definitions)
+            .validate_decl(&mut self.lines, &path, decl, comments, definitions)
     }
 }

@@ -14,6 +14,7 @@ ghost use Rattle.witx_walk.specs.Steps.{Holding, IsDeclared, IsGot, IsReached, I
 use crate::error::WitxError;
 use crate::walk::Walking;
 use std::alloc::Global;
+use std::rc::Rc;
 use witx_base::{Duplicate, Text, WitxPath};
 use witx_check::{CheckError, LineCursor};
 use witx_files::{IoError, WitxIo};
@@ -78,11 +79,22 @@ pub fn folder_of(path: &WitxPath, directory: &WitxPath) -> Result<WitxPath, Witx
     }
 }
 
+/// The path, to be shared by the places of its file.
+pub fn shared_path(alloc: Global, path: WitxPath) -> Result<Rc<WitxPath>, WitxError>
+    ensures path { IfOk result (λ shared. shared.value ≡ path) }
+    ensures memory { IfErr result (λ e. e ≡ WitxError.OutOfMemory) }
+{
+    match Rc::new(alloc, path) {
+        Ok(shared) => Ok(shared),
+        Err(_) => Err(WitxError::OutOfMemory),
+    }
+}
+
 /// Checks a declaration of the file at `path`, whose text `lines` goes through, and keeps its
 /// definition.
 pub fn declare(
     walk: &mut Walking,
-    path: &WitxPath,
+    path: &Rc<WitxPath>,
     lines: &mut LineCursor<'_>,
     declaration: &DeclSyntax<'_>,
     comments: &CommentSyntax<'_>,
@@ -92,9 +104,9 @@ pub fn declare(
     ensures well { IsWell walk.old → OnOk result (IsWell walk.new) }
     ensures declared { (declared : List Declared) → Holding walk.old declared →
         IsDeclared
-        (fault_behind declared (declared_in path.now lines.old.text.now (record { comments = comments_view comments.now; item = declaration_view declaration.now })))
+        (fault_behind declared (declared_in path.now.value lines.old.text.now (record { comments = comments_view comments.now; item = declaration_view declaration.now })))
         declared
-        (declared_in path.now lines.old.text.now (record { comments = comments_view comments.now; item = declaration_view declaration.now }))
+        (declared_in path.now.value lines.old.text.now (record { comments = comments_view comments.now; item = declaration_view declaration.now }))
         walk.new result }
     ensures text { lines.new.text.now ≡ lines.old.text.now }
 {

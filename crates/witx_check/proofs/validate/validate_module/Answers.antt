@@ -8,6 +8,7 @@ use Rattle.witx_ast.specs.declared.definition.Entry.TheVariants as entry
 use Rattle.witx_check.specs.Places.{location_in}
 use Rattle.witx_check.specs.Inside.{within}
 use Rattle.witx_check.proofs.Finishing.{absent-module, fits-named, keeps-unchanged}
+use Rattle.witx_check.proofs.Finished.{keeps-left}
 use Rattle.witx_check.proofs.validate.validate_module.Goals as goal
 
 pub returns-in-Ok-finish-clause-fits : goal.returns-in-Ok-finish-clause-fits
@@ -24,3 +25,7 @@ returns-in-Err-finish-clause-left c past keeps =
     keeps-unchanged c.args.names.now c.checked_module.new.names c.args.entries.now c.finish.new.entries past c.args.decl.now.name.name.now (location_in c.args.text.now c.args.path.now c.args.decl.now.name.span.start)
     (absent-module c.args.names.now (within c.args.names.now c.args.entries.now (location_in c.args.text.now c.args.path.now) (name_view c.args.decl.now.name)) (name_view c.args.decl.now.name) (items_in c.args.decl.now.decls) c.in-Ok.ensures.ok)
     c.in-Ok.ensures.kept c.in-Err-finish.ensures.entries_unchanged keeps
+
+pub returns-in-Err-clause-left : goal.returns-in-Err-clause-left
+returns-in-Err-clause-left c past k =
+    keeps-left c.args.names.now c.checked_module.new.names c.args.entries.now past c.args.decl.now.name.name.now (location_in c.args.text.now c.args.path.now c.args.decl.now.name.span.start) c.in-Err.ensures.left k
