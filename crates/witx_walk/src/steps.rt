@@ -16,7 +16,7 @@ use crate::walk::Walking;
 use std::alloc::Global;
 use std::rc::Rc;
 use witx_base::{Duplicate, Text, WitxPath};
-use witx_check::{CheckError, LineCursor};
+use witx_check::{CheckError, LineCursor, SharedPath};
 use witx_files::{IoError, WitxIo};
 use witx_syntax::{ParseError, ParseFault};
 use witx_tree::{CommentSyntax, DeclSyntax};
@@ -94,7 +94,7 @@ pub fn shared_path(alloc: Global, path: WitxPath) -> Result<Rc<WitxPath>, WitxEr
 /// definition.
 pub fn declare(
     walk: &mut Walking,
-    path: &Rc<WitxPath>,
+    path: &SharedPath<'_>,
     lines: &mut LineCursor<'_>,
     declaration: &DeclSyntax<'_>,
     comments: &CommentSyntax<'_>,
@@ -104,9 +104,9 @@ pub fn declare(
     ensures well { IsWell walk.old → OnOk result (IsWell walk.new) }
     ensures declared { (declared : List Declared) → Holding walk.old declared →
         IsDeclared
-        (fault_behind declared (declared_in path.now.value lines.old.text.now (record { comments = comments_view comments.now; item = declaration_view declaration.now })))
+        (fault_behind declared (declared_in path.now.path.now lines.old.text.now (record { comments = comments_view comments.now; item = declaration_view declaration.now })))
         declared
-        (declared_in path.now.value lines.old.text.now (record { comments = comments_view comments.now; item = declaration_view declaration.now }))
+        (declared_in path.now.path.now lines.old.text.now (record { comments = comments_view comments.now; item = declaration_view declaration.now }))
         walk.new result }
     ensures text { lines.new.text.now ≡ lines.old.text.now }
 {

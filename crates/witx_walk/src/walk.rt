@@ -18,10 +18,9 @@ use crate::error::WitxError;
 use crate::steps::{canonical_path, declare, folder_of, shared_path, text_at, unread};
 use crate::taken::TakenPaths;
 use std::alloc::Global;
-use std::rc::Rc;
 use witx_ast::{Definitions, Document};
 use witx_base::{Duplicate, WitxPath};
-use witx_check::{DocValidation, LineCursor};
+use witx_check::{DocValidation, LineCursor, SharedPath};
 use witx_files::WitxIo;
 use witx_syntax::{SyntaxError, parse_document};
 use witx_tree::{Documented, TopLevelSyntax};
@@ -69,7 +68,8 @@ fn take_in<I: WitxIo>(
     let folder = folder_of(&path, directory)?;
     match parse_document(alloc, text.as_str()) {
         Ok(document) => {
-            let path = shared_path(alloc, path)?;
+            let shared = shared_path(alloc, path)?;
+            let path = SharedPath::new(&shared);
             take_items(
                 alloc,
                 walk,
@@ -90,7 +90,7 @@ fn take_in<I: WitxIo>(
 fn take_items<I: WitxIo>(
     alloc: Global,
     walk: &mut Walking,
-    path: &Rc<WitxPath>,
+    path: &SharedPath<'_>,
     folder: &WitxPath,
     text: &str,
     items: &[Documented<'_, TopLevelSyntax<'_>>],
@@ -105,7 +105,7 @@ fn take_items<I: WitxIo>(
         (open_files : List OpenFile) (handed taken : List Path) (declared : List Declared)
         → Tracks walk.old taken declared
         → Outcome w
-        (place (open_file path.now.value text.now folder.now (Ok (items_of (map noted_item items.now))) ∷ open_files) handed taken declared)
+        (place (open_file path.now.path.now text.now folder.now (Ok (items_of (map noted_item items.now))) ∷ open_files) handed taken declared)
         (place open_files handed) walk.new (I.faults io.old) (I.faults io.new) result) }
 {
     let mut lines = LineCursor::new(text);
@@ -120,7 +120,7 @@ fn take_items<I: WitxIo>(
 fn take_item<I: WitxIo>(
     alloc: Global,
     walk: &mut Walking,
-    path: &Rc<WitxPath>,
+    path: &SharedPath<'_>,
     folder: &WitxPath,
     lines: &mut LineCursor<'_>,
     item: &Documented<'_, TopLevelSyntax<'_>>,
@@ -135,8 +135,8 @@ fn take_item<I: WitxIo>(
         (left : List Item) (open_files : List OpenFile) (handed taken : List Path) (declared : List Declared)
         → Tracks walk.old taken declared
         → Outcome w
-        (place (open_file path.now.value lines.old.text.now folder.now (Ok (item_of (noted_item item.now) ∷ left)) ∷ open_files) handed taken declared)
-        (place (open_file path.now.value lines.old.text.now folder.now (Ok left) ∷ open_files) handed) walk.new (I.faults io.old) (I.faults io.new) result) }
+        (place (open_file path.now.path.now lines.old.text.now folder.now (Ok (item_of (noted_item item.now) ∷ left)) ∷ open_files) handed taken declared)
+        (place (open_file path.now.path.now lines.old.text.now folder.now (Ok left) ∷ open_files) handed) walk.new (I.faults io.old) (I.faults io.new) result) }
     ensures text { lines.new.text.now ≡ lines.old.text.now }
 {
     let comments = &item.comments;

@@ -28,6 +28,6 @@ invariant-take_items-loop-item g l = record {
   text : l.lines.text.now ≡ l.text;
   told : Told (g.I.WitxIo.files l.initial.io) (g.I.WitxIo.aliases l.initial.io) (λ w.
       (open_files : List OpenFile) (handed taken : List Path) (declared : List Declared) → Tracks l.initial.walk taken declared
-      → Reaches w l.walk (file_at w l.path.value l.text l.folder open_files handed (items_of (map noted_item l.items)) taken declared)
-      (file_at w l.path.value l.text l.folder open_files handed (items_of (map noted_item (drop l.item-index l.items)))));
+      → Reaches w l.walk (file_at w l.path.path.now l.text l.folder open_files handed (items_of (map noted_item l.items)) taken declared)
+      (file_at w l.path.path.now l.text l.folder open_files handed (items_of (map noted_item (drop l.item-index l.items)))));
 }
