@@ -1,12 +1,12 @@
 -- Files that mean a document aren't refused, nor are other files that tell the same texts: there is one verdict.
-use Rattle.std.specs.Prelude.{◌≡◌, ◌⊎◌, ℕ, ◌+◌, ◌^◌, ◌<◌, ◌≤◌, List, [], ◌∷◌, length, All, Any, Option, Some, None, Result, Ok, Err}
+use Rattle.std.specs.Prelude.{◌≡◌, ℕ, ◌^◌, ◌<◌, ◌≤◌, List, [], length, All, Any, Option, Some, None, Ok, Err}
 use Rattle.std.proofs.Common.{refl, sym, ap, ◌∙◌, subst, inl, inr, arith, get_or}
 use mathlib.Core.Path.{fun_ext}
 use Rattle.witx_base.specs.Paths.{Path}
 use Rattle.witx_base.specs.Causes.{Rose}
 use Rattle.witx_files.specs.Files.{Aliases, Files, canonical, held}
 use Rattle.witx_files.specs.declared.fault.IoFault.TheVariants.{NotFound, LineNotFound, Failed}
-use Rattle.witx_bundle.specs.Bundles.{IsRead, told_at, lines_of, limit}
+use Rattle.witx_bundle.specs.Bundles.{IsRead, limit}
 use Rattle.witx_bundle.specs.declared.error.BundleError.{BundleError}
 use Rattle.witx_bundle.specs.declared.error.BundleError.TheVariants as bundle
 use Rattle.witx_ast.specs.Misfits.{Misfit, first_misfit}
@@ -18,7 +18,7 @@ use Rattle.witx_layout.specs.Refusals.{tag_refusal}
 use Rattle.witx_layout.specs.declared.tags.TagTooNarrow.{TagTooNarrow}
 use Rattle.witx_order.specs.Items.{Declared}
 use Rattle.witx_order.specs.Walks.{World, Place, Refusal, bad_path, too_many, missing, unreadable, faulty, beginning}
-use Rattle.witx_order.specs.Verdicts.{Verdict, fine, refused, Ends, IsVerdict}
+use Rattle.witx_order.specs.Verdicts.{Verdict, fine, refused, Ends}
 use Rattle.witx_order.proofs.OnlyOne.{one-verdict}
 use Rattle.witx_order.proofs.FinalFronts.{means-fine}
 use Rattle.witx_walk.specs.Readings.{Reading, IsReading}
@@ -30,7 +30,7 @@ use Rattle.witx_walk.specs.declared.error.WitxError.TheVariants as witx_error
 use Rattle.witx_adapt.specs.declared.adapted.Adapted.{Adapted}
 use Rattle.witx_adapt.specs.declared.error.DocumentError.{DocumentError}
 use Rattle.witx_adapt.specs.declared.error.DocumentError.TheVariants as document_error
-use Rattle.witx_adapt.specs.Adaptable.{IsAdaptable, Refuses, first_large}
+use Rattle.witx_adapt.specs.Adaptable.{IsAdaptable, Refuses}
 use Rattle.witx.specs.declared.error.AdaptError.{AdaptError}
 use Rattle.witx.specs.declared.error.AdaptError.TheVariants as adapt_error
 use Rattle.witx.specs.declared.words.Command.{Command}

@@ -1,5 +1,5 @@
 -- What the reads of a loop took, one after the other, is what the run took.
-use Rattle.std.proofs.Common.{◌≡◌, ℕ, ◌+◌, ◌<◌, ◌≤◌, List, [], ◌∷◌, ◌++◌, Option, Some, None, length, subst, sym, refl, ap, ◌∙◌, append-nil, length-append, arith, zero-add, add-zero}
+use Rattle.std.proofs.Common.{◌≡◌, ℕ, ◌+◌, ◌<◌, ◌≤◌, List, [], ◌∷◌, ◌++◌, Option, Some, None, length, subst, sym, refl, ap, ◌∙◌, append-nil, length-append, arith}
 use Rattle.std.proofs.KnownBytes.{Consumes-trans}
 use Rattle.std.specs.Io.KnownBytes.{Consumes, IsAtEnd}
 use Rattle.witx.specs.declared.input.TheConstants.{LONGEST}

@@ -1,9 +1,8 @@
 -- What adapting the files at some paths answers: the document that they mean, with the layouts of its typenames and a
 -- faithful pair of traces for each function; or the refusal that comes first, with its place.
-use Rattle.std.specs.Prelude.{◌≡◌, ℕ, List, [], map, All, Option, Some, Result, Ok, Err}
+use Rattle.std.specs.Prelude.{◌≡◌, ℕ, List, [], map, All, Option, Some, Ok, Err}
 use Rattle.witx_base.specs.Paths.{Path}
 use Rattle.witx_files.specs.Files.{Files, Aliases}
-use Rattle.witx_ast.specs.declared.document.Document.{Document}
 use Rattle.witx_ast.specs.Definitions.{DefinitionTree, definition_tree}
 use Rattle.witx_walk.specs.Answers.{Answer, HasCause, IsAnswer}
 use Rattle.witx_walk.specs.declared.error.WitxError.{WitxError}

@@ -1,5 +1,5 @@
 -- What a run writes on its second sink: the usage text where the words have no form, else the report of the refusal.
-use Rattle.std.specs.Prelude.{◌≡◌, ◌⊎◌, ℕ, List, [], ◌∷◌, ◌++◌, codes}
+use Rattle.std.specs.Prelude.{◌≡◌, ◌⊎◌, ℕ, List, ◌++◌, codes}
 use Rattle.std.specs.Fmt.{decimal}
 use Rattle.witx.specs.declared.refusal.Refusal.{Refusal}
 use Rattle.witx.specs.declared.refusal.Refusal.TheVariants as refusal

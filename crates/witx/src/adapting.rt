@@ -2,7 +2,7 @@ ghost use Rattle.std.specs.Prelude.{◌≡◌, All, Contains, IfErr, IfOk, List,
 ghost use Rattle.witx_base.specs.Causes.{Rose};
 ghost use Rattle.witx_base.specs.Paths.{file_name};
 ghost use Rattle.witx_files.specs.Files.{Aliases, Files};
-ghost use Rattle.witx_ast.specs.Definitions.{DefinitionTree, definition_tree};
+ghost use Rattle.witx_ast.specs.Definitions.{DefinitionTree};
 ghost use Rattle.witx_adapt.specs.Adaptable.{IsAdaptable};
 ghost use Rattle.witx_adapt.specs.Entries.{IsFaithful, all_functions, all_layouts, entry_for, entry_of};
 ghost use Rattle.witx.specs.Adapting.{AdaptRefuses, HasAdaptCause, IsParsed, defined, document_refusal, text_refusal};

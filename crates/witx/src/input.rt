@@ -1,5 +1,4 @@
-ghost use Rattle.std.specs.Prelude.{◌≡◌, ◌<◌, ◌≤◌, ◌+◌, [], Ok, Err, IfOk, OnOk, OnErr, IfErr, MatchResult, length, take};
-ghost use Rattle.std.specs.Io.KnownBytes.{Consumes, IsAtEnd};
+ghost use Rattle.std.specs.Prelude.{◌≡◌, ◌<◌, ◌≤◌, ◌+◌, [], Ok, Err, IfOk, OnOk, IfErr, length};
 ghost use Rattle.witx.specs.Streams.{Finished, IsInput, TakesMore};
 ghost use Rattle.witx.specs.Causes.{InputCause, ReadCause, Reads};
 

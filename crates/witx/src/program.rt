@@ -1,5 +1,5 @@
 ghost use Rattle.std.specs.Prelude.{◌≡◌, ◌<◌, ◌≤◌, ◌+◌, ◌⊎◌, ℕ, List, Option, All, None, Some, Ok, Err, IfErr, IfOk, IfSome, IsSome, map, ◌==◌, if◌then◌else◌};
-ghost use Rattle.std.specs.Io.KnownBytes.{Appends, Keeps};
+ghost use Rattle.std.specs.Io.KnownBytes.{Appends};
 ghost use Rattle.witx_base.specs.Causes.{Rose};
 ghost use Rattle.witx_bundle.specs.Bundles.{IsRead};
 ghost use Rattle.witx_bundle.specs.declared.error.BundleError.{BundleError};

@@ -1,5 +1,5 @@
 ghost use Rattle.std.specs.Prelude.{◌≡◌, ◌<◌, ◌≤◌};
-ghost use Rattle.std.specs.Io.KnownBytes.{Appends, Keeps};
+ghost use Rattle.std.specs.Io.KnownBytes.{Appends};
 ghost use Rattle.witx_base.specs.Causes.{Rose};
 ghost use Rattle.witx.specs.Streams.{TookPrefix};
 ghost use Rattle.witx.specs.Texts.{IsRefused, status_of, text_of};

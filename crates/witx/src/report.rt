@@ -2,7 +2,7 @@ ghost use Rattle.std.specs.Prelude.{◌≡◌, ◌++◌, IfOk, Ok, OnOk, Some, m
 ghost use Rattle.witx_ast.specs.Definitions.{definition_tree};
 ghost use Rattle.witx_ast.specs.Functions.{func_tree, param_field};
 ghost use Rattle.witx.specs.Adapting.{Parses};
-ghost use Rattle.witx.specs.Reports.{IsAdaptReport, counts_text, definition_name, field_at, field_name, function_text, name_at, name_or_nothing, named_text, owner_text, part_name, part_text, part_word, refused_text, size_report, tag_report, unlowerable_report};
+ghost use Rattle.witx.specs.Reports.{IsAdaptReport, counts_text, definition_name, field_at, field_name, function_text, name_at, named_text, owner_text, part_name, part_text, part_word, refused_text, size_report, tag_report, unlowerable_report};
 
 use crate::error::AdaptError;
 use crate::parsing::{parsed_bundle, text_report};

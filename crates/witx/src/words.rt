@@ -1,6 +1,5 @@
-ghost use Rattle.std.specs.Prelude.{◌≡◌, IfOk, codes, map};
+ghost use Rattle.std.specs.Prelude.{◌≡◌, IfOk, map};
 ghost use Rattle.witx_base.specs.Paths.{path_of};
-ghost use Rattle.witx_base.specs.Texts.{same_text};
 ghost use Rattle.witx.specs.Words.{command_called, command_of, handed_by};
 
 use std::alloc::Global;

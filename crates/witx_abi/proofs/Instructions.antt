@@ -1,5 +1,5 @@
 -- The instruction that lowers or lifts a type, read off what stands behind its names.
-use Rattle.std.proofs.Common.{◌≡◌, ℕ, List, Bool, true, false, not, cond, map, refl, sym, ap, ◌∙◌}
+use Rattle.std.proofs.Common.{◌≡◌, Bool, true, false, not, cond, map, refl, sym, ap, ◌∙◌}
 use Rattle.witx_ast.specs.Tree.{Tree, behind}
 use Rattle.witx_ast.specs.Plain.{plain_arms}
 use Rattle.witx_ast.specs.Words.{all_arms_bare}

@@ -1,18 +1,18 @@
 -- Events told one after the other, and the operands at hand.
-use Rattle.std.proofs.Common.{◌≡◌, ◌<◌, ◌≤◌, ◌+◌, ◌-◌, ℕ, zero, suc, List, [], ◌∷◌, ◌++◌, append_assoc, append-nil, Bool, true, false, Option, Some, None, IsSome, is_none, T, option_map, option_and_then, map, length, take, drop, get_or, refl, sym, ap, ◌∙◌, cond, arith, add-one, Result, Ok, Err, subst, rules}
-use Rattle.std.proofs.lemmas.List.{drop_more, drop_all}
-use Rattle.witx_machine.specs.Events.{Event, emit}
+use Rattle.std.proofs.Common.{◌≡◌, ◌<◌, ◌≤◌, ◌+◌, ◌-◌, ℕ, zero, suc, List, [], ◌∷◌, ◌++◌, append_assoc, append-nil, Option, Some, None, IsSome, is_none, T, option_and_then, map, length, take, drop, get_or, refl, sym, ap, ◌∙◌, arith, add-one, Err, subst, rules}
+use Rattle.std.proofs.lemmas.List.{drop_more}
+use Rattle.witx_machine.specs.Events.{Event}
 use Rattle.witx_abi.specs.declared.plan.Planned.{Planned}
 use Rattle.witx_abi.specs.declared.bindgen.BindgenError.{BindgenError}
 use Rattle.witx_abi.specs.declared.error.AbiError.{AbiError}
-use Rattle.witx_abi.specs.Reads.{planned_event, planned_events, step_of}
+use Rattle.witx_abi.specs.Reads.{planned_event, planned_events}
 use Rattle.witx_abi.specs.Told.{after, TellsFront, abi_error, is_fault, is_bindgen_fault, unlowerable_place}
 use Rattle.witx_machine.specs.Functions.{Function}
 use Rattle.witx_machine.specs.Lowerable.{unlowerable, lowerable}
 use Rattle.witx_machine.specs.Traces.{caller_events, callee_events}
 use Rattle.witx_machine.proofs.HeightLaws.{caller-level, callee-level}
 use Rattle.witx_abi.proofs.Sides.{params-can, results-can}
-use Rattle.witx_machine.specs.Heights.{moved, height_after, heights}
+use Rattle.witx_machine.specs.Heights.{height_after, heights}
 
 map-append : {A B : Type 0} (f : A → B) (xs ys : List A) → map f (xs ++ ys) ≡ map f xs ++ map f ys
 map-append f [] ys = refl

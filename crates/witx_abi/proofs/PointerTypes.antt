@@ -1,10 +1,10 @@
 -- The return pointers of an ok type: the named types of a tuple's members, or the one named type.
-use Rattle.std.proofs.Common.{◌≡◌, ◌<◌, ◌≤◌, ◌+◌, ℕ, zero, suc, List, [], ◌∷◌, ◌++◌, append_assoc, append-nil, Bool, true, false, not, ◌&&◌, ◌||◌, Option, Some, None, option_map, map, length, drop, get_or, refl, sym, ap, ◌∙◌, subst, T, arith}
+use Rattle.std.proofs.Common.{◌≡◌, ◌<◌, ◌≤◌, ◌+◌, ℕ, zero, suc, List, [], ◌∷◌, ◌++◌, append_assoc, append-nil, Bool, true, false, ◌&&◌, ◌||◌, Option, Some, None, map, length, drop, get_or, refl, sym, ap, ◌∙◌, subst, arith}
 use Rattle.std.specs.Borrow.{Bor}
 use Rattle.std.specs.declared.alloc.Global.{Global}
 use Rattle.std.specs.declared.rc.Rc.{Rc}
 use Rattle.std.proofs.lemmas.List.{drop_more, drop_all}
-use Rattle.witx_ast.specs.Tree.{Tree, Fields}
+use Rattle.witx_ast.specs.Tree.{Tree}
 use Rattle.witx_ast.specs.Words.{is_named}
 use Rattle.witx_ast.specs.Reads.{tree_of, named_tree}
 use Rattle.witx_ast.specs.declared.types.RecordKind.{RecordKind}

@@ -1,22 +1,21 @@
 -- Which functions can be lowered, read off the program's types.
-use Rattle.std.proofs.Common.{◌≡◌, ◌<◌, ◌≤◌, ◌+◌, ℕ, List, [], ◌∷◌, Bool, true, false, not, ◌&&◌, ◌||◌, Option, Some, None, option_map, is_some, map, length, drop, get_or, suc, refl, sym, ap, ◌∙◌, cond, arith, rules, codes}
-use Rattle.std.specs.List.{position, prefix_len, position_or_len}
-use Rattle.std.specs.Prelude.{nat_lt, if◌then◌else◌}
+use Rattle.std.proofs.Common.{◌≡◌, ◌<◌, ◌≤◌, ◌+◌, ℕ, List, [], ◌∷◌, Bool, true, false, not, ◌&&◌, ◌||◌, Option, Some, None, is_some, map, length, drop, get_or, suc, refl, sym, ap, ◌∙◌, cond, arith, codes}
+use Rattle.std.specs.List.{position, prefix_len}
+use Rattle.std.specs.Prelude.{if◌then◌else◌}
 use Rattle.witx_base.specs.Texts.{same_text}
-use Rattle.std.proofs.lemmas.List.{drop_more, drop_all}
-use Rattle.witx_ast.specs.Tree.{Tree, Arm, Arms, Fields, arm, arms_of, fields_of, behind}
-use Rattle.witx_ast.specs.Plain.{Plain, plain, plain_arms}
+use Rattle.std.proofs.lemmas.List.{drop_more}
+use Rattle.witx_ast.specs.Tree.{Tree, Arm, Arms, arm, arms_of, behind}
+use Rattle.witx_ast.specs.Plain.{plain_arms}
 use Rattle.witx_ast.specs.Same.{same_bytes}
 use Rattle.witx_ast.specs.Words.{all_arms_bare, is_named, expected_payloads}
-use Rattle.witx_ast.specs.Reads.{tree_of, datatype_tree, record_tree, variant_tree, case_arm, member_field}
-use Rattle.witx_ast.proofs.Trees.{tree_rules, tree-VariantDatatype, tree-RecordMember}
-use Rattle.witx_ast.specs.declared.types.RecordKind.{RecordKind}
+use Rattle.witx_ast.specs.Reads.{tree_of, datatype_tree, variant_tree, case_arm}
+use Rattle.witx_ast.proofs.Trees.{tree-VariantDatatype}
 use Rattle.witx_ast.specs.declared.types.Datatype.{Datatype}
 use Rattle.witx_ast.specs.declared.types.RecordMember.{RecordMember}
 use Rattle.witx_ast.specs.declared.types.Variant.{Variant, out-Variant}
 use Rattle.witx_ast.specs.declared.function.InterfaceFuncParam.{InterfaceFuncParam}
-use Rattle.witx_machine.specs.Functions.{has_payload, is_tuple, member_types, ok_of, err_of}
-use Rattle.witx_machine.specs.Lowerable.{can_be_param, can_be_result, can_return, can_be_ok, can_be_err, is_expected, first_place, unlowerable_result, is_narrow, case_names, ok_and_err, members_are_named, all_names}
+use Rattle.witx_machine.specs.Functions.{has_payload}
+use Rattle.witx_machine.specs.Lowerable.{can_be_param, can_be_result, can_return, is_expected, first_place, unlowerable_result, case_names, ok_and_err, members_are_named, all_names}
 use Rattle.witx_machine.specs.declared.surface.Place.{Place}
 use Rattle.witx_abi.specs.Reads.{variant_arms, param_types}
 use Rattle.witx_abi.proofs.Types.{bare-arms, members-are}

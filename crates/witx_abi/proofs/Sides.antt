@@ -1,5 +1,5 @@
 -- The plans of the two sides, as their loops and chains make them.
-use Rattle.std.proofs.Common.{◌≡◌, ◌<◌, ◌≤◌, ◌+◌, ℕ, zero, suc, List, [], ◌∷◌, ◌++◌, append_assoc, append-nil, Bool, true, false, not, ◌&&◌, ◌||◌, cond, Option, Some, None, is_some, is_none, option_map, map, length, take, drop, get_or, slice_get, length-append, refl, sym, ap, ◌∙◌, subst, T, arith}
+use Rattle.std.proofs.Common.{◌≡◌, ◌<◌, ◌≤◌, ◌+◌, ℕ, zero, suc, List, [], ◌∷◌, ◌++◌, append_assoc, append-nil, Bool, true, false, not, ◌&&◌, ◌||◌, cond, Option, Some, None, is_some, is_none, option_map, length, take, drop, get_or, slice_get, length-append, refl, sym, ap, ◌∙◌, subst, T, arith}
 use Rattle.std.specs.List.{position, position_from}
 use Rattle.std.specs.Borrow.{Bor}
 use Rattle.std.specs.declared.alloc.Global.{Global}
@@ -8,7 +8,6 @@ use Rattle.std.proofs.lemmas.List.{drop_more, drop_all}
 use Rattle.std.proofs.lemmas.Iterator.Adapters.{position_from-zero}
 use Rattle.witx_ast.specs.Tree.{Tree, Arms}
 use Rattle.witx_ast.specs.Plain.{Plain, plain, plain_arms}
-use Rattle.witx_ast.specs.Words.{is_named}
 use Rattle.witx_ast.specs.Reads.{tree_of, named_tree}
 use Rattle.witx_ast.specs.declared.types.RecordKind.{RecordKind}
 use Rattle.witx_ast.specs.declared.types.NamedType.{NamedType}
@@ -18,7 +17,7 @@ use Rattle.witx_ast.specs.declared.function.InterfaceFunc.{InterfaceFunc}
 use Rattle.witx_machine.specs.declared.surface.Place.{Place}
 use Rattle.witx_machine.specs.Events.{Step, Event, emit, space, push, finish}
 use Rattle.witx_machine.specs.Functions.{has_payload, ok_of, err_of, result_cases}
-use Rattle.witx_machine.specs.Signature.{param_words, words_of_params, result_word, words_of_results, ok_pointers, pointers_by, pointers_of}
+use Rattle.witx_machine.specs.Signature.{param_words, words_of_params, words_of_results, ok_pointers, pointers_by, pointers_of}
 use Rattle.witx_machine.specs.Lowerable.{can_be_param, can_be_result, can_return, can_be_ok, can_be_err, is_narrow, is_expected, unlowerable_result, first_place, unlowerable}
 use Rattle.witx_machine.specs.Traces.{lower_step, lift_step, lower_params, get_args, lift_params, make_spaces, load_all, store_all, lift_cases, lift_by, lift_of, lower_cases, lower_by, lower_of, block_of}
 use Rattle.witx_machine.proofs.HeightLaws.{words-count}

@@ -1,21 +1,19 @@
 -- The signature of a function, as its loops make it.
-use Rattle.std.proofs.Common.{◌≡◌, ◌<◌, ◌≤◌, ◌+◌, ◌-◌, ℕ, zero, suc, List, [], ◌∷◌, ◌++◌, append_assoc, append-nil, Bool, true, false, Option, Some, None, is_none, option_map, map, length, drop, get_or, refl, sym, ap, ◌∙◌, cond, arith, add-one}
-use Rattle.std.specs.List.{position, prefix_len}
+use Rattle.std.proofs.Common.{◌≡◌, ◌<◌, ◌≤◌, ◌+◌, ◌-◌, ℕ, suc, List, [], ◌∷◌, ◌++◌, append_assoc, append-nil, Some, None, is_none, option_map, map, length, drop, get_or, refl, sym, ap, ◌∙◌, arith}
+use Rattle.std.specs.List.{position}
 use Rattle.std.specs.Prelude.{replicate}
 use Rattle.std.proofs.lemmas.List.{drop_more, drop_all}
-use Rattle.witx_ast.specs.Tree.{Tree, Fields, behind, fields_of}
-use Rattle.witx_ast.specs.Plain.{Plain, plain}
-use Rattle.witx_ast.specs.Reads.{tree_of, datatype_tree, record_tree, member_field}
-use Rattle.witx_ast.proofs.Trees.{tree-RecordDatatype, tree-RecordMember}
+use Rattle.witx_ast.specs.Tree.{Tree, behind}
+use Rattle.witx_ast.specs.Plain.{plain}
+use Rattle.witx_ast.specs.Reads.{tree_of, datatype_tree, record_tree}
+use Rattle.witx_ast.proofs.Trees.{tree-RecordDatatype}
 use Rattle.witx_ast.specs.declared.types.RecordKind.{RecordKind}
 use Rattle.witx_ast.specs.declared.types.Datatype.{Datatype}
 use Rattle.witx_ast.specs.declared.types.RecordDatatype.{RecordDatatype, out-RecordDatatype}
-use Rattle.witx_ast.specs.declared.types.RecordMember.{RecordMember}
-use Rattle.witx_ast.specs.declared.types.TypeRef.{TypeRef}
 use Rattle.witx_ast.specs.declared.function.InterfaceFuncParam.{InterfaceFuncParam}
 use Rattle.witx_machine.specs.declared.surface.WasmType.{WasmType}
 use Rattle.witx_machine.specs.declared.surface.Place.{Place}
-use Rattle.witx_machine.specs.Functions.{result_cases, member_types}
+use Rattle.witx_machine.specs.Functions.{result_cases}
 use Rattle.witx_machine.specs.Signature.{param_words, words_of_params, result_word, before_rest, words_of_results, pointers_at, pointers_by, ok_pointers, pointers_of}
 use Rattle.witx_abi.specs.Reads.{param_types, pointer_number}
 use Rattle.witx_abi.proofs.Types.{members-are}

@@ -1,17 +1,16 @@
 -- What is read off a type behind its names is what is read off the type.
-use Rattle.std.proofs.Common.{◌≡◌, ◌<◌, ℕ, List, [], ◌∷◌, Bool, true, false, not, ◌&&◌, ◌||◌, Option, Some, None, option_map, map, length, slice_get, refl, sym, ap, ◌∙◌, cond, arith, rules}
-use Rattle.witx_ast.specs.Tree.{Tree, Arm, Arms, Fields, arm, arms_of, fields_of, behind}
-use Rattle.witx_ast.specs.Plain.{Plain, plain, plain_arms, all_bare}
-use Rattle.witx_ast.specs.Words.{all_arms_bare, is_bare, is_named}
+use Rattle.std.proofs.Common.{◌≡◌, ℕ, List, [], ◌∷◌, Bool, true, false, not, ◌&&◌, Option, Some, None, map, slice_get, refl, sym, ap, ◌∙◌, cond}
+use Rattle.witx_ast.specs.Tree.{Tree, Arm, Arms, arm, arms_of, fields_of, behind}
+use Rattle.witx_ast.specs.Plain.{plain, plain_arms, all_bare}
+use Rattle.witx_ast.specs.Words.{all_arms_bare, is_bare}
 use Rattle.witx_ast.specs.Reads.{tree_of, datatype_tree, case_arm, member_field, variant_tree}
-use Rattle.witx_ast.proofs.Trees.{tree_rules, tree-Case, tree-RecordMember, tree-VariantDatatype}
+use Rattle.witx_ast.proofs.Trees.{tree-RecordMember, tree-VariantDatatype}
 use Rattle.witx_ast.proofs.TreeKinds.{plain-behind}
-use Rattle.witx_ast.specs.declared.types.RecordKind.{RecordKind}
 use Rattle.witx_ast.specs.declared.types.Datatype.{Datatype}
 use Rattle.witx_ast.specs.declared.types.RecordMember.{RecordMember}
 use Rattle.witx_ast.specs.declared.types.Case.{Case}
 use Rattle.witx_ast.specs.declared.types.Variant.{Variant, out-Variant}
-use Rattle.witx_machine.specs.Functions.{has_payload, is_tuple, member_types, ok_of, err_of, result_cases}
+use Rattle.witx_machine.specs.Functions.{is_tuple, member_types, ok_of, err_of, result_cases}
 use Rattle.witx_abi.specs.Reads.{variant_arms, tuple_types}
 
 pub plain-at : (t : Tree) (d : Datatype) → datatype_tree d ≡ behind t → plain t ≡ plain (datatype_tree d)

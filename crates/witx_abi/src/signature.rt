@@ -2,7 +2,7 @@ ghost use Rattle.std.specs.Prelude.{◌≡◌, ◌++◌, IfOk, is_none, length, 
 ghost use Rattle.witx_ast.specs.Plain.{plain};
 ghost use Rattle.witx_ast.specs.Reads.{tree_of, datatype_tree, record_tree};
 ghost use Rattle.witx_machine.specs.Functions.{result_cases};
-ghost use Rattle.witx_machine.specs.Signature.{pointers_by, ok_pointers, pointers_of, result_word, signature_params, signature_results, without_signature, words_of_params, words_of_results};
+ghost use Rattle.witx_machine.specs.Signature.{pointers_by, ok_pointers, pointers_of, result_word, signature_params, signature_results, without_signature, words_of_params};
 ghost use Rattle.witx_abi.specs.Reads.{called, param_types, pointer_number};
 ghost use Rattle.witx_abi.specs.Told.{signature_place};
 

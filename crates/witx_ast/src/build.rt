@@ -1,5 +1,5 @@
 // Entries of hand-made definitions, for the tests.
-ghost use Rattle.std.specs.Prelude.{◌≡◌, ◌∷◌, ◌++◌, [], List, IfOk, IfSome, IsTrue, Some};
+ghost use Rattle.std.specs.Prelude.{◌∷◌, ◌++◌, [], List, IfOk, IfSome, IsTrue, Some};
 ghost use Rattle.witx_ast.specs.Entries.{Fits};
 ghost use Rattle.witx_ast.specs.Puts.{IsPut};
 ghost use Rattle.witx_ast.specs.Items.{ItemTree, item_tree, item_name, entry_item, ItemsFit};

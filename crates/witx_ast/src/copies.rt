@@ -1,4 +1,4 @@
-ghost use Rattle.std.specs.Prelude.{◌≡◌, map};
+ghost use Rattle.std.specs.Prelude.{◌≡◌};
 ghost use Rattle.witx_ast.specs.Functions.{param_field, func_tree};
 ghost use Rattle.witx_ast.specs.Items.{item_tree, entry_item};
 ghost use Rattle.witx_ast.specs.Reads.{tree_of, datatype_tree, named_tree, record_tree, variant_tree, member_field, case_arm};

@@ -1,5 +1,4 @@
 ghost use Rattle.std.specs.Prelude.{◌≡◌};
-ghost use Rattle.std.specs.List.{AllZip};
 ghost use Rattle.witx_ast.specs.Definitions.{definition_tree, entry_tree};
 
 use crate::definition::{Definition, Entry};

@@ -1,4 +1,4 @@
-ghost use Rattle.std.specs.Prelude.{◌≡◌, true, false, map, option_map, IsTrue};
+ghost use Rattle.std.specs.Prelude.{◌≡◌, true, false, map, option_map};
 ghost use Rattle.std.specs.Option.{option_copied};
 ghost use Rattle.witx_ast.specs.Tree.{behind};
 ghost use Rattle.witx_ast.specs.Reads.{tree_of, datatype_tree, named_tree, case_arm};

@@ -50,6 +50,8 @@ fn lists(rt: HostRuntime) -> Result<(), Fail> {
     assert!(rt; shorter < list && shorter.len() == 2);
     let pair = (Some(7u64), true);
     assert!(rt; pair.copy()? == pair && None::<u32>.copy()?.is_none());
+    let numbers = (1u8, (2u32, 3usize));
+    assert!(rt; numbers.copy()? == numbers);
     Ok(())
 }
 

@@ -22,7 +22,7 @@ use Rattle.witx_check.specs.Inside.{typename_checks, module_checks}
 use Rattle.witx_check.specs.Positions.{Taken, made_type, made_module, refused, is_name, introducer}
 use Rattle.witx_check.specs.Kept.{KeepsNames, entry_sense_of, finished_sense}
 use Rattle.witx_check.proofs.Steps.{is_eq-swap}
-use Rattle.witx_check.proofs.Finished.{entries-more, keeps-made, keeps-taken, keeps-refused, keeps-left, none-taken}
+use Rattle.witx_check.proofs.Finished.{entries-more, keeps-made, keeps-refused, keeps-left, none-taken}
 use Rattle.witx_check.proofs.Fits.{fits-more}
 
 -- ---- one entry, one definition

@@ -1,7 +1,6 @@
-ghost use Rattle.std.specs.Prelude.{◌≡◌, ◌≤◌, ◌∷◌, ◌++◌, ◌⊎◌, ◌&&◌, [], IfOk, IfErr, OnOk, OnErr, None, Some, List, ℕ, map, option_map, cond, length};
+ghost use Rattle.std.specs.Prelude.{◌≡◌, ◌∷◌, ◌++◌, ◌⊎◌, ◌&&◌, [], IfErr, OnOk, OnErr, None, Some, List, ℕ, map, option_map, cond};
 ghost use Rattle.witx_base.specs.Found.{found};
 ghost use Rattle.witx_ast.specs.Tree.{named};
-ghost use Rattle.witx_ast.specs.Reads.{named_tree, tree_of};
 ghost use Rattle.witx_ast.specs.Definitions.{definition_tree, entry_tree, typename_of, module_of, constant_of, DefinitionsFit};
 ghost use Rattle.witx_comments.specs.Docs.{documentation_of};
 ghost use Rattle.witx_tree.specs.Views.{comments_view, type_view, name_view};

@@ -1,4 +1,4 @@
-ghost use Rattle.std.specs.Prelude.{◌≡◌, ◌≤◌, Some, IfOk};
+ghost use Rattle.std.specs.Prelude.{◌≡◌, Some};
 ghost use Rattle.witx_base.specs.Calls.{fails_next, no_calls};
 ghost use Rattle.witx_files.specs.Answers.{IsText, IsLine, IsCanonical};
 ghost use Rattle.witx_files.specs.FailingFiles.{is_failed, after_call};

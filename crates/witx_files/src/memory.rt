@@ -1,4 +1,4 @@
-ghost use Rattle.std.specs.Prelude.{◌≡◌, [], List, ℕ, Some, None, OnErr, OnOk, if◌then◌else◌};
+ghost use Rattle.std.specs.Prelude.{◌≡◌, [], Some, None, OnErr, OnOk, if◌then◌else◌};
 ghost use Rattle.witx_base.specs.Paths.{Path};
 ghost use Rattle.witx_files.specs.Answers.{IsLineOf};
 ghost use Rattle.witx_files.specs.Files.{held, same_path};

@@ -1,6 +1,6 @@
 //! The derivation of a list of tokens.
 
-ghost use Rattle.std.specs.Prelude.{◌≡◌, ℕ, List, [], ◌∷◌, ◌++◌, reverse, map, IfOk, MatchOption};
+ghost use Rattle.std.specs.Prelude.{◌≡◌, List, [], ◌∷◌, ◌++◌, reverse, map, IfOk, MatchOption};
 ghost use Rattle.witx_grammar.specs.Grammar.{Derives, grammar};
 ghost use Rattle.witx_grammar.specs.Prediction.{IsFine, begins, choose as choose_of, sign_view};
 ghost use Rattle.witx_grammar.specs.declared.table.Symbol.TheVariants.{Form};

@@ -1,6 +1,6 @@
 //! The fault of a list of tokens that has no derivation.
 
-ghost use Rattle.std.specs.Prelude.{◌≡◌, ℕ, List, [], ◌∷◌, ◌++◌, ◌==◌, if◌then◌else◌, map, IfOk, option_map};
+ghost use Rattle.std.specs.Prelude.{◌≡◌, [], ◌∷◌, ◌++◌, ◌==◌, if◌then◌else◌, IfOk, option_map};
 ghost use Rattle.std.specs.List.{list_any};
 ghost use Rattle.witx_grammar.specs.Grammar.{grammar};
 ghost use Rattle.witx_grammar.specs.Search.{all_wants, fault_view, ways, all_ways, firsts, all_firsts, is_nothing, search_fault};

@@ -1,4 +1,4 @@
-ghost use Rattle.std.specs.Prelude.{◌≡◌, ◌≤◌, ◌<◌, ◌^◌, ℕ, MatchResult, IfOk, IsErr, ◌↔◌};
+ghost use Rattle.std.specs.Prelude.{◌≡◌, ◌≤◌, ◌<◌, ◌^◌, MatchResult, IfOk, IsErr, ◌↔◌};
 ghost use Rattle.witx_layout.specs.Numbers.{size_of, align_of, members_end, members_align, payloads_size, payloads_align, payload_offset as begin_of_payload};
 ghost use Rattle.witx_ast.specs.Plain.{Plain, Arms, plain, builtin, handle};
 ghost use Rattle.witx_ast.specs.Reads.{tree_of, datatype_tree, named_tree, record_tree, variant_tree};

@@ -2,8 +2,8 @@
 use Rattle.std.proofs.Common.{◌≡◌, ℕ, List, [], ◌∷◌, ◌++◌, Bool, true, false, refl, sym, ap, ◌∙◌, subst, length, Option, Some, None, Result, Ok, Err, cond, nat_lt, append_assoc, append-nil}
 use Rattle.witx_base.specs.Paths.{Path, file_name}
 use Rattle.witx_order.specs.Items.{Item, declaration, use_of, Declared, SyntaxFault}
-use Rattle.witx_order.specs.Walks.{World, Mark, start, decl, skip, end, OpenFile, declared_in, Place, place, Wish, wish, reach, declare, close, unread, nameless, done, handed_wish, inner_wish, outer_wish, Next, go, stuck, over, next, met, started, is_taken, beginning, Marks, none, more, IsWalk, Refusal, faulty}
-use Rattle.witx_order.specs.Verdicts.{Verdict, fine, refused, Turn, on, ends, turn, turned, passed, checked, Leads, here, along, Ends, IsVerdict}
+use Rattle.witx_order.specs.Walks.{World, Mark, start, decl, skip, end, OpenFile, Place, place, Wish, wish, reach, declare, close, unread, nameless, done, handed_wish, inner_wish, outer_wish, Next, go, stuck, over, next, met, started, is_taken, beginning, Marks, none, more, IsWalk, Refusal, faulty}
+use Rattle.witx_order.specs.Verdicts.{Verdict, fine, refused, Turn, on, ends, turn, turned, passed, checked, Leads, here, along, IsVerdict}
 use Rattle.witx_order.specs.Fronts.{declarations, AreSound, Comes, IsFinal, at_end, at_fault}
 
 abbrev Keeps : List Declared → Wish → Type 0

@@ -2,10 +2,9 @@
 use Rattle.std.proofs.Common.{◌≡◌, ℕ, ◌<◌, List, [], ◌∷◌, ◌++◌, Bool, true, false, refl, sym, ap, ◌∙◌, subst, length, Option, Some, None, Result, Ok, Err, cond, nat_lt, ◌⊎◌, inl, inr, append_assoc}
 use Rattle.std.proofs.lemmas.Bool.{ltb-true, lt-ltb}
 use Rattle.witx_base.specs.Paths.{Path, file_name, join, path_of, all_but_last}
-use Rattle.witx_tree.specs.Trees.{NotedItem}
 use Rattle.witx_order.specs.Items.{Item, declaration, use_of, Declared, SyntaxFault}
 use Rattle.witx_order.specs.Walks.{World, Mark, start, decl, skip, end, OpenFile, open_file, declared_in, Place, place, wish, reach, handed_wish, inner_wish, Next, go, stuck, over, next, met, reached, started, is_taken, folder_of, Marks, none, more, IsWalk, too_many}
-use Rattle.witx_order.specs.Groups.{Contents, no_items, declared, used, Reached, skipped, opened, Handed, no_paths, handed, StartsOnce, IsGrouped}
+use Rattle.witx_order.specs.Groups.{Contents, no_items, declared, used, Reached, skipped, opened, Handed, no_paths, handed, StartsOnce}
 
 module _ {F : Type 0} where
   same-mark : {m n : Mark} {a b : Place} {x : Next F} → x ≡ go m a → x ≡ go n b → m ≡ n

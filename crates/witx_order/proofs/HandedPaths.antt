@@ -1,9 +1,9 @@
 -- A handed path is its directory joined with its file name, so it may be passed on as it is.
-use Rattle.std.proofs.Common.{◌≡◌, ℕ, List, [], ◌∷◌, ◌++◌, Bool, true, false, refl, sym, ap, ◌∙◌, subst, Option, Some, None, not, ◌||◌, if◌then◌else◌, cond}
-use Rattle.witx_base.specs.Paths.{Path, join, join_to, without_current_dir, is_absolute, is_root, is_current_dir, is_parent_dir, is_name, name_among, file_name, last_component, all_but_last, parent, has_parent}
+use Rattle.std.proofs.Common.{◌≡◌, ℕ, List, [], ◌∷◌, ◌++◌, Bool, true, false, refl, sym, ap, ◌∙◌, Option, Some, None, not, ◌||◌, if◌then◌else◌}
+use Rattle.witx_base.specs.Paths.{Path, join, join_to, is_root, is_current_dir, is_parent_dir, is_name, name_among, file_name, last_component, all_but_last, parent, has_parent}
 use Rattle.witx_order.specs.Items.{Declared}
-use Rattle.witx_order.specs.Walks.{World, Place, place, wish, reach, nameless, handed_wish, bad_path, met}
-use Rattle.witx_order.specs.Verdicts.{Ends, refused, turn, turned}
+use Rattle.witx_order.specs.Walks.{World, place, wish, reach, nameless, handed_wish, bad_path, met}
+use Rattle.witx_order.specs.Verdicts.{Ends, refused, turned}
 use Rattle.witx_order.proofs.Steps.{stopped}
 
 parts : (a b c : Bool) → not (a || (b || c)) ≡ true → (a ≡ false) × (b ≡ false)

@@ -1,5 +1,5 @@
 -- There is at most one walk, and at most one verdict.
-use Rattle.std.proofs.Common.{◌≡◌, List, [], ◌∷◌, refl, sym, ap, ◌∙◌, subst}
+use Rattle.std.proofs.Common.{◌≡◌, List, ◌∷◌, refl, sym, ap, ◌∙◌, subst}
 use Rattle.witx_base.specs.Paths.{Path}
 use Rattle.witx_order.specs.Items.{Declared}
 use Rattle.witx_order.specs.Walks.{World, Mark, Place, Next, go, over, next, Marks, none, more, IsWalk}

@@ -1,11 +1,11 @@
 -- Steps along the reading order: what each wish leads to, or where it ends.
-use Rattle.std.proofs.Common.{◌≡◌, ℕ, ◌<◌, ◌≤◌, List, [], ◌∷◌, ◌++◌, Bool, true, false, refl, sym, ap, ◌∙◌, length, cond, Option, Some, None, Result, Ok, Err, arith, nat_lt}
+use Rattle.std.proofs.Common.{◌≡◌, ℕ, ◌<◌, ◌≤◌, List, [], ◌∷◌, ◌++◌, true, false, refl, sym, ap, ◌∙◌, length, cond, Some, None, Result, Ok, Err, arith, nat_lt}
 use Rattle.std.proofs.lemmas.Bool.{lt-ltb}
 use Rattle.std.proofs.lemmas.Bool.Decides.{nat_tests}
 use Rattle.witx_base.specs.Paths.{Path}
 use Rattle.witx_tree.specs.Trees.{NotedItem}
-use Rattle.witx_order.specs.Items.{Item, declaration, use_of, Declared, SyntaxFault}
-use Rattle.witx_order.specs.Walks.{World, Mark, start, decl, skip, end, OpenFile, open_file, declared_in, Place, place, Wish, reach, wish, met, reached, started, Next, go, stuck, over, is_taken, folder_of, too_many, missing, unreadable, faulty}
+use Rattle.witx_order.specs.Items.{Item, declaration, Declared, SyntaxFault}
+use Rattle.witx_order.specs.Walks.{World, Mark, start, decl, skip, end, OpenFile, open_file, declared_in, Place, place, reach, wish, met, reached, started, go, stuck, is_taken, folder_of, too_many, missing, unreadable, faulty}
 use Rattle.witx_order.specs.Verdicts.{Verdict, refused, on, ends, turn, turned, checked, Leads, here, along, Ends}
 
 not_lt : (m n : ℕ) → n ≤ m → nat_lt m n ≡ false

@@ -1,9 +1,9 @@
 -- What a mark adds to the paths that have started, and how many there are where there are too many.
-use Rattle.std.proofs.Common.{◌≡◌, ℕ, ◌<◌, ◌≤◌, List, [], ◌∷◌, ◌++◌, Bool, true, false, refl, sym, ap, ◌∙◌, subst, length, Option, Some, None, Result, Ok, Err, cond, nat_lt, arith, inl, inr, ◌⊎◌}
+use Rattle.std.proofs.Common.{◌≡◌, ℕ, ◌≤◌, List, [], ◌∷◌, ◌++◌, Bool, true, false, refl, subst, length, Option, Some, None, Result, Ok, Err, cond, nat_lt, arith, inl, inr, ◌⊎◌}
 use Rattle.std.proofs.lemmas.Bool.Decides.{nat_tests}
 use Rattle.witx_base.specs.Paths.{Path, file_name}
 use Rattle.witx_order.specs.Items.{Item, declaration, use_of, Declared, SyntaxFault}
-use Rattle.witx_order.specs.Walks.{World, Mark, skip, OpenFile, Place, place, Wish, wish, reach, declare, close, unread, nameless, done, handed_wish, inner_wish, outer_wish, Next, go, stuck, over, next, met, reached, started, is_taken, Refusal, bad_path, too_many, missing, unreadable, faulty}
+use Rattle.witx_order.specs.Walks.{World, skip, OpenFile, Place, place, Wish, wish, reach, declare, close, unread, nameless, done, handed_wish, inner_wish, outer_wish, Next, go, stuck, over, next, met, reached, started, is_taken, bad_path, too_many, missing, unreadable, faulty}
 
 no-less : (m n : ℕ) → nat_lt m n ≡ false → n ≤ m
 no-less m n e = grind (arith, nat_tests)

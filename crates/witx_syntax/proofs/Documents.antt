@@ -1,5 +1,5 @@
 -- Tokens are at most one document, and those of a document have no fault.
-use Rattle.std.proofs.Common.{◌≡◌, ℕ, List, [], ◌∷◌, true, refl, sym, ap, ◌∙◌, subst}
+use Rattle.std.proofs.Common.{◌≡◌, ℕ, List, [], ◌∷◌, true, ap, ◌∙◌, subst}
 use Rattle.std.specs.Global.{Vec}
 use Rattle.witx_grammar.specs.Grammar.{Production, Derives, grammar}
 use Rattle.witx_grammar.specs.Faults.{IsFault, IsParsed}

@@ -1,18 +1,15 @@
 -- Some lists of tokens, with their documents and their faults, by computation.
-use Rattle.std.proofs.Common.{◌≡◌, ℕ, List, [], ◌∷◌, Option, Some, None, refl}
+use Rattle.std.proofs.Common.{◌≡◌, ℕ, List, [], ◌∷◌, Option, Some, refl}
 use Rattle.witx_grammar.specs.Search.{Found, search_fault}
 use Rattle.witx_grammar.specs.declared.table.Symbol.TheVariants.{Form}
-use Rattle.witx_grammar.specs.declared.table.Move.{Move}
 use Rattle.witx_grammar.specs.declared.table.Move.TheVariants.{Leaf, Node}
 use Rattle.witx_grammar.specs.declared.table.TheConstants.{DEPTH}
-use Rattle.witx_lex.specs.Tokens.{Token, left, right, id, word, annot, int, quoted, Lexed}
+use Rattle.witx_lex.specs.Tokens.{Token, left, right, word, quoted, Lexed}
 use Rattle.witx_syntax.specs.declared.form.TheConstants.{TEXT}
 use Rattle.witx_syntax.specs.declared.row.TheConstants.{NO_ITEMS, MORE_ITEMS, USE}
 use Rattle.witx_syntax.specs.declared.sort.TheConstants.{LEFT, RIGHT, ID, QUOTED, INTEGER, BIG_INTEGER, OTHER, END, AT_WITX, USE_WORD, CONST_WORD, TYPENAME_WORD, UNION_WORD, POINTER_WORD, TAG_WORD, U8_WORD}
-use Rattle.witx_syntax.specs.Messages.{message_of}
 use Rattle.witx_syntax.specs.Reads.{stands_for}
 use Rattle.witx_syntax.specs.Rows.{the_rows}
-use Rattle.witx_syntax.specs.Sorts.{sorts_of}
 use Rattle.witx_tree.specs.Trees.{uses}
 use Rattle.witx_syntax.specs.Values.{some_items}
 

@@ -1,12 +1,12 @@
 -- What a token stands for has the kinds that its sort has in a row.
-use Rattle.std.proofs.Common.{◌≡◌, ℕ, zero, suc, ◌+◌, ◌<◌, Bool, true, false, not, cond, ◌&&◌, ◌||◌, ◌==◌, List, [], ◌∷◌, ◌++◌, length, get_or, map, refl, sym, ap, ◌∙◌, subst, arith}
+use Rattle.std.proofs.Common.{◌≡◌, ℕ, zero, suc, ◌+◌, ◌<◌, Bool, true, false, not, cond, ◌&&◌, ◌==◌, List, [], ◌∷◌, ◌++◌, length, get_or, refl, sym, ◌∙◌, subst, arith}
 use Rattle.std.specs.List.{list_all}
 use Rattle.std.proofs.lemmas.Bool.{and_parts}
 use Rattle.witx_base.specs.Texts.{same_text}
 use Rattle.witx_lex.specs.Tokens.{Token, left, right, id, word, annot, int, quoted, Lexed}
-use Rattle.witx_syntax.specs.declared.sort.TheConstants.{ID, QUOTED, INTEGER, BIG_INTEGER, OTHER}
+use Rattle.witx_syntax.specs.declared.sort.TheConstants.{ID, QUOTED, INTEGER, BIG_INTEGER}
 use Rattle.witx_syntax.specs.Integers.{is_small, int_value}
-use Rattle.witx_syntax.specs.Kinds.{kind, kinds_are, sort_kinds, integer_kind}
+use Rattle.witx_syntax.specs.Kinds.{kinds_are, sort_kinds}
 use Rattle.witx_syntax.specs.Sorts.{Spelling, the_words, the_annotations, sort_spelled, sort_of, sorts_of}
 use Rattle.witx_syntax.specs.Values.{Val, an_integer, token_values, leaf}
 

@@ -1,12 +1,12 @@
 -- Steps of the loop that builds a tree: what lies on the stack is what the steps from here on stand for.
-use Rattle.std.proofs.Common.{◌≡◌, ℕ, zero, suc, ◌+◌, ◌-◌, ◌<◌, ◌≤◌, Bool, true, false, cond, ◌&&◌, ◌||◌, ◌==◌, List, [], ◌∷◌, ◌++◌, length, get_or, map, refl, sym, ap, ◌∙◌, subst, arith}
+use Rattle.std.proofs.Common.{◌≡◌, ℕ, ◌+◌, ◌-◌, ◌<◌, ◌≤◌, true, false, ◌==◌, List, [], ◌∷◌, ◌++◌, length, get_or, refl, sym, ap, ◌∙◌, subst, arith}
 use Rattle.std.proofs.lemmas.Bool.{and_parts}
 use Rattle.std.proofs.lemmas.List.Concat.{flat_map-append}
-use Rattle.witx_grammar.specs.Grammar.{Wants, production, Derives}
+use Rattle.witx_grammar.specs.Grammar.{production, Derives}
 use Rattle.witx_grammar.specs.declared.table.Symbol.TheVariants.{Token, Form}
 use Rattle.witx_grammar.specs.declared.table.Move.{Move}
 use Rattle.witx_grammar.specs.declared.table.Move.TheVariants.{Leaf, Node}
-use Rattle.witx_grammar.proofs.Reading.{Back, back_start, back_before, back_leaf, back_row, back_node, back_end}
+use Rattle.witx_grammar.proofs.Reading.{Back, back_before, back_leaf, back_row, back_node, back_end}
 use Rattle.witx_lex.specs.Tokens.{Lexed}
 use Rattle.witx_syntax.specs.declared.form.TheConstants.{TEXT}
 use Rattle.witx_syntax.specs.Reads.{stands_for}

@@ -1,5 +1,5 @@
 -- The number that an integer token writes: an optional +, then decimal digits, or 0x and hexadecimal digits; each _ between them stands for nothing.
-use Rattle.std.specs.Prelude.{ℕ, Bool, ◌&&◌, ◌==◌, nat_lt, ◌^◌, if◌then◌else◌, List, [], ◌∷◌, Option, Some, None, drop, filter, slice_index}
+use Rattle.std.specs.Prelude.{ℕ, Bool, ◌&&◌, ◌==◌, nat_lt, ◌^◌, if◌then◌else◌, List, Option, Some, None, drop, filter, slice_index}
 use Rattle.std.specs.Char.{is_digit}
 use Rattle.std.specs.Str.Parse.{digits_value}
 use Rattle.witx_lex.specs.Meaning.{unsigned}

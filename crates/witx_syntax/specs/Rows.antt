@@ -1,6 +1,6 @@
 -- The grammar of the interface language, row by row, each with what it stands for; and what a text stands for by it.
 -- An optional part is two rows, and a repetition is a form that ends with its closing parenthesis.
-use Rattle.std.specs.Prelude.{ℕ, ◌+◌, Bool, true, false, List, [], ◌∷◌, map, Option, Some, None, slice_index_or}
+use Rattle.std.specs.Prelude.{ℕ, ◌+◌, true, false, List, [], ◌∷◌, map, Some, None, slice_index_or}
 use Rattle.witx_grammar.specs.Grammar.{Production}
 use Rattle.witx_grammar.specs.declared.table.Symbol.{Symbol}
 use Rattle.witx_grammar.specs.declared.table.Symbol.TheVariants.{Token, Form}
@@ -9,7 +9,7 @@ use Rattle.witx_syntax.specs.declared.form.TheConstants.{BUILTIN, CASE, CASES, D
 use Rattle.witx_syntax.specs.declared.sort.TheConstants.{AT_INTERFACE, AT_WITX, BOOL_WORD, CASE_WORD, CHAR8_WORD, CHAR_WORD, CONST_POINTER_WORD, CONST_WORD, END, ENUM_WORD, ERROR_WORD, EXPECTED_WORD, EXPORT_WORD, F32_WORD, F64_WORD, FIELD_WORD, FLAGS_WORD, FUNC_WORD, HANDLE_WORD, ID, IMPORT_WORD, INTEGER, LEFT, LIST_WORD, MEMORY_WORD, MODULE_WORD, NORETURN_WORD, PARAM_WORD, POINTER_WORD, QUOTED, RECORD_WORD, REPR_WORD, RESULT_WORD, RIGHT, S16_WORD, S32_WORD, S64_WORD, S8_WORD, STRING_WORD, TAG_WORD, TUPLE_WORD, TYPENAME_WORD, U16_WORD, U32_WORD, U64_WORD, U8_WORD, UNION_WORD, USE_WORD, USIZE_WORD, VARIANT_WORD}
 use Rattle.witx_tree.specs.declared.tree.BuiltinSyntax.{BuiltinSyntax}
 use Rattle.witx_tree.specs.declared.tree.BuiltinSyntax.TheVariants.{Char, U8, U16, U32, U64, S8, S16, S32, S64, F32, F64}
-use Rattle.witx_tree.specs.Trees.{Comments, Name, ident, builtin, string, boolean, handle, list_of, pointer_to, const_pointer_to, tuple_of, enum_of, flags_of, record_of, union_of, variant_of, expected, absent, present, no_types, one_type, no_fields, one_field, no_union_fields, one_union_field, no_cases, one_case, memory, function, uses, typename, module_of, constant}
+use Rattle.witx_tree.specs.Trees.{Comments, ident, builtin, string, boolean, handle, list_of, pointer_to, const_pointer_to, tuple_of, enum_of, flags_of, record_of, union_of, variant_of, expected, absent, present, no_types, one_type, no_fields, one_field, no_union_fields, one_union_field, no_cases, one_case, memory, function, uses, typename, module_of, constant}
 use Rattle.witx_syntax.specs.Values.{Val, a_name, a_text, an_integer, a_builtin, a_type, some_types, an_error, a_member, some_members, a_field, some_fields, a_union_field, some_union_fields, a_case, some_cases, an_entry, some_entries, a_decl, some_decls, an_item, some_items, param, result_of, noreturn, comments_of}
 
 -- ---- what a row stands for, from what its parts stand for, which stand first

@@ -1,5 +1,5 @@
 -- Sorts of tokens: each word and each annotation of the grammar is one, tied to its spelling here and nowhere else.
-use Rattle.std.specs.Prelude.{ℕ, Bool, ◌==◌, nat_lt, ◌^◌, if◌then◌else◌, List, [], ◌∷◌, ◌++◌, map, codes}
+use Rattle.std.specs.Prelude.{ℕ, if◌then◌else◌, List, [], ◌∷◌, ◌++◌, map, codes}
 use Rattle.witx_base.specs.Texts.{same_text}
 use Rattle.witx_lex.specs.Tokens.{Token, left, right, id, word, annot, int, quoted, Lexed}
 use Rattle.witx_syntax.specs.declared.sort.TheConstants.{AT_INTERFACE, AT_WITX, BIG_INTEGER, BOOL_WORD, CASE_WORD, CHAR8_WORD, CHAR_WORD, CONST_POINTER_WORD, CONST_WORD, END, ENUM_WORD, ERROR_WORD, EXPECTED_WORD, EXPORT_WORD, F32_WORD, F64_WORD, FIELD_WORD, FLAGS_WORD, FUNC_WORD, HANDLE_WORD, ID, IMPORT_WORD, INTEGER, LEFT, LIST_WORD, MEMORY_WORD, MODULE_WORD, NORETURN_WORD, OTHER, PARAM_WORD, POINTER_WORD, QUOTED, RECORD_WORD, REPR_WORD, RESULT_WORD, RIGHT, S16_WORD, S32_WORD, S64_WORD, S8_WORD, STRING_WORD, TAG_WORD, TUPLE_WORD, TYPENAME_WORD, U16_WORD, U32_WORD, U64_WORD, U8_WORD, UNION_WORD, USE_WORD, USIZE_WORD, VARIANT_WORD}

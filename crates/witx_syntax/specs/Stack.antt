@@ -1,5 +1,5 @@
 -- What the values on the stack of the code stand for.
-use Rattle.std.specs.Prelude.{ℕ, List, map, reverse}
+use Rattle.std.specs.Prelude.{List, map, reverse}
 use Rattle.witx_tree.specs.declared.comment.Documented.{Documented}
 use Rattle.witx_tree.specs.declared.tree.FieldSyntax.{FieldSyntax}
 use Rattle.witx_tree.specs.declared.tree.CaseSyntax.{CaseSyntax}

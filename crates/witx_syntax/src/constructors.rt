@@ -2,7 +2,7 @@
 
 ghost use Rattle.std.specs.Prelude.{◌≡◌, reverse, map};
 ghost use Rattle.witx_tree.specs.Trees as tree;
-ghost use Rattle.witx_tree.specs.Views.{boxed_view, case_view, cases_view, field_view, fields_view, maybe_of, member_view, name_view, optional_view, type_view, types_view, union_fields_view};
+ghost use Rattle.witx_tree.specs.Views.{boxed_view, case_view, cases_view, field_view, fields_view, member_view, name_view, optional_view, type_view, types_view, union_fields_view};
 
 use crate::noted::turned;
 use witx_base::Items;

@@ -1,16 +1,16 @@
 -- What one more declaration adds to what declarations leave.
-use Rattle.std.proofs.Common.{◌≡◌, ℕ, List, [], ◌∷◌, ◌++◌, refl, sym, ap, ◌∙◌, subst, map, append_assoc, append-nil, Option, Some, None, Result, Ok, Err}
+use Rattle.std.proofs.Common.{◌≡◌, ℕ, List, [], ◌∷◌, ◌++◌, refl, sym, ap, ◌∙◌, subst, map, append_assoc, append-nil, Some, None, Ok}
 use Rattle.witx_base.specs.Paths.{Path}
 use Rattle.witx_tree.specs.Trees.{Comments}
 use Rattle.witx_tree.specs.Views.{declaration_view}
 use Rattle.witx_tree.specs.declared.tree.DeclSyntax.{DeclSyntax}
 use Rattle.witx_tree.specs.declared.tree.DeclSyntax.TheVariants as decl
-use Rattle.witx_ast.specs.Definitions.{DefinitionTree, definition_tree, DefinitionsFit}
+use Rattle.witx_ast.specs.Definitions.{definition_tree, DefinitionsFit}
 use Rattle.witx_ast.specs.Ordered.{IsOrdered}
 use Rattle.witx_ast.specs.Closed.{IsClosed}
-use Rattle.witx_check.specs.Faults.{Fault, first_fault}
+use Rattle.witx_check.specs.Faults.{first_fault}
 use Rattle.witx_check.specs.Places.{location_in}
-use Rattle.witx_check.specs.DeclarationForms.{DeclForm, decl_form_of}
+use Rattle.witx_check.specs.DeclarationForms.{decl_form_of}
 use Rattle.witx_check.specs.Declarations.{Past, nothing_before, decl_checks, decl_tree, accepted}
 use Rattle.witx_check.specs.Kept.{Keeps}
 use Rattle.witx_check.specs.Validators.{kept_by}

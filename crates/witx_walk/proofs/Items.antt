@@ -1,6 +1,6 @@
 -- What the items of a file, and the handed paths, lead to one by one.
-use Rattle.std.proofs.Common.{◌≡◌, ℕ, ◌+◌, ◌<◌, ◌≤◌, List, [], ◌∷◌, ◌++◌, Bool, true, false, refl, sym, ap, ◌∙◌, subst, map, length, drop, get_or, Option, Some, None, Result, Ok, Err}
-use Rattle.std.proofs.lemmas.List.{drop_more, drop_all}
+use Rattle.std.proofs.Common.{◌≡◌, ℕ, ◌+◌, ◌<◌, List, [], ◌∷◌, ◌++◌, refl, sym, ap, ◌∙◌, subst, map, length, drop, get_or, Result, Ok, Err}
+use Rattle.std.proofs.lemmas.List.{drop_more}
 use Rattle.witx_base.specs.Paths.{Path, join, path_of}
 use Rattle.witx_tree.specs.Trees.{NotedItem, ItemTree}
 use Rattle.witx_tree.specs.Views.{noted_item, item_view, declaration_view, comments_view}
@@ -11,11 +11,11 @@ use Rattle.witx_tree.specs.declared.tree.TopLevelSyntax.{TopLevelSyntax}
 use Rattle.witx_tree.specs.declared.tree.TopLevelSyntax.TheVariants as top
 use Rattle.witx_check.specs.Faults.{Fault}
 use Rattle.witx_order.specs.Items.{Item, declaration, use_of, item_at, item_of, items_of, Declared}
-use Rattle.witx_order.specs.Walks.{World, OpenFile, open_file, declared_in, Place, place, Wish, wish, reach}
-use Rattle.witx_order.specs.Verdicts.{Leads, here}
+use Rattle.witx_order.specs.Walks.{World, OpenFile, open_file, declared_in, Place, place, wish, reach}
+use Rattle.witx_order.specs.Verdicts.{Leads}
 use Rattle.witx_order.proofs.Steps.{leads-trans, closes, declares, faulty-ends}
 use Rattle.witx_walk.specs.Answers.{Refuses}
-use Rattle.witx_walk.specs.Steps.{Outcome, Reaches, Tracks, HasPaths, Holding, IsDeclared}
+use Rattle.witx_walk.specs.Steps.{Outcome, Reaches, Tracks, HasPaths, IsDeclared}
 use Rattle.witx_walk.specs.declared.error.WitxError.{WitxError}
 use Rattle.witx_walk.specs.declared.error.WitxError.TheVariants.{Io, Parse, Validation, BadPath, TooManyFiles, OutOfMemory}
 use Rattle.witx_walk.specs.declared.walk.Walking.{Walking}

@@ -1,23 +1,23 @@
 -- One text by itself: its files are those of the definition, and no more than one of them starts.
-use Rattle.std.proofs.Common.{◌≡◌, ℕ, ◌<◌, ◌≤◌, List, [], ◌∷◌, ◌++◌, Bool, true, false, refl, sym, ap, ◌∙◌, subst, length, Option, Some, None, Result, Ok, Err, cond, if◌then◌else◌, codes, arith, inl, inr, ◌⊎◌, Contains, IfErr, zero, suc, slice_index_or}
+use Rattle.std.proofs.Common.{◌≡◌, ℕ, ◌≤◌, List, [], ◌∷◌, ◌++◌, Bool, true, false, refl, sym, ap, ◌∙◌, subst, length, Option, Some, None, Result, Ok, Err, cond, if◌then◌else◌, codes, arith, inl, inr, ◌⊎◌, Contains, IfErr, zero, suc}
 use Rattle.std.specs.Cmp.Lexicographic.{lists_equiv, nat_list_eq_equiv}
 use Rattle.witx_base.specs.Causes.{Rose}
 use Rattle.witx_base.specs.Paths.{Path, path_of, file_name}
 use Rattle.witx_files.specs.Files.{Files, same_path, held}
 use Rattle.witx_files.specs.declared.fault.IoFault.TheVariants.{NotFound, LineNotFound, Failed}
-use Rattle.witx_files.proofs.SamePaths.{same-test, same-turned}
+use Rattle.witx_files.proofs.SamePaths.{same-test}
 use Rattle.witx_ast.specs.Entries.{Held}
 use Rattle.witx_ast.specs.declared.definition.Definition.{Definition}
 use Rattle.witx_ast.specs.declared.definition.Entry.{Entry}
 use Rattle.witx_check.specs.Faults.{Fault}
 use Rattle.witx_order.specs.Items.{Declared}
-use Rattle.witx_order.specs.Walks.{World, Mark, start, decl, skip, end, Place, Next, go, stuck, over, next, is_taken, beginning, Refusal, too_many, faulty}
-use Rattle.witx_order.specs.Verdicts.{Verdict, fine, refused, Turn, on, ends, turn, turned, checked, Leads, here, along, Ends, IsVerdict}
+use Rattle.witx_order.specs.Walks.{World, Mark, start, decl, skip, end, Place, Next, go, stuck, over, next, is_taken, beginning, too_many}
+use Rattle.witx_order.specs.Verdicts.{Verdict, refused, on, ends, turn, turned, checked, Leads, here, along, Ends, IsVerdict}
 use Rattle.witx_order.proofs.FinalFronts.{turned-on}
 use Rattle.witx_order.proofs.Taking.{Takes, NextTakes, next-takes}
 use Rattle.witx_walk.specs.Readings.{Reading}
 use Rattle.witx_walk.specs.Meaning.{world}
-use Rattle.witx_walk.specs.Answers.{Answer, Answers, AgreesWith, HasCause, Caused, answer_of}
+use Rattle.witx_walk.specs.Answers.{Answer, Answers, HasCause, Caused, answer_of}
 use Rattle.witx_walk.specs.OneFile.{source_path, source_file, source_world, IsOfOneFile}
 use Rattle.witx_walk.specs.declared.error.WitxError.{WitxError}
 use Rattle.witx_walk.specs.declared.error.WitxError.TheVariants.{Io, Parse, Validation, BadPath, TooManyFiles, OutOfMemory}

@@ -1,11 +1,11 @@
 -- The set of the paths that were taken in has those of the list of the definition.
-use Rattle.std.proofs.Common.{◌≡◌, ℕ, ◌+◌, List, [], ◌∷◌, ◌++◌, Bool, true, false, refl, sym, ap, ◌∙◌, subst, length, length-append, cond, not, if◌then◌else◌, arith}
+use Rattle.std.proofs.Common.{◌≡◌, ◌+◌, List, [], ◌∷◌, ◌++◌, Bool, true, false, refl, sym, ap, ◌∙◌, subst, length-append, cond, not, if◌then◌else◌}
 use Rattle.std.specs.BTreeSet.{BTreeSet, btree_set_len}
 use Rattle.witx_base.specs.Paths.{Path}
 use Rattle.witx_files.specs.Files.{same_path}
 use Rattle.witx_order.specs.Walks.{is_taken}
 use Rattle.witx_order.specs.Items.{Declared}
-use Rattle.witx_walk.specs.Steps.{has_path, HasPaths, Holding, Tracks}
+use Rattle.witx_walk.specs.Steps.{has_path, HasPaths, Tracks}
 use Rattle.witx_walk.specs.declared.taken.TakenPaths.{TakenPaths}
 use Rattle.witx_walk.specs.declared.walk.Walking.{Walking}
 

@@ -1,13 +1,10 @@
 -- What a path that is reached leads to, from the answers of the steps.
-use Rattle.std.proofs.Common.{◌≡◌, ℕ, ◌<◌, ◌≤◌, List, [], ◌∷◌, ◌++◌, Bool, true, false, refl, sym, ap, ◌∙◌, subst, length, Option, Some, None, Result, Ok, Err, inl, inr}
-use Rattle.std.specs.BTreeSet.{BTreeSet}
-use Rattle.witx_base.specs.Causes.{Rose}
-use Rattle.witx_base.specs.Paths.{Path, join, path_of}
+use Rattle.std.proofs.Common.{◌≡◌, ℕ, ◌<◌, ◌≤◌, List, [], ◌∷◌, ◌++◌, true, false, sym, ap, ◌∙◌, subst, length, Option, Some, None, Result, Ok, Err, inl, inr}
+use Rattle.witx_base.specs.Paths.{Path}
 use Rattle.witx_files.specs.Files.{Files, Aliases, held, canonical}
 use Rattle.witx_files.specs.Answers.{Holds, Lacks, StandsFor}
 use Rattle.witx_files.specs.declared.fault.IoFault.TheVariants.{NotFound, LineNotFound, Failed}
 use Rattle.witx_check.specs.Faults.{Fault}
-use Rattle.witx_check.specs.Blame.{fault_of}
 use Rattle.witx_syntax.specs.Reads.{IfParse}
 use Rattle.witx_syntax.specs.declared.error.ParseError.{ParseError}
 use Rattle.witx_syntax.specs.declared.error.ParseFault.{ParseFault}
@@ -17,7 +14,7 @@ use Rattle.witx_order.specs.Items.{Item, Declared, SyntaxFault}
 use Rattle.witx_order.specs.Walks.{World, OpenFile, open_file, Place, place, Wish, reach, wish, is_taken, folder_of, unreadable}
 use Rattle.witx_order.specs.Verdicts.{refused, Leads, here, Ends}
 use Rattle.witx_order.proofs.Steps.{leads-trans, ends-after, too_many-ends, missing-ends, starts, skipped, unread-ends}
-use Rattle.witx_walk.specs.Answers.{Refuses, Breaks, IsCalledFor, HasCause, Caused, told_fault}
+use Rattle.witx_walk.specs.Answers.{Refuses, Breaks, IsCalledFor, told_fault}
 use Rattle.witx_walk.specs.Steps.{Outcome, Reaches, Tracks, IsReached, IsGot}
 use Rattle.witx_walk.specs.declared.error.WitxError.{WitxError}
 use Rattle.witx_walk.specs.declared.error.WitxError.TheVariants.{Io, Parse, Validation, BadPath, TooManyFiles, OutOfMemory}

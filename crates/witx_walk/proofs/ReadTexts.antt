@@ -1,5 +1,5 @@
 -- There is exactly one reading of texts.
-use Rattle.std.proofs.Common.{◌≡◌, ℕ, List, refl, sym, ap, ◌∙◌, Result, Ok, Err, inl, inr, ◌⊎◌}
+use Rattle.std.proofs.Common.{◌≡◌, ℕ, List, ap, Result, Ok, Err, inl, inr, ◌⊎◌}
 use Rattle.witx_tree.specs.Trees.{Document}
 use Rattle.witx_syntax.specs.Reads.{Reads, IsFaultOf, Told}
 use Rattle.witx_order.specs.Items.{Item, items_of, SyntaxFault}

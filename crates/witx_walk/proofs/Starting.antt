@@ -1,5 +1,5 @@
 -- Before the first file nothing is kept.
-use Rattle.std.proofs.Common.{◌≡◌, ℕ, List, [], refl, sym, ap, subst, map}
+use Rattle.std.proofs.Common.{◌≡◌, List, [], refl, sym, ap, subst, map}
 use Rattle.witx_ast.proofs.EntryLaws.{fits-empty}
 use Rattle.witx_ast.specs.Definitions.{definition_tree, introduced, entry_tree, DefinitionsFit}
 use Rattle.witx_ast.specs.Ordered.{IsOrdered}

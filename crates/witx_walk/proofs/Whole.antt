@@ -1,11 +1,10 @@
 -- The whole answer: the document that the files mean, or the verdict.
-use Rattle.std.proofs.Common.{◌≡◌, ℕ, List, [], ◌∷◌, refl, sym, ap, ◌∙◌, subst, map, Option, Some, None, Result, Ok, Err}
+use Rattle.std.proofs.Common.{◌≡◌, ℕ, List, [], refl, sym, ap, ◌∙◌, subst, map, Some, Result, Ok, Err}
 use Rattle.witx_base.specs.Paths.{Path}
 use Rattle.witx_files.specs.declared.fault.IoFault.TheVariants.{NotFound, LineNotFound, Failed}
 use Rattle.witx_ast.specs.Definitions.{DefinitionTree, definition_tree}
 use Rattle.witx_check.specs.Faults.{Fault}
-use Rattle.witx_order.specs.Items.{Declared}
-use Rattle.witx_order.specs.Walks.{World, Place, place, beginning, Refusal}
+use Rattle.witx_order.specs.Walks.{World, place, beginning, Refusal}
 use Rattle.witx_order.specs.Verdicts.{Verdict, fine, refused, IsVerdict}
 use Rattle.witx_order.proofs.Steps.{stopped, ends-after}
 use Rattle.witx_order.proofs.OnlyOne.{one-verdict}
@@ -13,8 +12,8 @@ use Rattle.witx_order.proofs.Ending.{a-verdict}
 use Rattle.witx_order.proofs.FinalFronts.{fine-walk, means-fine}
 use Rattle.witx_walk.specs.Readings.{Reading, IsReading}
 use Rattle.witx_walk.specs.Meaning.{MeansDocument, definitions_of, world}
-use Rattle.witx_walk.specs.Answers.{Answer, Answers, AgreesWith, Refuses, IsAnswer, told_by, OneAnswer}
-use Rattle.witx_walk.specs.Steps.{Reaches, Tracks}
+use Rattle.witx_walk.specs.Answers.{Answer, Answers, AgreesWith, Refuses, told_by, OneAnswer}
+use Rattle.witx_walk.specs.Steps.{Reaches}
 use Rattle.witx_walk.specs.declared.error.WitxError.{WitxError}
 use Rattle.witx_walk.specs.declared.error.WitxError.TheVariants.{Io, Parse, Validation, BadPath, TooManyFiles, OutOfMemory}
 use Rattle.witx_walk.specs.declared.walk.Walking.{Walking}

@@ -1,10 +1,9 @@
 //! Files in order: each file once, at the first mention of its path, and the files that it uses
 //! where it uses them.
 
-ghost use Rattle.std.specs.Prelude.{◌≡◌, ◌<◌, ◌≤◌, ◌++◌, ◌∷◌, [], ℕ, List, map, length, Ok, Err, IfErr, IfOk, OnOk, false, Contains, None};
+ghost use Rattle.std.specs.Prelude.{◌≡◌, ◌<◌, ◌≤◌, ◌∷◌, [], List, map, Ok, Err, IfErr, IfOk, OnOk, Contains, None};
 ghost use Rattle.std.specs.BTreeSet.{btree_set_len};
 ghost use Rattle.witx_base.specs.Paths.{Path, file_name};
-ghost use Rattle.witx_tree.specs.Trees.{NotedItem};
 ghost use Rattle.witx_tree.specs.Views.{noted_item};
 ghost use Rattle.witx_ast.specs.Definitions.{definition_tree};
 ghost use Rattle.witx_ast.specs.Ordered.{IsOrdered};

@@ -1,4 +1,4 @@
-use Rattle.std.proofs.Common.{◌≡◌, ◌∙◌, ap, ◌+◌, ◌≤◌, length, take, drop, arith, length-drop}
+use Rattle.std.proofs.Common.{◌≡◌, ◌∙◌, ap, length, drop, arith, length-drop}
 use Rattle.witx.proofs.Writing.{wrote-more}
 use Rattle.witx.proofs.output.put_text.Goals as goal
 

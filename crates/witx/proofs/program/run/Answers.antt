@@ -1,4 +1,3 @@
-use Rattle.std.proofs.Common.{◌≡◌}
 use Rattle.witx.proofs.Running.{kept-adapted, kept-document, kept-faithful, kept-functions, kept-layouts, kept-listed, kept-listing}
 use Rattle.witx.proofs.program.run.Goals as goal
 

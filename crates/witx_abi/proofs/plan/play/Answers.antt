@@ -1,6 +1,5 @@
-use Rattle.std.proofs.Common.{◌≡◌, ◌<◌, ◌∙◌, List, length, get_or, subst, Result, Ok, Err}
+use Rattle.std.proofs.Common.{◌≡◌, ◌<◌, ◌∙◌, length, get_or, subst, Result, Ok, Err}
 use Rattle.std.specs.Prelude.{OnErr}
-use Rattle.witx_abi.specs.declared.plan.Planned.{Planned}
 use Rattle.witx_abi.proofs.Plans.{front-next, told-next, ready-next}
 use Rattle.witx_abi.proofs.plan.play.Goals as goal
 

@@ -1,4 +1,4 @@
-use Rattle.std.proofs.Common.{◌≡◌, ℕ, IsSome, take, drop, vec_len}
+use Rattle.std.proofs.Common.{◌≡◌, IsSome, take, drop, vec_len}
 use Rattle.witx_abi.specs.Reads.{planned_events}
 use Rattle.witx_machine.specs.Heights.{heights}
 use Rattle.witx_abi.specs.Told.{after}

@@ -1,4 +1,4 @@
-use Rattle.std.proofs.Common.{◌≡◌, ◌++◌, drop, map}
+use Rattle.std.proofs.Common.{◌≡◌, ◌++◌, drop}
 use Rattle.witx_machine.specs.Signature.{words_of_params}
 use Rattle.witx_abi.specs.Reads.{param_types}
 use Rattle.witx_abi.proofs.signature.push_params.Given as goal

@@ -1,4 +1,4 @@
-use Rattle.std.proofs.Common.{◌≡◌, ◌++◌, drop, map}
+use Rattle.std.proofs.Common.{◌≡◌, ◌++◌, drop}
 use Rattle.witx_machine.specs.Signature.{words_of_results}
 use Rattle.witx_abi.specs.Reads.{param_types}
 use Rattle.witx_abi.proofs.signature.words_back.Given as goal

@@ -1,4 +1,4 @@
-use Rattle.std.proofs.Common.{◌≡◌, ℕ, List, [], ◌∷◌, ◌++◌, ◌+◌, ◌-◌, map, length, get_or, true, sym, ap, ◌∙◌, subst, arith, refl, rules}
+use Rattle.std.proofs.Common.{◌≡◌, ℕ, List, [], ◌∷◌, ◌+◌, ◌-◌, length, true, sym, ap, ◌∙◌, subst, refl, rules}
 use Rattle.std.proofs.lemmas.List.{length-map}
 use Rattle.witx_grammar.specs.declared.table.Symbol.TheVariants.{Form}
 use Rattle.witx_grammar.proofs.Reading.{back_start}
@@ -11,7 +11,7 @@ use Rattle.witx_syntax.specs.Stack.{stack_view}
 use Rattle.witx_syntax.specs.Values.{leaf_of}
 use Rattle.witx_syntax.specs.Kinds.{Fits}
 use Rattle.witx_syntax.proofs.Leaves.{sorts_count}
-use Rattle.witx_syntax.proofs.Loop.{Here, before_leaf, after_leaf, before_node, after_node, at_end, only_items, items_there}
+use Rattle.witx_syntax.proofs.Loop.{Here, before_leaf, after_leaf, before_node, after_node}
 use Rattle.witx_syntax.proofs.builder.build.Goals as goal
 
 pub each-init : goal.each-init

@@ -1,13 +1,11 @@
-use Rattle.std.proofs.Common.{◌≡◌, List, Option, Some, None, map, reverse, refl, sym, ap, ◌∙◌, subst}
-use Rattle.std.specs.Global.{Box}
-use Rattle.witx_tree.specs.declared.comment.Documented.{Documented}
+use Rattle.std.proofs.Common.{◌≡◌, List, map, reverse, sym, ap, ◌∙◌, subst}
 use Rattle.witx_tree.specs.declared.tree.TypedefSyntax.{TypedefSyntax}
 use Rattle.witx_tree.specs.declared.tree.TypedefSyntax.TheOpen.{TypedefSyntax-F}
 use Rattle.witx_tree.specs.declared.tree.TypedefSyntax.TheFolds.{fold-roll-TypedefSyntax, fold-roll-TupleSyntax}
 use Rattle.witx_tree.specs.declared.tree.TypedefSyntax.TheVariants.{Tuple, rolls-Tuple}
 use Rattle.witx_tree.specs.declared.tree.TupleSyntax.{roll-TupleSyntax}
-use Rattle.witx_tree.specs.Trees.{TypeTree, tuple_of, union_of}
-use Rattle.witx_tree.specs.Views.{CaseView, FieldView, type_view, case_view, field_view, type_step, case_step, expected_step, field_step, record_step, tuple_step, union_step, variant_step, types_of, types_view, union_fields_of, union_fields_view, noted_type, boxed_view}
+use Rattle.witx_tree.specs.Trees.{TypeTree, tuple_of}
+use Rattle.witx_tree.specs.Views.{CaseView, FieldView, type_view, case_view, field_view, type_step, case_step, expected_step, field_step, record_step, tuple_step, union_step, variant_step, types_of, types_view}
 use Rattle.witx_syntax.proofs.constructors.tuple.Goals as goal
 
 seen : (xs : List TypedefSyntax) → type_view (Tuple (roll-TupleSyntax (record { types = xs }))) ≡ tuple_of (types_of (map type_view xs))

@@ -1,4 +1,4 @@
-use Rattle.std.proofs.Common.{◌≡◌, List, ℕ, drop, ap, ◌∙◌}
+use Rattle.std.proofs.Common.{List, ℕ, drop, ap, ◌∙◌}
 use Rattle.witx_lex.specs.Meaning.{unsigned}
 use Rattle.witx_syntax.specs.Integers.{int_value, is_small, is_hexadecimal, number, small, unsigned_value}
 use Rattle.witx_syntax.proofs.Digits.{small_either}

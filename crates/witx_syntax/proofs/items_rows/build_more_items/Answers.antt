@@ -1,4 +1,4 @@
-use Rattle.std.proofs.Common.{◌∷◌, List, map, reverse, refl, sym, ap, ◌∙◌}
+use Rattle.std.proofs.Common.{◌∷◌, map, reverse, sym, ap, ◌∙◌}
 use Rattle.witx_lex.specs.Views.{tokens_view}
 use Rattle.witx_tree.specs.Trees.{Comments}
 use Rattle.witx_tree.specs.Views.{item_view, noted_item}

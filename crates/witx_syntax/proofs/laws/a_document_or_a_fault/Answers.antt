@@ -1,6 +1,6 @@
-use Rattle.std.proofs.Common.{◌≡◌, ℕ, List, [], ◌∷◌, refl, inl, inr, subst}
+use Rattle.std.proofs.Common.{ℕ, List, refl, inl, inr, subst}
 use Rattle.std.specs.Prelude.{◌⊎◌}
-use Rattle.witx_grammar.specs.Grammar.{Production, grammar}
+use Rattle.witx_grammar.specs.Grammar.{Production}
 use Rattle.witx_grammar.specs.Faults.{HasDerivation, HasFault}
 use Rattle.witx_lex.specs.Meaning.{tokens_of}
 use Rattle.witx_lex.specs.Pieces.{Piece, ArePieces}

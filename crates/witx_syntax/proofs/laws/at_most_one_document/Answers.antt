@@ -1,4 +1,4 @@
-use Rattle.std.proofs.Common.{◌≡◌, List, sym, subst}
+use Rattle.std.proofs.Common.{◌≡◌, List, subst}
 use Rattle.witx_lex.specs.Tokens.{Lexed}
 use Rattle.witx_syntax.specs.Reads.{IsDocument}
 use Rattle.witx_syntax.proofs.Documents.{one_document}

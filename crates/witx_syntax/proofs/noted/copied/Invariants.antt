@@ -1,5 +1,4 @@
-use Rattle.std.proofs.Common.{◌≡◌, map, take}
-use Rattle.std.specs.Borrow.{Bor}
+use Rattle.std.proofs.Common.{◌≡◌, take}
 use Rattle.witx_syntax.proofs.noted.copied.Given as goal
 
 abbrev pub invariant-loop-text : goal.invariant-loop-text

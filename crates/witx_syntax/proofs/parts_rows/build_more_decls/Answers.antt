@@ -1,4 +1,4 @@
-use Rattle.std.proofs.Common.{◌∷◌, List, map, reverse, refl, sym, ap, ◌∙◌}
+use Rattle.std.proofs.Common.{map, refl, ◌∙◌}
 use Rattle.witx_tree.specs.Views.{noted_decl}
 use Rattle.witx_syntax.specs.Rows.{row_more_decls}
 use Rattle.witx_syntax.specs.Stack.{stack_view}

@@ -1,4 +1,4 @@
-use Rattle.std.proofs.Common.{◌∷◌, List, map, reverse, refl, sym, ap, ◌∙◌}
+use Rattle.std.proofs.Common.{refl, ◌∙◌}
 use Rattle.witx_tree.specs.Views.{fields_view}
 use Rattle.witx_syntax.specs.Rows.{row_more_fields}
 use Rattle.witx_syntax.specs.Stack.{stack_view, field_value}

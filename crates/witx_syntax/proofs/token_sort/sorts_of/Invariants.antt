@@ -1,4 +1,4 @@
-use Rattle.std.proofs.Common.{◌≡◌, ◌++◌, map, drop}
+use Rattle.std.proofs.Common.{◌≡◌, ◌++◌, drop}
 use Rattle.witx_lex.specs.Views.{tokens_view}
 use Rattle.witx_syntax.specs.Sorts.{sorts_of}
 use Rattle.witx_syntax.proofs.token_sort.sorts_of.Given as goal

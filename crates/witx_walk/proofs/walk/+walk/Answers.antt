@@ -1,11 +1,11 @@
-use Rattle.std.proofs.Common.{◌≡◌, ◌∙◌, ℕ, ◌<◌, ◌≤◌, ◌+◌, true, false, refl, sym, ap, arith, List, ◌∷◌, ◌++◌, [], length, map, drop, Ok, Some}
+use Rattle.std.proofs.Common.{◌≡◌, ◌∙◌, ◌<◌, ◌≤◌, ◌+◌, true, false, refl, sym, ap, arith, ◌∷◌, ◌++◌, [], length, map, drop, Ok}
 use Rattle.std.proofs.lemmas.Result.{err_from_is_err_and}
 use Rattle.std.proofs.lemmas.List.{drop_all}
 use Rattle.witx_base.specs.Paths.{path_of}
-use Rattle.witx_files.specs.Files.{canonical, held}
+use Rattle.witx_files.specs.Files.{canonical}
 use Rattle.witx_tree.specs.Views.{noted_item, comments_view, declaration_view}
-use Rattle.witx_order.specs.Items.{items_of, item_of}
-use Rattle.witx_order.specs.Walks.{is_taken, place}
+use Rattle.witx_order.specs.Items.{items_of}
+use Rattle.witx_order.specs.Walks.{is_taken}
 use Rattle.witx_order.specs.Verdicts.{here}
 use Rattle.witx_walk.specs.Meaning.{world}
 use Rattle.witx_syntax.specs.Reads.{fault_view}
@@ -13,7 +13,7 @@ use Rattle.witx_walk.specs.Readings.{syntax_fault}
 use Rattle.witx_walk.specs.Steps.{has_path}
 use Rattle.witx_walk.proofs.PathSets.{is-taken, has-more, paths-kept, tracks-more}
 use Rattle.witx_walk.proofs.Reached.{stands, holds, lacks, path-refused, path-skipped, too-many, text-refused, parse-refused, parse-fault, took}
-use Rattle.witx_walk.proofs.Items.{declaration-is, use-is, items-more, onward-items, items-refused, declared-taken, use-wish, file_at, all-taken}
+use Rattle.witx_walk.proofs.Items.{declaration-is, use-is, items-more, onward-items, items-refused, declared-taken, use-wish, all-taken}
 use Rattle.witx_walk.proofs.walk.+walk.Goals as goal
 
 pub take_in-returns-in_err-path-clause-told : goal.take_in-returns-in_err-path-clause-told

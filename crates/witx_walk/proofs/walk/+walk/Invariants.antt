@@ -1,4 +1,4 @@
-use Rattle.std.proofs.Common.{◌≡◌, ◌≤◌, ℕ, ◌+◌, ◌-◌, ◌*◌, List, ◌∷◌, map, length, drop, Ok}
+use Rattle.std.proofs.Common.{◌≡◌, ◌≤◌, ◌+◌, ◌-◌, ◌*◌, List, map, drop}
 use Rattle.std.specs.BTreeSet.{btree_set_len}
 use Rattle.witx_base.specs.Paths.{Path}
 use Rattle.witx_tree.specs.Views.{noted_item}

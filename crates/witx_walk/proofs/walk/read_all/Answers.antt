@@ -1,6 +1,6 @@
-use Rattle.std.proofs.Common.{◌≡◌, ◌∙◌, List, [], refl, sym, ap, subst, map}
+use Rattle.std.proofs.Common.{[], sym, ap, map}
 use Rattle.std.proofs.lemmas.Result.{err_from_is_err_and}
-use Rattle.witx_ast.specs.Definitions.{DefinitionTree, definition_tree}
+use Rattle.witx_ast.specs.Definitions.{definition_tree}
 use Rattle.witx_walk.specs.Meaning.{world}
 use Rattle.witx_walk.proofs.Whole.{all-mean, means-as}
 use Rattle.witx_walk.proofs.walk.read_all.Goals as goal

@@ -1,7 +1,6 @@
-use Rattle.std.proofs.Common.{◌∙◌, ◌+◌, refl, ap, drop, Ok}
+use Rattle.std.proofs.Common.{◌∙◌, ◌+◌, refl, drop, Ok}
 use Rattle.std.proofs.lemmas.List.{drop_all}
 use Rattle.std.proofs.lemmas.Result.{err_from_is_err_and}
-use Rattle.witx_order.specs.Walks.{place}
 use Rattle.witx_order.specs.Verdicts.{here}
 use Rattle.witx_walk.specs.Meaning.{world}
 use Rattle.witx_walk.proofs.Items.{paths-more, onward-paths, paths-refused, all-handed}

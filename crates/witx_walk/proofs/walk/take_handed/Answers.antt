@@ -1,6 +1,6 @@
 use Rattle.std.proofs.Common.{◌∙◌, ◌∷◌, [], refl, sym}
 use Rattle.witx_order.specs.Walks.{place}
-use Rattle.witx_order.proofs.HandedPaths.{nameless-ends, handed-reach, parentless}
+use Rattle.witx_order.proofs.HandedPaths.{nameless-ends, handed-reach}
 use Rattle.witx_walk.specs.Meaning.{world}
 use Rattle.witx_walk.proofs.walk.take_handed.Goals as goal
 
