@@ -56,3 +56,7 @@ nameless (c ∷ d ∷ ds) e = absurd (cc)
 -- a path without parent has no file name
 pub parentless : (p : Path) → parent p ≡ None → file_name p ≡ None
 parentless p e = nameless p (none-if (has_parent p) (all_but_last p) e)
+
+-- a path with a file name is its parent joined with that name
+pub put-together : (p above : Path) (name : List ℕ) → parent p ≡ Some above → file_name p ≡ Some name → join above (name ∷ []) ≡ p
+put-together p above name e f = ap (λ d. join d (name ∷ [])) (parent-is p above e) ∙ joined-is p name f

@@ -8,7 +8,7 @@ use std::marker::Model;
 
 /// The calls of a device in memory: which of them fail, by their numbers from 0, the number of the
 /// next one, and how many faults there were. Both counts stay at the last value of a `u64`.
-#[derive(Debug, Drop)]
+#[derive(Drop)]
 pub struct CallCounter {
     fails: Calls,
     next: u64,

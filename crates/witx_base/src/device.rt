@@ -1,6 +1,6 @@
-ghost use Rattle.std.specs.Prelude.{◌≡◌, ◌<◌, ◌≤◌, ◌+◌, ℕ, List, Option, length, take, IfOk, OnOk, OnErr};
+ghost use Rattle.std.specs.Prelude.{◌≡◌, ◌<◌, ◌≤◌, ℕ, List, Option, length, take, IfOk, OnOk, OnErr};
 ghost use Rattle.std.specs.Io.KnownBytes.{Appends, Consumes, IsAtEnd, Keeps};
-ghost use Rattle.witx_base.specs.Causes.{Rose};
+ghost use Rattle.witx_base.specs.Causes.{one_more, Rose};
 
 use crate::memory::Failed;
 
@@ -12,8 +12,8 @@ pub trait Source {
     /// How often the source has failed.
     ghost faults: { Self → ℕ };
 
-    /// How often the source was asked: a call raises it by one at most, so that a bound on it is a
-    /// bound on the calls.
+    /// How often the source was asked: each call counts one, up to the last value of a `u64`, so that
+    /// a bound below that is a bound on the calls.
     ghost reads: { Self → ℕ };
 
     /// Moves the first of the bytes left to the front of `buf`, and answers how many; 0 is the end of
@@ -26,7 +26,7 @@ pub trait Source {
         ensures no_fault { OnOk result (faults self.new ≡ faults self.old) }
         ensures failed { OnErr result (Rose (faults self.old) (faults self.new)) }
         ensures nothing_moved { OnErr result (Keeps (left self.old) (left self.new)) }
-        ensures one_read { reads self.new ≤ reads self.old + 1 }
+        ensures one_read { reads self.new ≡ one_more (reads self.old) }
         ensures later { faults self.old ≤ faults self.new };
 }
 

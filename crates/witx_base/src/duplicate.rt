@@ -53,6 +53,14 @@ impl Duplicate for usize {
     }
 }
 
+impl<'a> Duplicate for &'a str {
+    ghost is_copy = { λ text made. made ≡ text };
+
+    fn copy(&self) -> Result<&'a str, OutOfMemory> {
+        Ok(*self)
+    }
+}
+
 impl<T: Duplicate> Duplicate for Option<T> {
     ghost is_copy = { IsCopyOfOption T.is_copy };
 

@@ -11,7 +11,7 @@ use std::marker::Model;
 
 /// A source over bytes in memory. A call gives as many bytes as are left and the buffer holds, at
 /// most `gives`; exactly the calls numbered in `fails`, from 0, fail.
-#[derive(Debug, Drop)]
+#[derive(Drop)]
 pub struct MemSource {
     bytes: Bytes,
     at: usize,
@@ -79,7 +79,7 @@ impl Source for MemSource {
 
 /// A sink in memory. A call takes as many bytes as the piece and the room left hold, at most `takes`;
 /// exactly the calls numbered in `fails`, from 0, and the writes into a full sink fail.
-#[derive(Debug, Drop)]
+#[derive(Drop)]
 pub struct MemSink {
     buffer: Vec<u8>,
     len: usize,

@@ -46,6 +46,11 @@ impl Text {
         Text { string }
     }
 
+    /// Where the text takes its memory from.
+    pub fn allocator(&self) -> Global {
+        *self.string.allocator()
+    }
+
     /// The text, borrowed.
     pub fn as_str(&self) -> &str
         ensures { result.now ≡ self.now }

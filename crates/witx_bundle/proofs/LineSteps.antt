@@ -1,21 +1,43 @@
 -- Line by line the text before the first header is made.
-use Rattle.std.proofs.Common.{◌≡◌, ℕ, ◌+◌, ◌<◌, ◌≤◌, List, [], ◌∷◌, ◌++◌, Bool, true, false, refl, sym, ap, ◌∙◌, length, map, drop, get_or, append_assoc, append-nil, Bor, arith, ◌==◌, suc, if◌then◌else◌}
-use Rattle.std.specs.Prelude.{take_while, not, ◌||◌}
-use Rattle.std.specs.List.{list_any, join_with_byte}
-use Rattle.std.proofs.lemmas.List.{drop_more, drop_all, length-map}
+use Rattle.std.proofs.Common.{◌≡◌, ℕ, ◌<◌, List, [], ◌∷◌, ◌++◌, Bool, true, false, refl, sym, ap, ◌∙◌, length, append_assoc, append-nil, Bor, lit<, arith, ◌==◌, get_or, if◌then◌else◌}
+use Rattle.std.specs.Prelude.{take_while, not, ◌||◌, Option, Some, None, MatchOption}
+use Rattle.std.specs.List.{All, list_any, join_with_byte}
+use Rattle.std.proofs.lemmas.Bool.{ne_eqb}
+use Rattle.std.proofs.lemmas.List.Elements.{All-from_get_or}
+use Rattle.std.proofs.lemmas.List.Splits.{length-slice_split, slice_split_none, slice_split_at}
 use Rattle.std.proofs.lemmas.List.Sums.{take_while-cons}
-use Rattle.std.proofs.lemmas.Bool.Decides.{nat_tests}
-use Rattle.witx_bundle.specs.Bundles.{is_header, ended_lines, text_before}
+use Rattle.std.proofs.lemmas.Str.Pattern.{IsSplitOnceResult, split_parts}
+use Rattle.witx_base.specs.Paths.{Path, path_of}
+use Rattle.witx_bundle.specs.Bundles.{is_header, ended_lines, lines_of, path_after, text_before, without_return}
 
--- the lines of borrowed texts
-abbrev pub texts : List (Bor (List ℕ)) → List (List ℕ)
-texts xs = map (λ x. x.now) xs
+-- ---- a text that is cut at its first line feed
 
-pub line-is : (xs : List (Bor (List ℕ))) (i : ℕ) (x d : Bor (List ℕ)) (more : List (Bor (List ℕ))) → i < length xs → x ≡ get_or xs i d → more ≡ drop (i + 1) xs
-    → texts (drop i xs) ≡ x.now ∷ texts more
-line-is xs i x d more l p q = rw (drop_more xs i d l, ← p, q) refl
+free : (xs : List ℕ) → ((i : ℕ) → i < length xs → (get_or xs i 0 ≡ 10 → ⊥)) → All (λ b. (b == 10) ≡ false) xs
+free xs h = All-from_get_or (λ b. (b == 10) ≡ false) xs 0 (λ i l. ne_eqb (get_or xs i 0) 10 (h i l))
 
-pub ruleset line_rules = (line-is)
+pub cut-line : (bs : List ℕ) (r : Option (Bor (List ℕ) × Bor (List ℕ))) → IsSplitOnceResult 10 bs r
+    → MatchOption r (lines_of bs ≡ bs ∷ []) (λ x. lines_of bs ≡ x.0.now ∷ lines_of x.1.now)
+cut-line bs None h = slice_split_none (λ b. b == 10) bs (free bs (split_parts 10 bs None h (lit< tt)))
+cut-line bs (Some x) h =
+    let cut = split_parts 10 bs (Some x) h (lit< tt) in
+    ap lines_of cut.0 ∙ slice_split_at (λ b. b == 10) x.0.now 10 x.1.now (free x.0.now cut.1) refl
+
+some-line : (text : List ℕ) → 0 < length (lines_of text)
+some-line text = omega (arith, length-slice_split (λ b. b == 10) text)
+
+pub fewer-lines : (rest line more : List ℕ) → lines_of rest ≡ line ∷ lines_of more → length (lines_of more) < length (lines_of rest)
+fewer-lines rest line more e = omega (arith, ap length e)
+
+path-some : (rest : List ℕ) (lines : List (List ℕ)) → 0 < length lines → path_of (without_return rest) ≡ path_after rest lines
+path-some rest [] l = absurd (omega arith)
+path-some rest (next ∷ more) l = refl
+
+pub path-before : (p : Path) (rest more : List ℕ) → p ≡ path_of (without_return rest) → p ≡ path_after rest (lines_of more)
+path-before p rest more e = e ∙ path-some rest (lines_of more) (some-line more)
+
+pub ruleset path_rules = (path-before)
+
+-- ---- the text before the first header
 
 abbrev goes_on : List ℕ → Bool
 goes_on line = not (is_header line)
@@ -41,31 +63,29 @@ at-line x y more h =
     ap (λ here. if here || list_any is_header (y ∷ more) then ended_lines (take_while goes_on (x ∷ y ∷ more)) else join_with_byte 10 (x ∷ y ∷ more)) h
     ∙ by-header-behind x y more (list_any is_header (y ∷ more)) h
 
-not-zero : (n : ℕ) → (suc n == 0) ≡ false
-not-zero n = grind (arith, nat_tests)
+at-some : (x : List ℕ) (more : List (List ℕ)) → 0 < length more → is_header x ≡ false → text_before (x ∷ more) ≡ x ++ 10 ∷ text_before more
+at-some x [] l h = absurd (omega arith)
+at-some x (y ∷ more) l h = at-line x y more h
 
-text-line : (x : List ℕ) (more : List (List ℕ)) (text total : List ℕ) (last : Bool) → last ≡ (length more == 0) → is_header x ≡ false → text ++ text_before (x ∷ more) ≡ total
-    → ((text ++ x) ++ (if last then [] else 10 ∷ [])) ++ text_before more ≡ total
-text-line x [] text total last q h e =
-    ap (λ b. ((text ++ x) ++ (if b then [] else 10 ∷ [])) ++ []) q ∙ (append-nil _ ∙ (append-nil (text ++ x) ∙ (ap (λ y. text ++ y) (sym (at-last x h)) ∙ e)))
-text-line x (y ∷ more) text total last q h e =
-    let k : (length (y ∷ more) == 0) ≡ false = not-zero (length more) in
-    let f : text ++ (x ++ 10 ∷ text_before (y ∷ more)) ≡ total = ap (λ z. text ++ z) (sym (at-line x y more h)) ∙ e in
-    ap (λ b. ((text ++ x) ++ (if b then [] else 10 ∷ [])) ++ text_before (y ∷ more)) (q ∙ k) ∙ (append_assoc (text ++ x) (10 ∷ []) (text_before (y ∷ more)) ∙ (append_assoc text x (10 ∷ text_before (y ∷ more)) ∙ f))
+pub text-step : (front rest line more total : List ℕ) → lines_of rest ≡ line ∷ lines_of more → is_header line ≡ false → front ++ text_before (lines_of rest) ≡ total
+    → ((front ++ line) ++ 10 ∷ []) ++ text_before (lines_of more) ≡ total
+text-step front rest line more total e h g =
+    append_assoc (front ++ line) (10 ∷ []) (text_before (lines_of more))
+    ∙ (append_assoc front line (10 ∷ text_before (lines_of more))
+    ∙ (ap (λ z. front ++ z) (sym (at-some line (lines_of more) (some-line more) h) ∙ ap text_before (sym e)) ∙ g))
 
-pub text-next : (xs : List (Bor (List ℕ))) (i : ℕ) (x : List ℕ) (more : List (Bor (List ℕ))) (text total : List ℕ) (last : Bool)
-    → texts (drop i xs) ≡ x ∷ texts more → more ≡ drop (i + 1) xs → last ≡ (length more == 0) → is_header x ≡ false → text ++ text_before (texts (drop i xs)) ≡ total
-    → ((text ++ x) ++ (if last then [] else 10 ∷ [])) ++ text_before (texts (drop (i + 1) xs)) ≡ total
-text-next xs i x more text total last a b q h e =
-    let k : last ≡ (length (texts more) == 0) = rw length-map q in
-    ap (λ ys. ((text ++ x) ++ (if last then [] else 10 ∷ [])) ++ text_before (texts ys)) (sym b) ∙ text-line x (texts more) text total last k h (ap (λ ys. text ++ text_before ys) (sym a) ∙ e)
+pub text-stop : (front rest line more total : List ℕ) → lines_of rest ≡ line ∷ lines_of more → is_header line ≡ true → front ++ text_before (lines_of rest) ≡ total
+    → front ≡ total
+text-stop front rest line more total e h g =
+    sym (append-nil front) ∙ (ap (λ z. front ++ z) (sym (at-header line (lines_of more) h) ∙ ap text_before (sym e)) ∙ g)
 
-pub text-stop : (xs : List (Bor (List ℕ))) (i : ℕ) (x : List ℕ) (more : List (Bor (List ℕ))) (text total : List ℕ)
-    → texts (drop i xs) ≡ x ∷ texts more → is_header x ≡ true → text ++ text_before (texts (drop i xs)) ≡ total → text ≡ total
-text-stop xs i x more text total a h e =
-    sym (append-nil text) ∙ (ap (λ y. text ++ y) (sym (at-header x (texts more) h)) ∙ (ap (λ ys. text ++ text_before ys) (sym a) ∙ e))
+last-text : (t : Bool) (x : List ℕ) → is_header x ≡ t → (if t then [] else x) ≡ text_before (x ∷ [])
+last-text true x h = sym (at-header x [] h)
+last-text false x h = sym (at-last x h)
 
-pub text-end : (xs : List (Bor (List ℕ))) (i : ℕ) (text total : List ℕ) → length xs ≤ i → text ++ text_before (texts (drop i xs)) ≡ total → text ≡ total
-text-end xs i text total l e = sym (append-nil text) ∙ (ap (λ ys. text ++ text_before (texts ys)) (sym (drop_all i xs l)) ∙ e)
+pub text-end : (front rest made total : List ℕ) → lines_of rest ≡ rest ∷ [] → made ≡ front ++ (if is_header rest then [] else rest)
+    → front ++ text_before (lines_of rest) ≡ total → made ≡ total
+text-end front rest made total e m g =
+    m ∙ (ap (λ z. front ++ z) (last-text (is_header rest) rest refl ∙ ap text_before (sym e)) ∙ g)
 
-pub ruleset text_rules = (text-next, text-stop, text-end)
+pub ruleset text_rules = (text-step, text-stop, text-end, fewer-lines)

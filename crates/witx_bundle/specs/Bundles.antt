@@ -6,7 +6,8 @@ use Rattle.std.specs.List.{slice_split, starts_with, list_any, join_with_byte}
 use Rattle.std.specs.Str.{IsUtf8}
 use Rattle.std.specs.Str.Lossy.{utf8_valid_len}
 use Rattle.witx_base.specs.Paths.{Path, path_of}
-use Rattle.witx_files.specs.Files.{Files, held}
+use Rattle.witx_files.specs.Files.{Files, held, same_path}
+use Rattle.witx_bundle.specs.declared.bundle.TheConstants.{LONGEST_BUNDLE}
 use Rattle.witx_bundle.specs.declared.error.BundleError.{BundleError}
 use Rattle.witx_bundle.specs.declared.error.BundleError.TheVariants.{TooLong, NotUtf8, BeforeFirst, OutOfMemory}
 
@@ -48,6 +49,10 @@ abbrev pub given : List (List ℕ) → Files
 given [] = []
 given (line ∷ more) = (if is_header line then (header_path line more, text_before more) ∷ given more else given more)
 
+-- what a line with these behind it changes of the texts at the paths
+abbrev pub with_line : List ℕ → List (List ℕ) → (Path → Option (List ℕ)) → Path → Option (List ℕ)
+with_line line more at q = (if is_header line then (if same_path (header_path line more) q then Some (text_before more) else at q) else at q)
+
 -- the text at a path: the last that is given for it
 abbrev pub told_at : List (List ℕ) → Path → Option (List ℕ)
 told_at lines q = held (reverse (given lines)) q
@@ -62,7 +67,7 @@ stray lines = position (λ byte. not (is_blank byte)) (text_before lines)
 
 -- the most bytes that a bundle may have
 abbrev pub limit : ℕ
-limit = 4194304
+limit = LONGEST_BUNDLE
 
 -- what reading a bundle answers: a row for each answer, the refusals in their order
 abbrev pub IsRead : List ℕ → Result Files BundleError → Type 0

@@ -1,33 +1,38 @@
-ghost use Rattle.std.specs.Prelude.{◌≡◌, ◌≤◌, map, IfOk, Some, if◌then◌else◌, length};
+ghost use Rattle.std.specs.Prelude.{◌≡◌, ◌≤◌, ◌^◌, [], IfOk, length};
 ghost use Rattle.witx_base.specs.Paths.{Path};
-ghost use Rattle.witx_bundle.specs.Bundles.{IsRead, header_path, is_blank, is_header, stray, text_before, told_at};
-ghost use Rattle.witx_files.specs.Files.{held, same_path};
+ghost use Rattle.witx_bundle.specs.Bundles.{IsRead, is_blank, lines_of, stray, told_at, with_line};
+ghost use Rattle.witx_files.specs.Files.{held};
 
 use crate::error::BundleError;
-use crate::lines::{header_rest, line_at, lines, path_after, text_before};
+use crate::lines::{cut_line, header_rest, path_before, text_before};
 use std::alloc::Global;
 use std::str;
-use witx_base::OutOfMemory;
+use witx_base::{OutOfMemory, Text, WitxPath};
 use witx_files::MockFs;
 
 /// How many bytes a bundle has at most.
-const LIMIT: usize = 4194304;
+pub const LONGEST_BUNDLE: usize = 4194304;
 
-/// The reading of bundles. A bundle is UTF-8, at most 4,194,304 bytes: headers, each a line that begins
+/// The longest bundle has 4 MiB.
+pub fn longest_bundle()
+    ensures { LONGEST_BUNDLE ≡ 2 ^ 22 }
+{}
+
+/// The reading of bundles. A bundle is UTF-8, at most `LONGEST_BUNDLE` bytes: headers, each a line that begins
 /// with `;;;; file ` and goes on with a path, and behind each header the text of the file at that path.
-#[derive(Debug, Drop)]
+#[derive(Drop)]
 pub struct Bundle;
 
 impl Bundle {
     /// The files that the bytes hold; of a path that is given twice, the last text.
     ///
-    /// `TooLong` comes exactly for more than 4,194,304 bytes, `NotUtf8` exactly for other bytes that
+    /// `TooLong` comes exactly for more than `LONGEST_BUNDLE` bytes, `NotUtf8` exactly for other bytes that
     /// aren't UTF-8, `BeforeFirst` exactly for other bytes with one before the first header that is no
     /// space, tab, line feed or carriage return.
     pub fn read(alloc: Global, bytes: &[u8]) -> Result<MockFs, BundleError>
         ensures { IsRead bytes.now result }
     {
-        if bytes.len() > LIMIT {
+        if bytes.len() > LONGEST_BUNDLE {
             return Err(BundleError::TooLong);
         }
         match str::from_utf8(bytes) {
@@ -40,21 +45,20 @@ impl Bundle {
 }
 
 fn files_of(alloc: Global, text: &str) -> Result<MockFs, BundleError>
-    requires { length text.now ≤ LIMIT }
+    requires { length text.now ≤ LONGEST_BUNDLE }
     ensures { IsRead text.now result }
 {
-    let lines = lines(alloc, text)?;
-    match stray(alloc, lines.as_slice())? {
+    match stray(alloc, text)? {
         Some(at) => Err(BundleError::BeforeFirst { at }),
-        None => Ok(files_behind(alloc, lines.as_slice())?),
+        None => Ok(files_behind(alloc, text)?),
     }
 }
 
 /// The place of the first byte before the first header that is no blank.
-fn stray(alloc: Global, lines: &[&str]) -> Result<Option<usize>, OutOfMemory>
-    ensures { IfOk result (λ at. at ≡ stray (map (λ x. x.now) lines.now)) }
+fn stray(alloc: Global, text: &str) -> Result<Option<usize>, OutOfMemory>
+    ensures { IfOk result (λ at. at ≡ stray (lines_of text.now)) }
 {
-    let front = text_before(alloc, lines)?;
+    let front = text_before(alloc, text)?;
     Ok(
         front
             .as_str()
@@ -72,28 +76,42 @@ fn is_blank(byte: u8) -> bool
 
 /// The files of the headers among the lines.
 #[tactic(auto, using(crate::proofs::LastTexts::file_rules))]
-fn files_behind(alloc: Global, lines: &[&str]) -> Result<MockFs, OutOfMemory>
-    ensures { IfOk result (λ m. (q : Path) → held m q ≡ told_at (map (λ x. x.now) lines.now) q) }
+fn files_behind(alloc: Global, text: &str) -> Result<MockFs, OutOfMemory>
+    ensures { IfOk result (λ m. (q : Path) → held m q ≡ told_at (lines_of text.now) q) }
 {
     let mut files = MockFs::new(alloc);
-    for i in 0..lines.len() {
-        let (line, more) = line_at(lines, i);
+    let mut rest = text;
+    while let Some((line, more)) = cut_line(rest) {
         put_file(alloc, &mut files, line, more)?;
+        rest = more;
     }
+    put_last(alloc, &mut files, rest)?;
     Ok(files)
 }
 
-/// Puts the file of this line among the files, if the line is a header.
-fn put_file(alloc: Global, files: &mut MockFs, line: &str, more: &[&str]) -> Result<(), OutOfMemory>
-    ensures { IfOk result (λ _. (q : Path) → held files.new q ≡ (if is_header line.now then
-        (if same_path (header_path line.now (map (λ x. x.now) more.now)) q then Some (text_before (map (λ x. x.now) more.now)) else held files.old q)
-        else held files.old q)) }
+/// Puts the file of this line among the files, if the line is a header; `more` stands behind its line
+/// feed.
+fn put_file(alloc: Global, files: &mut MockFs, line: &str, more: &str) -> Result<(), OutOfMemory>
+    ensures { IfOk result (λ _. (q : Path) → held files.new q ≡ with_line line.now (lines_of more.now) (held files.old) q) }
 {
     match header_rest(line) {
         Some(rest) => {
-            let path = path_after(alloc, rest, more)?;
+            let path = path_before(alloc, rest, more)?;
             let text = text_before(alloc, more)?;
             files.insert(path, text)
+        }
+        None => Ok(()),
+    }
+}
+
+/// Puts the file of the last line among the files, if it is a header: the file is empty.
+fn put_last(alloc: Global, files: &mut MockFs, line: &str) -> Result<(), OutOfMemory>
+    ensures { IfOk result (λ _. (q : Path) → held files.new q ≡ with_line line.now [] (held files.old) q) }
+{
+    match header_rest(line) {
+        Some(rest) => {
+            let path = WitxPath::new(alloc, rest)?;
+            files.insert(path, Text::from_string(String::new(alloc)))
         }
         None => Ok(()),
     }

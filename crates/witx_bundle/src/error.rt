@@ -6,7 +6,7 @@ use witx_base::OutOfMemory;
 /// Why bytes are no bundle.
 #[derive(Clone, Copy, PartialEq, Eq, Debug)]
 pub enum BundleError {
-    /// There are more than 4,194,304 bytes.
+    /// There are more than `LONGEST_BUNDLE` bytes.
     TooLong,
     /// The bytes aren't UTF-8; `at` is the length of their longest prefix that is.
     NotUtf8 { at: usize },

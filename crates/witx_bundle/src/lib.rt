@@ -4,8 +4,6 @@
 mod bundle;
 mod error;
 mod lines;
-#[cfg(test)]
-mod tests;
 
-pub use bundle::Bundle;
+pub use bundle::{Bundle, LONGEST_BUNDLE, longest_bundle};
 pub use error::BundleError;

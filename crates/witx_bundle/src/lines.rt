@@ -1,14 +1,14 @@
-ghost use Rattle.std.specs.Prelude.{◌≡◌, [], ◌∷◌, ◌++◌, map, IfOk, option_copied, Some, None, if◌then◌else◌, string_bytes, drop, length, ◌<◌, ◌+◌};
+ghost use Rattle.std.specs.Prelude.{◌≡◌, [], ◌∷◌, ◌++◌, IfOk, MatchOption, option_copied, Some, None, if◌then◌else◌, string_bytes, drop};
 ghost use Rattle.witx_bundle.specs.Bundles.{is_header, lines_of, path_after, text_before, without_return};
 
-use std::alloc::{AllocError, Global};
+use std::alloc::Global;
 use witx_base::{OutOfMemory, Text, WitxPath};
 
-/// The lines between the line feeds of a text.
-pub fn lines(alloc: Global, text: &str) -> Result<Vec<&str>, AllocError>
-    ensures { IfOk result (λ v. map (λ x. x.now) v.items ≡ lines_of text.now) }
+/// The first line of a text and what stands behind its line feed; nothing where the text is one line.
+pub fn cut_line(text: &str) -> Option<(&str, &str)>
+    ensures { MatchOption result (lines_of text.now ≡ text.now ∷ []) (λ x. lines_of text.now ≡ x.0.now ∷ lines_of x.1.now) }
 {
-    text.split('\n').collect(alloc)
+    text.split_once('\n')
 }
 
 /// Whether a file begins with the line.
@@ -27,14 +27,12 @@ pub fn header_rest(line: &str) -> Option<&str>
     line.strip_prefix(";;;; file ")
 }
 
-/// The path of a header, from what it says and the lines behind it: a carriage return belongs to the
-/// line's end where a line feed follows it, thus where there is a line behind.
-pub fn path_after(alloc: Global, rest: &str, more: &[&str]) -> Result<WitxPath, OutOfMemory>
-    ensures { IfOk result (λ p. p ≡ path_after rest.now (map (λ x. x.now) more.now)) }
+/// The path of a header that a line feed ends, from what it says; `more` stands behind the line feed.
+/// A carriage return before the line feed belongs to the line's end.
+#[tactic(auto, using(crate::proofs::LineSteps::path_rules))]
+pub fn path_before(alloc: Global, rest: &str, more: &str) -> Result<WitxPath, OutOfMemory>
+    ensures { IfOk result (λ p. p ≡ path_after rest.now (lines_of more.now)) }
 {
-    if more.is_empty() {
-        return WitxPath::new(alloc, rest);
-    }
     WitxPath::new(alloc, without_return(rest))
 }
 
@@ -47,40 +45,39 @@ fn without_return(line: &str) -> &str
     }
 }
 
-/// The line at an index, and the lines behind it.
-#[tactic(auto, using(crate::proofs::LineSteps::line_rules))]
-pub fn line_at<'a, 'b>(lines: &'a [&'b str], i: usize) -> (&'b str, &'a [&'b str])
-    requires { i < length lines.now }
-    ensures line { map (λ x. x.now) (drop i lines.now) ≡ result.0.now ∷ map (λ x. x.now) result.1.now }
-    ensures more { result.1.now ≡ drop (i + 1) lines.now }
-{
-    (lines[i], &lines[i + 1..])
-}
-
 /// The text of the lines before the first header.
 #[tactic(auto, using(crate::proofs::LineSteps::text_rules))]
-pub fn text_before(alloc: Global, lines: &[&str]) -> Result<Text, OutOfMemory>
-    ensures { IfOk result (λ t. t ≡ text_before (map (λ x. x.now) lines.now)) }
+pub fn text_before(alloc: Global, text: &str) -> Result<Text, OutOfMemory>
+    ensures { IfOk result (λ t. t ≡ text_before (lines_of text.now)) }
 {
-    let mut text = String::new(alloc);
-    for i in 0..lines.len() {
-        let (line, more) = line_at(lines, i);
+    let mut front = String::new(alloc);
+    let mut rest = text;
+    while let Some((line, more)) = cut_line(rest) {
         if is_header(line) {
-            return Ok(Text::from_string(text));
+            return Ok(Text::from_string(front));
         }
-        push_line(&mut text, line, more.is_empty())?;
+        push_line(&mut front, line)?;
+        rest = more;
     }
-    Ok(Text::from_string(text))
+    push_last(&mut front, rest)?;
+    Ok(Text::from_string(front))
 }
 
-/// Appends a line, with its line feed unless it is the last.
-fn push_line(text: &mut String, line: &str, is_last: bool) -> Result<(), OutOfMemory>
-    ensures { IfOk result (λ _. string_bytes text.new ≡ (string_bytes text.old ++ line.now) ++ (if is_last then [] else 10 ∷ [])) }
+/// Appends a line with its line feed.
+fn push_line(text: &mut String, line: &str) -> Result<(), OutOfMemory>
+    ensures { IfOk result (λ _. string_bytes text.new ≡ (string_bytes text.old ++ line.now) ++ 10 ∷ []) }
 {
     text.push_str(line)?;
-    if is_last {
-        return Ok(());
-    }
     text.push_str("\n")?;
+    Ok(())
+}
+
+/// Appends the last line, which no line feed ends, unless it is a header.
+fn push_last(text: &mut String, line: &str) -> Result<(), OutOfMemory>
+    ensures { IfOk result (λ _. string_bytes text.new ≡ string_bytes text.old ++ (if is_header line.now then [] else line.now)) }
+{
+    if !is_header(line) {
+        text.push_str(line)?;
+    }
     Ok(())
 }

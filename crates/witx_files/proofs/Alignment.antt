@@ -5,6 +5,7 @@ use Rattle.std.specs.Prelude.{replicate, ◌&&◌, min}
 use Rattle.std.specs.List.{repeat}
 use Rattle.std.specs.Fmt.{decimal, styled_decimal, padded, padded_integral, format_spec, char_count, take_chars, styled_text}
 use lib.Utf8.{encode}
+use Rattle.witx_files.specs.declared.location.TheConstants.{WIDEST}
 use Rattle.witx_files.specs.LocatedTexts.{right_aligned, numbered_line, caret}
 
 abbrev blank : List ℕ
@@ -42,7 +43,7 @@ pub line-put : (options : _) (number : ℕ) (line before now : List ℕ) → opt
 line-put options number line before now o e =
     e ∙ ap (λ digits. before ++ (digits ++ (32 ∷ 124 ∷ 32 ∷ (line ++ 10 ∷ [])))) (ap (λ s. styled_decimal s number) o ∙ number-padded 5 (decimal number))
 
-pub caret-put : (options : _) (column width : ℕ) (before now : List ℕ) → width ≡ min column 65535 → options ≡ format_spec 32 3 0 width (2 ^ 64 - 1)
+pub caret-put : (options : _) (column width : ℕ) (before now : List ℕ) → width ≡ min column WIDEST → options ≡ format_spec 32 3 0 width (2 ^ 64 - 1)
     → now ≡ before ++ (32 ∷ 32 ∷ 32 ∷ 32 ∷ 32 ∷ 32 ∷ 32 ∷ 32 ∷ 32 ∷ styled_text options (94 ∷ [])) → now ≡ before ++ caret column
 caret-put options column width before now w o e =
     e ∙ ap (λ mark. before ++ (replicate 9 32 ++ mark)) (ap (λ s. styled_text s (94 ∷ [])) o ∙ (caret-padded width ∙ ap (λ places. right_aligned places (94 ∷ [])) w))

@@ -1,11 +1,10 @@
 -- What a reader of files tells: the text at each path, and the paths that stand for others.
 -- Files are a finite map from path to text, written as the list of its entries; lines are those of std's `lines`.
-use Rattle.std.specs.Prelude.{ℕ, ◌-◌, List, Bool, Option, None, Some, unwrap_or, slice_get, ◌==◌, if◌then◌else◌}
-use Rattle.std.specs.Ordering.{nat_cmp, is_eq}
-use Rattle.std.specs.Cmp.Lexicographic.{slice_cmp}
+use Rattle.std.specs.Prelude.{ℕ, ◌-◌, List, Option, None, Some, unwrap_or, slice_get, ◌==◌, if◌then◌else◌}
 use Rattle.std.specs.Map.{lookup}
 use Rattle.std.specs.Str.Lines.{lines}
 use Rattle.witx_base.specs.Paths.{Path}
+pub use Rattle.witx_base.specs.PathOrder.{same_path}
 
 -- each path with its text
 abbrev pub Files : Type 0
@@ -14,10 +13,6 @@ Files = List (Path × List ℕ)
 -- each path with the one that it stands for
 abbrev pub Aliases : Type 0
 Aliases = List (Path × Path)
-
--- two paths are one where their components are
-abbrev pub same_path : Path → Path → Bool
-same_path p q = is_eq (slice_cmp (slice_cmp nat_cmp) p q)
 
 -- the text at a path
 abbrev pub held : Files → Path → Option (List ℕ)

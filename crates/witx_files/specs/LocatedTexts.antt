@@ -1,5 +1,5 @@
 -- A place in a file as a report shows it: the path, and below it the line with a caret under the column.
--- The caret stands one place right of the column that it marks; a column past 65,535 is drawn as that.
+-- The caret stands one place right of the column that it marks; a column past the widest is drawn as that.
 use Rattle.std.specs.Prelude.{◌≡◌, ℕ, ◌-◌, min, List, ◌++◌, ◌≤◌, length, replicate, codes, Option, None, Some, Result, Ok, Err, ◌⊎◌}
 use Rattle.std.specs.Fmt.{decimal}
 use Rattle.witx_base.specs.Causes.{Rose}
@@ -7,6 +7,7 @@ use Rattle.witx_base.specs.Paths.{Path, path_text}
 use Rattle.witx_base.specs.declared.memory.OutOfMemory.{OutOfMemory}
 use Rattle.witx_files.specs.Files.{Files, line_in}
 use Rattle.witx_files.specs.declared.location.Location.{Location}
+use Rattle.witx_files.specs.declared.location.TheConstants.{WIDEST}
 
 -- a text with blanks before it, up to so many places
 abbrev pub right_aligned : ℕ → List ℕ → List ℕ
@@ -22,7 +23,7 @@ numbered_line number line = right_aligned 5 (decimal number) ++ (codes " | " ++ 
 
 -- nine blanks, and the caret in as many places as the column
 abbrev pub caret : ℕ → List ℕ
-caret column = replicate 9 32 ++ right_aligned (min column 65535) (codes "^")
+caret column = replicate 9 32 ++ right_aligned (min column WIDEST) (codes "^")
 
 -- the heading, and the line with its caret where it is shown
 abbrev pub located_text : Location → Option (List ℕ) → List ℕ

@@ -6,11 +6,9 @@ mod fault;
 mod io;
 mod location;
 mod memory;
-#[cfg(test)]
-mod tests;
 
 pub use failing::{Aliases, FailingFs};
 pub use fault::{IoError, IoFault};
 pub use io::WitxIo;
-pub use location::Location;
+pub use location::{Location, WIDEST, widest_column};
 pub use memory::MockFs;

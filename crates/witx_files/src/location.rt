@@ -1,10 +1,18 @@
-ghost use Rattle.std.specs.Prelude.{◌≡◌, ◌++◌, string_bytes, IfOk};
+ghost use Rattle.std.specs.Prelude.{◌≡◌, ◌++◌, ◌^◌, ◌-◌, string_bytes, IfOk};
 ghost use Rattle.witx_files.specs.LocatedTexts.{IsLocatedText, heading, numbered_line, caret};
 
 use crate::fault::IoError;
 use crate::io::WitxIo;
 use std::alloc::{AllocError, Global};
 use witx_base::{Duplicate, OutOfMemory, Text, WitxPath};
+
+/// How many places a caret is drawn in at most: a column further right is drawn as this one.
+pub const WIDEST: usize = 65535;
+
+/// The last column that is drawn as itself is the last number of 16 bits.
+pub fn widest_column()
+    ensures { WIDEST ≡ 2 ^ 16 - 1 }
+{}
 
 /// A place in a file; line and column are counted from 1.
 #[derive(Debug, PartialEq, Eq, Drop)]
@@ -43,8 +51,7 @@ impl Location {
         let mut text = heading(alloc, &self.path)?;
         match witxio.fget_line(alloc, &self.path, self.line) {
             Ok(line) => {
-                put_line(&mut text, self.line, line.as_str())?;
-                put_caret(&mut text, self.column)?;
+                put_source(&mut text, self.line, line.as_str(), self.column)?;
                 Ok(Text::from_string(text))
             }
             Err(IoError::Fault(_)) => Ok(Text::from_string(text)),
@@ -59,6 +66,13 @@ fn heading(alloc: Global, path: &WitxPath) -> Result<String, AllocError>
     format!(in alloc; "in \"{}\":\n", path.as_str())
 }
 
+fn put_source(text: &mut String, number: usize, line: &str, column: usize) -> Result<(), AllocError>
+    ensures { IfOk result (λ _. string_bytes text.new ≡ (string_bytes text.old ++ numbered_line number line.now) ++ caret column) }
+{
+    put_line(text, number, line)?;
+    put_caret(text, column)
+}
+
 #[tactic(auto, using(crate::proofs::Alignment::alignment_rules))]
 fn put_line(text: &mut String, number: usize, line: &str) -> Result<(), AllocError>
     ensures { IfOk result (λ _. string_bytes text.new ≡ string_bytes text.old ++ numbered_line number line.now) }
@@ -66,11 +80,11 @@ fn put_line(text: &mut String, number: usize, line: &str) -> Result<(), AllocErr
     write!(text, "{number:>5} | {line}\n")
 }
 
-/// Draws the caret; a width ends at 65,535.
+/// Draws the caret.
 #[tactic(auto, using(crate::proofs::Alignment::alignment_rules))]
 fn put_caret(text: &mut String, column: usize) -> Result<(), AllocError>
     ensures { IfOk result (λ _. string_bytes text.new ≡ string_bytes text.old ++ caret column) }
 {
-    let width = column.min(65535);
+    let width = column.min(WIDEST);
     write!(text, "         {:>width$}", "^")
 }

@@ -1,0 +1,5 @@
+use Rattle.std.proofs.Common.{rules}
+use Rattle.witx_bundle.proofs.lines.header_rest.Goals as goal
+
+pub returns : goal.returns
+returns c = search rules
