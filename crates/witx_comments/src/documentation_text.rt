@@ -1,5 +1,5 @@
 ghost use Rattle.std.specs.Prelude.{◌≡◌, map, option_map, IfOk};
-ghost use Rattle.witx_comments.specs.Docs.{documentation_of, indent_in, indent_of, line_of, lines_of, margin_of, AreCutBetweenCharacters};
+ghost use Rattle.witx_comments.specs.Docs.{documentation_of, indent_in, indent_of, line_of, lines_of, margin_of};
 
 use std::alloc::Global;
 use witx_base::{OutOfMemory, Text};
@@ -47,10 +47,10 @@ fn margin(comments: &[&str]) -> usize
 ///
 /// A comment loses its trailing white space (Unicode's), and is kept if it then begins with `;`,
 /// without that. From each nonempty line as many bytes are cut as the least indented one begins
-/// with in white space, fewer where that falls inside a character. Each line ends in a line feed.
+/// with in white space, fewer where that falls inside a character (the law
+/// `lines_are_cut_between_characters`). Each line ends in a line feed.
 pub fn documentation(alloc: Global, comments: &[&str]) -> Result<Text, OutOfMemory>
-    ensures text { IfOk result (λ text. text ≡ documentation_of (map (λ comment. comment.now) comments.now)) }
-    ensures whole_characters { IfOk result (λ _. AreCutBetweenCharacters (lines_of (map (λ comment. comment.now) comments.now))) }
+    ensures { IfOk result (λ text. text ≡ documentation_of (map (λ comment. comment.now) comments.now)) }
 {
     let margin = margin(comments);
     let mut text = String::new(alloc);
@@ -61,33 +61,4 @@ pub fn documentation(alloc: Global, comments: &[&str]) -> Result<Text, OutOfMemo
         }
     }
     Ok(Text::from_string(text))
-}
-
-#[cfg(test)]
-mod tests {
-    use super::*;
-    use std::test::Fail;
-
-    #[test]
-    fn documentation_of_comments(rt: HostRuntime) -> Result<(), Fail> {
-        let table: [(&[&str], &str); 10] = [
-            (&["; hello"], "hello\n"),
-            (&["; a", ";\u{3000}b"], "a\n\u{3000}b\n"),
-            (&[], ""),
-            (&[" no documentation", "", "x ; y"], ""),
-            (&[";", "; \t "], "\n\n"),
-            (
-                &[";  two", "; one", ";", ";   three"],
-                " two\none\n\n  three\n",
-            ),
-            (&[";\u{a0}a\u{2003}", ";\u{85}b"], "a\nb\n"),
-            (&[";none", "; one"], "none\n one\n"),
-            (&[";; twice"], "; twice\n"),
-            (&[";\u{3000}\u{3000}a", ";    b"], "\u{3000}a\nb\n"),
-        ];
-        for (comments, wanted) in table {
-            assert_eq!(rt; documentation(rt.alloc(), comments)?.as_str(), wanted);
-        }
-        Ok(())
-    }
 }

@@ -2,5 +2,7 @@
 #![tactic(auto)]
 
 mod documentation_text;
+mod laws;
 
 pub use documentation_text::documentation;
+pub use laws::lines_are_cut_between_characters;

@@ -4,10 +4,13 @@ use Rattle.std.specs.Prelude.{nat_le, codes, if◌then◌else◌}
 use Rattle.std.specs.List.{list_all, flat_map, list_any}
 use Rattle.std.specs.Char.{encode_utf8}
 use Rattle.witx_lex.specs.Characters.{is_blank, is_name, is_scalar, scalar_value}
-use Rattle.witx_lex.specs.Pieces.{raw, letter, two_digits, scalar, is_part, part_value, Piece, blank, line, block, opening, closing, run, spelling, block_len}
+use Rattle.witx_lex.specs.Pieces.{raw, letter, two_digits, scalar, is_part, part_value, Piece, blank, line, block, opening, closing, run, spelling, most_open}
+use Rattle.witx_lex.specs.BlockScan.{block_len}
+use Rattle.witx_lex.specs.Blocks.{empty, byte, nested, IsBlockText, HasNoEnd}
 use Rattle.witx_lex.specs.Tokens.{left, right, id, word, annot, int}
 use Rattle.witx_lex.specs.Meaning.{run_token, tokens_of}
 use Rattle.witx_lex.specs.Places.{line_at, column_at}
+use Rattle.witx_lex.proofs.Blocks.{no_end}
 
 -- ---- the classes, as the table lists them
 
@@ -46,11 +49,23 @@ words = (refl, refl, refl, refl, refl)
 
 -- ---- comments
 
-nested : block_len 0 (codes " (; x ;) ;) y") ≡ Some 9
-nested = refl
+inner_comments : block_len 0 (codes " (; x ;) ;) y") ≡ Some 9
+inner_comments = refl
 
 left_to_right : (block_len 0 (codes ")") ≡ None) × (block_len 0 (codes "(;) ;)") ≡ None) × (block_len 0 (codes ")a;)") ≡ Some 2)
 left_to_right = (refl, refl, refl)
+
+inner_comment : IsBlockText (codes " (; x ;) ")
+inner_comment = (byte 32 (nested (byte 32 (byte 120 (byte 32 empty))) (byte 32 empty)), refl, refl)
+
+not_its_own_end : HasNoEnd (codes ")")
+not_its_own_end = no_end (codes ")") refl
+
+an_end_inside : HasNoEnd (codes "(;) ;)")
+an_end_inside = no_end (codes "(;) ;)") refl
+
+deepest : most_open ≡ 100
+deepest = refl
 
 -- ---- escapes
 

@@ -1,18 +1,18 @@
 -- A fault excludes pieces: where one is told no piece can stand, and a text has at most one.
-use Rattle.std.proofs.Common.{◌≡◌, ◌≢◌, ℕ, ◌+◌, ◌≤◌, Bool, true, false, not, ◌||◌, ◌==◌, List, [], ◌∷◌, ◌++◌, length, drop, Some, None, IsUtf8, refl, sym, ap, ◌∙◌, subst, arith, append_assoc, eqb-true}
+use Rattle.std.proofs.Common.{◌≡◌, ◌≢◌, ℕ, ◌+◌, ◌≤◌, Bool, true, false, not, ◌||◌, ◌==◌, List, [], ◌∷◌, ◌++◌, length, drop, IsUtf8, refl, sym, ap, ◌∙◌, subst, arith, append_assoc, eqb-true}
 use Rattle.std.proofs.lemmas.Bool.{and_parts}
 use Rattle.std.proofs.lemmas.Bool.Decides.{nat_tests}
-use Rattle.std.proofs.lemmas.List.{append_cancel_left, length-append, take_at}
+use Rattle.std.proofs.lemmas.List.{append_cancel_left, length-append}
 use Rattle.std.specs.List.{list_all, flat_map}
 use Rattle.std.specs.Prelude.{IsTrue, if◌then◌else◌}
 use Rattle.witx_lex.specs.declared.error.LexKind.{LexKind}
 use Rattle.witx_lex.specs.declared.error.LexKind.TheVariants.{UnexpectedCharacter, UnterminatedComment, UnterminatedString, BadEscape, BadCharacter, NotUtf8, EmptyId, TooDeep}
 use Rattle.witx_lex.specs.Characters.{is_blank, is_name, is_raw, is_control, begins}
-use Rattle.witx_lex.specs.Pieces.{Part, part_spelling, part_value, Piece, blank, line, block, opening, closing, run, quoted, spelling, block_len, open_after, open_after_all, Stands, Stand}
+use Rattle.witx_lex.specs.Blocks.{HasNoEnd}
+use Rattle.witx_lex.specs.Pieces.{Part, part_spelling, part_value, Piece, blank, line, block, opening, closing, run, quoted, spelling, open_after, open_after_all, Stands, Stand}
 use Rattle.witx_lex.specs.Faults.{Parts, NoPart, behind, IsFaultAt}
 use Rattle.witx_lex.proofs.Texts.{differs}
 use Rattle.witx_lex.proofs.Parts.{parts_stop, no_part_at_end, no_part_at_quote, no_part_before}
-use Rattle.witx_lex.proofs.Found.{block_ends}
 use Rattle.witx_lex.proofs.Unique.{piece_unique, some_spelling}
 
 -- ---- strings
@@ -181,20 +181,12 @@ no_deeper n (quoted ps) bs rest none deep h = differs 40 34 refl (first_is 40 34
 
 -- of a comment without its end
 
-ended_comment : (t rest : List ℕ) → block_len 0 (t ++ 59 ∷ 41 ∷ []) ≡ Some (length t) → block_len 0 ((t ++ 59 ∷ 41 ∷ []) ++ rest) ≡ Some (length t)
-ended_comment t rest h =
-    let u = t ++ 59 ∷ 41 ∷ [] in
-    let ends = block_ends u 0 (length t) h in
-    let whole : u ++ rest ≡ t ++ 59 ∷ 41 ∷ rest = append_assoc t (59 ∷ 41 ∷ []) rest in
-    ap (block_len 0) (whole ∙ ap (λ (x : List ℕ). x ++ 59 ∷ 41 ∷ rest) (sym (take_at t (59 ∷ 41 ∷ []) (length t) refl))) ∙ ends.again rest
-
-no_comment : (n : ℕ) (p : Piece) (bs rest : List ℕ) → IsTrue (begins (λ c. c == 59) bs) → block_len 0 (drop 1 bs) ≡ None → Stands n p (40 ∷ bs) rest → ⊥
+no_comment : (n : ℕ) (p : Piece) (bs rest : List ℕ) → IsTrue (begins (λ c. c == 59) bs) → HasNoEnd (drop 1 bs) → Stands n p (40 ∷ bs) rest → ⊥
 no_comment n (blank c) bs rest second none h = let q : is_blank 40 ≡ true = ap is_blank (first_is 40 c bs rest h.spelled) ∙ h.piece in cc
 no_comment n (line t) bs rest second none h = differs 40 59 refl (first_is 40 59 bs _ h.spelled)
 no_comment n (block t) bs rest second none h =
     let tail : drop 1 bs ≡ (t ++ 59 ∷ 41 ∷ []) ++ rest = ap (drop 1) (rest_is 40 40 bs (59 ∷ ((t ++ 59 ∷ 41 ∷ []) ++ rest)) h.spelled) in
-    let g : None ≡ Some (length t) = sym none ∙ ap (block_len 0) tail ∙ ended_comment t rest h.piece in
-    cc
+    none t rest h.piece (tail ∙ append_assoc t (59 ∷ 41 ∷ []) rest)
 no_comment n opening bs rest second none h =
     let g : true ≡ false = sym second ∙ ap (begins (λ c. c == 59)) (rest_is 40 40 bs rest h.spelled) ∙ h.ended in
     cc

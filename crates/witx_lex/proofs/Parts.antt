@@ -8,10 +8,11 @@ use Rattle.std.specs.Prelude.{IsTrue, ◌⊎◌, slice_index, is_some, unwrap_or
 use Rattle.std.specs.Char.{is_digit}
 use Rattle.std.specs.Str.Parse.{digits_value}
 use Rattle.witx_lex.specs.declared.escape.Escaped.TheVariants.{Byte, Scalar}
-use Rattle.witx_lex.specs.Characters.{is_raw, letter_value, is_digit_or_underscore, are_digits, digits_follow, is_scalar, scalar_value}
+use Rattle.witx_lex.specs.Characters.{is_raw, letter_value, is_digit_or_underscore, are_digits, is_scalar, scalar_value}
 use Rattle.witx_lex.specs.Pieces.{Part, raw, letter, two_digits, scalar, part_spelling, is_part}
 use Rattle.witx_lex.specs.Faults.{NoPart, Parts}
 use Rattle.witx_lex.specs.Escapes.{IsEscape}
+use Rattle.witx_lex.proofs.Digits.{digits_follow, digits_same}
 use Rattle.witx_lex.proofs.Texts.{front_two, within_from_byte, prefix_run, take_run}
 
 abbrev is_letter : ℕ → Bool
@@ -56,6 +57,9 @@ hex_all after (b ∷ bs) e =
       | inr h ↦ rw (or_right (is_digit b 16) (b == 95) h.0) (hex_all false bs h.1)
     ]
 
+all_of_digits : (ds : List ℕ) → are_digits 16 ds ≡ true → list_all is_digit_or_underscore ds ≡ true
+all_of_digits ds e = hex_all false ds (sym (digits_same 16 ds) ∙ e)
+
 pub part_complete : (p : Part) (more : List ℕ) → IsTrue (is_part p) → part_at (part_spelling p ++ more) ≡ Some p
 part_complete (raw b) more h = rw h refl
 part_complete (letter c) more h = rw h refl
@@ -65,13 +69,10 @@ part_complete (two_digits h l) more e =
 part_complete (scalar ds) more e =
     let parts = and_parts (are_digits 16 ds) (is_scalar (scalar_value ds)) e in
     let split : (ds ++ 125 ∷ []) ++ more ≡ ds ++ 125 ∷ more = append_assoc ds (125 ∷ []) more in
-    ap (λ (t : List ℕ). Some (scalar (take (prefix_len is_digit_or_underscore t) t))) split ∙ ap (λ (t : List ℕ). Some (scalar t)) (take_run is_digit_or_underscore ds (125 ∷ more) (hex_all false ds parts.0) refl)
+    ap (λ (t : List ℕ). Some (scalar (take (prefix_len is_digit_or_underscore t) t))) split ∙ ap (λ (t : List ℕ). Some (scalar t)) (take_run is_digit_or_underscore ds (125 ∷ more) (all_of_digits ds parts.0) refl)
 
 part_is : (p q : Part) → Some p ≡ Some q → p ≡ q
 part_is p q e = cc
-
-no_part : (p : Part) → None ≡ Some p → ⊥
-no_part p e = cc
 
 pub part_unique : (p q : Part) (text rest more : List ℕ) → IsTrue (is_part p) → IsTrue (is_part q) → text ≡ part_spelling p ++ rest → text ≡ part_spelling q ++ more → p ≡ q
 part_unique p q text rest more hp hq e f = part_is p q (sym (part_complete p rest hp) ∙ ap part_at (sym e ∙ f) ∙ part_complete q more hq)
@@ -181,7 +182,7 @@ no_scalar bytes inside digits len u inside-is len-is digits-is none (two_digits 
 no_scalar bytes inside digits len u inside-is len-is digits-is none (scalar ds) rest h e =
     let parts = and_parts (are_digits 16 ds) (is_scalar (scalar_value ds)) h in
     let tail : inside ≡ ds ++ 125 ∷ rest = inside-is ∙ ap (drop 3) e ∙ append_assoc ds (125 ∷ []) rest in
-    let all = hex_all false ds parts.0 in
+    let all = all_of_digits ds parts.0 in
     let long : len ≡ length ds = len-is ∙ ap (prefix_len is_digit_or_underscore) tail ∙ prefix_run is_digit_or_underscore ds (125 ∷ rest) all refl in
     let front : digits ≡ ds = digits-is ∙ ap (λ (j : ℕ). take j inside) len-is ∙ ap (λ (t : List ℕ). take (prefix_len is_digit_or_underscore t) t) tail ∙ take_run is_digit_or_underscore ds (125 ∷ rest) all refl in
     none (ap (λ (t : List ℕ). get_or t len 0) tail ∙ get_or_at ds 125 rest 0 len (sym long))

@@ -1,18 +1,16 @@
 -- `Sofar`: the pieces of a text up to an offset, which each piece that is read carries on up to the tokens or the fault.
-use Rattle.std.proofs.Common.{◌≡◌, ◌≢◌, ℕ, suc, ◌+◌, ◌<◌, ◌≤◌, Bool, true, false, cond, ◌&&◌, ◌==◌, List, [], ◌∷◌, ◌++◌, length, get_or, drop, IsUtf8, refl, sym, ap, ◌∙◌, subst, inl, inr, arith, append_assoc, eqb-true}
+use Rattle.std.proofs.Common.{◌≡◌, ◌≢◌, ℕ, suc, ◌+◌, ◌<◌, ◌≤◌, true, ◌==◌, List, [], ◌∷◌, ◌++◌, length, get_or, drop, IsUtf8, refl, sym, ap, ◌∙◌, subst, inl, inr, arith, append_assoc, eqb-true}
 use Rattle.std.proofs.lemmas.Bool.{and_parts}
 use Rattle.std.proofs.lemmas.Bool.Decides.{nat_tests}
 use Rattle.std.proofs.lemmas.List.{append-nil, length-append, drop-drop, drop_all, get_or_at, get_or_append_left}
 use Rattle.std.proofs.lemmas.Str.{IsUtf8-drop, IsCharBoundary-start, IsCharBoundary-end, IsCharBoundary-before_ascii, IsCharBoundary-after_ascii, IsCharBoundary-from_rest}
 use Rattle.std.specs.List.{list_all, flat_map}
-use Rattle.std.specs.Prelude.{IsTrue, ◌⊎◌, slice_index, nat_lt}
+use Rattle.std.specs.Prelude.{IsTrue, ◌⊎◌}
 use Rattle.std.specs.Str.{IsCharBoundary}
-use Rattle.witx_lex.specs.declared.error.LexKind.{LexKind}
-use Rattle.witx_lex.specs.Tokens.{Token, id, word, annot, int, Lexed}
-use Rattle.witx_lex.specs.Characters.{begins, is_name, dollar}
+use Rattle.witx_lex.specs.Tokens.{Token, Lexed}
+use Rattle.witx_lex.specs.Characters.{begins, is_name}
 use Rattle.witx_lex.specs.Pieces.{Piece, blank, line, block, opening, closing, run, quoted, spelling, part_spelling, open_after, open_after_all, Stands, Stand, ArePieces}
-use Rattle.witx_lex.specs.Faults.{IsFaultAt, IsFault}
-use Rattle.witx_lex.specs.Meaning.{nothing, comment, token, seen, tokens_from, tokens_of, run_token, is_int, depth_after}
+use Rattle.witx_lex.specs.Meaning.{nothing, comment, token, seen, tokens_from, tokens_of}
 
 pub record Sofar (text : List ℕ) (at depth : ℕ) (comments : List (List ℕ)) (tokens : List Lexed) : Type 0 where
   pub boundary : IsCharBoundary text at
@@ -106,22 +104,7 @@ pub Sofar_done : (text : List ℕ) (at depth : ℕ) (comments : List (List ℕ))
 Sofar_done text at depth comments tokens le s =
     (s.pieces, subst (λ (t : List ℕ). Stand 0 s.pieces text t) (drop_all at text le) s.stand, sym (append-nil tokens) ∙ s.meaning [] ∙ ap tokens_of (append-nil s.pieces))
 
-pub Sofar_fault : (text : List ℕ) (at depth k end : ℕ) (comments : List (List ℕ)) (tokens : List Lexed) (kind : LexKind) → Sofar text at depth comments tokens
-    → IsFaultAt depth (drop at text) kind k → end ≡ at + k → IsFault text kind end
-Sofar_fault text at depth k end comments tokens kind s h e =
-    (s.pieces, drop at text, k, s.stand, subst (λ (d : ℕ). IsFaultAt d (drop at text) kind k) s.depth_is h, e ∙ ap (λ (j : ℕ). j + k) s.at_is)
-
 -- ---- what was seen
-
-chosen : (n : ℕ) (b : Bool) (x y : Token) → depth_after n x ≡ n → depth_after n y ≡ n → depth_after n (cond b x y) ≡ n
-chosen n true x y e f = e
-chosen n false x y e f = f
-
-run_depth : (n : ℕ) (r : List ℕ) → depth_after n (run_token r) ≡ n
-run_depth n r =
-    let three = chosen n (is_int r) (int r) (word r) refl refl in
-    let two = chosen n (slice_index r 0 == 64 && nat_lt 1 (length r)) (annot (drop 1 r)) (cond (is_int r) (int r) (word r)) refl three in
-    chosen n (slice_index r 0 == dollar) (id (drop 1 r)) (cond (slice_index r 0 == 64 && nat_lt 1 (length r)) (annot (drop 1 r)) (cond (is_int r) (int r) (word r))) refl two
 
 open_nothing : (n : ℕ) (p : Piece) → seen p ≡ nothing → open_after n p ≡ n
 open_nothing n (blank b) e = refl
@@ -141,18 +124,6 @@ open_comment n closing u e = absurd cc
 open_comment n (run r) u e = refl
 open_comment n (quoted ps) u e = refl
 
-token_is : (x y : Token) → token x ≡ token y → x ≡ y
-token_is x y e = cc
-
-open_token : (n : ℕ) (p : Piece) (t : Token) → seen p ≡ token t → open_after n p ≡ depth_after n t
-open_token n (blank b) t e = absurd cc
-open_token n (line l) t e = absurd cc
-open_token n (block l) t e = absurd cc
-open_token n opening t e = ap (depth_after n) (token_is _ t e)
-open_token n closing t e = ap (depth_after n) (token_is _ t e)
-open_token n (run r) t e = sym (run_depth n r) ∙ ap (depth_after n) (token_is _ t e)
-open_token n (quoted ps) t e = ap (depth_after n) (token_is _ t e)
-
 pub Sofar_nothing : (text : List ℕ) (at depth len new_at : ℕ) (comments : List (List ℕ)) (tokens : List Lexed) (p : Piece) → IsUtf8 text
     → Sofar text at depth comments tokens → Stands depth p (drop at text) (drop len (drop at text)) → len ≡ length (spelling p) → new_at ≡ at + len → seen p ≡ nothing
     → Sofar text new_at depth comments tokens
@@ -169,8 +140,7 @@ Sofar_comment text at depth len new_at comments new_comments tokens p t utf8 s h
 
 pub Sofar_token : (text : List ℕ) (at depth len new_at : ℕ) (comments new_comments : List (List ℕ)) (tokens new_tokens : List Lexed) (p : Piece) (t : Token) → IsUtf8 text
     → Sofar text at depth comments tokens → Stands depth p (drop at text) (drop len (drop at text)) → len ≡ length (spelling p) → new_at ≡ at + len → seen p ≡ token t
-    → new_comments ≡ [] → new_tokens ≡ tokens ++ record { token = t; start = at; end = new_at; comments = comments } ∷ [] → Sofar text new_at (depth_after depth t) new_comments new_tokens
+    → new_comments ≡ [] → new_tokens ≡ tokens ++ record { token = t; start = at; end = new_at; comments = comments } ∷ [] → Sofar text new_at (open_after depth p) new_comments new_tokens
 Sofar_token text at depth len new_at comments new_comments tokens new_tokens p t utf8 s h len-is new_at-is e f g =
     let end : new_at ≡ at + length (spelling p) = new_at-is ∙ ap (λ (k : ℕ). at + k) len-is in
-    subst (λ (d : ℕ). Sofar text new_at d new_comments new_tokens) (open_token depth p t e)
-    (Sofar_more text at depth len new_at comments new_comments tokens new_tokens p utf8 s h len-is new_at-is (λ qs. rw (e, f, g, end) (append_assoc tokens _ (tokens_from (at + length (spelling p)) [] qs))))
+    Sofar_more text at depth len new_at comments new_comments tokens new_tokens p utf8 s h len-is new_at-is (λ qs. rw (e, f, g, end) (append_assoc tokens _ (tokens_from (at + length (spelling p)) [] qs)))

@@ -13,10 +13,12 @@ use Rattle.std.specs.Str.{is_utf8}
 use Rattle.witx_lex.specs.declared.error.LexKind.{LexKind}
 use Rattle.witx_lex.specs.declared.error.LexKind.TheVariants.{UnexpectedCharacter, UnterminatedComment, UnterminatedString, BadEscape, BadCharacter, NotUtf8, EmptyId, TooDeep}
 use Rattle.witx_lex.specs.declared.escape.Escape.{Escape}
+use Rattle.witx_lex.specs.BlockScan.{block_len}
 use Rattle.witx_lex.specs.Characters.{is_blank, is_name, is_raw, is_control, is_digit_or_underscore, letter_value, are_digits, is_scalar, scalar_value, begins}
-use Rattle.witx_lex.specs.Pieces.{Part, raw, letter, two_digits, scalar, is_part, part_spelling, part_value, Piece, blank, line, block, opening, closing, run, quoted, spelling, block_len, open_after, open_after_all, Stands, Stand}
+use Rattle.witx_lex.specs.Pieces.{Part, raw, letter, two_digits, scalar, is_part, part_spelling, part_value, Piece, blank, line, block, opening, closing, run, quoted, spelling, open_after, open_after_all, Stands, Stand}
 use Rattle.witx_lex.specs.Faults.{Parts, NoPart, behind, IsFaultAt}
 use Rattle.witx_lex.specs.Escapes.{IsEscape}
+use Rattle.witx_lex.proofs.Blocks.{no_end}
 use Rattle.witx_lex.proofs.Texts.{differs, run_stops}
 use Rattle.witx_lex.proofs.Parts.{no_part_at_end, no_part_before, escape_letter, escape_digits, escape_scalar, no_scalar}
 use Rattle.witx_lex.proofs.Found.{stands_blank, stands_opening, stands_closing, stands_line, found_block, found_run}
@@ -209,7 +211,7 @@ semicolon_case true n bs le s-is = inl (record { piece = _; rest = _; stands = s
 semicolon_case false n bs le s-is = inr (record { kind = UnexpectedCharacter; place = 0; is = (refl, refl, λ e. s-is) })
 
 comment_case : (o : Option ℕ) (n : ℕ) (bs : List ℕ) → n ≤ 100 → begins (λ c. c == 59) bs ≡ true → block_len 0 (drop 1 bs) ≡ o → PieceAt n (40 ∷ bs) ⊎ FaultAt n (40 ∷ bs)
-comment_case None n bs le s-is o-is = inr (record { kind = UnterminatedComment; place = 0; is = (refl, refl, s-is, o-is) })
+comment_case None n bs le s-is o-is = inr (record { kind = UnterminatedComment; place = 0; is = (refl, refl, s-is, no_end (drop 1 bs) o-is) })
 comment_case (Some len) n bs le s-is o-is =
     inl (record { piece = _; rest = _; stands = (found_block n (40 ∷ bs) (drop 1 bs) (drop 1 bs) (slice_range (drop 1 bs) 0 len) len refl (second_is bs s-is) le refl refl (sym o-is) refl).0 })
 

@@ -6,11 +6,12 @@ use Rattle.std.proofs.lemmas.List.{append_cancel_left, take_at}
 use Rattle.std.specs.List.{prefix_len, list_all, flat_map}
 use Rattle.std.specs.Prelude.{IsTrue, ◌⊎◌, slice_index}
 use Rattle.std.specs.Option.{option_map}
+use Rattle.witx_lex.specs.BlockScan.{block_len}
 use Rattle.witx_lex.specs.Characters.{is_blank, is_name, is_line_byte, begins}
-use Rattle.witx_lex.specs.Pieces.{Part, Piece, blank, line, block, opening, closing, run, quoted, spelling, part_spelling, block_len, IsPiece, IsEnded, open_after, Stands, Stand}
+use Rattle.witx_lex.specs.Pieces.{Part, Piece, blank, line, block, opening, closing, run, quoted, spelling, part_spelling, IsPiece, IsEnded, open_after, Stands, Stand}
 use Rattle.witx_lex.proofs.Texts.{take_run}
 use Rattle.witx_lex.proofs.Parts.{parts_stop, no_part_at_quote}
-use Rattle.witx_lex.proofs.Found.{block_ends}
+use Rattle.witx_lex.proofs.Blocks.{text_scanned}
 
 -- ---- pieces
 
@@ -56,10 +57,8 @@ piece_complete (line t) rest h e = inl (blank_line t rest h (line_stops t rest e
 piece_complete (block t) rest h e =
     let k = length t in
     let u = t ++ 59 ∷ 41 ∷ [] in
-    let ends = block_ends u 0 k h in
-    let front : take k u ≡ t = take_at t (59 ∷ 41 ∷ []) k refl in
     let whole : u ++ rest ≡ t ++ 59 ∷ 41 ∷ rest = append_assoc t (59 ∷ 41 ∷ []) rest in
-    let found : block_len 0 (u ++ rest) ≡ Some k = ap (block_len 0) (whole ∙ ap (λ (x : List ℕ). x ++ 59 ∷ 41 ∷ rest) (sym front)) ∙ ends.again rest in
+    let found : block_len 0 (u ++ rest) ≡ Some k = ap (block_len 0) whole ∙ text_scanned t rest h in
     inl (ap (option_map (λ k. block (take k (u ++ rest)))) found ∙ ap (λ (x : List ℕ). Some (block (take k x))) whole ∙ ap (λ (x : List ℕ). Some (block x)) (take_at t (59 ∷ 41 ∷ rest) k refl))
 piece_complete opening rest h e = inl (ap (λ (b : Bool). cond b (option_map (λ k. block (take k (drop 1 rest))) (block_len 0 (drop 1 rest))) (Some opening)) (second_of rest e))
 piece_complete closing rest h e = inl refl

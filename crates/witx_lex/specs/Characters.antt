@@ -1,6 +1,6 @@
 -- The classes of characters. A text is the list of its UTF-8 bytes, so each class is a set of bytes;
 -- a byte of 128 or more belongs to a character outside ASCII.
-use Rattle.std.specs.Prelude.{ℕ, Bool, true, false, not, ◌&&◌, ◌||◌, ◌==◌, nat_lt, nat_le, if◌then◌else◌, List, [], ◌∷◌, Option, Some, None, filter}
+use Rattle.std.specs.Prelude.{ℕ, Bool, false, not, ◌&&◌, ◌||◌, ◌==◌, nat_lt, nat_le, if◌then◌else◌, List, [], ◌∷◌, Option, Some, None, filter}
 use Rattle.std.specs.Char.{is_digit}
 use Rattle.std.specs.Str.Parse.{digits_value}
 
@@ -69,19 +69,15 @@ letter_value c =
 abbrev pub is_scalar : ℕ → Bool
 is_scalar c = nat_lt c 0xD800 || (nat_le 0xE000 c && nat_le c 0x10_FFFF)
 
--- digits of the base, the first of them behind a digit or not, with single _ between digits
-abbrev pub digits_follow : ℕ → Bool → List ℕ → Bool
-digits_follow base behind_digit [] = behind_digit
-digits_follow base behind_digit (b ∷ bs) =
-    (is_digit b base && digits_follow base true bs) || ((b == underscore && behind_digit) && digits_follow base false bs)
-
 -- what may stand between the braces of an escape: hexadecimal digits and _
 abbrev pub is_digit_or_underscore : ℕ → Bool
 is_digit_or_underscore b = is_digit b 16 || b == underscore
 
--- one digit of the base or more, with single _ between digits
+-- digits of the base with single _ between them: one digit, alone or before digits, or before a _ and digits
 abbrev pub are_digits : ℕ → List ℕ → Bool
-are_digits base ds = digits_follow base false ds
+are_digits base [] = false
+are_digits base (b ∷ []) = is_digit b base
+are_digits base (b ∷ c ∷ bs) = is_digit b base && (are_digits base (c ∷ bs) || (c == underscore && are_digits base bs))
 
 -- the number that hexadecimal digits write, whatever stands between them
 abbrev pub scalar_value : List ℕ → ℕ

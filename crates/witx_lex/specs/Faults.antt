@@ -1,6 +1,6 @@
 -- The lexical fault of a text: the first place at which no piece can stand, with its kind.
 -- Pieces stand up to that place; in a string the first offending character from the left decides.
-use Rattle.std.specs.Prelude.{◌≡◌, ℕ, ◌+◌, ◌≤◌, false, not, ◌||◌, ◌==◌, IsTrue, List, [], ◌∷◌, ◌++◌, length, drop, None}
+use Rattle.std.specs.Prelude.{◌≡◌, ℕ, ◌+◌, ◌≤◌, false, not, ◌||◌, ◌==◌, IsTrue, List, [], ◌∷◌, ◌++◌, length, drop}
 use Rattle.std.specs.List.{list_all, flat_map}
 use Rattle.std.specs.Str.{IsUtf8}
 use Rattle.witx_lex.specs.declared.error.LexKind.{LexKind}
@@ -8,8 +8,9 @@ use Rattle.witx_lex.specs.declared.error.LexKind.TheVariants.{UnexpectedCharacte
 use Rattle.witx_lex.specs.declared.error.LexError.{LexError}
 use Rattle.witx_lex.specs.declared.error.LexError.TheVariants.{Bad, OutOfMemory}
 use Rattle.witx_lex.specs.declared.error.LexFault.{LexFault}
+use Rattle.witx_lex.specs.Blocks.{HasNoEnd}
 use Rattle.witx_lex.specs.Characters.{quote, dollar, left_paren, right_paren, semicolon, backslash, is_blank, is_name, is_control, begins}
-use Rattle.witx_lex.specs.Pieces.{Piece, spelling, Part, is_part, part_spelling, part_value, block_len, most_open, open_after_all, Stand}
+use Rattle.witx_lex.specs.Pieces.{Piece, spelling, Part, is_part, part_spelling, part_value, most_open, open_after_all, Stand}
 
 -- these parts of a string stand at the front of the text, of which the rest follows
 abbrev pub Parts : List Part → List ℕ → List ℕ → Type 0
@@ -35,7 +36,7 @@ IsFaultAt n (b ∷ bs) EmptyId k = (k ≡ 0) × (b ≡ dollar) × (begins is_nam
 -- a ( that begins no comment, with as many open as may be
 IsFaultAt n (b ∷ bs) TooDeep k = (k ≡ 0) × (b ≡ left_paren) × (begins (λ c. c == semicolon) bs ≡ false) × (most_open ≤ n)
 -- (; without its ;)
-IsFaultAt n (b ∷ bs) UnterminatedComment k = (k ≡ 0) × (b ≡ left_paren) × IsTrue (begins (λ c. c == semicolon) bs) × (block_len 0 (drop 1 bs) ≡ None)
+IsFaultAt n (b ∷ bs) UnterminatedComment k = (k ≡ 0) × (b ≡ left_paren) × IsTrue (begins (λ c. c == semicolon) bs) × HasNoEnd (drop 1 bs)
 -- parts up to the end of the text
 IsFaultAt n (b ∷ bs) UnterminatedString k = (k ≡ 0) × (b ≡ quote) × (ps : List Part) × Parts ps bs []
 -- parts, and then a backslash that begins no part; the place is the backslash

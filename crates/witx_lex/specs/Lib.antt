@@ -1,3 +1,5 @@
+pub mod BlockScan
+pub mod Blocks
 pub mod Characters
 pub mod Escapes
 pub mod Faults

@@ -1,5 +1,5 @@
 -- The tokens of a text: those that its pieces stand for, each with its place and the comments before it.
-use Rattle.std.specs.Prelude.{◌≡◌, ℕ, ◌+◌, ◌-◌, Bool, ◌&&◌, ◌||◌, ◌==◌, if◌then◌else◌, List, [], ◌∷◌, ◌++◌, length, drop, slice_index, nat_lt}
+use Rattle.std.specs.Prelude.{◌≡◌, ℕ, ◌+◌, Bool, ◌&&◌, ◌||◌, ◌==◌, if◌then◌else◌, List, [], ◌∷◌, ◌++◌, length, drop, slice_index, nat_lt}
 use Rattle.std.specs.List.{flat_map}
 use Rattle.witx_lex.specs.Characters.{dollar, plus, at_sign, are_digits}
 use Rattle.witx_lex.specs.Pieces.{Piece, blank, line, block, opening, closing, run, quoted, spelling, part_value, ArePieces}
@@ -60,13 +60,3 @@ tokens_of ps = tokens_from 0 [] ps
 -- these are the tokens of the text
 abbrev pub HasTokens : List ℕ → List Lexed → Type 0
 HasTokens text tokens = (ps : List Piece) × ArePieces ps text × (tokens ≡ tokens_of ps)
-
--- how many parentheses are open after a token, of n before it
-abbrev pub depth_after : ℕ → Token → ℕ
-depth_after n left = n + 1
-depth_after n right = n - 1
-depth_after n (id t) = n
-depth_after n (word t) = n
-depth_after n (annot t) = n
-depth_after n (int t) = n
-depth_after n (quoted_token t) = n

@@ -1,10 +1,12 @@
 -- The pieces of a text: it is cut into blanks, comments and tokens, which together spell it exactly.
 -- Stated of the whole text: how each piece is spelled, what each may hold, and what may follow it.
-use Rattle.std.specs.Prelude.{◌≡◌, ◌≢◌, ℕ, ◌+◌, ◌-◌, ◌≤◌, Bool, false, ◌&&◌, ◌==◌, is_some, unwrap_or, IsTrue, if◌then◌else◌, List, [], ◌∷◌, ◌++◌, length, Option, Some, None, option_map, ◌⊎◌}
+use Rattle.std.specs.Prelude.{◌≡◌, ◌≢◌, ℕ, ◌+◌, ◌-◌, ◌≤◌, Bool, false, ◌&&◌, ◌==◌, is_some, unwrap_or, IsTrue, List, [], ◌∷◌, ◌++◌, ◌⊎◌}
 use Rattle.std.specs.List.{list_all, flat_map}
 use Rattle.std.specs.Char.{is_digit, encode_utf8}
 use Rattle.std.specs.Str.{IsUtf8}
 use Rattle.std.specs.Str.Parse.{digits_value}
+use Rattle.witx_lex.specs.declared.piece.TheConstants.{MOST_OPEN}
+use Rattle.witx_lex.specs.Blocks.{IsBlockText}
 use Rattle.witx_lex.specs.Characters.{line_feed, quote, dollar, left_paren, right_paren, semicolon, backslash, is_blank, is_name, is_line_byte, is_raw, letter_value, is_scalar, are_digits, scalar_value, begins}
 
 -- ---- spellings
@@ -55,20 +57,10 @@ part_value (letter c) = unwrap_or (letter_value c) 0 ∷ []
 part_value (two_digits high low) = digits_value 16 (high ∷ low ∷ []) ∷ []
 part_value (scalar ds) = encode_utf8 (scalar_value ds)
 
--- How many bytes stand before the ;) that ends a comment in which n inner ones are open, if it ends.
--- Both marks are found from left to right, so (;) opens a comment and closes none.
-abbrev pub block_len : ℕ → List ℕ → Option ℕ
-block_len n [] = None
-block_len n (b ∷ []) = None
-block_len n (b ∷ c ∷ bs) =
-    if b == left_paren && c == semicolon then option_map (λ k. k + 2) (block_len (n + 1) bs)
-    else if b == semicolon && c == right_paren then (if n == 0 then Some 0 else option_map (λ k. k + 2) (block_len (n - 1) bs))
-    else option_map (λ k. k + 1) (block_len n (c ∷ bs))
-
 abbrev pub IsPiece : Piece → Type 0
 IsPiece (blank b) = IsTrue (is_blank b)
 IsPiece (line t) = IsTrue (list_all is_line_byte t)
-IsPiece (block t) = block_len 0 (t ++ semicolon ∷ right_paren ∷ []) ≡ Some (length t)
+IsPiece (block t) = IsBlockText t
 IsPiece opening = Unit {0}
 IsPiece closing = Unit {0}
 IsPiece (run r) = (r ≢ []) × IsTrue (list_all is_name r) × (r ≢ dollar ∷ [])
@@ -90,7 +82,7 @@ IsEnded (quoted ps) rest = Unit {0}
 
 -- the most parentheses that may be open
 abbrev pub most_open : ℕ
-most_open = 100
+most_open = MOST_OPEN
 
 -- how many parentheses are open after a piece, of n before it; a ) where none is open changes nothing
 abbrev pub open_after : ℕ → Piece → ℕ

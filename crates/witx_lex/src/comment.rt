@@ -2,7 +2,8 @@
 ghost use Rattle.std.specs.Prelude.{◌≡◌, ℕ, ◌≤◌, length, slice_index};
 ghost use Rattle.std.specs.List.{prefix_len};
 ghost use Rattle.witx_lex.specs.Characters as spec;
-ghost use Rattle.witx_lex.specs.Pieces.{block_len, most_open};
+ghost use Rattle.witx_lex.specs.BlockScan.{block_len};
+ghost use Rattle.witx_lex.specs.Pieces.{most_open};
 ghost use Rattle.witx_lex.specs.Reads.{FoundPiece, ReadsPiece};
 
 use crate::characters::is_line_byte;

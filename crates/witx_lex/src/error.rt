@@ -26,7 +26,7 @@ pub enum LexKind {
 }
 
 /// The first fault of a text.
-#[derive(Clone, Copy, PartialEq, Eq, Debug)]
+#[derive(Clone, Copy, PartialEq, Eq)]
 pub struct LexFault {
     /// What is wrong.
     pub kind: LexKind,
@@ -37,7 +37,7 @@ pub struct LexFault {
 }
 
 /// Why a text has no tokens.
-#[derive(PartialEq, Eq, Debug, Drop)]
+#[derive(PartialEq, Eq, Drop)]
 pub enum LexError {
     /// The text has this fault.
     Bad(LexFault),

@@ -12,14 +12,14 @@ use crate::characters::{are_digits, byte_of, is_digit};
 use std::alloc::AllocError;
 
 /// What an escape stands for.
-#[derive(Clone, Copy, Debug)]
+#[derive(Clone, Copy)]
 pub enum Escaped {
     Byte(u8),
     Scalar(char),
 }
 
 /// An escape, and how many bytes it takes behind the backslash.
-#[derive(Clone, Copy, Debug)]
+#[derive(Clone, Copy)]
 pub struct Escape {
     pub value: Escaped,
     pub len: usize,

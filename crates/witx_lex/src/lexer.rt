@@ -1,8 +1,8 @@
 //! From a text to its tokens.
 ghost use Rattle.std.specs.Prelude.{◌≡◌, ◌≤◌, IfOk, IfErr};
 ghost use Rattle.witx_lex.specs.Faults.{HasFault, IfBad};
-ghost use Rattle.witx_lex.specs.Meaning.{HasTokens, depth_after};
-ghost use Rattle.witx_lex.specs.Pieces.{most_open};
+ghost use Rattle.witx_lex.specs.Meaning as meaning;
+ghost use Rattle.witx_lex.specs.Pieces.{Piece, most_open, open_after};
 ghost use Rattle.witx_lex.specs.Views.{token_view, tokens_view};
 
 use crate::error::{LexError, LexFault};
@@ -14,7 +14,7 @@ use witx_base::Items;
 /// The tokens of a text, each with its place and the comments before it; or the text's fault, the
 /// first place at which no piece can stand. Exactly one of the two is there for each text.
 pub fn lex<'a>(alloc: Global, text: &'a str) -> Result<Tokens<'a>, LexError>
-    ensures tokens { IfOk result (λ ts. HasTokens text.now (tokens_view ts)) }
+    ensures tokens { IfOk result (λ ts. meaning.HasTokens text.now (tokens_view ts)) }
     ensures fault { IfErr result (λ e. IfBad e (λ f. HasFault text.now f)) }
 {
     let mut tokens: Tokens<'a> = Items::new(alloc);
@@ -54,10 +54,10 @@ pub fn lex<'a>(alloc: Global, text: &'a str) -> Result<Tokens<'a>, LexError>
     Ok(tokens)
 }
 
-/// How many parentheses are open after a token, of `depth` before it.
+/// How many parentheses are open after a piece that is this token, of `depth` before it.
 fn open_after(depth: usize, token: &Token) -> usize
     requires { depth ≤ most_open }
-    ensures { result ≡ depth_after depth (token_view token.now) }
+    ensures { (p : Piece) → meaning.seen p ≡ meaning.token (token_view token.now) → result ≡ open_after depth p }
 {
     match token {
         Token::LParen => depth + 1,

@@ -8,19 +8,20 @@ mod error;
 mod escape;
 mod laws;
 mod lexer;
+mod line_cursor;
 mod piece;
 mod place;
 mod run;
 mod string;
-#[cfg(test)]
-mod tests;
 mod token;
 
 pub use error::{LexError, LexFault, LexKind};
 pub use laws::{
-    a_fault_is_unique, a_text_has_pieces_or_a_fault, no_piece_at_a_fault, pieces_are_unique,
-    pieces_exclude_a_fault, tokens_are_slices, tokens_are_unique,
+    a_fault_is_unique, a_text_has_pieces_or_a_fault, block_scan_is_exact, no_piece_at_a_fault,
+    pieces_are_unique, pieces_exclude_a_fault, tokens_are_slices, tokens_are_unique,
 };
 pub use lexer::lex;
+pub use line_cursor::LineCursor;
+pub use piece::{MOST_OPEN, most_open_parentheses};
 pub use place::line_column;
 pub use token::{Comments, Lexed, Span, Token, Tokens};

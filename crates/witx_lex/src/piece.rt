@@ -1,5 +1,5 @@
 //! One piece of a text: a blank, a comment or a token.
-ghost use Rattle.std.specs.Prelude.{◌<◌, ◌≤◌, length};
+ghost use Rattle.std.specs.Prelude.{◌<◌, ◌≡◌, ◌≤◌, length};
 ghost use Rattle.witx_lex.specs.Pieces.{most_open};
 ghost use Rattle.witx_lex.specs.Reads.{ReadsPiece, IsBad};
 
@@ -12,10 +12,15 @@ use crate::token::Token;
 use std::alloc::Global;
 
 /// The most parentheses that may be open.
-const MOST_OPEN: usize = 100;
+pub const MOST_OPEN: usize = 100;
+
+/// At most 100 parentheses may be open.
+pub fn most_open_parentheses()
+    ensures { MOST_OPEN ≡ 100 }
+{}
 
 /// What a piece is to a reader of tokens.
-#[derive(Debug, Drop)]
+#[derive(Drop)]
 pub enum Seen<'a> {
     Nothing,
     Comment(&'a str),
@@ -23,7 +28,7 @@ pub enum Seen<'a> {
 }
 
 /// A piece, and how many bytes it takes.
-#[derive(Debug, Drop)]
+#[derive(Drop)]
 pub struct Read<'a> {
     pub seen: Seen<'a>,
     pub len: usize,

@@ -2,23 +2,14 @@
 ghost use Rattle.std.specs.Prelude.{◌≡◌};
 ghost use Rattle.witx_lex.specs.Places.{line_at, column_at};
 
+use crate::line_cursor::LineCursor;
+
 /// The line and the column of the byte at the offset `at`, both counted from 1. The column counts
 /// bytes behind the last line feed before `at`; an `at` past the end is the end.
 pub fn line_column(text: &str, at: usize) -> (usize, usize)
     ensures line { result.0 ≡ line_at text.now at }
     ensures column { result.1 ≡ column_at text.now at }
 {
-    let bytes = text.as_bytes();
-    let before = &bytes[..at.min(bytes.len())];
-    let mut line: usize = 1;
-    let mut column: usize = 1;
-    'bytes: for byte in before {
-        if *byte == b'\n' {
-            line += 1;
-            column = 1;
-        } else {
-            column += 1;
-        }
-    }
-    (line, column)
+    let mut cursor = LineCursor::new(text);
+    cursor.line_column(at)
 }

@@ -8,7 +8,7 @@ pub struct Span {
 }
 
 /// A token. All but `Quoted` borrow the text.
-#[derive(PartialEq, Eq, Debug, Drop)]
+#[derive(PartialEq, Eq, Drop)]
 pub enum Token<'a> {
     /// `(`.
     LParen,
@@ -30,7 +30,7 @@ pub enum Token<'a> {
 pub type Comments<'a> = Items<&'a str>;
 
 /// A token, where it stands, and the comments between it and the token before.
-#[derive(PartialEq, Eq, Debug, Drop)]
+#[derive(PartialEq, Eq, Drop)]
 pub struct Lexed<'a> {
     pub token: Token<'a>,
     pub span: Span,

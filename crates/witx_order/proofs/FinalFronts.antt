@@ -180,7 +180,7 @@ module _ {F : Type 0} (w : World F) where
       let h = only-way r (subst P (sym q.1) s) e f in
       (ap (λ z. z ∷ ms) q.0 ∙ ap (λ z. n ∷ z) h.0, h.1)
 
-  snoc : {a b c : Place} {ms : List Mark} {m : Mark} → Marks w a ms b → next w b ≡ go m c → Marks w a (ms ++ m ∷ []) c
+  pub snoc : {a b c : Place} {ms : List Mark} {m : Mark} → Marks w a ms b → next w b ≡ go m c → Marks w a (ms ++ m ∷ []) c
   snoc (none a) e = more a _ _ [] _ e (none _)
   snoc (more a m b ms c k r) e = more a m b _ _ k (snoc r e)
 
@@ -192,7 +192,7 @@ module _ {F : Type 0} (w : World F) where
       → (c : Place) × (Marks w a (x ∷ xs) c × (next w c ≡ go m b))
   unsnoc-more x xs (more a _ a' _ b e r) h = let k = h a' r in (k.0, (more a x a' xs k.0 e k.1.0, k.1.1))
 
-  unsnoc : (ms : List Mark) {a b : Place} {m : Mark} → Marks w a (ms ++ m ∷ []) b → (c : Place) × (Marks w a ms c × (next w c ≡ go m b))
+  pub unsnoc : (ms : List Mark) {a b : Place} {m : Mark} → Marks w a (ms ++ m ∷ []) b → (c : Place) × (Marks w a ms c × (next w c ≡ go m b))
   unsnoc [] {a} {b} {m} r = unsnoc-one r
   unsnoc (x ∷ xs) r = unsnoc-more x xs r (λ z q. unsnoc xs q)
 

@@ -7,34 +7,34 @@ use Rattle.witx_order.specs.Walks.{World, Mark, start, decl, skip, end, OpenFile
 use Rattle.witx_order.specs.Groups.{Contents, no_items, declared, used, Reached, skipped, opened, Handed, no_paths, handed, StartsOnce}
 
 module _ {F : Type 0} where
-  same-mark : {m n : Mark} {a b : Place} {x : Next F} → x ≡ go m a → x ≡ go n b → m ≡ n
+  pub same-mark : {m n : Mark} {a b : Place} {x : Next F} → x ≡ go m a → x ≡ go n b → m ≡ n
   same-mark p q = cc
 
-  same-place : {m n : Mark} {a b : Place} {x : Next F} → x ≡ go m a → x ≡ go n b → a ≡ b
+  pub same-place : {m n : Mark} {a b : Place} {x : Next F} → x ≡ go m a → x ≡ go n b → a ≡ b
   same-place p q = cc
 
-abbrev reads : List Item → Result (List Item) SyntaxFault
+abbrev pub reads : List Item → Result (List Item) SyntaxFault
 reads xs = Ok xs
 
-same-ok : {xs ys : List Item} → reads xs ≡ reads ys → xs ≡ ys
+pub same-ok : {xs ys : List Item} → reads xs ≡ reads ys → xs ≡ ys
 same-ok q = cc
 
 module _ {F : Type 0} (w : World F) where
-  abbrev afresh : Place → Path → Path → List ℕ → Place
+  abbrev pub afresh : Place → Path → Path → List ℕ → Place
   afresh pl p d text = place (open_file p text (folder_of p d) (w.reading text) ∷ pl.open_files) pl.handed (pl.taken ++ p ∷ []) pl.declared
 
-  record Skips (pl : Place) (p : Path) (m : Mark) (b : Place) : Type 0 where
-    known : is_taken pl.taken p ≡ true
-    mark : m ≡ skip p
-    at : b ≡ pl
+  pub record Skips (pl : Place) (p : Path) (m : Mark) (b : Place) : Type 0 where
+    pub known : is_taken pl.taken p ≡ true
+    pub mark : m ≡ skip p
+    pub at : b ≡ pl
 
-  record Starts (pl : Place) (p d : Path) (m : Mark) (b : Place) : Type 0 where
-    text : List ℕ
-    new : is_taken pl.taken p ≡ false
-    room : length pl.taken < 1024
-    holds : w.text_at p ≡ Some text
-    mark : m ≡ start p d
-    at : b ≡ afresh pl p d text
+  pub record Starts (pl : Place) (p d : Path) (m : Mark) (b : Place) : Type 0 where
+    pub text : List ℕ
+    pub new : is_taken pl.taken p ≡ false
+    pub room : length pl.taken < 1024
+    pub holds : w.text_at p ≡ Some text
+    pub mark : m ≡ start p d
+    pub at : b ≡ afresh pl p d text
 
   started-cases : (pl : Place) (p d : Path) (o : Option (List ℕ)) (m : Mark) (b : Place) → started w pl p d o ≡ go m b → (text : List ℕ) × ((o ≡ Some text) × ((m ≡ start p d) × (b ≡ afresh pl p d text)))
   started-cases pl p d None m b e = absurd (cc)
@@ -47,7 +47,7 @@ module _ {F : Type 0} (w : World F) where
       record { text = h.0; new = t; room = ltb-true (length pl.taken) 1024 q; holds = h.1.0; mark = h.1.1.0; at = h.1.1.1 }
   room-cases pl p d false m b q t e = absurd (cc)
 
-  reach-cases : (pl : Place) (p d : Path) (t : Bool) (m : Mark) (b : Place) → is_taken pl.taken p ≡ t
+  pub reach-cases : (pl : Place) (p d : Path) (t : Bool) (m : Mark) (b : Place) → is_taken pl.taken p ≡ t
       → cond t (go (skip p) pl) (cond (nat_lt (length pl.taken) 1024) (started w pl p d (w.text_at p)) (stuck (too_many p))) ≡ go m b → Skips pl p m b ⊎ Starts pl p d m b
   reach-cases pl p d true m b q e = inl (record { known = q; mark = sym (same-mark refl e); at = sym (same-place refl e) })
   reach-cases pl p d false m b q e = inr (room-cases pl p d (nat_lt (length pl.taken) 1024) m b refl q e)
@@ -62,14 +62,14 @@ module _ {F : Type 0} (w : World F) where
   reach-not pl p d false false e = cc
 
   -- the marks that are left close a file, and go on behind it
-  record Closes (f : OpenFile) (ms : List Mark) (Outer : List Mark → Type 0) : Type 0 where
-    xs : List Item
-    inner : List Mark
-    outer : List Mark
-    left_is : f.left ≡ Ok xs
-    contents : Contents w f.path f.text f.folder xs inner
-    splits : ms ≡ inner ++ end f.path ∷ outer
-    rest : Outer outer
+  pub record Closes (f : OpenFile) (ms : List Mark) (Outer : List Mark → Type 0) : Type 0 where
+    pub xs : List Item
+    pub inner : List Mark
+    pub outer : List Mark
+    pub left_is : f.left ≡ Ok xs
+    pub contents : Contents w f.path f.text f.folder xs inner
+    pub splits : ms ≡ inner ++ end f.path ∷ outer
+    pub rest : Outer outer
 
   abbrev Rest : List OpenFile → List Path → List Mark → Type 0
   Rest [] hs ms = Handed w hs ms
@@ -202,7 +202,7 @@ module _ {F : Type 0} (w : World F) where
   step-once [] (p ∷ ps) taken ds m b ms e h = outer-once (file_name p) p ps taken ds m b ms e h
   step-once (f ∷ o) hs taken ds m b ms e h = inner-once f.path f.text f.folder f.left o hs taken ds m b ms e h
 
-  once-of : {a b : Place} {ms : List Mark} → Marks w a ms b → StartsOnce a.taken ms
+  pub once-of : {a b : Place} {ms : List Mark} → Marks w a ms b → StartsOnce a.taken ms
   once-of (none a) = tt
   once-of (more a m b ms c k r) = step-once a.open_files a.handed a.taken a.declared m b ms k (once-of r)
 
@@ -210,17 +210,17 @@ module _ {F : Type 0} (w : World F) where
   walk-once hs ms ds h = once-of h.leads
 
   -- the other way: marks of this form are a walk
-  marks-append : {a b c : Place} {ms ns : List Mark} → Marks w a ms b → Marks w b ns c → Marks w a (ms ++ ns) c
+  pub marks-append : {a b c : Place} {ms ns : List Mark} → Marks w a ms b → Marks w b ns c → Marks w a (ms ++ ns) c
   marks-append (none a) s = s
   marks-append (more a m b ms c k r) s = more a m b _ _ k (marks-append r s)
 
-  record Gone (a : Place) (ms rest : List Mark) (o : List OpenFile) (hs : List Path) : Type 0 where
-    taken : List Path
-    declared : List Declared
-    marks : Marks w a ms (place o hs taken declared)
-    once : StartsOnce taken rest
+  pub record Gone (a : Place) (ms rest : List Mark) (o : List OpenFile) (hs : List Path) : Type 0 where
+    pub taken : List Path
+    pub declared : List Declared
+    pub marks : Marks w a ms (place o hs taken declared)
+    pub once : StartsOnce taken rest
 
-  reach-next : (a : Place) (o : List OpenFile) (hs taken : List Path) (ds : List Declared) (j d : Path) → wish a ≡ reach (place o hs taken ds) j d → next w a ≡ reached w (place o hs taken ds) (w.canonical j) d
+  pub reach-next : (a : Place) (o : List OpenFile) (hs taken : List Path) (ds : List Declared) (j d : Path) → wish a ≡ reach (place o hs taken ds) j d → next w a ≡ reached w (place o hs taken ds) (w.canonical j) d
   reach-next a o hs taken ds j d e = ap (met w) e
 
   skip-gone : (a : Place) (o : List OpenFile) (hs taken : List Path) (ds : List Declared) (j d : Path) (rest : List Mark) → wish a ≡ reach (place o hs taken ds) j d
@@ -232,16 +232,21 @@ module _ {F : Type 0} (w : World F) where
     once = h.1;
   }
 
-  start-next : (a : Place) (o : List OpenFile) (hs taken : List Path) (ds : List Declared) (j d : Path) (text : List ℕ) (xs : List Item) → wish a ≡ reach (place o hs taken ds) j d
-      → w.text_at (w.canonical j) ≡ Some text → w.reading text ≡ Ok xs → is_taken taken (w.canonical j) ≡ false → length taken < 1024
-      → next w a ≡ go (start (w.canonical j) d) (place (open_file (w.canonical j) text (folder_of (w.canonical j) d) (Ok xs) ∷ o) hs (taken ++ w.canonical j ∷ []) ds)
-  start-next a o hs taken ds j d text xs e f g t l =
-      let p = w.canonical j in
+  pub start-any : (a : Place) (o : List OpenFile) (hs taken : List Path) (ds : List Declared) (j d : Path) (text : List ℕ) → wish a ≡ reach (place o hs taken ds) j d
+      → w.text_at (w.canonical j) ≡ Some text → is_taken taken (w.canonical j) ≡ false → length taken < 1024
+      → next w a ≡ go (start (w.canonical j) d) (afresh (place o hs taken ds) (w.canonical j) d text)
+  start-any a o hs taken ds j d text e f t l =
       reach-next a o hs taken ds j d e
       ∙ (ap (λ x. cond x (go (skip (w.canonical j)) (place o hs taken ds)) (cond (nat_lt (length taken) 1024) (started w (place o hs taken ds) (w.canonical j) d (w.text_at (w.canonical j))) (stuck (too_many (w.canonical j))))) t
       ∙ (ap (λ x. cond x (started w (place o hs taken ds) (w.canonical j) d (w.text_at (w.canonical j))) (stuck (too_many (w.canonical j)))) (lt-ltb (length taken) 1024 l)
-      ∙ (ap (λ x. started w (place o hs taken ds) (w.canonical j) d x) f
-      ∙ ap (λ x. go (start (w.canonical j) d) (place (open_file (w.canonical j) text (folder_of (w.canonical j) d) x ∷ o) hs (taken ++ w.canonical j ∷ []) ds)) g)))
+      ∙ ap (λ x. started w (place o hs taken ds) (w.canonical j) d x) f))
+
+  pub start-next : (a : Place) (o : List OpenFile) (hs taken : List Path) (ds : List Declared) (j d : Path) (text : List ℕ) (xs : List Item) → wish a ≡ reach (place o hs taken ds) j d
+      → w.text_at (w.canonical j) ≡ Some text → w.reading text ≡ Ok xs → is_taken taken (w.canonical j) ≡ false → length taken < 1024
+      → next w a ≡ go (start (w.canonical j) d) (place (open_file (w.canonical j) text (folder_of (w.canonical j) d) (Ok xs) ∷ o) hs (taken ++ w.canonical j ∷ []) ds)
+  start-next a o hs taken ds j d text xs e f g t l =
+      start-any a o hs taken ds j d text e f t l
+      ∙ ap (λ x. go (start (w.canonical j) d) (place (open_file (w.canonical j) text (folder_of (w.canonical j) d) x ∷ o) hs (taken ++ w.canonical j ∷ []) ds)) g
 
   group-gone : (a : Place) (o : List OpenFile) (hs taken : List Path) (ds : List Declared) (p : Path) (text : List ℕ) (d folder : Path) (xs : List Item) (ms rest : List Mark)
       → next w a ≡ go (start p d) (place (open_file p text folder (Ok xs) ∷ o) hs taken ds)
@@ -267,7 +272,7 @@ module _ {F : Type 0} (w : World F) where
         let l = contents-gone p text folder xs ms r o hs k.taken k.declared rest k.once in
         record { taken = l.taken; declared = l.declared; marks = marks-append k.marks l.marks; once = l.once }
 
-    reached-gone : (j d : Path) (g : List Mark) → Reached w j d g → (a : Place) (o : List OpenFile) (hs taken : List Path) (ds : List Declared) (rest : List Mark)
+    pub reached-gone : (j d : Path) (g : List Mark) → Reached w j d g → (a : Place) (o : List OpenFile) (hs taken : List Path) (ds : List Declared) (rest : List Mark)
         → wish a ≡ reach (place o hs taken ds) j d → StartsOnce taken (g ++ rest) → Gone a g rest o hs
     reached-gone _ _ _ (skipped j d) a o hs taken ds rest e h = skip-gone a o hs taken ds j d rest e h
     reached-gone _ _ _ (opened j d text xs ms f g r) a o hs taken ds rest e h =

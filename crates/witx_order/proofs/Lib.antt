@@ -5,3 +5,5 @@ pub mod Ending
 pub mod FinalFronts
 pub mod Grouping
 pub mod Taking
+pub mod GroupingFronts
+pub mod Read

@@ -35,6 +35,13 @@ module _ {F : Type 0} (w : World F) where
       let h = only-marks r (subst P (sym (same-place k l)) s) e f in
       (ap (λ z. z ∷ ms) (same-mark k l) ∙ ap (λ z. n ∷ z) h.0, h.1)
 
+  -- the same marks lead to one place
+  pub one-last : {a b c : Place} {ms : List Mark} → Marks w a ms b → Marks w a ms c → b ≡ c
+  one-last (none _) (none _) = refl
+  one-last (more _ m a' ms b k r) (more _ n a'' ns c l s) =
+      let P : Place → Type 0 = λ z. Marks w z ms c in
+      one-last r (subst P (sym (same-place k l)) s)
+
   -- there is at most one walk
   pub one-walk : (handed : List Path) (ms ns : List Mark) (ds es : List Declared) → IsWalk w handed ms ds → IsWalk w handed ns es → (ms ≡ ns) × (ds ≡ es)
   one-walk handed ms ns ds es a b =

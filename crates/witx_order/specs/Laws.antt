@@ -1,9 +1,11 @@
 -- What holds of every reading order, whatever the texts, their faults and the files are.
-use Rattle.std.specs.Prelude.{◌≡◌, List}
+use Rattle.std.specs.Prelude.{◌≡◌, List, [], ◌∷◌, ◌++◌}
+use Rattle.std.specs.List.{AllByRecursion}
 use Rattle.witx_base.specs.Paths.{Path}
 use Rattle.witx_order.specs.Items.{Declared}
-use Rattle.witx_order.specs.Walks.{World, Mark, IsWalk}
+use Rattle.witx_order.specs.Walks.{World, Mark, Place, go, next, beginning, Marks, IsFront, IsRead, IsWalk}
 use Rattle.witx_order.specs.Groups.{IsGrouped}
+use Rattle.witx_order.specs.GroupFronts.{IsGroupedFront}
 use Rattle.witx_order.specs.Verdicts.{Verdict, fine, IsVerdict}
 use Rattle.witx_order.specs.Fronts.{IsFinal, Means}
 
@@ -35,3 +37,19 @@ abbrev pub WalkForm : Type 0 → Type 0
 WalkForm F = (w : World F) (handed : List Path) (marks : List Mark) →
     (IsGrouped w handed marks → (declared : List Declared) × IsWalk w handed marks declared)
     × ((declared : List Declared) → IsWalk w handed marks declared → IsGrouped w handed marks)
+
+-- the step by step fronts are exactly those by their groups
+abbrev pub FrontForm : Type 0 → Type 0
+FrontForm F = (w : World F) (handed : List Path) (marks : List Mark) →
+    (IsGroupedFront w handed marks → IsFront w handed marks) × (IsFront w handed marks → IsGroupedFront w handed marks)
+
+-- the next mark of where a front has come to is the one mark with which the list is a front again
+abbrev pub NextMark : Type 0 → Type 0
+NextMark F = (w : World F) (handed : List Path) (marks : List Mark) (last : Place) → Marks w (beginning handed) marks last → (mark : Mark) →
+    ((behind : Place) → next w last ≡ go mark behind → IsFront w handed (marks ++ mark ∷ []))
+    × (IsFront w handed (marks ++ mark ∷ []) → (behind : Place) × (next w last ≡ go mark behind))
+
+-- each declaration of a walk is an item of the text that its path has
+abbrev pub DeclaredWhereRead : Type 0 → Type 0
+DeclaredWhereRead F = (w : World F) (handed : List Path) (marks : List Mark) (declared : List Declared)
+    → IsWalk w handed marks declared → AllByRecursion (IsRead w) declared

@@ -1,6 +1,7 @@
 -- The reading order of files that use one another, step by step: a walk is a list of marks, and each mark is the next one
 -- of those before it. A file starts once, at the first mention of its path; its items follow, each used file whole at its
--- use; the file ends behind them. At most 1,024 files start.
+-- use; the file ends behind them. At most 1,024 files start. `Groups` and `GroupFronts` say what a walk and what a front is
+-- as a condition on the list; the laws `walk_form` and `front_form` say that these are the same.
 use Rattle.std.specs.Prelude.{◌≡◌, ℕ, List, [], ◌∷◌, ◌++◌, length, Option, None, Some, Result, Ok, Err, Bool, true, false, cond, nat_lt, unwrap_or}
 use Rattle.witx_base.specs.Paths.{Path, join, path_of, parent, all_but_last, file_name}
 use Rattle.witx_files.specs.Files.{same_path}
@@ -148,9 +149,13 @@ pub data Marks {F : Type 0} (w : World F) : Place → List Mark → Place → Ty
   more : (at : Place) (mark : Mark) (between : Place) (marks : List Mark) (last : Place)
       → next w at ≡ go mark between → Marks w between marks last → Marks w at (mark ∷ marks) last
 
--- a front of a walk
+-- a front of a walk: the marks lead somewhere
 abbrev pub IsFront : {F : Type 0} → World F → List Path → List Mark → Type 0
 IsFront w handed marks = (last : Place) × Marks w (beginning handed) marks last
+
+-- the declaration is an item of its text, which its path has
+abbrev pub IsRead : {F : Type 0} → World F → Declared → Type 0
+IsRead w δ = (w.text_at δ.path ≡ Some δ.text) × ((before after : List Item) × (w.reading δ.text ≡ Ok (before ++ declaration δ.item ∷ after)))
 
 -- a walk, with its declarations: the reading order
 pub record IsWalk {F : Type 0} (w : World F) (handed : List Path) (marks : List Mark) (declared : List Declared) : Type 0 where

@@ -19,7 +19,7 @@ loop-comment-preserved c = elim c.match-line.branch [
   | in_default w ↦ at_other c.args.comments.now c.loop-comment.comment-index _ _ _ (string_bytes c.loop-comment.text) _ c.loop-comment-test.true w.in_default.ensures (ap string_bytes w.text-is) c.loop-comment.invariant
 ]
 
-pub returns-clause-text : goal.returns-clause-text
+pub returns : goal.returns
 unfolding documentation_of
-returns-clause-text c = c.from_string.ensures ∙ at_end _ _ _ (subst (λ l. IsAt c.margin-margin.result (string_bytes c.loop-comment.text) (lines_of (shown c.args.comments.now)) (lines_of (shown l))) (drop_all c.loop-comment.comment-index c.args.comments.now c.loop-comment-test.false) c.loop-comment.invariant)
+returns c = c.from_string.ensures ∙ at_end _ _ _ (subst (λ l. IsAt c.margin-margin.result (string_bytes c.loop-comment.text) (lines_of (shown c.args.comments.now)) (lines_of (shown l))) (drop_all c.loop-comment.comment-index c.args.comments.now c.loop-comment-test.false) c.loop-comment.invariant)
     ∙ ap (λ m. text_of_lines m (lines_of (shown c.args.comments.now))) c.margin-margin.ensures

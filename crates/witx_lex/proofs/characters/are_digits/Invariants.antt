@@ -1,5 +1,5 @@
 use Rattle.std.proofs.Common.{◌≡◌, false, drop}
-use Rattle.witx_lex.specs.Characters.{digits_follow}
+use Rattle.witx_lex.proofs.Digits.{digits_follow}
 use Rattle.witx_lex.proofs.characters.are_digits.Given as goal
 
 abbrev pub invariant-digits : goal.invariant-digits

@@ -1,6 +1,6 @@
 use Rattle.std.proofs.Common.{◌≡◌, ◌+◌, ◌-◌, ◌≤◌, length, drop}
 use Rattle.std.specs.Option.{option_map}
-use Rattle.witx_lex.specs.Pieces.{block_len}
+use Rattle.witx_lex.specs.BlockScan.{block_len}
 use Rattle.witx_lex.proofs.comment.block_len.Given as goal
 
 abbrev pub invariant-loop-at : goal.invariant-loop-at

@@ -1,3 +1,4 @@
+use Rattle.std.proofs.lemmas.Grind.{common_steps}
 use Rattle.std.proofs.Common.{sym, take, ◌-◌, arith, ap, subst, ◌∙◌, ◌≡◌, ◌+◌, ◌<◌, ◌++◌, ◌∷◌, length, get_or, drop, List, ℕ, string_bytes, IsUtf8}
 use Rattle.std.proofs.lemmas.List.{take_rest, drop_more, length-append, length-drop}
 use Rattle.std.proofs.lemmas.Str.{IsUtf8-string_bytes}
@@ -41,3 +42,21 @@ loop-at-preserved c =
     let two : drop c.loop-at.at text ≡ part_spelling p ++ drop c.in-Some.escape.len (drop (c.loop-at.at + 1) text) = one ∙ ap (λ (t : List ℕ). 92 ∷ t) (sym arg-is) ∙ sp ∙ ap (λ (t : List ℕ). part_spelling p ++ drop c.in-Some.escape.len t) arg-is in
     let s = String_more text c.loop-at.at (c.loop-at.at + (c.in-Some.escape.len + 1)) c.loop-at.out.items c.push_escaped.new.out.items (drop c.in-Some.escape.len (drop (c.loop-at.at + 1) text)) p c.loop-at.invariant.2 e.valid two (ap (λ (k : ℕ). c.loop-at.at + k) e.len) (c.in_ok-push_escaped-in-Some.ensures ∙ ap (λ (t : List ℕ). c.loop-at.out.items ++ t) e.value) in
     (c.loop-at.invariant.0, omega (arith, e.len, ap (λ (t : List ℕ). length t) two, length-append (part_spelling p) (drop c.in-Some.escape.len (drop (c.loop-at.at + 1) text)), length-drop c.loop-at.at text), s)
+
+pub loop-at-init : goal.loop-at-init
+loop-at-init c = grind (arith, common_steps)
+
+pub overflow_add-at-in-Some : goal.overflow_add-at-in-Some
+overflow_add-at-in-Some c = grind (arith, common_steps)
+
+pub overflow_add-at-in-Some-2 : goal.overflow_add-at-in-Some-2
+overflow_add-at-in-Some-2 c = grind (arith, common_steps)
+
+pub returns-in-None : goal.returns-in-None
+returns-in-None c = grind (arith, common_steps)
+
+pub returns-else-byte-eq92 : goal.returns-else-byte-eq92
+returns-else-byte-eq92 c = grind (arith, common_steps)
+
+pub returns : goal.returns
+returns c = grind (arith, common_steps)
