@@ -11,7 +11,7 @@ use std::alloc::{AllocError, Global};
 
 /// The place of the first token that can't stand there, or the number of tokens where more are
 /// wanted; and the sorts of tokens that can stand there, in no particular order.
-#[derive(Debug, Drop)]
+#[derive(Drop)]
 pub struct Fault {
     pub at: usize,
     pub next: Vec<u8>,

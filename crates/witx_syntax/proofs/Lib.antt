@@ -1,3 +1,4 @@
+pub mod Apart
 pub mod Digits
 pub mod Documents
 mod Examples

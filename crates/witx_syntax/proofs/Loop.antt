@@ -45,7 +45,7 @@ module _ (ms : List Move) (ts : List Lexed) (d : Derives the_rows ms (Form TEXT 
       back_leaf the_rows (Form TEXT ∷ []) ms (sorts_of ts) (leaf_of ts) (act ts) Fits d (n - 1) (at - 1) vs us (subst (λ (x : ℕ). Here ms ts (n - 1 + 1) x vs) (omega (arith, q.0)) (shift n at vs lt h)) e is
       (λ w f. subst (λ (x : List Val). kinds_are (symbol_kinds (Token s) ++ wants_kinds w) x ≡ true) (sym is) (leaf_fits ts (at - 1) (wants_kinds w) vs q.1 f))
 
-  pub before_node : (n at r : ℕ) (vs : List Val) → 0 < n → Here ms ts n at vs → get_or ms (n - 1) Leaf ≡ Node r → (r < 68) × (has_kinds (row_kinds r) vs ≡ true)
+  pub before_node : (n at r : ℕ) (vs : List Val) → 0 < n → Here ms ts n at vs → get_or ms (n - 1) Leaf ≡ Node r → (r < 69) × (has_kinds (row_kinds r) vs ≡ true)
   before_node n at r vs lt h e =
       let q = back_row the_rows (Form TEXT ∷ []) ms (sorts_of ts) (leaf_of ts) (act ts) Fits d (n - 1) at r vs (shift n at vs lt h) e in
       (q.1, all_and_more (row_kinds r) (wants_kinds q.0) vs (subst (λ (x : List ℕ). kinds_are x vs ≡ true) (flat_map-append symbol_kinds (production the_rows r).symbols q.0) q.2))

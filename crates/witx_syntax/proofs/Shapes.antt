@@ -34,7 +34,7 @@ OfKind k P =
     (choose (k == case_kind) ((cs : Comments) (n : Name) (t : Maybe) → P (a_case cs n t))
     (choose (k == cases_kind) ((cs : Cases) → P (some_cases cs))
     (choose (k == entry_kind) ((e : EntryTree) → P (an_entry e))
-    (choose (k == entries_kind) ((ps : Fields) (rs : Fields) (b : Bool) → P (some_entries ps rs b))
+    (choose (k == entries_kind) ((ps : Fields) (rs : Fields) (n : Bool) (s : Bool) → P (some_entries ps rs n s))
     (choose (k == decl_kind) ((d : NotedDecl) → P (a_decl d))
     (choose (k == decls_kind) ((ds : List NotedDecl) → P (some_decls ds))
     (choose (k == item_kind) ((i : ItemTree) → P (an_item i))
@@ -57,7 +57,7 @@ by_kind P (some_union_fields fs) h = h fs
 by_kind P (a_case cs n t) h = h cs n t
 by_kind P (some_cases cs) h = h cs
 by_kind P (an_entry e) h = h e
-by_kind P (some_entries ps rs b) h = h ps rs b
+by_kind P (some_entries ps rs n s) h = h ps rs n s
 by_kind P (a_decl d) h = h d
 by_kind P (some_decls ds) h = h ds
 by_kind P (an_item i) h = h i

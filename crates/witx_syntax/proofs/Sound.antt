@@ -19,7 +19,7 @@ use Rattle.witx_syntax.specs.Names.{StandsInText, NamesOfMembers, NamesOfType, N
 use Rattle.witx_syntax.specs.Reads.{stands_for}
 use Rattle.witx_syntax.specs.Rows.{Rule, the_rules, the_rows, production_of, no_rule, act, row_more_entries}
 use Rattle.witx_syntax.specs.Sorts.{sorts_of}
-use Rattle.witx_syntax.specs.Values.{EntryTree, param, result_of, noreturn, Val, a_name, a_text, an_integer, a_builtin, a_type, some_types, an_error, a_member, some_members, a_field, some_fields, a_union_field, some_union_fields, a_case, some_cases, an_entry, some_entries, a_decl, some_decls, an_item, some_items, no_lexed, token_values, leaf_of, leaf}
+use Rattle.witx_syntax.specs.Values.{EntryTree, param, result_of, noreturn, stored, Val, a_name, a_text, an_integer, a_builtin, a_type, some_types, an_error, a_member, some_members, a_field, some_fields, a_union_field, some_union_fields, a_case, some_cases, an_entry, some_entries, a_decl, some_decls, an_item, some_items, no_lexed, token_values, leaf_of, leaf}
 use Rattle.witx_syntax.proofs.Leaves.{leaf_fits}
 use Rattle.witx_syntax.proofs.Shapes.{OfKinds, by_kinds}
 
@@ -32,6 +32,7 @@ abbrev NamesOfEntry : (Name → Type 0) → EntryTree → Type 0
 NamesOfEntry P (param cs n t) = P n × NamesOfType P t
 NamesOfEntry P (result_of cs n t) = P n × NamesOfType P t
 NamesOfEntry P noreturn = Unit {0}
+NamesOfEntry P stored = Unit {0}
 
 abbrev NamesOfValue : (Name → Type 0) → Val → Type 0
 NamesOfValue P (a_name n) = P n
@@ -50,7 +51,7 @@ NamesOfValue P (some_union_fields fs) = NamesOfUnionFields P fs
 NamesOfValue P (a_case cs n t) = P n × NamesOfMaybe P t
 NamesOfValue P (some_cases cs) = NamesOfCases P cs
 NamesOfValue P (an_entry e) = NamesOfEntry P e
-NamesOfValue P (some_entries ps rs b) = NamesOfFields P ps × NamesOfFields P rs
+NamesOfValue P (some_entries ps rs n s) = NamesOfFields P ps × NamesOfFields P rs
 NamesOfValue P (a_decl d) = NamesOfDecl P d.decl
 NamesOfValue P (some_decls ds) = NamesOfDecls P ds
 NamesOfValue P (an_item i) = NamesOfItem P i
@@ -79,12 +80,13 @@ data AreSound (P : Name → Type 0) : List Rule → Type 0 where
   all_done : AreSound P []
   ◌▸◌ : {u : Rule} {us : List Rule} → IsSound P u → AreSound P us → AreSound P (u ∷ us)
 
-more_entries : (P : Name → Type 0) (ts : List Lexed) (at : ℕ) (ls : List ℕ) (x : EntryTree) (ps rs : Fields) (b : Bool) (vs : List Val) → kinds_are ls vs ≡ true
-    → (kinds_are (entries_kind ∷ ls) (row_more_entries (an_entry x ∷ some_entries ps rs b ∷ vs)) ≡ true)
-    × (NamesOfValues P (an_entry x ∷ some_entries ps rs b ∷ vs) → NamesOfValues P (row_more_entries (an_entry x ∷ some_entries ps rs b ∷ vs)))
-more_entries P ts at ls (param cs n t) ps rs b vs e = (e, λ h. (((h.0, h.1.0.0), h.1.0.1), h.1.1))
-more_entries P ts at ls (result_of cs n t) ps rs b vs e = (e, λ h. ((h.1.0.0, (h.0, h.1.0.1)), h.1.1))
-more_entries P ts at ls noreturn ps rs b vs e = (e, λ h. h.1)
+more_entries : (P : Name → Type 0) (ts : List Lexed) (at : ℕ) (ls : List ℕ) (x : EntryTree) (ps rs : Fields) (n s : Bool) (vs : List Val) → kinds_are ls vs ≡ true
+    → (kinds_are (entries_kind ∷ ls) (row_more_entries (an_entry x ∷ some_entries ps rs n s ∷ vs)) ≡ true)
+    × (NamesOfValues P (an_entry x ∷ some_entries ps rs n s ∷ vs) → NamesOfValues P (row_more_entries (an_entry x ∷ some_entries ps rs n s ∷ vs)))
+more_entries P ts at ls (param cs x t) ps rs n s vs e = (e, λ h. (((h.0, h.1.0.0), h.1.0.1), h.1.1))
+more_entries P ts at ls (result_of cs x t) ps rs n s vs e = (e, λ h. ((h.1.0.0, (h.0, h.1.0.1)), h.1.1))
+more_entries P ts at ls noreturn ps rs n s vs e = (e, λ h. h.1)
+more_entries P ts at ls stored ps rs n s vs e = (e, λ h. h.1)
 
 -- row by row, in their order
 all_sound : (P : Name → Type 0) → AreSound P the_rules
@@ -149,11 +151,12 @@ all_sound P =
     ▸ (λ ts at ls vs e. (e, λ h. (tt, h)))
     ▸ (λ ts at ls cs n t cs2 vs e. (e, λ h. ((h.0, h.1.0), h.1.1)))
     ▸ (λ ts at ls q vs e. (e, λ h. h))
-    ▸ (λ ts at ls q ps rs b vs e. (e, λ h. h.1))
+    ▸ (λ ts at ls q ps rs n s vs e. (e, λ h. h.1))
     ▸ (λ ts at ls vs e. (e, λ h. (tt, h)))
     ▸ (λ ts at ls d ds vs e. (e, λ h. ((h.0, h.1.0), h.1.1)))
     ▸ (λ ts at ls n t vs e. (e, λ h. ((h.0, h.1.0), h.1.1)))
     ▸ (λ ts at ls n t vs e. (e, λ h. ((h.0, h.1.0), h.1.1)))
+    ▸ (λ ts at ls vs e. (e, λ h. (tt, h)))
     ▸ (λ ts at ls vs e. (e, λ h. (tt, h)))
     ▸ (λ ts at ls vs e. (e, λ h. ((tt, tt), h)))
     ▸ more_entries P

@@ -1,5 +1,5 @@
 -- The message of a syntax fault, from the sorts of tokens that can stand at its place and the one that does.
-use Rattle.std.specs.Prelude.{ℕ, not, ◌&&◌, ◌||◌, ◌==◌, if◌then◌else◌, List, [], ◌∷◌, ◌++◌, map, codes, Option, Some, None, unwrap_or}
+use Rattle.std.specs.Prelude.{ℕ, ◌&&◌, ◌||◌, ◌==◌, if◌then◌else◌, List, [], ◌∷◌, ◌++◌, map, codes, Option, Some, None, unwrap_or}
 use Rattle.std.specs.List.{list_all}
 use Rattle.witx_grammar.specs.Faults.{is_in}
 use Rattle.witx_lex.specs.declared.error.LexKind.{LexKind}

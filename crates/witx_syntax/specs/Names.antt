@@ -53,7 +53,7 @@ abbrev mutual
 
 abbrev pub NamesOfDecl : (Name → Type 0) → DeclTree → Type 0
 NamesOfDecl P (memory q) = Unit {0}
-NamesOfDecl P (function q ps rs b) = NamesOfFields P ps × NamesOfFields P rs
+NamesOfDecl P (function q ps rs n s) = NamesOfFields P ps × NamesOfFields P rs
 
 abbrev pub NamesOfDecls : (Name → Type 0) → List NotedDecl → Type 0
 NamesOfDecls P [] = Unit {0}

@@ -6,11 +6,11 @@ use Rattle.witx_grammar.specs.declared.table.Symbol.{Symbol}
 use Rattle.witx_grammar.specs.declared.table.Symbol.TheVariants.{Token, Form}
 use Rattle.witx_lex.specs.Tokens.{Lexed}
 use Rattle.witx_syntax.specs.declared.form.TheConstants.{BUILTIN, CASE, CASES, DECL, DECLS, ENTRIES, ENTRY, ERROR, FIELD, FIELDS, FIRST_UNION_FIELD, ITEM, NAME, NAMES, PLAIN, TEXT, TYPE, TYPES, UNION_FIELD, UNION_FIELDS}
-use Rattle.witx_syntax.specs.declared.sort.TheConstants.{AT_INTERFACE, AT_WITX, BOOL_WORD, CASE_WORD, CHAR8_WORD, CHAR_WORD, CONST_POINTER_WORD, CONST_WORD, END, ENUM_WORD, ERROR_WORD, EXPECTED_WORD, EXPORT_WORD, F32_WORD, F64_WORD, FIELD_WORD, FLAGS_WORD, FUNC_WORD, HANDLE_WORD, ID, IMPORT_WORD, INTEGER, LEFT, LIST_WORD, MEMORY_WORD, MODULE_WORD, NORETURN_WORD, PARAM_WORD, POINTER_WORD, QUOTED, RECORD_WORD, REPR_WORD, RESULT_WORD, RIGHT, S16_WORD, S32_WORD, S64_WORD, S8_WORD, STRING_WORD, TAG_WORD, TUPLE_WORD, TYPENAME_WORD, U16_WORD, U32_WORD, U64_WORD, U8_WORD, UNION_WORD, USE_WORD, USIZE_WORD, VARIANT_WORD}
+use Rattle.witx_syntax.specs.declared.sort.TheConstants.{AT_INTERFACE, AT_WITX, BOOL_WORD, CASE_WORD, CHAR8_WORD, CHAR_WORD, CONST_POINTER_WORD, CONST_WORD, END, ENUM_WORD, ERROR_WORD, EXPECTED_WORD, EXPORT_WORD, F32_WORD, F64_WORD, FIELD_WORD, FLAGS_WORD, FUNC_WORD, HANDLE_WORD, ID, IMPORT_WORD, INTEGER, LEFT, LIST_WORD, MEMORY_WORD, MODULE_WORD, NORETURN_WORD, PARAM_WORD, POINTER_WORD, QUOTED, RECORD_WORD, REPR_WORD, RESULT_WORD, RIGHT, S16_WORD, S32_WORD, S64_WORD, S8_WORD, STORED_WORD, STRING_WORD, TAG_WORD, TUPLE_WORD, TYPENAME_WORD, U16_WORD, U32_WORD, U64_WORD, U8_WORD, UNION_WORD, USE_WORD, USIZE_WORD, VARIANT_WORD}
 use Rattle.witx_tree.specs.declared.tree.BuiltinSyntax.{BuiltinSyntax}
 use Rattle.witx_tree.specs.declared.tree.BuiltinSyntax.TheVariants.{Char, U8, U16, U32, U64, S8, S16, S32, S64, F32, F64}
 use Rattle.witx_tree.specs.Trees.{Comments, ident, builtin, string, boolean, handle, list_of, pointer_to, const_pointer_to, tuple_of, enum_of, flags_of, record_of, union_of, variant_of, expected, absent, present, no_types, one_type, no_fields, one_field, no_union_fields, one_union_field, no_cases, one_case, memory, function, uses, typename, module_of, constant}
-use Rattle.witx_syntax.specs.Values.{Val, a_name, a_text, an_integer, a_builtin, a_type, some_types, an_error, a_member, some_members, a_field, some_fields, a_union_field, some_union_fields, a_case, some_cases, an_entry, some_entries, a_decl, some_decls, an_item, some_items, param, result_of, noreturn, comments_of}
+use Rattle.witx_syntax.specs.Values.{Val, a_name, a_text, an_integer, a_builtin, a_type, some_types, an_error, a_member, some_members, a_field, some_fields, a_union_field, some_union_fields, a_case, some_cases, an_entry, some_entries, a_decl, some_decls, an_item, some_items, param, result_of, noreturn, stored, comments_of}
 
 -- ---- what a row stands for, from what its parts stand for, which stand first
 
@@ -193,7 +193,7 @@ row_import cs (a_text q ∷ vs) = a_decl (record { comments = cs; decl = memory 
 row_import cs vs = vs
 
 abbrev pub row_func : Comments → List Val → List Val
-row_func cs (a_text q ∷ some_entries ps rs b ∷ vs) = a_decl (record { comments = cs; decl = function q ps rs b }) ∷ vs
+row_func cs (a_text q ∷ some_entries ps rs n s ∷ vs) = a_decl (record { comments = cs; decl = function q ps rs n s }) ∷ vs
 row_func cs vs = vs
 
 abbrev pub row_no_decls : List Val → List Val
@@ -214,13 +214,17 @@ row_result cs vs = vs
 abbrev pub row_noreturn : List Val → List Val
 row_noreturn vs = an_entry noreturn ∷ vs
 
+abbrev pub row_stored : List Val → List Val
+row_stored vs = an_entry stored ∷ vs
+
 abbrev pub row_no_entries : List Val → List Val
-row_no_entries vs = some_entries no_fields no_fields false ∷ vs
+row_no_entries vs = some_entries no_fields no_fields false false ∷ vs
 
 abbrev pub row_more_entries : List Val → List Val
-row_more_entries (an_entry (param cs n t) ∷ some_entries ps rs b ∷ vs) = some_entries (one_field cs n t ps) rs b ∷ vs
-row_more_entries (an_entry (result_of cs n t) ∷ some_entries ps rs b ∷ vs) = some_entries ps (one_field cs n t rs) b ∷ vs
-row_more_entries (an_entry noreturn ∷ some_entries ps rs b ∷ vs) = some_entries ps rs true ∷ vs
+row_more_entries (an_entry (param cs x t) ∷ some_entries ps rs n s ∷ vs) = some_entries (one_field cs x t ps) rs n s ∷ vs
+row_more_entries (an_entry (result_of cs x t) ∷ some_entries ps rs n s ∷ vs) = some_entries ps (one_field cs x t rs) n s ∷ vs
+row_more_entries (an_entry noreturn ∷ some_entries ps rs n s ∷ vs) = some_entries ps rs true s ∷ vs
+row_more_entries (an_entry stored ∷ some_entries ps rs n s ∷ vs) = some_entries ps rs n true ∷ vs
 row_more_entries vs = vs
 
 abbrev pub row_builtin : BuiltinSyntax → List Val → List Val
@@ -320,6 +324,7 @@ the_rules =
     ∷ rule ENTRY (Token LEFT ∷ Token PARAM_WORD ∷ Token ID ∷ Form TYPE ∷ Token RIGHT ∷ []) (noted row_param)
     ∷ rule ENTRY (Token LEFT ∷ Token RESULT_WORD ∷ Token ID ∷ Form TYPE ∷ Token RIGHT ∷ []) (noted row_result)
     ∷ rule ENTRY (Token LEFT ∷ Token AT_WITX ∷ Token NORETURN_WORD ∷ Token RIGHT ∷ []) (plain row_noreturn)
+    ∷ rule ENTRY (Token LEFT ∷ Token AT_WITX ∷ Token STORED_WORD ∷ Token RIGHT ∷ []) (plain row_stored)
     ∷ rule ENTRIES (Token RIGHT ∷ []) (plain row_no_entries)
     ∷ rule ENTRIES (Form ENTRY ∷ Form ENTRIES ∷ []) (plain row_more_entries)
     ∷ []

@@ -2,7 +2,7 @@
 use Rattle.std.specs.Prelude.{ℕ, if◌then◌else◌, List, [], ◌∷◌, ◌++◌, map, codes}
 use Rattle.witx_base.specs.Texts.{same_text}
 use Rattle.witx_lex.specs.Tokens.{Token, left, right, id, word, annot, int, quoted, Lexed}
-use Rattle.witx_syntax.specs.declared.sort.TheConstants.{AT_INTERFACE, AT_WITX, BIG_INTEGER, BOOL_WORD, CASE_WORD, CHAR8_WORD, CHAR_WORD, CONST_POINTER_WORD, CONST_WORD, END, ENUM_WORD, ERROR_WORD, EXPECTED_WORD, EXPORT_WORD, F32_WORD, F64_WORD, FIELD_WORD, FLAGS_WORD, FUNC_WORD, HANDLE_WORD, ID, IMPORT_WORD, INTEGER, LEFT, LIST_WORD, MEMORY_WORD, MODULE_WORD, NORETURN_WORD, OTHER, PARAM_WORD, POINTER_WORD, QUOTED, RECORD_WORD, REPR_WORD, RESULT_WORD, RIGHT, S16_WORD, S32_WORD, S64_WORD, S8_WORD, STRING_WORD, TAG_WORD, TUPLE_WORD, TYPENAME_WORD, U16_WORD, U32_WORD, U64_WORD, U8_WORD, UNION_WORD, USE_WORD, USIZE_WORD, VARIANT_WORD}
+use Rattle.witx_syntax.specs.declared.sort.TheConstants.{AT_INTERFACE, AT_WITX, BIG_INTEGER, BOOL_WORD, CASE_WORD, CHAR8_WORD, CHAR_WORD, CONST_POINTER_WORD, CONST_WORD, END, ENUM_WORD, ERROR_WORD, EXPECTED_WORD, EXPORT_WORD, F32_WORD, F64_WORD, FIELD_WORD, FLAGS_WORD, FUNC_WORD, HANDLE_WORD, ID, IMPORT_WORD, INTEGER, LEFT, LIST_WORD, MEMORY_WORD, MODULE_WORD, NORETURN_WORD, OTHER, PARAM_WORD, POINTER_WORD, QUOTED, RECORD_WORD, REPR_WORD, RESULT_WORD, RIGHT, S16_WORD, S32_WORD, S64_WORD, S8_WORD, STORED_WORD, STRING_WORD, TAG_WORD, TUPLE_WORD, TYPENAME_WORD, U16_WORD, U32_WORD, U64_WORD, U8_WORD, UNION_WORD, USE_WORD, USIZE_WORD, VARIANT_WORD}
 use Rattle.witx_syntax.specs.Integers.{is_small}
 
 -- a sort of tokens, and how its tokens are spelled
@@ -57,11 +57,16 @@ the_words =
     ∷ spelled PARAM_WORD (codes "param")
     ∷ spelled RESULT_WORD (codes "result")
     ∷ spelled NORETURN_WORD (codes "noreturn")
+    ∷ spelled STORED_WORD (codes "stored")
     ∷ []
 
 -- annotations, without their @
 abbrev pub the_annotations : List Spelling
 the_annotations = spelled AT_WITX (codes "witx") ∷ spelled AT_INTERFACE (codes "interface") ∷ []
+
+-- all sorts: those of words and of annotations, and the others
+abbrev pub all_sorts : List ℕ
+all_sorts = map (λ s. s.sort) (the_words ++ the_annotations) ++ (LEFT ∷ RIGHT ∷ ID ∷ QUOTED ∷ INTEGER ∷ BIG_INTEGER ∷ OTHER ∷ END ∷ [])
 
 -- the sort that is spelled so
 abbrev pub sort_spelled : List Spelling → List ℕ → ℕ

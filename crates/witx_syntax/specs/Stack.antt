@@ -10,7 +10,7 @@ use Rattle.witx_syntax.specs.declared.value.Entries.{Entries}
 use Rattle.witx_syntax.specs.declared.value.Value.{Value}
 use Rattle.witx_syntax.specs.declared.value.Value.TheVariants as value
 use Rattle.witx_tree.specs.Trees.{QuotedText}
-use Rattle.witx_syntax.specs.Values.{EntryTree, param, result_of, noreturn, Val, a_name, a_text, an_integer, a_builtin, a_type, some_types, an_error, a_member, some_members, a_field, some_fields, a_union_field, some_union_fields, a_case, some_cases, an_entry, some_entries, a_decl, some_decls, an_item, some_items}
+use Rattle.witx_syntax.specs.Values.{EntryTree, param, result_of, noreturn, stored, Val, a_name, a_text, an_integer, a_builtin, a_type, some_types, an_error, a_member, some_members, a_field, some_fields, a_union_field, some_union_fields, a_case, some_cases, an_entry, some_entries, a_decl, some_decls, an_item, some_items}
 use Rattle.witx_tree.specs.Views.{comments_view, name_view, member_view, type_view, field_view, case_view, boxed_view, types_view, fields_view, union_fields_view, cases_view, noted_decl, item_view, noted_item}
 
 abbrev pub quoted_view : Quoted → QuotedText
@@ -26,9 +26,10 @@ abbrev pub entry_view : Entry → EntryTree
 entry_view (entry.Param d) = param (comments_view d.comments) (field_view d.item).name (field_view d.item).type_
 entry_view (entry.Result d) = result_of (comments_view d.comments) (field_view d.item).name (field_view d.item).type_
 entry_view entry.NoReturn = noreturn
+entry_view entry.Stored = stored
 
 abbrev pub entries_value : Entries → Val
-entries_value e = some_entries (fields_view (reverse e.params.items)) (fields_view (reverse e.results.items)) e.noreturn
+entries_value e = some_entries (fields_view (reverse e.params.items)) (fields_view (reverse e.results.items)) e.noreturn e.stored
 
 abbrev pub value_view : Value → Val
 value_view (value.Name n) = a_name (name_view n.id)

@@ -5,11 +5,12 @@ use Rattle.witx_tree.specs.declared.tree.BuiltinSyntax.{BuiltinSyntax}
 use Rattle.witx_syntax.specs.Integers.{is_small, int_value}
 use Rattle.witx_tree.specs.Trees.{Comments, Name, QuotedText, Member, TypeTree, Maybe, Types, Fields, UnionFields, Cases, NotedDecl, ItemTree, NotedItem}
 
--- an entry of a function: a parameter, a result, or that it doesn't return
+-- an entry of a function: a parameter, a result, that it doesn't return, or that its result is stored
 pub data EntryTree : Type 0 where
   param : Comments → Name → TypeTree → EntryTree
   result_of : Comments → Name → TypeTree → EntryTree
   noreturn : EntryTree
+  stored : EntryTree
 
 pub data Val : Type 0 where
   a_name : Name → Val
@@ -28,7 +29,7 @@ pub data Val : Type 0 where
   a_case : Comments → Name → Maybe → Val
   some_cases : Cases → Val
   an_entry : EntryTree → Val
-  some_entries : Fields → Fields → Bool → Val
+  some_entries : Fields → Fields → Bool → Bool → Val
   a_decl : NotedDecl → Val
   some_decls : List NotedDecl → Val
   an_item : ItemTree → Val

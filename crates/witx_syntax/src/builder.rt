@@ -5,11 +5,12 @@
 //! is written by and puts what the row stands for. So neither nesting nor length costs the
 //! program's stack.
 
-ghost use Rattle.std.specs.Prelude.{◌≡◌, ◌<◌, IfOk, [], ◌∷◌, ◌++◌, map};
+ghost use Rattle.std.specs.Prelude.{◌≡◌, ◌<◌, ◌≤◌, IfOk, [], ◌∷◌, ◌++◌, map};
 ghost use Rattle.witx_grammar.specs.Grammar.{Derives};
 ghost use Rattle.witx_grammar.specs.declared.table.Symbol.TheVariants.{Form};
 ghost use Rattle.witx_lex.specs.Views.{token_view, tokens_view};
 ghost use Rattle.witx_syntax.specs.declared.form.TheConstants.{TEXT};
+ghost use Rattle.witx_syntax.specs.declared.row.TheConstants.{CHAR, IMPORT, NAME, POINTER};
 ghost use Rattle.witx_syntax.specs.Kinds.{Holds, Retypes, row_kind, row_kinds};
 ghost use Rattle.witx_syntax.specs.Reads.{stands_for};
 ghost use Rattle.witx_syntax.specs.Rows.{act, the_rows};
@@ -21,8 +22,8 @@ ghost use Rattle.witx_tree.specs.Views.{noted_item};
 use crate::integer::integer;
 use crate::items_rows::{
     build_const, build_func, build_import, build_module, build_more_entries, build_more_items,
-    build_no_entries, build_no_items, build_noreturn, build_param, build_result, build_typename,
-    build_use,
+    build_no_entries, build_no_items, build_noreturn, build_param, build_result, build_stored,
+    build_typename, build_use,
 };
 use crate::noted::turned;
 use crate::parts_rows::{
@@ -47,15 +48,15 @@ use witx_grammar::Move;
 use witx_lex::{Lexed, Token};
 use witx_tree::{BuiltinSyntax, IdSyntax, TopLevelSyntaxes};
 
-/// Puts what a row stands for in place of what it is written by.
-fn build_row<'a>(
+/// Puts what a row of a top-level form, or of a whole text, stands for in place of what it is written by.
+fn build_item_row<'a>(
     alloc: Global,
     tokens: &[Lexed<'a>],
     row: u8,
     at: usize,
     stack: &mut Vec<Value<'a>>,
 ) -> Result<(), OutOfMemory>
-    requires row { row < 68 }
+    requires high { row < CHAR }
     requires kinds { Holds (row_kinds row) stack.old.items }
     ensures value { IfOk result (λ _. stack_view stack.new.items ≡ act (tokens_view tokens.now) row at (stack_view stack.old.items)) }
     ensures kinds { IfOk result (λ _. Retypes (row_kinds row) (row_kind row) stack.old.items stack.new.items) }
@@ -67,6 +68,25 @@ fn build_row<'a>(
         row::TYPENAME => build_typename(stack),
         row::MODULE => build_module(stack),
         row::CONST => build_const(alloc, tokens, at, stack),
+        _ => unreachable!(),
+    }
+}
+
+/// The same of a row of a builtin word.
+fn build_builtin_row<'a>(
+    alloc: Global,
+    tokens: &[Lexed<'a>],
+    row: u8,
+    at: usize,
+    stack: &mut Vec<Value<'a>>,
+) -> Result<(), OutOfMemory>
+    requires low { CHAR ≤ row }
+    requires high { row < POINTER }
+    requires kinds { Holds (row_kinds row) stack.old.items }
+    ensures value { IfOk result (λ _. stack_view stack.new.items ≡ act (tokens_view tokens.now) row at (stack_view stack.old.items)) }
+    ensures kinds { IfOk result (λ _. Retypes (row_kinds row) (row_kind row) stack.old.items stack.new.items) }
+{
+    match row {
         row::CHAR => build_builtin(stack, BuiltinSyntax::Char),
         row::U8 => build_builtin(stack, BuiltinSyntax::U8 { lang_c_char: false }),
         row::U16 => build_builtin(stack, BuiltinSyntax::U16),
@@ -83,6 +103,25 @@ fn build_row<'a>(
         row::S64 => build_builtin(stack, BuiltinSyntax::S64),
         row::F32 => build_builtin(stack, BuiltinSyntax::F32),
         row::F64 => build_builtin(stack, BuiltinSyntax::F64),
+        _ => unreachable!(),
+    }
+}
+
+/// The same of a row of a type.
+fn build_type_row<'a>(
+    alloc: Global,
+    tokens: &[Lexed<'a>],
+    row: u8,
+    at: usize,
+    stack: &mut Vec<Value<'a>>,
+) -> Result<(), OutOfMemory>
+    requires low { POINTER ≤ row }
+    requires high { row < NAME }
+    requires kinds { Holds (row_kinds row) stack.old.items }
+    ensures value { IfOk result (λ _. stack_view stack.new.items ≡ act (tokens_view tokens.now) row at (stack_view stack.old.items)) }
+    ensures kinds { IfOk result (λ _. Retypes (row_kinds row) (row_kind row) stack.old.items stack.new.items) }
+{
+    match row {
         row::POINTER => build_pointer(alloc, stack),
         row::CONST_POINTER => build_const_pointer(alloc, stack),
         row::USIZE => build_usize(stack),
@@ -107,6 +146,25 @@ fn build_row<'a>(
         row::TAGGED_VARIANT => build_tagged_variant(alloc, stack),
         row::VARIANT => build_variant(stack),
         row::BUILTIN_TYPE => build_builtin_type(stack),
+        _ => unreachable!(),
+    }
+}
+
+/// The same of a row of a part of a type.
+fn build_part_row<'a>(
+    alloc: Global,
+    tokens: &[Lexed<'a>],
+    row: u8,
+    at: usize,
+    stack: &mut Vec<Value<'a>>,
+) -> Result<(), OutOfMemory>
+    requires low { NAME ≤ row }
+    requires high { row < IMPORT }
+    requires kinds { Holds (row_kinds row) stack.old.items }
+    ensures value { IfOk result (λ _. stack_view stack.new.items ≡ act (tokens_view tokens.now) row at (stack_view stack.old.items)) }
+    ensures kinds { IfOk result (λ _. Retypes (row_kinds row) (row_kind row) stack.old.items stack.new.items) }
+{
+    match row {
         row::NAME => build_name(alloc, tokens, at, stack),
         row::NO_NAMES => build_no_members(alloc, stack),
         row::MORE_NAMES => build_more_members(stack),
@@ -125,6 +183,25 @@ fn build_row<'a>(
         row::CASE => build_case(alloc, tokens, at, stack),
         row::NO_CASES => build_no_cases(alloc, stack),
         row::MORE_CASES => build_more_cases(stack),
+        _ => unreachable!(),
+    }
+}
+
+/// The same of a row of a declaration of a module, or of a part of one.
+fn build_decl_row<'a>(
+    alloc: Global,
+    tokens: &[Lexed<'a>],
+    row: u8,
+    at: usize,
+    stack: &mut Vec<Value<'a>>,
+) -> Result<(), OutOfMemory>
+    requires low { IMPORT ≤ row }
+    requires high { row < 69 }
+    requires kinds { Holds (row_kinds row) stack.old.items }
+    ensures value { IfOk result (λ _. stack_view stack.new.items ≡ act (tokens_view tokens.now) row at (stack_view stack.old.items)) }
+    ensures kinds { IfOk result (λ _. Retypes (row_kinds row) (row_kind row) stack.old.items stack.new.items) }
+{
+    match row {
         row::IMPORT => build_import(alloc, tokens, at, stack),
         row::FUNC => build_func(alloc, tokens, at, stack),
         row::NO_DECLS => build_no_decls(alloc, stack),
@@ -132,9 +209,36 @@ fn build_row<'a>(
         row::PARAM => build_param(alloc, tokens, at, stack),
         row::RESULT => build_result(alloc, tokens, at, stack),
         row::NORETURN => build_noreturn(stack),
+        row::STORED => build_stored(stack),
         row::NO_ENTRIES => build_no_entries(alloc, stack),
         row::MORE_ENTRIES => build_more_entries(stack),
         _ => unreachable!(),
+    }
+}
+
+/// The same of every row.
+fn build_row<'a>(
+    alloc: Global,
+    tokens: &[Lexed<'a>],
+    row: u8,
+    at: usize,
+    stack: &mut Vec<Value<'a>>,
+) -> Result<(), OutOfMemory>
+    requires row { row < 69 }
+    requires kinds { Holds (row_kinds row) stack.old.items }
+    ensures value { IfOk result (λ _. stack_view stack.new.items ≡ act (tokens_view tokens.now) row at (stack_view stack.old.items)) }
+    ensures kinds { IfOk result (λ _. Retypes (row_kinds row) (row_kind row) stack.old.items stack.new.items) }
+{
+    if row < row::CHAR {
+        build_item_row(alloc, tokens, row, at, stack)
+    } else if row < row::POINTER {
+        build_builtin_row(alloc, tokens, row, at, stack)
+    } else if row < row::NAME {
+        build_type_row(alloc, tokens, row, at, stack)
+    } else if row < row::IMPORT {
+        build_part_row(alloc, tokens, row, at, stack)
+    } else {
+        build_decl_row(alloc, tokens, row, at, stack)
     }
 }
 

@@ -36,7 +36,7 @@ pub const CASES: u8 = 15;
 pub const DECL: u8 = 16;
 /// Declarations up to the closing parenthesis.
 pub const DECLS: u8 = 17;
-/// A parameter, a result, or `noreturn`.
+/// A parameter, a result, `noreturn` or `stored`.
 pub const ENTRY: u8 = 18;
 /// Entries up to the closing parenthesis.
 pub const ENTRIES: u8 = 19;

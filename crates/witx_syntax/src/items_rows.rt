@@ -2,7 +2,7 @@
 
 ghost use Rattle.std.specs.Prelude.{◌≡◌, ◌+◌, [], ◌∷◌, IfOk};
 ghost use Rattle.witx_lex.specs.Views.{tokens_view};
-ghost use Rattle.witx_syntax.specs.Rows.{row_const, row_func, row_import, row_module, row_more_entries, row_more_items, row_no_entries, row_no_items, row_noreturn, row_param, row_result, row_typename, row_use};
+ghost use Rattle.witx_syntax.specs.Rows.{row_const, row_func, row_import, row_module, row_more_entries, row_more_items, row_no_entries, row_no_items, row_noreturn, row_param, row_result, row_stored, row_typename, row_use};
 ghost use Rattle.witx_syntax.specs.Values.{comments_of};
 ghost use Rattle.witx_syntax.specs.Stack.{stack_view};
 ghost use Rattle.witx_syntax.specs.Kinds.{Holds, Retypes, name_kind, text_kind, integer_kind, type_kind, entry_kind, entries_kind, decl_kind, decls_kind, item_kind, items_kind};
@@ -144,6 +144,7 @@ pub fn build_func<'a>(
         params,
         results,
         noreturn,
+        stored,
     } = pop_entries(stack);
     let params = Items::from_vec(turned(params));
     let results = Items::from_vec(turned(results));
@@ -153,6 +154,7 @@ pub fn build_func<'a>(
         params,
         results,
         noreturn,
+        stored,
     };
     push(
         stack,
@@ -210,6 +212,13 @@ pub fn build_noreturn<'a>(stack: &mut Vec<Value<'a>>) -> Result<(), OutOfMemory>
     push(stack, Value::Entry(Entry::NoReturn))
 }
 
+pub fn build_stored<'a>(stack: &mut Vec<Value<'a>>) -> Result<(), OutOfMemory>
+    ensures value { IfOk result (λ _. stack_view stack.new.items ≡ row_stored (stack_view stack.old.items)) }
+    ensures kinds { IfOk result (λ _. Retypes [] entry_kind stack.old.items stack.new.items) }
+{
+    push(stack, Value::Entry(Entry::Stored))
+}
+
 pub fn build_no_entries<'a>(alloc: Global, stack: &mut Vec<Value<'a>>) -> Result<(), OutOfMemory>
     ensures value { IfOk result (λ _. stack_view stack.new.items ≡ row_no_entries (stack_view stack.old.items)) }
     ensures kinds { IfOk result (λ _. Retypes [] entries_kind stack.old.items stack.new.items) }
@@ -218,6 +227,7 @@ pub fn build_no_entries<'a>(alloc: Global, stack: &mut Vec<Value<'a>>) -> Result
         params: Vec::new(alloc),
         results: Vec::new(alloc),
         noreturn: false,
+        stored: false,
     };
     push(stack, Value::Entries(entries))
 }
@@ -233,6 +243,7 @@ pub fn build_more_entries<'a>(stack: &mut Vec<Value<'a>>) -> Result<(), OutOfMem
         Entry::Param(field) => entries.params.push(field)?,
         Entry::Result(field) => entries.results.push(field)?,
         Entry::NoReturn => entries.noreturn = true,
+        Entry::Stored => entries.stored = true,
     }
     push(stack, Value::Entries(entries))
 }

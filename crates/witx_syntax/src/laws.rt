@@ -1,8 +1,10 @@
 //! What holds of every text, as functions that do nothing: each contract is a theorem.
 
-ghost use Rattle.std.specs.Prelude.{◌≡◌, ◌⊎◌, ℕ, List};
+ghost use Rattle.std.specs.Prelude.{◌≡◌, ◌≢◌, ◌⊎◌, ℕ, List};
+ghost use Rattle.std.specs.List.{AllPairs};
 ghost use Rattle.witx_syntax.specs.Names.{AllNames, StandsInText};
 ghost use Rattle.witx_syntax.specs.Reads.{IsFaultOf, Reads, Told};
+ghost use Rattle.witx_syntax.specs.Sorts.{all_sorts};
 ghost use Rattle.witx_tree.specs.Trees.{Document};
 
 use crate::table::the_table;
@@ -11,6 +13,12 @@ use witx_lex::{
     a_fault_is_unique, a_text_has_pieces_or_a_fault, pieces_exclude_a_fault, tokens_are_slices,
     tokens_are_unique,
 };
+
+/// No two sorts of tokens are one: each word and each annotation of the grammar is told from each
+/// other, and from all other tokens.
+pub fn sorts_are_distinct()
+    ensures { AllPairs (λ sort other. sort ≢ other) all_sorts }
+{}
 
 /// A text is at most one document.
 pub fn at_most_one_document()

@@ -17,8 +17,6 @@ mod sort;
 mod spelling;
 mod stack;
 mod table;
-#[cfg(test)]
-mod tests;
 mod token_sort;
 mod types_rows;
 mod value;
@@ -26,11 +24,11 @@ mod value;
 pub use error::{ParseError, ParseFault, SyntaxError};
 pub use laws::{
     a_document_or_a_fault, at_most_one_document, at_most_one_parse_fault,
-    identifiers_stand_in_the_text, no_fault_where_read,
+    identifiers_stand_in_the_text, no_fault_where_read, sorts_are_distinct,
 };
 pub use parser::parse_document;
 pub use witx_tree::{
-    BuiltinSyntax, CaseSyntax, CaseSyntaxes, CommentSyntax, CommentTexts, ConstSyntax, DeclSyntax,
+    BuiltinSyntax, CaseSyntax, CaseSyntaxes, CommentSyntax, Comments, ConstSyntax, DeclSyntax,
     Documented, EnumSyntax, ExpectedSyntax, FieldSyntax, FieldSyntaxes, FlagsSyntax, HandleSyntax,
     IdSyntax, ImportTypeSyntax, InterfaceFuncSyntax, MemberSyntaxes, ModuleDeclSyntax,
     ModuleDeclSyntaxes, ModuleImportSyntax, ModuleSyntax, RecordSyntax, TopLevelDocument,

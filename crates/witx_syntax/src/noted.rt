@@ -6,9 +6,9 @@ ghost use Rattle.witx_syntax.specs.Values.{comments_of};
 ghost use Rattle.witx_tree.specs.Views.{comments_view};
 
 use std::alloc::Global;
-use witx_base::OutOfMemory;
-use witx_lex::{Comments, Lexed};
-use witx_tree::{CommentSyntax, CommentTexts};
+use witx_base::{Duplicate, OutOfMemory};
+use witx_lex::Lexed;
+use witx_tree::{CommentSyntax, Comments};
 
 /// The list the other way round.
 pub fn turned<T: Drop>(list: Vec<T>) -> Vec<T>
@@ -20,14 +20,13 @@ pub fn turned<T: Drop>(list: Vec<T>) -> Vec<T>
 }
 
 /// The same comments.
-fn copied<'a>(alloc: Global, comments: &Comments<'a>) -> Result<CommentSyntax<'a>, OutOfMemory>
+#[tactic(auto, using(witx_tree::proofs::Copied::copied_texts))]
+fn copied<'a>(comments: &Comments<'a>) -> Result<CommentSyntax<'a>, OutOfMemory>
     ensures { IfOk result (λ made. comments_view made ≡ map (λ t. t.now) comments.now) }
 {
-    let mut texts = CommentTexts::new(alloc);
-    for text in comments.as_slice() {
-        texts.push(*text)?;
-    }
-    Ok(CommentSyntax { comments: texts })
+    Ok(CommentSyntax {
+        comments: comments.copy()?,
+    })
 }
 
 /// The comments before the token at a place.
@@ -39,9 +38,9 @@ pub fn comments_at<'a>(
     ensures { IfOk result (λ made. comments_view made ≡ comments_of (tokens_view tokens.now) at) }
 {
     match tokens.get(at) {
-        Some(lexed) => copied(alloc, &lexed.comments),
+        Some(lexed) => copied(&lexed.comments),
         None => Ok(CommentSyntax {
-            comments: CommentTexts::new(alloc),
+            comments: Comments::new(alloc),
         }),
     }
 }
@@ -58,7 +57,7 @@ pub fn comments_behind<'a>(
         comments_at(alloc, tokens, at + 1)
     } else {
         Ok(CommentSyntax {
-            comments: CommentTexts::new(alloc),
+            comments: Comments::new(alloc),
         })
     }
 }

@@ -132,6 +132,8 @@ pub const RESULT: u8 = 64;
 
 pub const NORETURN: u8 = 65;
 
-pub const NO_ENTRIES: u8 = 66;
+pub const STORED: u8 = 66;
 
-pub const MORE_ENTRIES: u8 = 67;
+pub const NO_ENTRIES: u8 = 67;
+
+pub const MORE_ENTRIES: u8 = 68;

@@ -104,3 +104,5 @@ pub const PARAM_WORD: u8 = 49;
 pub const RESULT_WORD: u8 = 50;
 /// `noreturn`.
 pub const NORETURN_WORD: u8 = 51;
+/// `stored`.
+pub const STORED_WORD: u8 = 52;

@@ -14,7 +14,7 @@ pub struct Spelling {
     pub expected: &'static str,
 }
 
-static WORDS: [Spelling; 42] = [
+static WORDS: [Spelling; 43] = [
     Spelling {
         sort: sort::USE_WORD,
         text: "use",
@@ -224,6 +224,11 @@ static WORDS: [Spelling; 42] = [
         sort: sort::NORETURN_WORD,
         text: "noreturn",
         expected: "expected `noreturn`",
+    },
+    Spelling {
+        sort: sort::STORED_WORD,
+        text: "stored",
+        expected: "expected `stored`",
     },
 ];
 

@@ -17,20 +17,21 @@ use witx_tree::{
 pub fn push<'a>(stack: &mut Vec<Value<'a>>, value: Value<'a>) -> Result<(), OutOfMemory>
     ensures { IfOk result (λ _. stack_view stack.new.items ≡ value_view value.entry ∷ stack_view stack.old.items) }
 {
-    match stack.push(value) {
-        Ok(()) => Ok(()),
-        Err(_refused) => Err(OutOfMemory),
-    }
+    stack.push(value)?;
+    Ok(())
 }
 
 pub fn pop_name<'a>(stack: &mut Vec<Value<'a>>) -> IdSyntax<'a>
     requires { Holds (name_kind ∷ []) stack.old.items }
     ensures { stack_view stack.old.items ≡ a_name (name_view result) ∷ stack_view stack.new.items }
 {
-    match stack.pop() {
+    let top = stack.pop();
+    let id = match &top {
         Some(Value::Name(value)) => value.id,
         _ => unreachable!(),
-    }
+    };
+    drop(top);
+    id
 }
 
 pub fn pop_text<'a>(stack: &mut Vec<Value<'a>>) -> Quoted
@@ -47,20 +48,26 @@ pub fn pop_integer<'a>(stack: &mut Vec<Value<'a>>) -> u64
     requires { Holds (integer_kind ∷ []) stack.old.items }
     ensures { stack_view stack.old.items ≡ an_integer result ∷ stack_view stack.new.items }
 {
-    match stack.pop() {
+    let top = stack.pop();
+    let number = match &top {
         Some(Value::Integer(value)) => value.value,
         _ => unreachable!(),
-    }
+    };
+    drop(top);
+    number
 }
 
 pub fn pop_builtin<'a>(stack: &mut Vec<Value<'a>>) -> BuiltinSyntax
     requires { Holds (builtin_kind ∷ []) stack.old.items }
     ensures { stack_view stack.old.items ≡ a_builtin result ∷ stack_view stack.new.items }
 {
-    match stack.pop() {
+    let top = stack.pop();
+    let builtin = match &top {
         Some(Value::Builtin(value)) => value.builtin,
         _ => unreachable!(),
-    }
+    };
+    drop(top);
+    builtin
 }
 
 pub fn pop_type<'a>(stack: &mut Vec<Value<'a>>) -> TypedefSyntax<'a>

@@ -11,7 +11,7 @@ use crate::{form, row, sort};
 use witx_grammar::Symbol::{Form, Token};
 use witx_grammar::{Row, Sign, Table};
 
-static ROWS: [Row<'static>; 68] = [
+static ROWS: [Row<'static>; 69] = [
     Row {
         form: form::TEXT,
         symbols: &[Token(sort::END)],
@@ -471,6 +471,15 @@ static ROWS: [Row<'static>; 68] = [
         ],
     },
     Row {
+        form: form::ENTRY,
+        symbols: &[
+            Token(sort::LEFT),
+            Token(sort::AT_WITX),
+            Token(sort::STORED_WORD),
+            Token(sort::RIGHT),
+        ],
+    },
+    Row {
         form: form::ENTRIES,
         symbols: &[Token(sort::RIGHT)],
     },
@@ -481,7 +490,7 @@ static ROWS: [Row<'static>; 68] = [
 ];
 
 /// At which tokens a row is taken, unless an earlier sign of its form fits.
-static SIGNS: [Sign<'static>; 68] = [
+static SIGNS: [Sign<'static>; 69] = [
     Sign {
         form: form::TEXT,
         sorts: &[sort::END],
@@ -811,6 +820,11 @@ static SIGNS: [Sign<'static>; 68] = [
         form: form::ENTRY,
         sorts: &[sort::LEFT, sort::RESULT_WORD],
         row: row::RESULT,
+    },
+    Sign {
+        form: form::ENTRY,
+        sorts: &[sort::LEFT, sort::AT_WITX, sort::STORED_WORD],
+        row: row::STORED,
     },
     Sign {
         form: form::ENTRY,

@@ -7,7 +7,7 @@ use witx_tree::{
     TypedefSyntax,
 };
 
-/// An identifier. It is moved, and not copied, off the stack.
+/// An identifier.
 #[derive(Drop)]
 pub struct Named<'a> {
     pub id: IdSyntax<'a>,
@@ -32,12 +32,13 @@ pub struct Quoted {
     pub span: Span,
 }
 
-/// A parameter, a result, or that a function doesn't return.
+/// A parameter, a result, that a function doesn't return, or that its result is stored.
 #[derive(Drop)]
 pub enum Entry<'a> {
     Param(Documented<'a, FieldSyntax<'a>>),
     Result(Documented<'a, FieldSyntax<'a>>),
     NoReturn,
+    Stored,
 }
 
 /// The entries of a function, by kind.
@@ -46,6 +47,7 @@ pub struct Entries<'a> {
     pub params: Vec<Documented<'a, FieldSyntax<'a>>>,
     pub results: Vec<Documented<'a, FieldSyntax<'a>>>,
     pub noreturn: bool,
+    pub stored: bool,
 }
 
 /// What a token or a form stands for.

@@ -1,7 +1,8 @@
 -- A list copied item by item has the same readings.
-use Rattle.std.specs.Prelude.{◌≡◌, List, [], ◌∷◌, map}
+use Rattle.std.specs.Prelude.{◌≡◌, ℕ, List, [], ◌∷◌, map}
 use Rattle.std.proofs.Common.{refl}
 use Rattle.std.specs.List.{AllZip}
+use Rattle.std.specs.Borrow.{Bor}
 use Rattle.witx_tree.specs.Views.{boxed_view, member_view, noted_decl, noted_item, field_view, type_view, case_view, decl_view, item_view, types_view, fields_view, union_fields_view, cases_view}
 use Rattle.witx_tree.specs.Copies.{IsCopyOfDocumented, ReadsAs}
 use Rattle.witx_tree.specs.declared.comment.Documented.{Documented}
@@ -19,6 +20,12 @@ use Rattle.witx_tree.specs.declared.tree.TupleSyntax.{TupleSyntax, out-TupleSynt
 use Rattle.witx_tree.specs.declared.tree.ExpectedSyntax.{ExpectedSyntax, out-ExpectedSyntax, roll-ExpectedSyntax}
 use Rattle.witx_tree.specs.declared.tree.UnionSyntax.{UnionSyntax, out-UnionSyntax, roll-UnionSyntax}
 use Rattle.witx_tree.proofs.TypeViews.{view_rules, view-Tuple, view-Expected, view-Union}
+
+pub copied_texts : (xs ys : List (Bor (List ℕ))) → AllZip (λ text made. made ≡ text) xs ys → map (λ t. t.now) ys ≡ map (λ t. t.now) xs
+copied_texts [] [] h = refl
+copied_texts [] (y ∷ ys) h = absurd h
+copied_texts (x ∷ xs) [] h = absurd h
+copied_texts (x ∷ xs) (y ∷ ys) h = rw (h.0, copied_texts xs ys h.1) refl
 
 pub copied-members : (xs ys : List (Documented IdSyntax)) → AllZip (IsCopyOfDocumented (λ id made. made ≡ id)) xs ys → map member_view ys ≡ map member_view xs
 copied-members [] [] h = refl
@@ -75,4 +82,4 @@ pub made-union : (u : UnionSyntax) (tag : Option (Box TypedefSyntax Global)) (fi
     → type_view (typedef.Union (roll-UnionSyntax (record { tag = tag; fields = copies }))) ≡ type_view (typedef.Union u)
 made-union u tag fields copies p e h = rw (view-Union (roll-UnionSyntax (record { tag = tag; fields = copies })), view-Union u, p, copied-union-fields fields copies h, e) refl
 
-pub ruleset copy_rules = (view_rules, copied-members, copied-types, copied-fields, copied-union-fields, copied-cases, copied-decls, copied-items)
+pub ruleset copy_rules = (view_rules, copied_texts, copied-members, copied-types, copied-fields, copied-union-fields, copied-cases, copied-decls, copied-items)

@@ -100,9 +100,9 @@ one-import-type Memory Memory = refl
 pub memory-text : (a b : QuotedText) → DeclTree.memory a ≡ DeclTree.memory b → a.text ≡ b.text
 memory-text a b e = let k : a ≡ b = cc in ap (λ q. q.text) k
 
-pub function-parts : (a b : QuotedText) (p q r s : Fields) (n m : Bool) → DeclTree.function a p r n ≡ DeclTree.function b q s m
-    → (a.text ≡ b.text) × ((p ≡ q) × ((r ≡ s) × (n ≡ m)))
-function-parts a b p q r s n m e = let k : a ≡ b = cc in (ap (λ q. q.text) k, (cc, (cc, cc)))
+pub function-parts : (a b : QuotedText) (p q r s : Fields) (n m i j : Bool) → DeclTree.function a p r n i ≡ DeclTree.function b q s m j
+    → (a.text ≡ b.text) × ((p ≡ q) × ((r ≡ s) × ((n ≡ m) × (i ≡ j))))
+function-parts a b p q r s n m i j e = let k : a ≡ b = cc in (ap (λ q. q.text) k, (cc, (cc, (cc, cc))))
 
 pub import-decides : (x y : ModuleImportSyntax) → Decides (imports.ghosts.eq x y) (unplaced_decl (decl_view (decl.Import x)) ≡ unplaced_decl (decl_view (decl.Import y)))
 import-decides x y =
@@ -115,9 +115,10 @@ func-decides x y =
     decide-as _ _ _
     (both-decide _ _ _ _ (text-decides x.export y.export)
     (both-decide _ _ _ _ (fields-decide x.params y.params)
-    (both-decide _ _ _ _ (fields-decide x.results y.results) (bool-decides x.noreturn y.noreturn))))
-    (λ p. let a = p.0 in let b = p.1.0 in let c = p.1.1.0 in let d = p.1.1.1 in cc)
-    (λ e. function-parts _ _ _ _ _ _ _ _ e)
+    (both-decide _ _ _ _ (fields-decide x.results y.results)
+    (both-decide _ _ _ _ (bool-decides x.noreturn y.noreturn) (bool-decides x.stored y.stored)))))
+    (λ p. let a = p.0 in let b = p.1.0 in let c = p.1.1.0 in let d = p.1.1.1.0 in let f = p.1.1.1.1 in cc)
+    (λ e. function-parts _ _ _ _ _ _ _ _ _ _ e)
 
 pub decl-decides : (x y : ModuleDeclSyntax) → Decides (decls.ghosts.eq x y) (unplaced_decl (decl_view x) ≡ unplaced_decl (decl_view y))
 decl-decides (decl.Import i) (decl.Import j) = import-decides i j

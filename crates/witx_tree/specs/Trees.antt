@@ -53,20 +53,20 @@ mutual
   -- the fields of a record, or the parameters or results of a function
   pub data Fields : Type 0 where
     no_fields : Fields
-    one_field : List (List ℕ) → Name → TypeTree → Fields → Fields
+    one_field : Comments → Name → TypeTree → Fields → Fields
 
   pub data UnionFields : Type 0 where
     no_union_fields : UnionFields
-    one_union_field : List (List ℕ) → TypeTree → UnionFields → UnionFields
+    one_union_field : Comments → TypeTree → UnionFields → UnionFields
 
   pub data Cases : Type 0 where
     no_cases : Cases
-    one_case : List (List ℕ) → Name → Maybe → Cases → Cases
+    one_case : Comments → Name → Maybe → Cases → Cases
 
--- a declaration of a module: a memory, or a function with its parameters, its results, and whether it doesn't return
+-- a declaration of a module: a memory, or a function with its parameters, its results, whether it doesn't return, and whether its result is stored
 pub data DeclTree : Type 0 where
   memory : QuotedText → DeclTree
-  function : QuotedText → Fields → Fields → Bool → DeclTree
+  function : QuotedText → Fields → Fields → Bool → Bool → DeclTree
 
 pub record NotedDecl : Type 0 where
   pub comments : Comments

@@ -51,7 +51,7 @@ abbrev mutual
 
 abbrev pub unplaced_decl : DeclTree → DeclTree
 unplaced_decl (DeclTree.memory q) = DeclTree.memory (unplaced_quoted q)
-unplaced_decl (DeclTree.function q ps rs noreturn) = DeclTree.function (unplaced_quoted q) (unplaced_fields ps) (unplaced_fields rs) noreturn
+unplaced_decl (DeclTree.function q ps rs noreturn stored) = DeclTree.function (unplaced_quoted q) (unplaced_fields ps) (unplaced_fields rs) noreturn stored
 
 abbrev pub unplaced_noted_decl : NotedDecl → NotedDecl
 unplaced_noted_decl d = record { comments = d.comments; decl = unplaced_decl d.decl }

@@ -138,7 +138,7 @@ cases_view cs = cases_of (map noted_case cs)
 
 abbrev pub decl_view : ModuleDeclSyntax → DeclTree
 decl_view (module_decl.Import i) = memory (record { text = i.name; start = i.name_loc.start; end = i.name_loc.end })
-decl_view (module_decl.Func f) = function (record { text = f.export; start = f.export_loc.start; end = f.export_loc.end }) (fields_view f.params) (fields_view f.results) f.noreturn
+decl_view (module_decl.Func f) = function (record { text = f.export; start = f.export_loc.start; end = f.export_loc.end }) (fields_view f.params) (fields_view f.results) f.noreturn f.stored
 
 abbrev pub noted_decl : Documented ModuleDeclSyntax → NotedDecl
 noted_decl d = record { comments = comments_view d.comments; decl = decl_view d.item }

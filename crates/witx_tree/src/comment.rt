@@ -1,14 +1,12 @@
 use std::alloc::Global;
-use witx_base::{Items, OutOfMemory, Text};
+use witx_base::{OutOfMemory, Text};
 use witx_comments::documentation;
-
-/// The texts of comments, without the marks that begin and end them.
-pub type CommentTexts<'a> = Items<&'a str>;
+use witx_lex::Comments;
 
 /// The comments between the token before an item and the item's first token.
 #[derive(PartialEq, Eq, Debug, Drop)]
 pub struct CommentSyntax<'a> {
-    pub comments: CommentTexts<'a>,
+    pub comments: Comments<'a>,
 }
 
 /// An item and the comments before it.

@@ -30,11 +30,9 @@ impl<'a> Duplicate for IdSyntax<'a> {
 impl<'a> Duplicate for CommentSyntax<'a> {
     ghost is_copy = { λ noted made. comments_view made ≡ comments_view noted };
 
+    #[tactic(auto, using(crate::proofs::Copied::copied_texts))]
     fn copy(&self) -> Result<CommentSyntax<'a>, OutOfMemory> {
-        let mut comments = Items::new(self.comments.allocator());
-        for comment in self.comments.as_slice() {
-            comments.push(*comment)?;
-        }
+        let comments = self.comments.copy()?;
         Ok(CommentSyntax { comments })
     }
 }
@@ -325,6 +323,7 @@ impl<'a> Duplicate for InterfaceFuncSyntax<'a> {
             params: self.params.copy()?,
             results: self.results.copy()?,
             noreturn: self.noreturn,
+            stored: self.stored,
         })
     }
 }

@@ -1,4 +1,4 @@
-//! Laws of equality, as functions without work.
+//! Laws of equality, as functions whose result is the comparison.
 
 ghost use Rattle.std.specs.Prelude.{◌≡◌, ◌↔◌, IsTrue};
 ghost use Rattle.witx_tree.specs.Unplaced.{unplaced, unplaced_document};

@@ -5,11 +5,9 @@
 mod comment;
 mod copies;
 mod laws;
-#[cfg(test)]
-mod tests;
 mod tree;
 
-pub use comment::{CommentSyntax, CommentTexts, Documented};
+pub use comment::{CommentSyntax, Documented};
 pub use laws::{
     documents_equal_without_places, identifiers_equal_by_name, types_equal_without_places,
 };
@@ -20,3 +18,4 @@ pub use tree::{
     ModuleSyntax, RecordSyntax, TopLevelDocument, TopLevelSyntax, TopLevelSyntaxes, TupleSyntax,
     TypeSyntaxes, TypedefSyntax, TypenameSyntax, UnionFieldSyntaxes, UnionSyntax, VariantSyntax,
 };
+pub use witx_lex::Comments;

@@ -230,6 +230,8 @@ pub struct InterfaceFuncSyntax<'a> {
     pub params: FieldSyntaxes<'a>,
     pub results: FieldSyntaxes<'a>,
     pub noreturn: bool,
+    /// Whether the result is stored whole through one return pointer.
+    pub stored: bool,
 }
 
 /// A declaration of a module.

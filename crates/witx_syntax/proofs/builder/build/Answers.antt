@@ -1,4 +1,4 @@
-use Rattle.std.proofs.Common.{◌≡◌, ℕ, List, [], ◌∷◌, ◌+◌, ◌-◌, length, true, sym, ap, ◌∙◌, subst, refl, rules}
+use Rattle.std.proofs.Common.{◌≡◌, ℕ, List, [], ◌∷◌, ◌+◌, length, sym, ap, ◌∙◌, subst, refl, rules}
 use Rattle.std.proofs.lemmas.List.{length-map}
 use Rattle.witx_grammar.specs.declared.table.Symbol.TheVariants.{Form}
 use Rattle.witx_grammar.proofs.Reading.{back_start}

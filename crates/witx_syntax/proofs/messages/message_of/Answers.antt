@@ -1,4 +1,4 @@
-use Rattle.std.proofs.Common.{Bool, true, false, cond, codes, sym, ap, ◌∙◌}
+use Rattle.std.proofs.Common.{Bool, cond, codes, sym, ap, ◌∙◌}
 use Rattle.witx_syntax.specs.Messages.{message_of_only, only_sort}
 use Rattle.witx_syntax.proofs.messages.message_of.Goals as goal
 

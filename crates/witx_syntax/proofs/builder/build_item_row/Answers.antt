@@ -3,7 +3,7 @@ use Rattle.std.specs.Prelude.{IfOk}
 use Rattle.witx_lex.specs.Views.{tokens_view}
 use Rattle.witx_syntax.specs.Rows.{act}
 use Rattle.witx_syntax.specs.Stack.{stack_view}
-use Rattle.witx_syntax.proofs.builder.build_row.Goals as goal
+use Rattle.witx_syntax.proofs.builder.build_item_row.Goals as goal
 
 pub returns-in-2-clause-value : goal.returns-in-2-clause-value
 returns-in-2-clause-value c =
