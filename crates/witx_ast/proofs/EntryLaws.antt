@@ -1,9 +1,11 @@
 -- Definitions and entries that fit still fit after one more definition with a new name (`fits-more`), or without a name (`fits-same`).
-use Rattle.std.specs.Prelude.{◌≡◌, ℕ, List, [], ◌∷◌, ◌++◌, Bool, true, false, cond, Option, Some, None, option_map, is_some, Result, Ok, Err, IfOk, IsTrue}
+use Rattle.std.specs.Prelude.{◌≡◌, ℕ, List, [], ◌∷◌, ◌++◌, Bool, true, false, cond, Option, Some, None, option_map}
 use Rattle.std.proofs.Common.{refl, ap, sym, ◌∙◌, append-nil}
 use Rattle.std.specs.Bool.{Decides}
 use Rattle.std.specs.List.{AllByRecursion, IsDistinct}
 use Rattle.std.specs.Map.{keys_of}
+use Rattle.std.specs.Ordering.{is_eq, nat_cmp}
+use Rattle.std.specs.Cmp.Lexicographic.{slice_cmp}
 use Rattle.std.proofs.lemmas.Map.Text.{is_eq-slice_cmp}
 use Rattle.std.proofs.lemmas.Slice.Eq.{bytes_eq-Decides}
 use Rattle.std.proofs.lemmas.Bool.Decides.{Decides-at, same_from_decides}
@@ -12,7 +14,10 @@ use Rattle.witx_base.specs.Texts.{same_text}
 use Rattle.witx_base.specs.Found.{found}
 use Rattle.witx_ast.specs.SameLaws.{bytes-to, false-true}
 use Rattle.witx_ast.specs.Entries.{by_name, Fits}
-use Rattle.witx_ast.specs.Puts.{is_key, IsPut}
+
+-- the test by which a map tells its names apart
+abbrev pub is_key : List ℕ → List ℕ → Bool
+is_key a b = is_eq (slice_cmp nat_cmp a b)
 
 pub key-decides : (a b : List ℕ) → Decides (is_key a b) (a ≡ b)
 key-decides a b = Decides-at _ _ (is_eq-slice_cmp a b) (bytes_eq-Decides a b)
@@ -89,13 +94,3 @@ fits-same name_of tree ts t es fits e = record {
   distinct = rw (names-same name_of ts t e) fits.distinct;
   holds = λ q. rw (names-same name_of ts t e) (fits.holds q);
 }
-
-pub none-there : {A B : Type 0} (f : A → B) (r : Option A) (o : Option B) → option_map f r ≡ o → is_some r ≡ false → o ≡ None
-none-there f None o e h = sym e
-none-there f (Some x) o e h = absurd (false-true (sym h))
-
-pub entered : {T E Z : Type 0} (name_of : T → Option (List ℕ)) (tree : E → T) (ts : List T) (t : T) (name : List ℕ) (es now : List (List ℕ × E)) (e : E) (r : Result Bool Z)
-    → Fits name_of tree ts es → name_of t ≡ Some name → tree e ≡ t → IfOk r (λ new. IsTrue new → IsPut es name e now)
-    → IfOk r (λ new. IsTrue new → Fits name_of tree (ts ++ t ∷ []) now)
-entered name_of tree ts t name es now e (Ok b) fits named same put = λ h. let p = put h in fits-more name_of tree ts t name es now e fits named p.new same p.put
-entered name_of tree ts t name es now e (Err z) fits named same put = put

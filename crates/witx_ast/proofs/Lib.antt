@@ -1,11 +1,11 @@
 pub mod Trees
 pub mod TreeKinds
 pub mod Parts
-pub mod Falls
 pub mod Decided
 pub mod AlikeLaws
 pub mod ValueLaws
 pub mod TagLaws
+pub mod MisfitLaws
 pub mod KindLaws
 pub mod Pairs
 pub mod Copied

@@ -2,33 +2,34 @@
 use Rattle.std.specs.Prelude.{◌≡◌, ℕ, ◌+◌, ◌≤◌, ◌<◌, List, [], ◌∷◌, length, Bool, true, false, ◌&&◌, Option, Some, None, map}
 use Rattle.std.proofs.Common.{get_or, drop, refl, arith}
 use Rattle.std.proofs.lemmas.List.{drop_more, drop_all}
+use Rattle.witx_ast.specs.declared.function.Abi.{Abi}
 use Rattle.witx_ast.specs.declared.function.InterfaceFuncParam.{InterfaceFuncParam}
 use Rattle.witx_ast.specs.declared.types.RecordMember.{RecordMember}
 use Rattle.witx_ast.specs.declared.types.RecordDatatype.{RecordDatatype, out-RecordDatatype}
 use Rattle.witx_ast.specs.declared.types.RecordKind.{RecordKind}
 use Rattle.witx_ast.specs.declared.types.Variant.{Variant, out-Variant}
-use Rattle.witx_ast.specs.Tree.{Tree, Arm, Arms, arm, arms_of, arm_list, fields_of, behind}
+use Rattle.witx_ast.specs.Tree.{Tree, Arm, Arms, arm, arms_of, arm_list, fields_of}
 use Rattle.witx_ast.specs.Reads.{tree_of, record_tree, variant_tree, member_field, case_arm}
 use Rattle.witx_ast.specs.Functions.{param_field}
 use Rattle.witx_ast.specs.Words.{is_named, expected_payloads}
-use Rattle.witx_ast.specs.Results.{more_than_one, invalid_return, all_named, members_named, payloads_reason, type_reason, results_reason}
+use Rattle.witx_ast.specs.Results.{more_than_one, invalid_return, all_named, members_named, payloads_reason, type_reason, result_reason, results_reason}
 use Rattle.witx_ast.proofs.Trees.{tree-RecordDatatype, tree-VariantDatatype, tree-RecordMember}
 use Rattle.witx_ast.proofs.TreeKinds.{kind_rules}
 
-pub results-none : (xs : List InterfaceFuncParam) → length xs ≡ 0 → results_reason (map param_field xs) ≡ None
-results-none [] l = refl
-results-none (x ∷ xs) l = absurd (omega arith)
+pub results-none : (abi : Abi) (xs : List InterfaceFuncParam) → length xs ≡ 0 → results_reason abi (map param_field xs) ≡ None
+results-none abi [] l = refl
+results-none abi (x ∷ xs) l = absurd (omega arith)
 
-pub results-one : (xs : List InterfaceFuncParam) (p : InterfaceFuncParam) → length xs ≤ 1 → 0 < length xs → p ≡ get_or xs 0 p
-    → results_reason (map param_field xs) ≡ type_reason (behind (tree_of p.tref))
-results-one [] p l k e = absurd (omega arith)
-results-one (x ∷ []) p l k e = rw e refl
-results-one (x ∷ y ∷ xs) p l k e = absurd (omega arith)
+pub results-one : (abi : Abi) (xs : List InterfaceFuncParam) (p : InterfaceFuncParam) → length xs ≤ 1 → 0 < length xs → p ≡ get_or xs 0 p
+    → results_reason abi (map param_field xs) ≡ result_reason abi (tree_of p.tref)
+results-one abi [] p l k e = absurd (omega arith)
+results-one abi (x ∷ []) p l k e = rw e refl
+results-one abi (x ∷ y ∷ xs) p l k e = absurd (omega arith)
 
-pub results-more : (xs : List InterfaceFuncParam) → 1 < length xs → results_reason (map param_field xs) ≡ Some more_than_one
-results-more [] l = absurd (omega arith)
-results-more (x ∷ []) l = absurd (omega arith)
-results-more (x ∷ y ∷ xs) l = refl
+pub results-more : (abi : Abi) (xs : List InterfaceFuncParam) → 1 < length xs → results_reason abi (map param_field xs) ≡ Some more_than_one
+results-more abi [] l = absurd (omega arith)
+results-more abi (x ∷ []) l = absurd (omega arith)
+results-more abi (x ∷ y ∷ xs) l = refl
 
 -- the list of the cases is the one that they were read from
 pub arm-first : (name docs : List ℕ) (o : Option Tree) (cs : Arms) → arm_list (arm name o docs cs) ≡ record { called = name; payload = o; comment = docs } ∷ arm_list cs

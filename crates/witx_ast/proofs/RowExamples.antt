@@ -1,6 +1,7 @@
 -- The tables of type names, results and misfits, computed row by row.
 use Rattle.std.specs.Prelude.{◌≡◌, ℕ, zero, suc, List, [], ◌∷◌, true, false, Some, None, codes}
 use Rattle.std.proofs.Common.{refl}
+use Rattle.witx_ast.specs.declared.function.Abi.{Abi}
 use Rattle.witx_ast.specs.declared.types.BuiltinType.{BuiltinType}
 use Rattle.witx_ast.specs.declared.types.IntRepr.{IntRepr}
 use Rattle.witx_ast.specs.declared.types.RecordKind.{RecordKind}
@@ -117,79 +118,92 @@ name-of-no-cases = refl
 abbrev result : Tree → List Field
 result t = record { called = codes "r"; tree = t; comment = [] } ∷ []
 
-no-result : results_reason [] ≡ None
+no-result : results_reason Abi.Preview1 [] ≡ None
 unfolding same_text
 no-result = refl
 
-two-results : results_reason (record { called = codes "a"; tree = u8; comment = [] } ∷ result u8) ≡ Some more_than_one
+two-results : results_reason Abi.Preview1 (record { called = codes "a"; tree = u8; comment = [] } ∷ result u8) ≡ Some more_than_one
 unfolding same_text
 two-results = refl
 
-builtin-result : results_reason (result u8) ≡ None
+builtin-result : results_reason Abi.Preview1 (result u8) ≡ None
 unfolding same_text
 builtin-result = refl
 
-handle-result : results_reason (result (Tree.named (codes "fd") Tree.handle [])) ≡ None
+handle-result : results_reason Abi.Preview1 (result (Tree.named (codes "fd") Tree.handle [])) ≡ None
 unfolding same_text
 handle-result = refl
 
-pointer-result : results_reason (result (Tree.pointer_to u8)) ≡ None
+pointer-result : results_reason Abi.Preview1 (result (Tree.pointer_to u8)) ≡ None
 unfolding same_text
 pointer-result = refl
 
-flags-result : results_reason (result (Tree.record_of (RecordKind.Bitflags IntRepr.U64) (two bool bool))) ≡ None
+flags-result : results_reason Abi.Preview1 (result (Tree.record_of (RecordKind.Bitflags IntRepr.U64) (two bool bool))) ≡ None
 unfolding same_text
 flags-result = refl
 
-record-result : results_reason (result (Tree.record_of RecordKind.Other (two u8 size))) ≡ Some invalid_return
+record-result : results_reason Abi.Preview1 (result (Tree.record_of RecordKind.Other (two u8 size))) ≡ Some invalid_return
 unfolding same_text
 record-result = refl
 
-tuple-result : results_reason (result no_members) ≡ Some invalid_return
+tuple-result : results_reason Abi.Preview1 (result no_members) ≡ Some invalid_return
 unfolding same_text
 tuple-result = refl
 
-list-result : results_reason (result (Tree.list_of letter)) ≡ Some invalid_return
+list-result : results_reason Abi.Preview1 (result (Tree.list_of letter)) ≡ Some invalid_return
 unfolding same_text
 list-result = refl
 
-turned-result : results_reason (result turned) ≡ Some invalid_return
+turned-result : results_reason Abi.Preview1 (result turned) ≡ Some invalid_return
 unfolding same_text
 turned-result = refl
 
-no-cases-result : results_reason (result no_cases) ≡ Some invalid_return
+no-cases-result : results_reason Abi.Preview1 (result no_cases) ≡ Some invalid_return
 unfolding same_text
 no-cases-result = refl
 
-named-result : results_reason (result (expected size errno)) ≡ None
+named-result : results_reason Abi.Preview1 (result (expected size errno)) ≡ None
 unfolding same_text
 named-result = refl
 
-unnamed-ok : results_reason (result (expected u8 errno)) ≡ Some only_named
+unnamed-ok : results_reason Abi.Preview1 (result (expected u8 errno)) ≡ Some only_named
 unfolding same_text
 unnamed-ok = refl
 
-unnamed-error : results_reason (result (expected size u8)) ≡ Some only_named
+unnamed-error : results_reason Abi.Preview1 (result (expected size u8)) ≡ Some only_named
 unfolding same_text
 unnamed-error = refl
 
 -- a tuple of names needs no name of its own, and one without members has none that lacks a name
-named-tuple : results_reason (result (expected (Tree.record_of RecordKind.Tuple (two size size)) errno)) ≡ None
+named-tuple : results_reason Abi.Preview1 (result (expected (Tree.record_of RecordKind.Tuple (two size size)) errno)) ≡ None
 unfolding same_text
 named-tuple = refl
 
-unnamed-member : results_reason (result (expected (Tree.record_of RecordKind.Tuple (two size u8)) errno)) ≡ Some only_named
+unnamed-member : results_reason Abi.Preview1 (result (expected (Tree.record_of RecordKind.Tuple (two size u8)) errno)) ≡ Some only_named
 unfolding same_text
 unnamed-member = refl
 
-empty-tuple : results_reason (result (expected no_members errno)) ≡ None
+empty-tuple : results_reason Abi.Preview1 (result (expected no_members errno)) ≡ None
 unfolding same_text
 empty-tuple = refl
 
 -- also a named tuple's members must be named
-named-tuple-of-unnamed : results_reason (result (expected (Tree.named (codes "t") (Tree.record_of RecordKind.Tuple (two size u8)) []) errno)) ≡ Some only_named
+named-tuple-of-unnamed : results_reason Abi.Preview1 (result (expected (Tree.named (codes "t") (Tree.record_of RecordKind.Tuple (two size u8)) []) errno)) ≡ Some only_named
 unfolding same_text
 named-tuple-of-unnamed = refl
+
+-- stored whole, a result is a name of whatever type
+stored-none : results_reason Abi.Stored [] ≡ None
+stored-none = refl
+
+stored-name : results_reason Abi.Stored (result (Tree.named (codes "s") (Tree.list_of letter) [])) ≡ None
+stored-name = refl
+
+stored-unnamed : results_reason Abi.Stored (result (Tree.list_of letter)) ≡ Some only_named
+stored-unnamed = refl
+
+stored-two : results_reason Abi.Stored (record { called = codes "a"; tree = size; comment = [] } ∷ result size) ≡ Some more_than_one
+stored-two = refl
 
 abbrev flags_of : ℕ → Fields
 flags_of zero = Fields.no_fields
@@ -205,5 +219,5 @@ first-narrow = refl
 name-not-entered : first_misfit (typename_of (codes "b") (Tree.pointer_to (Tree.named (codes "n") nine_flags [])) [] ∷ []) ≡ None
 name-not-entered = refl
 
-each-error-once : each_once [] (errno ∷ size ∷ errno ∷ []) ≡ errno ∷ size ∷ []
+each-error-once : each_once (errno ∷ size ∷ errno ∷ []) ≡ errno ∷ size ∷ []
 each-error-once = refl

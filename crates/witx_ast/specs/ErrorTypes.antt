@@ -39,13 +39,14 @@ abbrev pub all_errors : List DefinitionTree → List Tree
 all_errors [] = []
 all_errors (d ∷ ds) = definition_errors d ++ all_errors ds
 
--- one more, unless it is there
-abbrev pub taken : List Tree → Tree → List Tree
-taken kept x = if list_any (same_tree x) kept then kept else kept ++ x ∷ []
+-- those that stand nowhere before, of a list that follows the list before
+abbrev pub new_after : List Tree → List Tree → List Tree
+new_after before [] = []
+new_after before (x ∷ xs) = if list_any (same_tree x) before then new_after (before ++ x ∷ []) xs else x ∷ new_after (before ++ x ∷ []) xs
 
-abbrev pub each_once : List Tree → List Tree → List Tree
-each_once kept [] = kept
-each_once kept (x ∷ xs) = each_once (taken kept x) xs
+-- each of a list once, at its first appearance
+abbrev pub each_once : List Tree → List Tree
+each_once = new_after []
 
 abbrev pub error_types_of : List DefinitionTree → List Tree
-error_types_of ds = each_once [] (all_errors ds)
+error_types_of ds = each_once (all_errors ds)

@@ -7,13 +7,11 @@ pub mod SameLaws
 pub mod Alike
 pub mod Hashes
 pub mod TypeNames
-pub mod Heights
 pub mod Functions
 pub mod Values
 pub mod ValueTests
 pub mod Tags
 pub mod Entries
-pub mod Puts
 pub mod Items
 pub mod Closed
 pub mod Copies

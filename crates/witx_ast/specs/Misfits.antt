@@ -1,11 +1,12 @@
 -- The types of a document that don't fit their tags, in document order: definition by definition, a function's parameters before its results, a type before its parts.
 -- Types are taken as they are written: a name isn't looked through, and the targets of lists and pointers are entered.
+use Rattle.std.specs.List.{AllByRecursion}
 use Rattle.std.specs.Prelude.{ℕ, ◌+◌, ◌^◌, List, [], ◌∷◌, ◌++◌, min, Option, Some, None, nat_le, if◌then◌else◌}
 use Rattle.witx_ast.specs.declared.types.IntRepr.{IntRepr}
 use Rattle.witx_ast.specs.declared.types.RecordKind.{RecordKind}
 use Rattle.witx_ast.specs.Tree.{Tree, Fields, Arms, Field}
-use Rattle.witx_ast.specs.Plain.{plain_fields, plain_arms, field_count, arm_count}
-use Rattle.witx_ast.specs.Tags.{repr_bits}
+use Rattle.witx_ast.specs.Plain.{plain, plain_fields, plain_arms, field_count, arm_count}
+use Rattle.witx_ast.specs.Tags.{repr_bits, NodeFits}
 use Rattle.witx_ast.specs.Items.{ItemTree, import_of, func_of}
 use Rattle.witx_ast.specs.Definitions.{DefinitionTree, typename_of, module_of, constant_of}
 
@@ -77,3 +78,38 @@ first_misfit_from n (d ∷ ds) = first_here n (definition_misfits d) (first_misf
 
 abbrev pub first_misfit : List DefinitionTree → Option Misfit
 first_misfit = first_misfit_from 0
+
+-- each node of a type fits its tag, the type being taken as it is written
+abbrev mutual
+  pub NodesFit : Tree → Type 0
+  NodesFit (Tree.named name t docs) = Unit {0}
+  NodesFit (Tree.builtin b) = Unit {0}
+  NodesFit Tree.handle = Unit {0}
+  NodesFit (Tree.list_of t) = NodesFit t
+  NodesFit (Tree.pointer_to t) = NodesFit t
+  NodesFit (Tree.const_pointer_to t) = NodesFit t
+  NodesFit (Tree.record_of kind ms) = NodeFits (plain (Tree.record_of kind ms)) × FieldNodesFit ms
+  NodesFit (Tree.variant_of repr cs) = NodeFits (plain (Tree.variant_of repr cs)) × ArmNodesFit cs
+
+  pub FieldNodesFit : Fields → Type 0
+  FieldNodesFit Fields.no_fields = Unit {0}
+  FieldNodesFit (Fields.field name t docs ms) = NodesFit t × FieldNodesFit ms
+
+  pub ArmNodesFit : Arms → Type 0
+  ArmNodesFit Arms.no_arms = Unit {0}
+  ArmNodesFit (Arms.bare name docs cs) = ArmNodesFit cs
+  ArmNodesFit (Arms.carries name t docs cs) = NodesFit t × ArmNodesFit cs
+
+-- so for an import, which has none, and for a function's parameters and results
+abbrev pub ItemNodesFit : ItemTree → Type 0
+ItemNodesFit (import_of i) = Unit {0}
+ItemNodesFit (func_of f) = AllByRecursion (λ p. NodesFit p.tree) f.params × AllByRecursion (λ p. NodesFit p.tree) f.results
+
+abbrev pub DefinitionNodesFit : DefinitionTree → Type 0
+DefinitionNodesFit (typename_of name t docs) = NodesFit t
+DefinitionNodesFit (module_of m) = AllByRecursion ItemNodesFit m.items
+DefinitionNodesFit (constant_of c) = Unit {0}
+
+-- each type node of a document fits its tag
+abbrev pub AllNodesFit : List DefinitionTree → Type 0
+AllNodesFit = AllByRecursion DefinitionNodesFit

@@ -16,7 +16,6 @@ mutual
     const_pointer_to : Plain → Plain
     record_of : RecordKind → Fields → Plain
     variant_of : IntRepr → Arms → Plain
-    deriving Discrete as plain_discrete_by
 
   -- the members of a record: name and type
   pub data Fields : Type 0 where

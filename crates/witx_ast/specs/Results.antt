@@ -1,5 +1,6 @@
--- Which results the stable ABI permits, and the reason that is told of others.
+-- Which results each ABI permits, and the reason that is told of others.
 use Rattle.std.specs.Prelude.{ℕ, List, [], ◌∷◌, Bool, true, ◌&&◌, Option, Some, None, codes, if◌then◌else◌}
+use Rattle.witx_ast.specs.declared.function.Abi.{Abi}
 use Rattle.witx_ast.specs.declared.types.RecordKind.{RecordKind}
 use Rattle.witx_ast.specs.Tree.{Tree, Fields, Field, behind, arm_list}
 use Rattle.witx_ast.specs.Words.{is_named, expected_payloads}
@@ -37,7 +38,7 @@ payloads_reason (Some (ok, err)) = if if_there ok_named ok && if_there is_named 
 
 -- a result's type, its names looked through
 abbrev pub type_reason : Tree → Option (List ℕ)
-type_reason (Tree.named name t docs) = None
+type_reason (Tree.named name t docs) = type_reason t
 type_reason (Tree.builtin b) = None
 type_reason Tree.handle = None
 type_reason (Tree.list_of t) = Some invalid_return
@@ -48,8 +49,13 @@ type_reason (Tree.record_of RecordKind.Tuple ms) = Some invalid_return
 type_reason (Tree.record_of RecordKind.Other ms) = Some invalid_return
 type_reason (Tree.variant_of repr cs) = payloads_reason (expected_payloads (arm_list cs))
 
+-- the one result: stored whole it is a name, whatever the name stands for
+abbrev pub result_reason : Abi → Tree → Option (List ℕ)
+result_reason Abi.Preview1 t = type_reason (behind t)
+result_reason Abi.Stored t = if is_named t then None else Some only_named
+
 -- why the results are refused; none where they are permitted
-abbrev pub results_reason : List Field → Option (List ℕ)
-results_reason [] = None
-results_reason (r ∷ []) = type_reason (behind r.tree)
-results_reason (r ∷ s ∷ rs) = Some more_than_one
+abbrev pub results_reason : Abi → List Field → Option (List ℕ)
+results_reason abi [] = None
+results_reason abi (r ∷ []) = result_reason abi r.tree
+results_reason abi (r ∷ s ∷ rs) = Some more_than_one

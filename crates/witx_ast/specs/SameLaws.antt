@@ -1,4 +1,4 @@
--- The test holds exactly of equal trees.
+-- The test holds exactly of equal trees. These are proofs, and stand here because the laws of `==` and of hashes, which are part of the contracts, cite them.
 use Rattle.std.specs.Prelude.{◌≡◌, ℕ, List, Bool, true, false, ◌&&◌, refl, IsTrue}
 use Rattle.std.proofs.Common.{rules, ap, sym, ◌∙◌}
 use Rattle.std.specs.Cmp.{IsEquivalence}

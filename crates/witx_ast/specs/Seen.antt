@@ -1,10 +1,19 @@
--- A set of types tells which types a list has, by their trees.
-use Rattle.std.specs.Prelude.{◌≡◌, List, map}
+-- What a search for types has found: a set tells which types its list has, by their trees, and the list grows by those that it lacks.
+use Rattle.std.specs.Prelude.{◌≡◌, List, [], ◌∷◌, ◌++◌, map, if◌then◌else◌}
 use Rattle.std.specs.List.{list_any}
 use Rattle.std.specs.HashSet.{HashSet, contains}
+use Rattle.witx_ast.specs.Tree.{Tree}
 use Rattle.witx_ast.specs.Reads.{tree_of}
 use Rattle.witx_ast.specs.Same.{same_tree}
 use Rattle.witx_ast.specs.declared.types.TypeRef.{TypeRef}
 
 abbrev pub Tells : {S : Type 0} → HashSet TypeRef S → List TypeRef → Type 0
 Tells seen kept = (t : TypeRef) → contains (λ a b. same_tree (tree_of a) (tree_of b)) seen t ≡ list_any (same_tree (tree_of t)) (map tree_of kept)
+
+-- one more, unless it is there
+abbrev pub taken : List Tree → Tree → List Tree
+taken kept x = if list_any (same_tree x) kept then kept else kept ++ x ∷ []
+
+abbrev pub all_taken : List Tree → List Tree → List Tree
+all_taken kept [] = kept
+all_taken kept (x ∷ xs) = all_taken (taken kept x) xs

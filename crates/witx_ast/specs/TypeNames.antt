@@ -1,5 +1,5 @@
 -- The name under which a type is shown.
-use Rattle.std.specs.Prelude.{ℕ, List, [], ◌++◌, Bool, true, false, Option, Some, None, codes, if◌then◌else◌}
+use Rattle.std.specs.Prelude.{ℕ, List, [], ◌∷◌, ◌++◌, Bool, true, false, Option, Some, None, codes, if◌then◌else◌}
 use Rattle.witx_ast.specs.declared.types.BuiltinType.{BuiltinType}
 use Rattle.witx_ast.specs.declared.types.RecordKind.{RecordKind}
 use Rattle.witx_ast.specs.Tree.{Tree, Fields, Arms, Arm, arm_list, behind}
@@ -22,13 +22,15 @@ abbrev pub is_char : Tree → Bool
 is_char (Tree.builtin BuiltinType.Char) = true
 is_char _ = false
 
-abbrev pub separator : Bool → List ℕ
-separator true = []
-separator false = codes ", "
+-- texts with a comma and a blank between them
+abbrev pub comma_joined : List (List ℕ) → List ℕ
+comma_joined [] = []
+comma_joined (x ∷ []) = x
+comma_joined (x ∷ y ∷ ys) = x ++ (codes ", " ++ comma_joined (y ∷ ys))
 
 -- an `ok`/`err` variant shows its payloads
-abbrev pub variant_text : List Arm → List ℕ → List ℕ
-variant_text cs payloads = if is_expected cs then codes "Result<" ++ payloads ++ codes ">" else if is_bool_arms cs then codes "bool" else codes "Variant"
+abbrev pub variant_text : List Arm → List (List ℕ) → List ℕ
+variant_text cs payloads = if is_expected cs then codes "Result<" ++ comma_joined payloads ++ codes ">" else if is_bool_arms cs then codes "bool" else codes "Variant"
 
 abbrev mutual
   pub type_text : Tree → List ℕ
@@ -38,21 +40,21 @@ abbrev mutual
   type_text (Tree.list_of t) = if is_char (behind t) then codes "string" else codes "List<" ++ type_text t ++ codes ">"
   type_text (Tree.pointer_to t) = codes "Pointer<" ++ type_text t ++ codes ">"
   type_text (Tree.const_pointer_to t) = codes "ConstPointer<" ++ type_text t ++ codes ">"
-  type_text (Tree.record_of RecordKind.Tuple ms) = codes "(" ++ separated true ms ++ codes ")"
+  type_text (Tree.record_of RecordKind.Tuple ms) = codes "(" ++ comma_joined (member_texts ms) ++ codes ")"
   type_text (Tree.record_of (RecordKind.Bitflags r) ms) = codes "Record"
   type_text (Tree.record_of RecordKind.Other ms) = codes "Record"
-  type_text (Tree.variant_of r cs) = variant_text (arm_list cs) (payload_texts true cs)
+  type_text (Tree.variant_of r cs) = variant_text (arm_list cs) (payload_texts cs)
 
-  -- the types of members, with a comma before each but the first
-  pub separated : Bool → Fields → List ℕ
-  separated first Fields.no_fields = []
-  separated first (Fields.field name t docs ms) = separator first ++ type_text t ++ separated false ms
+  -- the types of members
+  pub member_texts : Fields → List (List ℕ)
+  member_texts Fields.no_fields = []
+  member_texts (Fields.field name t docs ms) = type_text t ∷ member_texts ms
 
   -- the types of payloads, `()` where a case has none
-  pub payload_texts : Bool → Arms → List ℕ
-  payload_texts first Arms.no_arms = []
-  payload_texts first (Arms.bare name docs cs) = separator first ++ codes "()" ++ payload_texts false cs
-  payload_texts first (Arms.carries name t docs cs) = separator first ++ type_text t ++ payload_texts false cs
+  pub payload_texts : Arms → List (List ℕ)
+  payload_texts Arms.no_arms = []
+  payload_texts (Arms.bare name docs cs) = codes "()" ∷ payload_texts cs
+  payload_texts (Arms.carries name t docs cs) = type_text t ∷ payload_texts cs
 
 -- one payload's type
 abbrev pub payload_text : Option Tree → List ℕ

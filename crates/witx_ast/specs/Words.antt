@@ -10,9 +10,9 @@ abbrev pub is_named : Tree → Bool
 is_named (named name t docs) = true
 is_named _ = false
 
--- the word for the kind of a type
+-- the word for the kind of a type, its names looked through
 abbrev pub kind_word : Tree → List ℕ
-kind_word (named name t docs) = []
+kind_word (named name t docs) = kind_word t
 kind_word (builtin b) = codes "builtin"
 kind_word handle = codes "handle"
 kind_word (list_of t) = codes "list"

@@ -3,27 +3,46 @@ ghost use Rattle.std.specs.Option.{option_copied};
 ghost use Rattle.witx_ast.specs.Tree.{behind, fields_of};
 ghost use Rattle.witx_ast.specs.Reads.{tree_of, member_field};
 ghost use Rattle.witx_ast.specs.Functions.{param_field};
-ghost use Rattle.witx_ast.specs.Results.{results_reason, type_reason, payloads_reason, ok_named, all_named};
+ghost use Rattle.witx_ast.specs.Results.{results_reason, result_reason, type_reason, payloads_reason, ok_named, all_named};
 
 use crate::function::{Abi, Params};
 use crate::types::{Datatype, RecordKind, RecordMember, TypeRef};
 
 impl Abi {
-    /// Whether the results are permitted, or the reason why not: at most one result, which is a
-    /// scalar, flags, or an `ok`/`err` variant of named types.
+    /// Whether the results are permitted, or the reason why not: at most one result. Under
+    /// `Preview1` it is a scalar, flags, or an `ok`/`err` variant of named types; under `Stored`
+    /// it is a name.
     #[tactic(auto, using(crate::proofs::ResultLaws::result_rules))]
     pub fn validate(&self, _params: &Params, results: &Params) -> Result<(), &'static str>
         ensures { MatchResult result
-            (λ _. results_reason (map param_field results.now) ≡ None)
-            (λ reason. results_reason (map param_field results.now) ≡ Some reason.now) }
+            (λ _. results_reason self.now (map param_field results.now) ≡ None)
+            (λ reason. results_reason self.now (map param_field results.now) ≡ Some reason.now) }
     {
         let results = results.as_slice();
         if results.len() > 1 {
             return Err("more than one result");
         }
         match results.first() {
-            Some(only) => validate_type(&only.tref),
+            Some(only) => validate_result(*self, &only.tref),
             None => Ok(()),
+        }
+    }
+}
+
+#[tactic(auto, using(crate::proofs::ResultLaws::result_rules))]
+fn validate_result(abi: Abi, tref: &TypeRef) -> Result<(), &'static str>
+    ensures { MatchResult result
+        (λ _. result_reason abi (tree_of tref.now) ≡ None)
+        (λ reason. result_reason abi (tree_of tref.now) ≡ Some reason.now) }
+{
+    match abi {
+        Abi::Preview1 => validate_type(tref),
+        Abi::Stored => {
+            if tref.named() {
+                Ok(())
+            } else {
+                Err("only named types are allowed in results")
+            }
         }
     }
 }

@@ -1,6 +1,6 @@
 ghost use Rattle.std.specs.Prelude.{◌≡◌};
 ghost use Rattle.witx_ast.specs.Functions.{param_field, func_tree};
-ghost use Rattle.witx_ast.specs.Items.{item_tree, entry_item};
+ghost use Rattle.witx_ast.specs.Copies.{HoldSameItem, HoldSameItemEntry};
 ghost use Rattle.witx_ast.specs.Reads.{tree_of, datatype_tree, named_tree, record_tree, variant_tree, member_field, case_arm};
 
 use crate::definition::Constant;
@@ -155,7 +155,7 @@ impl Duplicate for ModuleImport {
 }
 
 impl Duplicate for ModuleDefinition {
-    ghost is_copy = { λ d c. item_tree c ≡ item_tree d };
+    ghost is_copy = { HoldSameItem };
 
     fn copy(&self) -> Result<ModuleDefinition, OutOfMemory> {
         match self {
@@ -166,7 +166,7 @@ impl Duplicate for ModuleDefinition {
 }
 
 impl Clone for ModuleEntry {
-    ghost is_clone = { λ e c. entry_item c ≡ entry_item e };
+    ghost is_clone = { HoldSameItemEntry };
 
     fn clone(&self) -> Result<ModuleEntry, AllocError> {
         match self {
@@ -177,7 +177,7 @@ impl Clone for ModuleEntry {
 }
 
 impl Duplicate for ModuleEntry {
-    ghost is_copy = { λ e c. entry_item c ≡ entry_item e };
+    ghost is_copy = { HoldSameItemEntry };
 
     fn copy(&self) -> Result<ModuleEntry, OutOfMemory> {
         Ok(self.clone()?)

@@ -1,4 +1,4 @@
-ghost use Rattle.std.specs.Prelude.{◌≡◌, ◌∷◌, ◌++◌, [], length, is_ok, if◌then◌else◌, option_map, slice_get, take, map};
+ghost use Rattle.std.specs.Prelude.{◌≡◌, ◌∷◌, ◌++◌, [], length, is_ok, if◌then◌else◌, option_map, slice_get, take};
 ghost use Rattle.std.specs.Slice.Iter.{iter_rest};
 ghost use Rattle.witx_ast.specs.Kinds.{typename_kind, module_kind, constant_kind};
 ghost use Rattle.witx_ast.specs.EntryWords.{entry_word};
@@ -187,11 +187,11 @@ impl Definitions {
 }
 
 impl Duplicate for Definitions {
-    ghost use Rattle.witx_ast.specs.Definitions.{definition_tree};
+    ghost use Rattle.std.specs.List.{AllZip};
+    ghost use Rattle.witx_ast.specs.Copies.{HoldSame};
 
-    ghost is_copy = { λ ds c. map definition_tree c ≡ map definition_tree ds };
+    ghost is_copy = { AllZip HoldSame };
 
-    #[tactic(auto, using(crate::proofs::HeldCopies::held_rules))]
     fn copy(&self) -> Result<Definitions, OutOfMemory> {
         Ok(Definitions {
             items: self.items.copy()?,

@@ -1,8 +1,11 @@
 ghost use Rattle.std.specs.Prelude.{◌≡◌, map, option_map};
-ghost use Rattle.std.specs.List.{filter_map};
+ghost use Rattle.std.specs.List.{filter_map, IsDistinct};
+ghost use Rattle.std.specs.Map.{keys_of};
+ghost use Rattle.witx_base.specs.Texts.{same_text};
+ghost use Rattle.witx_ast.specs.Entries.{by_name};
 ghost use Rattle.witx_ast.specs.Reads.{named_tree};
 ghost use Rattle.witx_ast.specs.Kinds.{typename_kind, module_kind, constant_kind};
-ghost use Rattle.witx_ast.specs.Definitions.{definition_tree, module_tree, typename_called, module_called, DefinitionsFit};
+ghost use Rattle.witx_ast.specs.Definitions.{definition_tree, module_tree, introduced, typename_called, module_called, DefinitionsFit};
 
 use crate::definition::{Constants, Definitions, Entries, Entry, Modules, Typenames};
 use crate::kinds::OfKind;
@@ -117,11 +120,17 @@ impl Document {
     }
 }
 
-impl Duplicate for Document {
-    ghost use Rattle.witx_ast.specs.Definitions.{definition_tree, entry_tree};
-    ghost use Rattle.witx_ast.specs.Copies.{IsCopyOf};
+/// The typenames and modules of a document have distinct names.
+pub fn names_are_distinct(document: &Document)
+    ensures { IsDistinct same_text (keys_of (by_name introduced (map definition_tree document.now.definitions))) }
+{
+    let _ = &document.entries;
+}
 
-    ghost is_copy = { IsCopyOf definition_tree entry_tree };
+impl Duplicate for Document {
+    ghost use Rattle.witx_ast.specs.Copies.{IsCopyOf, HoldSame, HoldSameEntry};
+
+    ghost is_copy = { IsCopyOf HoldSame HoldSameEntry };
 
     #[tactic(auto, using(crate::proofs::HeldCopies::held_rules))]
     fn copy(&self) -> Result<Document, OutOfMemory> {

@@ -1,12 +1,11 @@
-ghost use Rattle.std.specs.Prelude.{◌≡◌};
-ghost use Rattle.witx_ast.specs.Definitions.{definition_tree, entry_tree};
+ghost use Rattle.witx_ast.specs.Copies.{HoldSame, HoldSameEntry};
 
 use crate::definition::{Definition, Entry};
 use std::alloc::AllocError;
 use witx_base::{Duplicate, OutOfMemory};
 
 impl Duplicate for Definition {
-    ghost is_copy = { λ d c. definition_tree c ≡ definition_tree d };
+    ghost is_copy = { HoldSame };
 
     fn copy(&self) -> Result<Definition, OutOfMemory> {
         match self {
@@ -18,7 +17,7 @@ impl Duplicate for Definition {
 }
 
 impl Clone for Entry {
-    ghost is_clone = { λ e c. entry_tree c ≡ entry_tree e };
+    ghost is_clone = { HoldSameEntry };
 
     fn clone(&self) -> Result<Entry, AllocError> {
         match self {
@@ -29,7 +28,7 @@ impl Clone for Entry {
 }
 
 impl Duplicate for Entry {
-    ghost is_copy = { λ e c. entry_tree c ≡ entry_tree e };
+    ghost is_copy = { HoldSameEntry };
 
     fn copy(&self) -> Result<Entry, OutOfMemory> {
         Ok(self.clone()?)

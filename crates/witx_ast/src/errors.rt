@@ -5,8 +5,8 @@ ghost use Rattle.witx_ast.specs.Reads.{tree_of};
 ghost use Rattle.witx_ast.specs.Functions.{func_tree};
 ghost use Rattle.witx_ast.specs.Items.{item_tree};
 ghost use Rattle.witx_ast.specs.Definitions.{definition_tree};
-ghost use Rattle.witx_ast.specs.ErrorTypes.{type_error, function_error, item_errors, definition_errors, all_errors, taken, each_once, error_types_of};
-ghost use Rattle.witx_ast.specs.Seen.{Tells};
+ghost use Rattle.witx_ast.specs.ErrorTypes.{type_error, function_error, item_errors, definition_errors, all_errors, error_types_of};
+ghost use Rattle.witx_ast.specs.Seen.{Tells, taken, all_taken};
 
 use crate::definition::Definition;
 use crate::document::Document;
@@ -46,7 +46,7 @@ impl Found {
     #[tactic(auto, using(crate::proofs::ErrorLaws::error_rules))]
     fn add_all(&mut self, definitions: &[Definition]) -> Result<(), OutOfMemory>
         requires { Tells self.old.seen self.old.types }
-        ensures { OnOk result (map tree_of self.new.types ≡ each_once (map tree_of self.old.types) (all_errors (map definition_tree definitions.now))) }
+        ensures { OnOk result (map tree_of self.new.types ≡ all_taken (map tree_of self.old.types) (all_errors (map definition_tree definitions.now))) }
     {
         for definition in definitions {
             self.add_definition(definition)?;
@@ -58,7 +58,7 @@ impl Found {
     fn add_definition(&mut self, definition: &Definition) -> Result<(), OutOfMemory>
         requires { Tells self.old.seen self.old.types }
         ensures told { OnOk result (Tells self.new.seen self.new.types) }
-        ensures types { OnOk result (map tree_of self.new.types ≡ each_once (map tree_of self.old.types) (definition_errors (definition_tree definition.now))) }
+        ensures types { OnOk result (map tree_of self.new.types ≡ all_taken (map tree_of self.old.types) (definition_errors (definition_tree definition.now))) }
     {
         match definition {
             Definition::Module(module) => self.add_items(module.definitions().as_slice()),
@@ -70,7 +70,7 @@ impl Found {
     fn add_items(&mut self, items: &[ModuleDefinition]) -> Result<(), OutOfMemory>
         requires { Tells self.old.seen self.old.types }
         ensures told { OnOk result (Tells self.new.seen self.new.types) }
-        ensures types { OnOk result (map tree_of self.new.types ≡ each_once (map tree_of self.old.types) (item_errors (map item_tree items.now))) }
+        ensures types { OnOk result (map tree_of self.new.types ≡ all_taken (map tree_of self.old.types) (item_errors (map item_tree items.now))) }
     {
         for item in items {
             if let ModuleDefinition::Func(func) = item {

@@ -4,7 +4,10 @@ use witx_base::{Id, Items, Text};
 /// How a function is called.
 #[derive(Clone, Copy, PartialEq, Eq, Hash, Debug, Drop)]
 pub enum Abi {
+    /// A result comes back as a word, and what an `ok` carries through return pointers.
     Preview1,
+    /// The whole result comes back through one return pointer.
+    Stored,
 }
 
 /// A parameter or a result of a function.

@@ -114,10 +114,9 @@ impl Drop for Contents {
 }
 
 impl Duplicate for Contents {
-    ghost use Rattle.witx_ast.specs.Items.{item_tree, entry_item};
-    ghost use Rattle.witx_ast.specs.Copies.{IsCopyOf};
+    ghost use Rattle.witx_ast.specs.Copies.{IsCopyOf, HoldSameItem, HoldSameItemEntry};
 
-    ghost is_copy = { IsCopyOf item_tree entry_item };
+    ghost is_copy = { IsCopyOf HoldSameItem HoldSameItemEntry };
 
     #[tactic(auto, using(crate::proofs::HeldCopies::held_rules))]
     fn copy(&self) -> Result<Contents, OutOfMemory> {
@@ -232,10 +231,9 @@ impl Module {
 }
 
 impl Duplicate for Module {
-    ghost use Rattle.witx_ast.specs.Items.{item_tree, entry_item};
-    ghost use Rattle.witx_ast.specs.Copies.{IsCopyOf};
+    ghost use Rattle.witx_ast.specs.Copies.{IsCopyOf, HoldSameItem, HoldSameItemEntry};
 
-    ghost is_copy = { λ m c. (c.name ≡ m.name) × (c.docs ≡ m.docs) × IsCopyOf item_tree entry_item m.contents c.contents };
+    ghost is_copy = { λ m c. (c.name ≡ m.name) × (c.docs ≡ m.docs) × IsCopyOf HoldSameItem HoldSameItemEntry m.contents c.contents };
 
     fn copy(&self) -> Result<Module, OutOfMemory> {
         Ok(Module {

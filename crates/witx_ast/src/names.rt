@@ -1,11 +1,12 @@
-ghost use Rattle.std.specs.Prelude.{◌≡◌, ◌++◌, IfOk, map, option_map, true, string_bytes, codes};
-ghost use Rattle.witx_ast.specs.Tree.{fields_of, arms_of, behind};
-ghost use Rattle.witx_ast.specs.Reads.{tree_of, datatype_tree, variant_tree, member_field, case_arm};
+ghost use Rattle.std.specs.Prelude.{◌≡◌, ◌++◌, [], IfOk, map, option_map, string_bytes, codes, if◌then◌else◌};
+ghost use Rattle.witx_ast.specs.Tree.{list_of, fields_of, arms_of, behind};
+ghost use Rattle.witx_ast.specs.Reads.{tree_of, datatype_tree, record_tree, variant_tree, member_field, case_arm};
 ghost use Rattle.witx_ast.specs.Words.{repr_builtin};
-ghost use Rattle.witx_ast.specs.TypeNames.{type_text, separated, payload_texts, payload_text, builtin_text, is_char, separator};
+ghost use Rattle.witx_ast.specs.TypeNames.{type_text, comma_joined, member_texts, payload_texts, payload_text, builtin_text, is_char};
 
 use crate::types::{
-    BuiltinType, Case, Datatype, IntRepr, RecordKind, RecordMember, TypeRef, Variant,
+    BuiltinType, Case, Datatype, IntRepr, RecordDatatype, RecordKind, RecordMember, TypeRef,
+    Variant,
 };
 use std::alloc::Global;
 use witx_base::{OutOfMemory, Text};
@@ -65,16 +66,22 @@ impl TypeRef {
     }
 }
 
+fn put(out: &mut String, text: &str) -> Result<(), OutOfMemory>
+    ensures { IfOk result (λ _. string_bytes out.new ≡ string_bytes out.old ++ text.now) }
+{
+    out.push_str(text)?;
+    Ok(())
+}
+
 #[cycle(naming)]
 #[tactic(auto, using(crate::proofs::Naming::name_rules))]
 fn put_type(out: &mut String, tref: &TypeRef) -> Result<(), OutOfMemory>
     ensures { IfOk result (λ _. string_bytes out.new ≡ string_bytes out.old ++ type_text (tree_of tref.now)) }
 {
     match tref {
-        TypeRef::Name(named) => out.push_str(named.name.as_str())?,
-        TypeRef::Value(datatype) => put_datatype(out, datatype)?,
+        TypeRef::Name(named) => put(out, named.name.as_str()),
+        TypeRef::Value(datatype) => put_datatype(out, datatype),
     }
-    Ok(())
 }
 
 #[cycle(naming)]
@@ -83,33 +90,25 @@ fn put_datatype(out: &mut String, datatype: &Datatype) -> Result<(), OutOfMemory
     ensures { IfOk result (λ _. string_bytes out.new ≡ string_bytes out.old ++ type_text (datatype_tree datatype.now)) }
 {
     match datatype {
-        Datatype::Record(record) => {
-            if record.kind == RecordKind::Tuple {
-                put_tuple(out, record.members.as_slice())
-            } else {
-                out.push_str("Record")?;
-                Ok(())
-            }
-        }
+        Datatype::Record(record) => put_record(out, record),
         Datatype::Variant(variant) => put_variant(out, variant),
-        Datatype::Handle(_) => {
-            out.push_str("Handle")?;
-            Ok(())
-        }
-        Datatype::List(tref) => {
-            if tref.is_char() {
-                out.push_str("string")?;
-                Ok(())
-            } else {
-                put_around(out, "List<", tref)
-            }
-        }
+        Datatype::Handle(_) => put(out, "Handle"),
+        Datatype::List(tref) => put_list(out, tref),
         Datatype::Pointer(tref) => put_around(out, "Pointer<", tref),
         Datatype::ConstPointer(tref) => put_around(out, "ConstPointer<", tref),
-        Datatype::Builtin(builtin) => {
-            out.push_str(builtin.type_name())?;
-            Ok(())
-        }
+        Datatype::Builtin(builtin) => put(out, builtin.type_name()),
+    }
+}
+
+#[cycle(naming)]
+#[tactic(auto, using(crate::proofs::Naming::name_rules))]
+fn put_list(out: &mut String, tref: &TypeRef) -> Result<(), OutOfMemory>
+    ensures { IfOk result (λ _. string_bytes out.new ≡ string_bytes out.old ++ type_text (list_of (tree_of tref.now))) }
+{
+    if tref.is_char() {
+        put(out, "string")
+    } else {
+        put_around(out, "List<", tref)
     }
 }
 
@@ -118,27 +117,36 @@ fn put_datatype(out: &mut String, datatype: &Datatype) -> Result<(), OutOfMemory
 fn put_around(out: &mut String, opening: &str, tref: &TypeRef) -> Result<(), OutOfMemory>
     ensures { IfOk result (λ _. string_bytes out.new ≡ string_bytes out.old ++ (opening.now ++ type_text (tree_of tref.now) ++ codes ">")) }
 {
-    out.push_str(opening)?;
+    put(out, opening)?;
     put_type(out, tref)?;
-    out.push_str(">")?;
-    Ok(())
+    put(out, ">")
+}
+
+#[cycle(naming)]
+#[tactic(auto, using(crate::proofs::Naming::name_rules))]
+fn put_record(out: &mut String, record_type: &RecordDatatype) -> Result<(), OutOfMemory>
+    ensures { IfOk result (λ _. string_bytes out.new ≡ string_bytes out.old ++ type_text (record_tree record_type.now)) }
+{
+    match record_type.kind {
+        RecordKind::Tuple => put_tuple(out, record_type.members.as_slice()),
+        RecordKind::Bitflags(_) | RecordKind::Other => put(out, "Record"),
+    }
 }
 
 #[cycle(naming)]
 #[tactic(auto, using(crate::proofs::Naming::name_rules))]
 fn put_tuple(out: &mut String, members: &[RecordMember]) -> Result<(), OutOfMemory>
-    ensures { IfOk result (λ _. string_bytes out.new ≡ string_bytes out.old ++ (codes "(" ++ separated true (fields_of (map member_field members.now)) ++ codes ")")) }
+    ensures { IfOk result (λ _. string_bytes out.new ≡ string_bytes out.old ++ (codes "(" ++ comma_joined (member_texts (fields_of (map member_field members.now))) ++ codes ")")) }
 {
-    out.push_str("(")?;
+    put(out, "(")?;
     put_members(out, members)?;
-    out.push_str(")")?;
-    Ok(())
+    put(out, ")")
 }
 
 #[cycle(naming)]
 #[tactic(auto, using(crate::proofs::Naming::name_rules))]
 fn put_members(out: &mut String, members: &[RecordMember]) -> Result<(), OutOfMemory>
-    ensures { IfOk result (λ _. string_bytes out.new ≡ string_bytes out.old ++ separated true (fields_of (map member_field members.now))) }
+    ensures { IfOk result (λ _. string_bytes out.new ≡ string_bytes out.old ++ comma_joined (member_texts (fields_of (map member_field members.now)))) }
 {
     let mut first = true;
     for member in members {
@@ -151,13 +159,12 @@ fn put_members(out: &mut String, members: &[RecordMember]) -> Result<(), OutOfMe
 #[cycle(naming)]
 #[tactic(auto, using(crate::proofs::Naming::name_rules))]
 fn put_member(out: &mut String, first: bool, member: &RecordMember) -> Result<(), OutOfMemory>
-    ensures { IfOk result (λ _. string_bytes out.new ≡ string_bytes out.old ++ (separator first ++ type_text (tree_of member.now.tref))) }
+    ensures { IfOk result (λ _. string_bytes out.new ≡ string_bytes out.old ++ ((if first then [] else codes ", ") ++ type_text (tree_of member.now.tref))) }
 {
     if !first {
-        out.push_str(", ")?;
+        put(out, ", ")?;
     }
-    put_type(out, &member.tref)?;
-    Ok(())
+    put_type(out, &member.tref)
 }
 
 #[cycle(naming)]
@@ -166,31 +173,28 @@ fn put_variant(out: &mut String, variant: &Variant) -> Result<(), OutOfMemory>
     ensures { IfOk result (λ _. string_bytes out.new ≡ string_bytes out.old ++ type_text (variant_tree variant.now)) }
 {
     if variant.as_expected().is_some() {
-        return put_result(out, variant.cases.as_slice());
+        put_result(out, variant.cases.as_slice())
+    } else if variant.is_bool() {
+        put(out, "bool")
+    } else {
+        put(out, "Variant")
     }
-    if variant.is_bool() {
-        out.push_str("bool")?;
-        return Ok(());
-    }
-    out.push_str("Variant")?;
-    Ok(())
 }
 
 #[cycle(naming)]
 #[tactic(auto, using(crate::proofs::Naming::name_rules))]
 fn put_result(out: &mut String, cases: &[Case]) -> Result<(), OutOfMemory>
-    ensures { IfOk result (λ _. string_bytes out.new ≡ string_bytes out.old ++ (codes "Result<" ++ payload_texts true (arms_of (map case_arm cases.now)) ++ codes ">")) }
+    ensures { IfOk result (λ _. string_bytes out.new ≡ string_bytes out.old ++ (codes "Result<" ++ comma_joined (payload_texts (arms_of (map case_arm cases.now))) ++ codes ">")) }
 {
-    out.push_str("Result<")?;
+    put(out, "Result<")?;
     put_payloads(out, cases)?;
-    out.push_str(">")?;
-    Ok(())
+    put(out, ">")
 }
 
 #[cycle(naming)]
 #[tactic(auto, using(crate::proofs::Naming::name_rules))]
 fn put_payloads(out: &mut String, cases: &[Case]) -> Result<(), OutOfMemory>
-    ensures { IfOk result (λ _. string_bytes out.new ≡ string_bytes out.old ++ payload_texts true (arms_of (map case_arm cases.now))) }
+    ensures { IfOk result (λ _. string_bytes out.new ≡ string_bytes out.old ++ comma_joined (payload_texts (arms_of (map case_arm cases.now)))) }
 {
     let mut first = true;
     for case in cases {
@@ -203,14 +207,13 @@ fn put_payloads(out: &mut String, cases: &[Case]) -> Result<(), OutOfMemory>
 #[cycle(naming)]
 #[tactic(auto, using(crate::proofs::Naming::name_rules))]
 fn put_payload(out: &mut String, first: bool, case: &Case) -> Result<(), OutOfMemory>
-    ensures { IfOk result (λ _. string_bytes out.new ≡ string_bytes out.old ++ (separator first ++ payload_text (option_map tree_of case.now.tref))) }
+    ensures { IfOk result (λ _. string_bytes out.new ≡ string_bytes out.old ++ ((if first then [] else codes ", ") ++ payload_text (option_map tree_of case.now.tref))) }
 {
     if !first {
-        out.push_str(", ")?;
+        put(out, ", ")?;
     }
     match &case.tref {
-        Some(tref) => put_type(out, tref)?,
-        None => out.push_str("()")?,
+        Some(tref) => put_type(out, tref),
+        None => put(out, "()"),
     }
-    Ok(())
 }

@@ -10,7 +10,7 @@ use Rattle.witx_ast.proofs.Trees.{tree-RecordMember}
 use Rattle.witx_ast.proofs.Parts.{members-drop, members-end}
 use Rattle.witx_ast.specs.declared.types.RecordMember.{RecordMember}
 use Rattle.witx_layout.specs.Numbers.{align_to, align_of, size_of, offsets, members_end}
-use Rattle.witx_layout.proofs.Steps.{layout_rules}
+use Rattle.witx_layout.proofs.Onward.{layout_rules}
 
 -- where the first members end
 abbrev pub reached : List RecordMember → ℕ → ℕ

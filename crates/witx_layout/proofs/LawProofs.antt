@@ -10,10 +10,10 @@ use Rattle.witx_ast.specs.declared.types.IntRepr.{IntRepr}
 use Rattle.witx_ast.specs.declared.types.RecordKind.{RecordKind}
 use Rattle.witx_ast.specs.declared.types.RecordDatatype.{RecordDatatype, out-RecordDatatype}
 use Rattle.witx_ast.specs.declared.types.Variant.{Variant, out-Variant}
-use Rattle.witx_layout.specs.Laws.{IsPowerOfTwo, IsRoundedUp, IsUnflagged, LieApart, LieInside}
+use Rattle.witx_layout.specs.Laws.{IsPowerOfTwo, IsRoundedUp, IsUnflagged, LieApart, LieInside, AreMultiples}
 use Rattle.witx_layout.specs.Numbers.{align_to, align_of, size_of, members_end, offsets, payload_offset, payloads_align, payloads_size, builtin_size, repr_size, unless_flags}
 use Rattle.witx_layout.proofs.Alignments.{IsAlignment, alignment-some, type-alignment, members-alignment, repr-alignment, payloads-alignment, max-alignment}
-use Rattle.witx_layout.proofs.Steps.{above}
+use Rattle.witx_layout.proofs.Onward.{above}
 
 -- what is rounded up is a multiple
 pub rounded-multiple : (o a : ℕ) → 0 < a → align_to o a % a ≡ 0
@@ -76,6 +76,13 @@ pub members-apart : (r : RecordDatatype) → IsUnflagged (out-RecordDatatype r).
     → LieApart (size_of (plain (record_tree r))) 0 (offsets 0 (members_plain (out-RecordDatatype r).members)) (members_plain (out-RecordDatatype r).members)
 members-apart r h = rw (record-plain r) (apart-in (out-RecordDatatype r).kind (members_plain (out-RecordDatatype r).members) h)
 
+all-multiples : (o : ℕ) (ms : Fields) → AreMultiples (offsets o ms) ms
+all-multiples o Fields.no_fields = tt
+all-multiples o (Fields.field name t ms) = (to-multiple o (align_of t) (type-alignment t), all-multiples (align_to o (align_of t) + size_of t) ms)
+
+pub members-multiples : (ms : Fields) → AreMultiples (offsets 0 ms) ms
+members-multiples ms = all-multiples 0 ms
+
 -- a multiple of the greatest alignment is one of each
 multiple-of-less : (o big small : ℕ) → IsAlignment big → IsAlignment small → small ≤ big → o % big ≡ 0 → o % small ≡ 0
 multiple-of-less o big small p q l h = grind (arith, p, q)
@@ -96,4 +103,4 @@ pub payloads-inside : (v : Variant)
     → LieInside (size_of (plain (variant_tree v))) (payload_offset (out-Variant v).tag_repr (cases_plain (out-Variant v).cases)) (cases_plain (out-Variant v).cases)
 payloads-inside v = rw (variant-plain v) (inside-of (out-Variant v).tag_repr (cases_plain (out-Variant v).cases))
 
-pub ruleset law_rules = (rounded-least, above, align-low, align-high, align-power, size-multiple, members-apart, payloads-inside)
+pub ruleset law_rules = (rounded-least, above, align-low, align-high, align-power, size-multiple, members-apart, members-multiples, payloads-inside)

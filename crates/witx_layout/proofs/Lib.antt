@@ -3,7 +3,9 @@ pub mod Begins
 pub mod Examples
 pub mod LawProofs
 pub mod Misfitting
-pub mod OneTypename
-pub mod Steps
+pub mod Onward
 pub mod Typenames
 pub mod Written
+pub mod Nodes
+pub mod Tabled
+pub mod TableLines

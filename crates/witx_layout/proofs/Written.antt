@@ -12,7 +12,7 @@ use Rattle.witx_ast.specs.declared.types.NamedType.{NamedType}
 use Rattle.witx_layout.specs.declared.members.RecordMemberLayout.{RecordMemberLayout}
 use Rattle.witx_layout.specs.Numbers.{align_to, align_of, size_of, offsets, members_end}
 use Rattle.witx_layout.specs.LayoutsText.{field_line, field_lines, part_lines}
-use Rattle.witx_layout.proofs.Steps.{layout_rules, offset_rules, end-above}
+use Rattle.witx_layout.proofs.Onward.{layout_rules, offset_rules, end-above}
 
 -- the lines of members that are placed already
 abbrev pub placed_lines : List RecordMemberLayout → List ℕ

@@ -25,6 +25,12 @@ LieApart limit from (begin ∷ begins) (Fields.field name t rest) =
     (from ≤ begin) × (begin % align_of t ≡ 0) × LieApart limit (begin + size_of t) begins rest
 LieApart limit from _ _ = ⊥
 
+-- each member begins at a multiple of its alignment
+abbrev pub AreMultiples : List ℕ → Fields → Type 0
+AreMultiples [] Fields.no_fields = Unit {0}
+AreMultiples (begin ∷ begins) (Fields.field name t rest) = (begin % align_of t ≡ 0) × AreMultiples begins rest
+AreMultiples _ _ = ⊥
+
 -- each payload, placed at the offset, begins at a multiple of its alignment and ends within the limit
 abbrev pub LieInside : (limit offset : ℕ) → Arms → Type 0
 LieInside limit offset Arms.no_arms = Unit {0}

@@ -29,8 +29,11 @@ abbrev pub flags_line : IntRepr → List ℕ
 flags_line repr = codes "  flags " ++ builtin_text (repr_builtin repr) ++ line_feed
 
 -- the size of the tag, and where the payload begins
+abbrev pub tag_numbers_line : (tag payload : ℕ) → List ℕ
+tag_numbers_line tag payload = codes "  tag " ++ decimal tag ++ codes " payload " ++ decimal payload ++ line_feed
+
 abbrev pub tag_line : IntRepr → Arms → List ℕ
-tag_line repr cases = codes "  tag " ++ decimal (repr_size repr) ++ codes " payload " ++ decimal (payload_offset repr cases) ++ line_feed
+tag_line repr cases = tag_numbers_line (repr_size repr) (payload_offset repr cases)
 
 -- flags show their representation, any other record its members
 abbrev pub record_lines : RecordKind → Fields → List ℕ

@@ -2,3 +2,6 @@ pub mod Laws
 pub mod LayoutsText
 pub mod Refusals
 pub mod Numbers
+pub mod Nodes
+pub mod Layouts
+pub mod Known

@@ -1,5 +1,5 @@
 -- The layout numbers of a type: its size, its alignment and the offsets of its parts, in bytes and without bound.
--- They are those of WASI's first ABI: a part begins at the next multiple of its alignment, and a whole ends at a multiple of its own.
+-- A part begins at the next multiple of its alignment, and a whole ends at a multiple of its own.
 use Rattle.std.specs.Prelude.{ℕ, ◌+◌, ◌-◌, ◌%◌, max, List, [], ◌∷◌}
 use Rattle.witx_ast.specs.declared.types.BuiltinType.{BuiltinType}
 use Rattle.witx_ast.specs.declared.types.IntRepr.{IntRepr}

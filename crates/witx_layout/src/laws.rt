@@ -1,6 +1,6 @@
 ghost use Rattle.std.specs.Prelude.{◌≡◌, ◌≤◌, ◌<◌, ◌%◌};
 ghost use Rattle.witx_layout.specs.Numbers.{align_to, size_of, align_of, repr_size, offsets, part_offsets, payload_offset};
-ghost use Rattle.witx_layout.specs.Laws.{IsPowerOfTwo, IsRoundedUp, IsUnflagged, LieApart, LieInside};
+ghost use Rattle.witx_layout.specs.Laws.{IsPowerOfTwo, IsRoundedUp, IsUnflagged, LieApart, AreMultiples, LieInside};
 ghost use Rattle.witx_ast.specs.Plain.{plain};
 ghost use Rattle.witx_ast.specs.Reads.{record_tree, variant_tree, members_plain, cases_plain};
 ghost use Rattle.witx_ast.specs.declared.types.RecordDatatype.{out-RecordDatatype};
@@ -37,6 +37,13 @@ pub fn members_lie_apart(record_type: &RecordDatatype)
     requires { IsUnflagged (out-RecordDatatype record_type.now).kind }
     ensures { let members = members_plain (out-RecordDatatype record_type.now).members in
         LieApart (size_of (plain (record_tree record_type.now))) 0 (offsets 0 members) members }
+{}
+
+/// Each offset of a member is a multiple of the member's alignment, also for flags, which are placed as
+/// if they were a plain record.
+#[tactic(auto, using(crate::proofs::LawProofs::law_rules))]
+pub fn offsets_are_multiples(record_type: &RecordDatatype)
+    ensures { let members = members_plain (out-RecordDatatype record_type.now).members in AreMultiples (offsets 0 members) members }
 {}
 
 /// The payload of each case lies behind the tag, at a multiple of its alignment, and ends within the

@@ -29,7 +29,7 @@ impl Duplicate for SizeAlign {
 }
 
 /// The exact number exceeds `usize::MAX`.
-#[derive(Clone, Copy, PartialEq, Eq, Debug)]
+#[derive(Clone, Copy, PartialEq, Eq)]
 pub struct TooLarge;
 
 /// The layout of a type in linear memory.
@@ -119,7 +119,7 @@ impl Layout for TypeRef {
     ghost plain_tree = { λ t. plain (tree_of t) };
 
     #[cycle(layout)]
-    #[tactic(auto, using(crate::proofs::Steps::layout_rules))]
+    #[tactic(auto, using(crate::proofs::Onward::layout_rules))]
     fn mem_size_align(&self) -> Result<SizeAlign, TooLarge> {
         match self {
             TypeRef::Name(named) => named.mem_size_align(),
@@ -128,7 +128,7 @@ impl Layout for TypeRef {
     }
 
     #[cycle(align)]
-    #[tactic(auto, using(crate::proofs::Steps::layout_rules))]
+    #[tactic(auto, using(crate::proofs::Onward::layout_rules))]
     fn mem_align(&self) -> usize {
         match self {
             TypeRef::Name(named) => named.mem_align(),
@@ -141,13 +141,13 @@ impl Layout for NamedType {
     ghost plain_tree = { λ n. plain (named_tree n) };
 
     #[cycle(layout)]
-    #[tactic(auto, using(crate::proofs::Steps::layout_rules))]
+    #[tactic(auto, using(crate::proofs::Onward::layout_rules))]
     fn mem_size_align(&self) -> Result<SizeAlign, TooLarge> {
         self.tref.mem_size_align()
     }
 
     #[cycle(align)]
-    #[tactic(auto, using(crate::proofs::Steps::layout_rules))]
+    #[tactic(auto, using(crate::proofs::Onward::layout_rules))]
     fn mem_align(&self) -> usize {
         self.tref.mem_align()
     }
@@ -157,7 +157,7 @@ impl Layout for Datatype {
     ghost plain_tree = { λ d. plain (datatype_tree d) };
 
     #[cycle(layout)]
-    #[tactic(auto, using(crate::proofs::Steps::layout_rules))]
+    #[tactic(auto, using(crate::proofs::Onward::layout_rules))]
     fn mem_size_align(&self) -> Result<SizeAlign, TooLarge> {
         match self {
             Datatype::Record(record) => record.mem_size_align(),
@@ -170,7 +170,7 @@ impl Layout for Datatype {
     }
 
     #[cycle(align)]
-    #[tactic(auto, using(crate::proofs::Steps::layout_rules))]
+    #[tactic(auto, using(crate::proofs::Onward::layout_rules))]
     fn mem_align(&self) -> usize {
         match self {
             Datatype::Record(record) => record.mem_align(),
@@ -186,7 +186,7 @@ impl Layout for RecordDatatype {
     ghost plain_tree = { λ r. plain (record_tree r) };
 
     #[cycle(layout)]
-    #[tactic(auto, using(crate::proofs::Steps::layout_rules))]
+    #[tactic(auto, using(crate::proofs::Onward::layout_rules))]
     fn mem_size_align(&self) -> Result<SizeAlign, TooLarge> {
         if let RecordKind::Bitflags(repr) = self.kind {
             return repr.mem_size_align();
@@ -196,7 +196,7 @@ impl Layout for RecordDatatype {
     }
 
     #[cycle(align)]
-    #[tactic(auto, using(crate::proofs::Steps::layout_rules))]
+    #[tactic(auto, using(crate::proofs::Onward::layout_rules))]
     fn mem_align(&self) -> usize {
         if let RecordKind::Bitflags(repr) = self.kind {
             return repr.mem_align();
@@ -209,7 +209,7 @@ impl Layout for Variant {
     ghost plain_tree = { λ v. plain (variant_tree v) };
 
     #[cycle(layout)]
-    #[tactic(auto, using(crate::proofs::Steps::layout_rules))]
+    #[tactic(auto, using(crate::proofs::Onward::layout_rules))]
     fn mem_size_align(&self) -> Result<SizeAlign, TooLarge> {
         let tag = scalar(self.tag_repr.mem_align());
         let payload = greatest_payload(self.cases.as_slice())?;
@@ -217,7 +217,7 @@ impl Layout for Variant {
     }
 
     #[cycle(align)]
-    #[tactic(auto, using(crate::proofs::Steps::layout_rules))]
+    #[tactic(auto, using(crate::proofs::Onward::layout_rules))]
     fn mem_align(&self) -> usize {
         greater(
             self.tag_repr.mem_align(),
@@ -228,7 +228,7 @@ impl Layout for Variant {
 
 /// Where the members end, one after the other from 0 on, and their greatest alignment.
 #[cycle(layout)]
-#[tactic(auto, using(crate::proofs::Steps::layout_rules))]
+#[tactic(auto, using(crate::proofs::Onward::layout_rules))]
 fn members_layout(members: &[RecordMember]) -> Result<SizeAlign, TooLarge>
     ensures { MatchResult result
         (λ v. (v.size ≡ members_end 0 (members_plain members.now)) × (v.align ≡ members_align (members_plain members.now)))
@@ -244,7 +244,7 @@ fn members_layout(members: &[RecordMember]) -> Result<SizeAlign, TooLarge>
 
 /// The greatest size and the greatest alignment of a payload.
 #[cycle(layout)]
-#[tactic(auto, using(crate::proofs::Steps::layout_rules))]
+#[tactic(auto, using(crate::proofs::Onward::layout_rules))]
 fn greatest_payload(cases: &[Case]) -> Result<SizeAlign, TooLarge>
     ensures { MatchResult result
         (λ v. (v.size ≡ payloads_size (cases_plain cases.now)) × (v.align ≡ payloads_align (cases_plain cases.now)))
@@ -264,7 +264,7 @@ fn greatest_payload(cases: &[Case]) -> Result<SizeAlign, TooLarge>
 }
 
 #[cycle(align)]
-#[tactic(auto, using(crate::proofs::Steps::layout_rules))]
+#[tactic(auto, using(crate::proofs::Onward::layout_rules))]
 fn greatest_member_align(members: &[RecordMember]) -> usize
     ensures { result ≡ members_align (members_plain members.now) }
 {
@@ -276,7 +276,7 @@ fn greatest_member_align(members: &[RecordMember]) -> usize
 }
 
 #[cycle(align)]
-#[tactic(auto, using(crate::proofs::Steps::layout_rules))]
+#[tactic(auto, using(crate::proofs::Onward::layout_rules))]
 fn greatest_payload_align(cases: &[Case]) -> usize
     ensures { result ≡ payloads_align (cases_plain cases.now) }
 {
@@ -310,7 +310,7 @@ impl VariantOffset for Variant {
 
     ghost plain_cases = { λ v. cases_plain (out-Variant v).cases };
 
-    #[tactic(auto, using(crate::proofs::Steps::offset_rules))]
+    #[tactic(auto, using(crate::proofs::Onward::offset_rules))]
     fn payload_offset(&self) -> usize {
         let tag = self.tag_repr.mem_align();
         let align = greatest_payload_align(self.cases.as_slice());

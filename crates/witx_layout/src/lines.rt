@@ -1,6 +1,6 @@
 ghost use Rattle.std.specs.Prelude.{◌≡◌, ◌≤◌, ◌<◌, ◌++◌, ◌^◌, map, All, Any, IfOk, OnOk, string_bytes};
 ghost use Rattle.witx_layout.specs.Numbers.{size_of, members_end, offsets};
-ghost use Rattle.witx_layout.specs.LayoutsText.{layouts_text as text_of_layouts, typename_sizes, definition_lines, definition_sizes, typename_line, typename_lines, field_line, field_lines, flags_line, tag_line, part_lines};
+ghost use Rattle.witx_layout.specs.LayoutsText.{layouts_text as text_of_layouts, typename_sizes, definition_lines, definition_sizes, typename_line, typename_lines, field_line, field_lines, flags_line, tag_line, tag_numbers_line, part_lines};
 ghost use Rattle.witx_ast.specs.Plain.{plain};
 ghost use Rattle.witx_ast.specs.Reads.{named_tree, datatype_tree, members_plain, cases_plain};
 ghost use Rattle.witx_ast.specs.Definitions.{definition_tree};
@@ -122,7 +122,7 @@ fn put_fields(out: &mut String, layouts: &[RecordMemberLayout]) -> Result<(), Ou
     Ok(())
 }
 
-fn put_numbers(out: &mut String, name: &str, numbers: SizeAlign) -> Result<(), OutOfMemory>
+pub fn put_numbers(out: &mut String, name: &str, numbers: SizeAlign) -> Result<(), OutOfMemory>
     ensures { OnOk result (string_bytes out.new ≡ string_bytes out.old ++ typename_line name.now numbers.size numbers.align) }
 {
     let size = numbers.size;
@@ -131,14 +131,14 @@ fn put_numbers(out: &mut String, name: &str, numbers: SizeAlign) -> Result<(), O
     Ok(())
 }
 
-fn put_field(out: &mut String, name: &str, offset: usize) -> Result<(), OutOfMemory>
+pub fn put_field(out: &mut String, name: &str, offset: usize) -> Result<(), OutOfMemory>
     ensures { OnOk result (string_bytes out.new ≡ string_bytes out.old ++ field_line name.now offset) }
 {
     writeln!(out, "  field {name} offset {offset}")?;
     Ok(())
 }
 
-fn put_flags(out: &mut String, repr: IntRepr) -> Result<(), OutOfMemory>
+pub fn put_flags(out: &mut String, repr: IntRepr) -> Result<(), OutOfMemory>
     ensures { OnOk result (string_bytes out.new ≡ string_bytes out.old ++ flags_line repr) }
 {
     let word = repr.to_builtin().type_name();
@@ -150,8 +150,12 @@ fn put_flags(out: &mut String, repr: IntRepr) -> Result<(), OutOfMemory>
 fn put_tag(out: &mut String, variant: &Variant) -> Result<(), OutOfMemory>
     ensures { OnOk result (string_bytes out.new ≡ string_bytes out.old ++ tag_line (out-Variant variant.now).tag_repr (cases_plain (out-Variant variant.now).cases)) }
 {
-    let tag = variant.tag_repr.mem_align();
-    let payload = variant.payload_offset();
+    put_tag_numbers(out, variant.tag_repr.mem_align(), variant.payload_offset())
+}
+
+pub fn put_tag_numbers(out: &mut String, tag: usize, payload: usize) -> Result<(), OutOfMemory>
+    ensures { OnOk result (string_bytes out.new ≡ string_bytes out.old ++ tag_numbers_line tag payload) }
+{
     writeln!(out, "  tag {tag} payload {payload}")?;
     Ok(())
 }

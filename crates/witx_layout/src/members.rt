@@ -11,7 +11,7 @@ use witx_ast::{RecordDatatype, RecordMember, TypeRef};
 use witx_base::{Items, OutOfMemory};
 
 /// Why a layout isn't given.
-#[derive(Clone, Copy, PartialEq, Eq, Debug)]
+#[derive(Clone, Copy, PartialEq, Eq)]
 pub enum LayoutError {
     /// An exact number of the answer exceeds `usize::MAX`.
     TooLarge,

@@ -62,27 +62,3 @@ pub fn greater(a: usize, b: usize) -> usize
 {
     a.max(b)
 }
-
-#[cfg(test)]
-mod tests {
-    use super::*;
-
-    #[test]
-    fn offsets_are_rounded_up(rt: HostRuntime) {
-        for (offset, alignment, rounded) in [
-            (0, 8, 0),
-            (1, 8, 8),
-            (2, 1, 2),
-            (5, 2, 6),
-            (5, 4, 8),
-            (usize::MAX - 7, 8, usize::MAX - 7),
-        ] {
-            assert_eq!(rt;
-                align_to(offset, alignment),
-                Some(rounded),
-                "{offset} to {alignment}"
-            );
-        }
-        assert_eq!(rt; align_to(usize::MAX - 6, 8), None);
-    }
-}

@@ -1,12 +1,12 @@
 use Rattle.std.proofs.Common.{◌≡◌, map, drop}
 use Rattle.witx_ast.specs.Reads.{tree_of}
 use Rattle.witx_ast.specs.Items.{item_tree}
-use Rattle.witx_ast.specs.ErrorTypes.{item_errors, each_once}
-use Rattle.witx_ast.specs.Seen.{Tells}
+use Rattle.witx_ast.specs.ErrorTypes.{item_errors}
+use Rattle.witx_ast.specs.Seen.{Tells, all_taken}
 use Rattle.witx_ast.proofs.errors.Found.add_items.Given as goal
 
 abbrev pub invariant-loop-item : goal.invariant-loop-item
 invariant-loop-item l = record {
   told : Tells l.self.seen l.self.types;
-  left : each_once (map tree_of l.self.types) (item_errors (map item_tree (drop l.item-index l.items))) ≡ each_once (map tree_of l.initial.self.types) (item_errors (map item_tree l.items));
+  left : all_taken (map tree_of l.self.types) (item_errors (map item_tree (drop l.item-index l.items))) ≡ all_taken (map tree_of l.initial.self.types) (item_errors (map item_tree l.items));
 }

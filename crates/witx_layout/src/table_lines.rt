@@ -1,0 +1,262 @@
+ghost use Rattle.std.specs.Prelude.{◌≡◌, ◌≤◌, ◌<◌, ◌+◌, ◌++◌, ◌^◌, Some, map, All, Any, IfOk, OnOk, string_bytes};
+ghost use Rattle.std.specs.List.{IsDistinct};
+ghost use Rattle.std.specs.Map.{keys_of};
+ghost use Rattle.witx_base.specs.Texts.{same_text};
+ghost use Rattle.witx_ast.specs.Tree.{fields_of};
+ghost use Rattle.witx_ast.specs.Plain.{plain};
+ghost use Rattle.witx_ast.specs.Reads.{tree_of, datatype_tree, named_tree, variant_tree, member_field, members_plain, cases_plain};
+ghost use Rattle.witx_ast.specs.Entries.{by_name};
+ghost use Rattle.witx_ast.specs.Definitions.{definition_tree, introduced};
+ghost use Rattle.witx_ast.specs.Ordered.{IsOrdered};
+ghost use Rattle.witx_ast.specs.declared.types.Variant.{out-Variant};
+ghost use Rattle.witx_layout.specs.Numbers.{align_to as rounded, size_of, align_of, members_end, offsets};
+ghost use Rattle.witx_layout.specs.LayoutsText.{layouts_text as text_of_layouts, typename_sizes, definition_lines, definition_sizes, field_line, field_lines, tag_line, part_lines};
+ghost use Rattle.witx_layout.specs.Known.{Knows, KnowsFields, KnowsDefinition, HasLines, DefinitionHasLines, IsEntered, IsLined};
+
+use crate::layout::Layout;
+use crate::lines::{put_field, put_flags, put_numbers, put_tag_numbers};
+use crate::members::LayoutError;
+use crate::rounding::align_to;
+use crate::steps::Steps;
+use crate::table::{Table, greatest_payload, type_layout};
+use std::alloc::Global;
+use std::marker::Brand;
+use std::sync::ledger::{Blank, Ledger};
+use witx_ast::{
+    Datatype, Definition, Document, NamedType, RecordKind, RecordMember, TypeRef, Variant,
+    names_are_distinct,
+};
+use witx_base::{Duplicate, NameMap, OutOfMemory, Text};
+
+/// The lines of the typenames' parts so far, by name.
+type Lines = NameMap<Text>;
+
+/// The text of `layouts_text` for an ordered document.
+///
+/// One pass: the layout and the lines of each typename are kept by its name, so a name is looked up
+/// and not looked through.
+pub fn ordered_layouts_text(alloc: Global, document: &Document) -> Result<Text, LayoutError>
+    requires ordered { IsOrdered (map definition_tree document.now.definitions) }
+    ensures text { IfOk result (λ text. text ≡ text_of_layouts (map definition_tree document.now.definitions)) }
+    ensures fits { OnOk result (All (λ size. size < 2 ^ 64) (typename_sizes (map definition_tree document.now.definitions))) }
+    ensures too_large { result ≡ Err LayoutError.TooLarge → Any (λ size. 2 ^ 64 ≤ size) (typename_sizes (map definition_tree document.now.definitions)) }
+{
+    text_from::<Brand>(alloc, document, Blank::new(1))
+}
+
+/// The same, with its steps counted by a new ledger.
+fn text_from<L: Ledger>(
+    alloc: Global,
+    document: &Document,
+    blank: Blank,
+) -> Result<Text, LayoutError>
+    requires ordered { IsOrdered (map definition_tree document.now.definitions) }
+    requires name { blank.name ≡ L.name }
+    requires parts { blank.parts ≡ L.parts }
+    requires some { 0 < blank.parts }
+    ensures text { IfOk result (λ text. text ≡ text_of_layouts (map definition_tree document.now.definitions)) }
+    ensures fits { OnOk result (All (λ size. size < 2 ^ 64) (typename_sizes (map definition_tree document.now.definitions))) }
+    ensures too_large { result ≡ Err LayoutError.TooLarge → Any (λ size. 2 ^ 64 ≤ size) (typename_sizes (map definition_tree document.now.definitions)) }
+{
+    names_are_distinct(document);
+    let mut steps = Steps::<L>::new(blank);
+    let mut out = String::new(alloc);
+    put_all(
+        alloc,
+        &mut out,
+        document.definitions().as_slice(),
+        &mut steps,
+    )?;
+    Ok(Text::from_string(out))
+}
+
+/// The lines of each typename among definitions, whose names are distinct.
+#[tactic(auto, using(crate::proofs::Typenames::typename_rules, crate::proofs::Tabled::table_rules))]
+fn put_all<L: Ledger>(
+    alloc: Global,
+    out: &mut String,
+    definitions: &[Definition],
+    steps: &mut Steps<L>,
+) -> Result<(), LayoutError>
+    requires ordered { IsOrdered (map definition_tree definitions.now) }
+    requires distinct { IsDistinct same_text (keys_of (by_name introduced (map definition_tree definitions.now))) }
+    ensures text { OnOk result (string_bytes out.new ≡ string_bytes out.old ++ text_of_layouts (map definition_tree definitions.now)) }
+    ensures fits { OnOk result (All (λ size. size < 2 ^ 64) (typename_sizes (map definition_tree definitions.now))) }
+    ensures too_large { result ≡ Err LayoutError.TooLarge → Any (λ size. 2 ^ 64 ≤ size) (typename_sizes (map definition_tree definitions.now)) }
+{
+    let mut table = NameMap::new(alloc);
+    let mut lines = NameMap::new(alloc);
+    for definition in definitions {
+        put_known(alloc, &mut table, &mut lines, out, definition, steps)?;
+    }
+    Ok(())
+}
+
+/// The lines of a typename, which are entered with its layout under its name; other definitions have
+/// none.
+#[tactic(auto, using(crate::proofs::Typenames::definition_rules))]
+fn put_known<L: Ledger>(
+    alloc: Global,
+    table: &mut Table,
+    lines: &mut Lines,
+    out: &mut String,
+    definition: &Definition,
+    steps: &mut Steps<L>,
+) -> Result<(), LayoutError>
+    requires known { KnowsDefinition table.old (definition_tree definition.now) }
+    requires lined { DefinitionHasLines lines.old (definition_tree definition.now) }
+    ensures table { OnOk result (IsEntered table.old (definition_tree definition.now) table.new) }
+    ensures kept { OnOk result (IsLined lines.old (definition_tree definition.now) lines.new) }
+    ensures lines { OnOk result (string_bytes out.new ≡ string_bytes out.old ++ definition_lines (definition_tree definition.now)) }
+    ensures fits { OnOk result (All (λ size. size < 2 ^ 64) (definition_sizes (definition_tree definition.now))) }
+    ensures too_large { result ≡ Err LayoutError.TooLarge → Any (λ size. 2 ^ 64 ≤ size) (definition_sizes (definition_tree definition.now)) }
+{
+    let Definition::Typename(named) = definition else {
+        return Ok(());
+    };
+    let numbers = type_layout(table, &named.tref, steps)?;
+    let parts = lines_of(alloc, table, lines, &named.tref, steps)?;
+    put_numbers(out, named.name.as_str(), numbers)?;
+    put_text(out, &parts)?;
+    table.insert(named.name.copy()?, numbers)?;
+    lines.insert(named.name.copy()?, parts)?;
+    Ok(())
+}
+
+fn put_text(out: &mut String, text: &Text) -> Result<(), OutOfMemory>
+    ensures { OnOk result (string_bytes out.new ≡ string_bytes out.old ++ text.now) }
+{
+    out.push_str(text.as_str())?;
+    Ok(())
+}
+
+/// The lines of a type's parts; those of a name are kept.
+#[tactic(auto, using(crate::proofs::Nodes::node_rules))]
+fn lines_of<L: Ledger>(
+    alloc: Global,
+    table: &Table,
+    lines: &Lines,
+    tref: &TypeRef,
+    steps: &mut Steps<L>,
+) -> Result<Text, LayoutError>
+    requires known { Knows table.now (tree_of tref.now) }
+    requires lined { HasLines lines.now (tree_of tref.now) }
+    ensures lines { IfOk result (λ text. text ≡ part_lines (plain (tree_of tref.now))) }
+    ensures too_large { result ≡ Err LayoutError.TooLarge → 2 ^ 64 ≤ size_of (plain (tree_of tref.now)) }
+{
+    match tref {
+        TypeRef::Name(named) => Ok(known_lines(lines, named).copy()?),
+        TypeRef::Value(datatype) => {
+            let mut out = String::new(alloc);
+            put_known_parts(&mut out, table, datatype, steps)?;
+            Ok(Text::from_string(out))
+        }
+    }
+}
+
+/// The lines of a name, which are kept.
+#[tactic(auto, using(crate::proofs::TableLines::line_rules))]
+fn known_lines<'a>(lines: &'a Lines, named: &NamedType) -> &'a Text
+    requires { HasLines lines.now (named_tree named.now) }
+    ensures { result.now ≡ part_lines (plain (named_tree named.now)) }
+{
+    match lines.get(&named.name) {
+        Some(text) => text,
+        None => unreachable!(),
+    }
+}
+
+/// The lines of a type's parts, whose names the table knows.
+#[tactic(auto, using(crate::proofs::TableLines::line_rules))]
+fn put_known_parts<L: Ledger>(
+    out: &mut String,
+    table: &Table,
+    datatype: &Datatype,
+    steps: &mut Steps<L>,
+) -> Result<(), LayoutError>
+    requires { Knows table.now (datatype_tree datatype.now) }
+    ensures lines { OnOk result (string_bytes out.new ≡ string_bytes out.old ++ part_lines (plain (datatype_tree datatype.now))) }
+    ensures too_large { result ≡ Err LayoutError.TooLarge → 2 ^ 64 ≤ size_of (plain (datatype_tree datatype.now)) }
+{
+    match datatype {
+        Datatype::Record(record) => match record.kind {
+            RecordKind::Bitflags(repr) => Ok(put_flags(out, repr)?),
+            RecordKind::Tuple | RecordKind::Other => put_known_members(
+                out,
+                table,
+                record.members.as_slice(),
+                steps,
+            ),
+        },
+        Datatype::Variant(variant) => put_known_tag(out, table, variant, steps),
+        Datatype::Handle(_)
+        | Datatype::List(_)
+        | Datatype::Pointer(_)
+        | Datatype::ConstPointer(_)
+        | Datatype::Builtin(_) => Ok(()),
+    }
+}
+
+/// A line for each member, whose names the table knows.
+#[tactic(auto, using(crate::proofs::TableLines::line_rules))]
+fn put_known_members<L: Ledger>(
+    out: &mut String,
+    table: &Table,
+    members: &[RecordMember],
+    steps: &mut Steps<L>,
+) -> Result<(), LayoutError>
+    requires { KnowsFields table.now (fields_of (map member_field members.now)) }
+    ensures lines { OnOk result (string_bytes out.new ≡ string_bytes out.old ++ field_lines (members_plain members.now) (offsets 0 (members_plain members.now))) }
+    ensures too_large { result ≡ Err LayoutError.TooLarge → 2 ^ 64 ≤ members_end 0 (members_plain members.now) }
+{
+    let mut end = 0;
+    for member in members {
+        end = put_known_member(out, table, end, member, steps)?;
+    }
+    Ok(())
+}
+
+/// The line of a member behind an end, and where it ends itself.
+#[tactic(auto, using(crate::proofs::TableLines::line_rules))]
+fn put_known_member<L: Ledger>(
+    out: &mut String,
+    table: &Table,
+    reached: usize,
+    member: &RecordMember,
+    steps: &mut Steps<L>,
+) -> Result<usize, LayoutError>
+    requires { Knows table.now (tree_of member.now.tref) }
+    ensures line { OnOk result (string_bytes out.new ≡ string_bytes out.old ++ field_line member.now.name (rounded reached (align_of (plain (tree_of member.now.tref))))) }
+    ensures end { IfOk result (λ end. end ≡ rounded reached (align_of (plain (tree_of member.now.tref))) + size_of (plain (tree_of member.now.tref))) }
+    ensures too_large { result ≡ Err LayoutError.TooLarge → 2 ^ 64 ≤ rounded reached (align_of (plain (tree_of member.now.tref))) + size_of (plain (tree_of member.now.tref)) }
+{
+    let part = type_layout(table, &member.tref, steps)?;
+    let Some(begin) = align_to(reached, part.align) else {
+        return Err(LayoutError::TooLarge);
+    };
+    let Some(end) = begin.checked_add(part.size) else {
+        return Err(LayoutError::TooLarge);
+    };
+    put_field(out, member.name.as_str(), begin)?;
+    Ok(end)
+}
+
+/// The line of a variant's tag and payload, whose names the table knows.
+#[tactic(auto, using(crate::proofs::TableLines::line_rules))]
+fn put_known_tag<L: Ledger>(
+    out: &mut String,
+    table: &Table,
+    variant: &Variant,
+    steps: &mut Steps<L>,
+) -> Result<(), LayoutError>
+    requires { Knows table.now (variant_tree variant.now) }
+    ensures lines { OnOk result (string_bytes out.new ≡ string_bytes out.old ++ tag_line (out-Variant variant.now).tag_repr (cases_plain (out-Variant variant.now).cases)) }
+    ensures too_large { result ≡ Err LayoutError.TooLarge → 2 ^ 64 ≤ size_of (plain (variant_tree variant.now)) }
+{
+    let tag = variant.tag_repr.mem_align();
+    let payload = greatest_payload(table, variant.cases.as_slice(), steps)?;
+    let Some(begin) = align_to(tag, payload.align) else {
+        return Err(LayoutError::TooLarge);
+    };
+    Ok(put_tag_numbers(out, tag, begin)?)
+}
