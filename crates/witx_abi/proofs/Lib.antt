@@ -5,3 +5,4 @@ pub mod Plans
 pub mod Instructions
 pub mod PointerTypes
 pub mod Sides
+pub mod Called

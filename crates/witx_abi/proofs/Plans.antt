@@ -1,5 +1,5 @@
 -- Events told one after the other, and the operands at hand.
-use Rattle.std.proofs.Common.{◌≡◌, ◌<◌, ◌≤◌, ◌+◌, ◌-◌, ℕ, zero, suc, List, [], ◌∷◌, ◌++◌, append_assoc, append-nil, Option, Some, None, IsSome, is_none, T, option_and_then, map, length, take, drop, get_or, refl, sym, ap, ◌∙◌, arith, add-one, Err, subst, rules}
+use Rattle.std.proofs.Common.{◌≡◌, ◌<◌, ◌≤◌, ◌+◌, ℕ, zero, suc, List, [], ◌∷◌, ◌++◌, append_assoc, append-nil, Option, Some, None, IsSome, is_none, T, option_and_then, map, length, take, drop, get_or, refl, sym, ap, ◌∙◌, arith, add-one, Err, subst, rules}
 use Rattle.std.proofs.lemmas.List.{drop_more}
 use Rattle.witx_machine.specs.Events.{Event}
 use Rattle.witx_abi.specs.declared.plan.Planned.{Planned}

@@ -1,5 +1,5 @@
 -- The return pointers of an ok type: the named types of a tuple's members, or the one named type.
-use Rattle.std.proofs.Common.{◌≡◌, ◌<◌, ◌≤◌, ◌+◌, ℕ, zero, suc, List, [], ◌∷◌, ◌++◌, append_assoc, append-nil, Bool, true, false, ◌&&◌, ◌||◌, Option, Some, None, map, length, drop, get_or, refl, sym, ap, ◌∙◌, subst, arith}
+use Rattle.std.proofs.Common.{◌≡◌, ◌<◌, ◌≤◌, ◌+◌, ℕ, zero, suc, List, [], ◌∷◌, ◌++◌, append_assoc, append-nil, Bool, true, false, ◌&&◌, ◌||◌, Some, None, is_some, map, length, drop, get_or, refl, sym, ap, ◌∙◌, subst, arith}
 use Rattle.std.specs.Borrow.{Bor}
 use Rattle.std.specs.declared.alloc.Global.{Global}
 use Rattle.std.specs.declared.rc.Rc.{Rc}
@@ -7,133 +7,29 @@ use Rattle.std.proofs.lemmas.List.{drop_more, drop_all}
 use Rattle.witx_ast.specs.Tree.{Tree}
 use Rattle.witx_ast.specs.Words.{is_named}
 use Rattle.witx_ast.specs.Reads.{tree_of, named_tree}
-use Rattle.witx_ast.specs.declared.types.RecordKind.{RecordKind}
 use Rattle.witx_ast.specs.declared.types.NamedType.{NamedType}
 use Rattle.witx_ast.specs.declared.types.RecordMember.{RecordMember}
-use Rattle.witx_machine.specs.Functions.{is_tuple, member_types}
-use Rattle.witx_machine.specs.Signature.{pointers_at, ok_pointers}
-use Rattle.witx_machine.specs.Lowerable.{can_be_ok, all_names, members_are_named}
-use Rattle.witx_abi.specs.Reads.{pointer_types, tuple_types}
+use Rattle.witx_machine.specs.Functions.{tuple_types, is_tuple}
+use Rattle.witx_machine.specs.Signature.{or_alone, ok_pointers}
+use Rattle.witx_machine.specs.Lowerable.{can_be_ok, all_names, none_or_names, members_are_named}
+use Rattle.witx_abi.specs.Reads.{pointer_types}
 
 pub pointer-more : (ps : List (Bor (Rc NamedType Global))) (p : Bor (Rc NamedType Global)) → pointer_types (ps ++ p ∷ []) ≡ pointer_types ps ++ named_tree p.now.value ∷ []
 pointer-more [] p = refl
 pointer-more (q ∷ ps) p = ap (λ ts. named_tree q.now.value ∷ ts) (pointer-more ps p)
 
-pointers-tuple : (whole t : Tree) (ts : List Tree) → tuple_types t ≡ Some ts → pointers_at whole t ≡ ts
-pointers-tuple whole (Tree.named n t d) ts e = pointers-tuple whole t ts e
-pointers-tuple whole (Tree.record_of RecordKind.Tuple ms) ts e = some_same e
-  where
-    some_of : List Tree → Option (List Tree) → List Tree
-    some_of d (Some x) = x
-    some_of d None = d
-
-    some_same : Some (member_types ms) ≡ Some ts → member_types ms ≡ ts
-    some_same e = ap (some_of ts) e
-pointers-tuple whole (Tree.record_of (RecordKind.Bitflags r) ms) ts e = absurd (clash e)
-  where
-    clash : None ≡ Some ts → ⊥
-    clash e = cc
-pointers-tuple whole (Tree.record_of RecordKind.Other ms) ts e = absurd (clash e)
-  where
-    clash : None ≡ Some ts → ⊥
-    clash e = cc
-pointers-tuple whole (Tree.builtin b) ts e = absurd (clash e)
-  where
-    clash : None ≡ Some ts → ⊥
-    clash e = cc
-pointers-tuple whole Tree.handle ts e = absurd (clash e)
-  where
-    clash : None ≡ Some ts → ⊥
-    clash e = cc
-pointers-tuple whole (Tree.list_of t) ts e = absurd (clash e)
-  where
-    clash : None ≡ Some ts → ⊥
-    clash e = cc
-pointers-tuple whole (Tree.pointer_to t) ts e = absurd (clash e)
-  where
-    clash : None ≡ Some ts → ⊥
-    clash e = cc
-pointers-tuple whole (Tree.const_pointer_to t) ts e = absurd (clash e)
-  where
-    clash : None ≡ Some ts → ⊥
-    clash e = cc
-pointers-tuple whole (Tree.variant_of r cs) ts e = absurd (clash e)
-  where
-    clash : None ≡ Some ts → ⊥
-    clash e = cc
-
-pointers-one : (whole t : Tree) → tuple_types t ≡ None → pointers_at whole t ≡ whole ∷ []
-pointers-one whole (Tree.named n t d) e = pointers-one whole t e
-pointers-one whole (Tree.record_of RecordKind.Tuple ms) e = absurd (clash e)
-  where
-    clash : Some (member_types ms) ≡ None → ⊥
-    clash e = cc
-pointers-one whole (Tree.record_of (RecordKind.Bitflags r) ms) e = refl
-pointers-one whole (Tree.record_of RecordKind.Other ms) e = refl
-pointers-one whole (Tree.builtin b) e = refl
-pointers-one whole Tree.handle e = refl
-pointers-one whole (Tree.list_of t) e = refl
-pointers-one whole (Tree.pointer_to t) e = refl
-pointers-one whole (Tree.const_pointer_to t) e = refl
-pointers-one whole (Tree.variant_of r cs) e = refl
-
 -- the pointers of an ok type that is a tuple, and of another
 pub ok-tuple : (t : Tree) (ts : List Tree) → tuple_types t ≡ Some ts → ok_pointers (Some t) ≡ ts
-ok-tuple t ts e = pointers-tuple t t ts e
+ok-tuple t ts e = ap (or_alone t) e
 
 pub ok-single : (t : Tree) → tuple_types t ≡ None → ok_pointers (Some t) ≡ t ∷ []
-ok-single t e = pointers-one t t e
+ok-single t e = ap (or_alone t) e
 
 names-tuple : (t : Tree) (ts : List Tree) → tuple_types t ≡ Some ts → members_are_named t ≡ all_names ts
-names-tuple (Tree.named n t d) ts e = names-tuple t ts e
-names-tuple (Tree.record_of RecordKind.Tuple ms) ts e = ap all_names (pointers-tuple Tree.handle (Tree.record_of RecordKind.Tuple ms) ts e)
-names-tuple (Tree.record_of (RecordKind.Bitflags r) ms) ts e = absurd (clash e)
-  where
-    clash : None ≡ Some ts → ⊥
-    clash e = cc
-names-tuple (Tree.record_of RecordKind.Other ms) ts e = absurd (clash e)
-  where
-    clash : None ≡ Some ts → ⊥
-    clash e = cc
-names-tuple (Tree.builtin b) ts e = absurd (clash e)
-  where
-    clash : None ≡ Some ts → ⊥
-    clash e = cc
-names-tuple Tree.handle ts e = absurd (clash e)
-  where
-    clash : None ≡ Some ts → ⊥
-    clash e = cc
-names-tuple (Tree.list_of t) ts e = absurd (clash e)
-  where
-    clash : None ≡ Some ts → ⊥
-    clash e = cc
-names-tuple (Tree.pointer_to t) ts e = absurd (clash e)
-  where
-    clash : None ≡ Some ts → ⊥
-    clash e = cc
-names-tuple (Tree.const_pointer_to t) ts e = absurd (clash e)
-  where
-    clash : None ≡ Some ts → ⊥
-    clash e = cc
-names-tuple (Tree.variant_of r cs) ts e = absurd (clash e)
-  where
-    clash : None ≡ Some ts → ⊥
-    clash e = cc
+names-tuple t ts e = ap none_or_names e
 
 not-tuple : (t : Tree) → tuple_types t ≡ None → is_tuple t ≡ false
-not-tuple (Tree.named n t d) e = not-tuple t e
-not-tuple (Tree.record_of RecordKind.Tuple ms) e = absurd (clash e)
-  where
-    clash : Some (member_types ms) ≡ None → ⊥
-    clash e = cc
-not-tuple (Tree.record_of (RecordKind.Bitflags r) ms) e = refl
-not-tuple (Tree.record_of RecordKind.Other ms) e = refl
-not-tuple (Tree.builtin b) e = refl
-not-tuple Tree.handle e = refl
-not-tuple (Tree.list_of t) e = refl
-not-tuple (Tree.pointer_to t) e = refl
-not-tuple (Tree.const_pointer_to t) e = refl
-not-tuple (Tree.variant_of r cs) e = refl
+not-tuple t e = ap is_some e
 
 and-right : (a b : Bool) → a && b ≡ true → b ≡ true
 and-right true b h = h

@@ -6,9 +6,11 @@ use Rattle.std.specs.declared.alloc.Global.{Global}
 use Rattle.std.specs.declared.rc.Rc.{Rc}
 use Rattle.std.proofs.lemmas.List.{drop_more, drop_all}
 use Rattle.std.proofs.lemmas.Iterator.Adapters.{position_from-zero}
-use Rattle.witx_ast.specs.Tree.{Tree, Arms}
+use Rattle.witx_ast.specs.Tree.{Tree, Arms, arm_list}
 use Rattle.witx_ast.specs.Plain.{Plain, plain, plain_arms}
 use Rattle.witx_ast.specs.Reads.{tree_of, named_tree}
+use Rattle.witx_ast.specs.Words.{is_named, is_expected}
+use Rattle.witx_ast.specs.declared.function.Abi.{Abi}
 use Rattle.witx_ast.specs.declared.types.RecordKind.{RecordKind}
 use Rattle.witx_ast.specs.declared.types.NamedType.{NamedType}
 use Rattle.witx_ast.specs.declared.types.TypeRef.{TypeRef}
@@ -18,7 +20,7 @@ use Rattle.witx_machine.specs.declared.surface.Place.{Place}
 use Rattle.witx_machine.specs.Events.{Step, Event, emit, space, push, finish}
 use Rattle.witx_machine.specs.Functions.{has_payload, ok_of, err_of, result_cases}
 use Rattle.witx_machine.specs.Signature.{param_words, words_of_params, words_of_results, ok_pointers, pointers_by, pointers_of}
-use Rattle.witx_machine.specs.Lowerable.{can_be_param, can_be_result, can_return, can_be_ok, can_be_err, is_narrow, is_expected, unlowerable_result, first_place, unlowerable}
+use Rattle.witx_machine.specs.Lowerable.{can_be_param, can_be_result, can_return, can_be_ok, can_be_err, is_narrow, unlowerable_result, first_place, unlowerable}
 use Rattle.witx_machine.specs.Traces.{lower_step, lift_step, lower_params, get_args, lift_params, make_spaces, load_all, store_all, lift_cases, lift_by, lift_of, lower_cases, lower_by, lower_of, block_of}
 use Rattle.witx_machine.proofs.HeightLaws.{words-count}
 use Rattle.witx_abi.specs.Reads.{called, param_types, pointer_types, is_list_type}
@@ -221,13 +223,13 @@ count-pointers (q ∷ qs) = ap suc (count-pointers qs)
 clash : false ≡ true → ⊥
 clash e = cc
 
-pub result-one : (xs : List InterfaceFuncParam) (x : InterfaceFuncParam) → slice_get xs 0 ≡ Some x → unlowerable_result (param_types xs) ≡ None → param_types xs ≡ tree_of x.tref ∷ []
-result-one [] x e h = absurd (none e)
+pub result-one : (abi : Abi) (xs : List InterfaceFuncParam) (x : InterfaceFuncParam) → slice_get xs 0 ≡ Some x → unlowerable_result abi (param_types xs) ≡ None → param_types xs ≡ tree_of x.tref ∷ []
+result-one abi [] x e h = absurd (none e)
   where
     none : None ≡ Some x → ⊥
     none e = cc
-result-one (y ∷ []) x e h = let same : y ≡ x = cc in ap (λ y. tree_of y.tref ∷ []) same
-result-one (y ∷ z ∷ xs) x e h = absurd (some h)
+result-one abi (y ∷ []) x e h = let same : y ≡ x = cc in ap (λ y. tree_of y.tref ∷ []) same
+result-one abi (y ∷ z ∷ xs) x e h = absurd (some h)
   where
     some : Some (Place.Result 1) ≡ None → ⊥
     some e = cc
@@ -239,8 +241,8 @@ result-zero (y ∷ xs) e = absurd (some e)
     some : Some y ≡ None → ⊥
     some e = cc
 
-pub result-can : (t : Tree) (ts : List Tree) → ts ≡ t ∷ [] → unlowerable_result ts ≡ None → can_be_result t ≡ true
-result-can t ts e h = go (can_be_result t) (sym (ap unlowerable_result e) ∙ h)
+pub result-can : (abi : Abi) (t : Tree) (ts : List Tree) → ts ≡ t ∷ [] → unlowerable_result abi ts ≡ None → can_be_result abi t ≡ true
+result-can abi t ts e h = go (can_be_result abi t) (sym (ap (unlowerable_result abi) e) ∙ h)
   where
     some : Some (Place.Result 0) ≡ None → ⊥
     some e = cc
@@ -288,7 +290,7 @@ and-left true b h = refl
 and-left false b h = h
 
 -- a result without cases is lowered as a parameter
-pub word-param : (t : Tree) → can_be_result t ≡ true → result_cases t ≡ None → can_be_param t ≡ true
+pub word-param : (t : Tree) → can_be_result Abi.Preview1 t ≡ true → result_cases t ≡ None → can_be_param t ≡ true
 word-param (Tree.named n t d) h e = refl
 word-param (Tree.builtin b) h e = refl
 word-param (Tree.pointer_to t) h e = refl
@@ -298,7 +300,7 @@ word-param Tree.handle h e = h
 word-param (Tree.record_of (RecordKind.Bitflags r) ms) h e = h
 word-param (Tree.record_of RecordKind.Tuple ms) h e = h
 word-param (Tree.record_of RecordKind.Other ms) h e = h
-word-param (Tree.variant_of r cs) h e = go (has_payload (plain_arms cs)) (and-left (has_payload (plain_arms cs) || false) _ (and-right (is_expected cs) _ (and-right (is_narrow r) _ h))) e
+word-param (Tree.variant_of r cs) h e = go (has_payload (plain_arms cs)) (and-left (has_payload (plain_arms cs) || false) _ (and-right (is_expected (arm_list cs)) _ (and-right (is_narrow r) _ h))) e
   where
     some : Some cs ≡ None → ⊥
     some e = cc
@@ -309,7 +311,7 @@ word-param (Tree.variant_of r cs) h e = go (has_payload (plain_arms cs)) (and-le
 
 return-err : (named : Bool) (t : Tree) (cs : Arms) → can_return named t ≡ true → result_cases t ≡ Some cs → can_be_err (err_of cs) ≡ true
 return-err named (Tree.named n t d) cs h e = return-err true t cs h e
-return-err named (Tree.variant_of r ds) cs h e = go (has_payload (plain_arms ds)) e (and-right (can_be_ok (ok_of ds)) _ (and-right (has_payload (plain_arms ds) || named) _ (and-right (is_expected ds) _ (and-right (is_narrow r) _ h))))
+return-err named (Tree.variant_of r ds) cs h e = go (has_payload (plain_arms ds)) e (and-right (can_be_ok (ok_of ds)) _ (and-right (has_payload (plain_arms ds) || named) _ (and-right (is_expected (arm_list ds)) _ (and-right (is_narrow r) _ h))))
   where
     none : None ≡ Some cs → ⊥
     none e = cc
@@ -349,12 +351,12 @@ return-err named (Tree.record_of k ms) cs h e = absurd (none e)
     none : None ≡ Some cs → ⊥
     none e = cc
 
-pub result-err : (t : Tree) (cs : Arms) → can_be_result t ≡ true → result_cases t ≡ Some cs → can_be_err (err_of cs) ≡ true
+pub result-err : (t : Tree) (cs : Arms) → can_be_result Abi.Preview1 t ≡ true → result_cases t ≡ Some cs → can_be_err (err_of cs) ≡ true
 result-err t cs h e = return-err false t cs h e
 
 return-ok : (named : Bool) (t : Tree) (cs : Arms) → can_return named t ≡ true → result_cases t ≡ Some cs → can_be_ok (ok_of cs) ≡ true
 return-ok named (Tree.named n t d) cs h e = return-ok true t cs h e
-return-ok named (Tree.variant_of r ds) cs h e = go (has_payload (plain_arms ds)) e (and-left (can_be_ok (ok_of ds)) _ (and-right (has_payload (plain_arms ds) || named) _ (and-right (is_expected ds) _ (and-right (is_narrow r) _ h))))
+return-ok named (Tree.variant_of r ds) cs h e = go (has_payload (plain_arms ds)) e (and-left (can_be_ok (ok_of ds)) _ (and-right (has_payload (plain_arms ds) || named) _ (and-right (is_expected (arm_list ds)) _ (and-right (is_narrow r) _ h))))
   where
     none : None ≡ Some cs → ⊥
     none e = cc
@@ -394,7 +396,7 @@ return-ok named (Tree.record_of k ms) cs h e = absurd (none e)
     none : None ≡ Some cs → ⊥
     none e = cc
 
-pub result-ok : (t : Tree) (cs : Arms) → can_be_result t ≡ true → result_cases t ≡ Some cs → can_be_ok (ok_of cs) ≡ true
+pub result-ok : (t : Tree) (cs : Arms) → can_be_result Abi.Preview1 t ≡ true → result_cases t ≡ Some cs → can_be_ok (ok_of cs) ≡ true
 result-ok t cs h e = return-ok false t cs h e
 
 pub no-pointers : (t : Tree) → result_cases t ≡ None → pointers_by (result_cases t) ≡ []
@@ -403,7 +405,7 @@ no-pointers t e = ap pointers_by e
 pub no-results : (ts : List Tree) → ts ≡ [] → pointers_of ts ≡ []
 no-results ts e = ap pointers_of e
 
-pub count-words : (ts : List Tree) → unlowerable_result ts ≡ None → length (words_of_results ts) ≡ length ts
+pub count-words : (ts : List Tree) → unlowerable_result Abi.Preview1 ts ≡ None → length (words_of_results ts) ≡ length ts
 count-words ts h = words-count ts (subst (λ o. T (is_none o)) (sym h) tt)
 
 pub count-types : (ps : List InterfaceFuncParam) → length (param_types ps) ≡ length ps
@@ -451,9 +453,19 @@ none-first (Some i) r h = absurd (some h)
     some e = cc
 
 pub params-can : (f : InterfaceFunc) → unlowerable (called f) ≡ None → position (λ t. not (can_be_param t)) (param_types f.params) ≡ None
-params-can f h = (none-first (position (λ t. not (can_be_param t)) (param_types f.params)) (unlowerable_result (param_types f.results)) h).0
+params-can f h = (none-first (position (λ t. not (can_be_param t)) (param_types f.params)) (unlowerable_result f.abi (param_types f.results)) h).0
 
-pub results-can : (f : InterfaceFunc) → unlowerable (called f) ≡ None → unlowerable_result (param_types f.results) ≡ None
-results-can f h = (none-first (position (λ t. not (can_be_param t)) (param_types f.params)) (unlowerable_result (param_types f.results)) h).1
+pub results-can : (f : InterfaceFunc) → unlowerable (called f) ≡ None → unlowerable_result f.abi (param_types f.results) ≡ None
+results-can f h = (none-first (position (λ t. not (can_be_param t)) (param_types f.params)) (unlowerable_result f.abi (param_types f.results)) h).1
 
-pub ruleset side_rules = (result-ok, no-pointers, no-results, count-words, count-types, block-chain, cases-chain, two-chain, pair-chain, payload-chain, some-map, lower-params-step, lower-params-last, lift-params-step, lift-params-last, words-step, words-last, one-get, one-word, two-gets, two-words, spaces-step, spaces-last, loads-step, loads-last, stores-step, stores-last, stores-first, count-pointers, result-one, result-zero, result-can, pointers-of-one, lift-of-one, lift-of-none, lower-of-one, lower-of-none, lift-by-cases, lift-by-word, lower-by-cases, lower-by-word, pointers-by-cases, word-param, result-err, err-param, param-can, params-can, results-can, append-nil)
+-- stored whole, the one result is a name
+pub stored-one : (t : Tree) (ts : List Tree) → ts ≡ t ∷ [] → take 1 ts ≡ t ∷ []
+stored-one t ts e = ap (take 1) e
+
+pub stored-none : (ts : List Tree) → ts ≡ [] → take 1 ts ≡ []
+stored-none ts e = ap (take 1) e
+
+pub stored-named : (t : Tree) → can_be_result Abi.Stored t ≡ true → is_named t ≡ true
+stored-named t h = h
+
+pub ruleset side_rules = (stored-one, stored-none, stored-named, result-ok, no-pointers, no-results, count-words, count-types, block-chain, cases-chain, two-chain, pair-chain, payload-chain, some-map, lower-params-step, lower-params-last, lift-params-step, lift-params-last, words-step, words-last, one-get, one-word, two-gets, two-words, spaces-step, spaces-last, loads-step, loads-last, stores-step, stores-last, stores-first, count-pointers, result-one, result-zero, result-can, pointers-of-one, lift-of-one, lift-of-none, lower-of-one, lower-of-none, lift-by-cases, lift-by-word, lower-by-cases, lower-by-word, pointers-by-cases, word-param, result-err, err-param, param-can, params-can, results-can, append-nil)

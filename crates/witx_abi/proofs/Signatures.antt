@@ -1,5 +1,5 @@
 -- The signature of a function, as its loops make it.
-use Rattle.std.proofs.Common.{◌≡◌, ◌<◌, ◌≤◌, ◌+◌, ◌-◌, ℕ, suc, List, [], ◌∷◌, ◌++◌, append_assoc, append-nil, Some, None, is_none, option_map, map, length, drop, get_or, refl, sym, ap, ◌∙◌, arith}
+use Rattle.std.proofs.Common.{◌≡◌, ◌<◌, ◌≤◌, ◌+◌, ◌-◌, ℕ, suc, List, [], ◌∷◌, ◌++◌, append_assoc, append-nil, Option, Some, None, is_none, option_map, map, length, drop, take, slice_get, get_or, refl, sym, ap, ◌∙◌, arith}
 use Rattle.std.specs.List.{position}
 use Rattle.std.specs.Prelude.{replicate}
 use Rattle.std.proofs.lemmas.List.{drop_more, drop_all}
@@ -7,16 +7,17 @@ use Rattle.witx_ast.specs.Tree.{Tree, behind}
 use Rattle.witx_ast.specs.Plain.{plain}
 use Rattle.witx_ast.specs.Reads.{tree_of, datatype_tree, record_tree}
 use Rattle.witx_ast.proofs.Trees.{tree-RecordDatatype}
+use Rattle.witx_ast.specs.declared.function.Abi.{Abi}
 use Rattle.witx_ast.specs.declared.types.RecordKind.{RecordKind}
 use Rattle.witx_ast.specs.declared.types.Datatype.{Datatype}
 use Rattle.witx_ast.specs.declared.types.RecordDatatype.{RecordDatatype, out-RecordDatatype}
 use Rattle.witx_ast.specs.declared.function.InterfaceFuncParam.{InterfaceFuncParam}
 use Rattle.witx_machine.specs.declared.surface.WasmType.{WasmType}
 use Rattle.witx_machine.specs.declared.surface.Place.{Place}
-use Rattle.witx_machine.specs.Functions.{result_cases}
-use Rattle.witx_machine.specs.Signature.{param_words, words_of_params, result_word, before_rest, words_of_results, pointers_at, pointers_by, ok_pointers, pointers_of}
+use Rattle.witx_machine.specs.Functions.{tuple_types, result_cases}
+use Rattle.witx_machine.specs.Signature.{first_wordless, param_words, words_of_params, result_word, before_rest, words_of_results, or_alone, pointers_by, ok_pointers, pointers_of}
 use Rattle.witx_abi.specs.Reads.{param_types, pointer_number}
-use Rattle.witx_abi.proofs.Types.{members-are}
+use Rattle.witx_abi.proofs.Types.{members-are, tuples-at}
 use Rattle.witx_abi.proofs.Results.{length-map, prefix-map}
 
 -- parameters, or results, from the i-th on: that one, and the others
@@ -76,30 +77,12 @@ i32s-last ws n =
     ap (λ m. ws ++ replicate m WasmType.I32) e ∙ append-nil ws
 
 -- the number of pointers doesn't depend on the name under which they are made
-number-at : (whole other t : Tree) → length (pointers_at whole t) ≡ length (pointers_at other (behind t))
-number-at whole other (Tree.named n t d) = number-at whole other t
-number-at whole other (Tree.builtin b) = refl
-number-at whole other Tree.handle = refl
-number-at whole other (Tree.list_of t) = refl
-number-at whole other (Tree.pointer_to t) = refl
-number-at whole other (Tree.const_pointer_to t) = refl
-number-at whole other (Tree.record_of RecordKind.Tuple ms) = refl
-number-at whole other (Tree.record_of (RecordKind.Bitflags r) ms) = refl
-number-at whole other (Tree.record_of RecordKind.Other ms) = refl
-number-at whole other (Tree.variant_of r cs) = refl
+count-alone : (t u : Tree) (o : Option (List Tree)) → length (or_alone t o) ≡ length (or_alone u o)
+count-alone t u None = refl
+count-alone t u (Some ts) = refl
 
 pub number-behind : (t : Tree) (d : Datatype) → datatype_tree d ≡ behind t → pointer_number (datatype_tree d) ≡ length (ok_pointers (Some t))
-number-behind t d e = ap pointer_number e ∙ sym (number-at t (behind t) t ∙ ap (λ u. length (pointers_at (behind t) u)) (sym (twice t)) ∙ ap (λ u. length (pointers_at (behind t) u)) (twice t))
-  where
-    twice : (t : Tree) → behind (behind t) ≡ behind t
-    twice (Tree.named n t d) = twice t
-    twice (Tree.builtin b) = refl
-    twice Tree.handle = refl
-    twice (Tree.list_of t) = refl
-    twice (Tree.pointer_to t) = refl
-    twice (Tree.const_pointer_to t) = refl
-    twice (Tree.record_of k ms) = refl
-    twice (Tree.variant_of r cs) = refl
+number-behind t d e = count-alone (datatype_tree d) t (tuple_types (datatype_tree d)) ∙ ap (λ o. length (or_alone t o)) (sym (tuples-at t d e))
 
 pub tuple-number : (r : RecordDatatype) → (out-RecordDatatype r).kind ≡ RecordKind.Tuple → pointer_number (record_tree r) ≡ length (out-RecordDatatype r).members
 tuple-number r e = rw (tree-RecordDatatype r, e, members-are (out-RecordDatatype r).members, length-map (λ m. tree_of m.tref) (out-RecordDatatype r).members) refl
@@ -114,4 +97,22 @@ word-found ps i e = rw (word-position ps, e) refl
 pub word-missing : (ps : List InterfaceFuncParam) → position (λ r. is_none (result_word (plain (tree_of r.tref)))) ps ≡ None → option_map Place.Result (position (λ t. is_none (result_word (plain t))) (param_types ps)) ≡ None
 word-missing ps e = rw (word-position ps, e) refl
 
-pub ruleset signature_rules = (i32s-step, i32s-last, params-step, params-last, results-step, results-skip, results-last, pointers-step, pointers-last, number-behind, tuple-number, word-found, word-missing)
+-- stored whole, a result has one pointer
+pub one-pointer : (ws : List WasmType) (ps : List InterfaceFuncParam) (p : InterfaceFuncParam) → slice_get ps 0 ≡ Some p → ws ++ map (λ t. WasmType.I32) (take 1 (param_types ps)) ≡ ws ++ WasmType.I32 ∷ []
+one-pointer ws [] p e = absurd (none e)
+  where
+    none : None ≡ Some p → ⊥
+    none e = cc
+one-pointer ws (q ∷ ps) p e = refl
+
+pub none-pointer : (ws : List WasmType) (ps : List InterfaceFuncParam) → slice_get ps 0 ≡ None → ws ++ map (λ t. WasmType.I32) (take 1 (param_types ps)) ≡ ws
+none-pointer ws [] e = append-nil ws
+none-pointer ws (q ∷ ps) e = absurd (some e)
+  where
+    some : Some q ≡ None → ⊥
+    some e = cc
+
+pub wordless-found : (ps : List InterfaceFuncParam) → position (λ r. is_none (result_word (plain (tree_of r.tref)))) ps ≡ first_wordless Abi.Preview1 (param_types ps)
+wordless-found ps = sym (word-position ps)
+
+pub ruleset signature_rules = (one-pointer, none-pointer, wordless-found, i32s-step, i32s-last, params-step, params-last, results-step, results-skip, results-last, pointers-step, pointers-last, number-behind, tuple-number, word-found, word-missing)

@@ -1,5 +1,5 @@
 -- What is read off a type behind its names is what is read off the type.
-use Rattle.std.proofs.Common.{◌≡◌, ℕ, List, [], ◌∷◌, Bool, true, false, not, ◌&&◌, Option, Some, None, map, slice_get, refl, sym, ap, ◌∙◌, cond}
+use Rattle.std.proofs.Common.{◌≡◌, ℕ, List, [], ◌∷◌, Bool, true, false, not, ◌&&◌, Option, Some, None, is_some, map, slice_get, refl, sym, ap, ◌∙◌, cond}
 use Rattle.witx_ast.specs.Tree.{Tree, Arm, Arms, arm, arms_of, fields_of, behind}
 use Rattle.witx_ast.specs.Plain.{plain, plain_arms, all_bare}
 use Rattle.witx_ast.specs.Words.{all_arms_bare, is_bare}
@@ -10,24 +10,11 @@ use Rattle.witx_ast.specs.declared.types.Datatype.{Datatype}
 use Rattle.witx_ast.specs.declared.types.RecordMember.{RecordMember}
 use Rattle.witx_ast.specs.declared.types.Case.{Case}
 use Rattle.witx_ast.specs.declared.types.Variant.{Variant, out-Variant}
-use Rattle.witx_machine.specs.Functions.{is_tuple, member_types, ok_of, err_of, result_cases}
-use Rattle.witx_abi.specs.Reads.{variant_arms, tuple_types}
+use Rattle.witx_machine.specs.Functions.{tuple_types, is_tuple, member_types, ok_of, err_of, result_cases}
+use Rattle.witx_abi.specs.Reads.{variant_arms}
 
 pub plain-at : (t : Tree) (d : Datatype) → datatype_tree d ≡ behind t → plain t ≡ plain (datatype_tree d)
 plain-at t d e = sym (plain-behind t) ∙ ap plain (sym e)
-
-tuple-behind : (t : Tree) → is_tuple t ≡ is_tuple (behind t)
-tuple-behind (Tree.named n t d) = tuple-behind t
-tuple-behind (Tree.builtin b) = refl
-tuple-behind Tree.handle = refl
-tuple-behind (Tree.list_of t) = refl
-tuple-behind (Tree.pointer_to t) = refl
-tuple-behind (Tree.const_pointer_to t) = refl
-tuple-behind (Tree.record_of k ms) = refl
-tuple-behind (Tree.variant_of r cs) = refl
-
-pub tuple-at : (t : Tree) (d : Datatype) → datatype_tree d ≡ behind t → is_tuple t ≡ is_tuple (datatype_tree d)
-tuple-at t d e = tuple-behind t ∙ ap is_tuple (sym e)
 
 cases-behind : (t : Tree) → result_cases t ≡ result_cases (behind t)
 cases-behind (Tree.named n t d) = cases-behind t
@@ -95,7 +82,7 @@ pub err-none : (xs : List Case) → slice_get xs 1 ≡ None → err_of (arms_of 
 err-none [] e = refl
 err-none (x ∷ xs) e = err-arm (case_arm x).called (case_arm x).comment (case_arm x).payload (arms_of (map case_arm xs)) ∙ ok-none xs e
 
-tuples-behind : (t : Tree) → tuple_types t ≡ tuple_types (behind t)
+pub tuples-behind : (t : Tree) → tuple_types t ≡ tuple_types (behind t)
 tuples-behind (Tree.named n t d) = tuples-behind t
 tuples-behind (Tree.builtin b) = refl
 tuples-behind Tree.handle = refl
@@ -107,6 +94,9 @@ tuples-behind (Tree.variant_of r cs) = refl
 
 pub tuples-at : (t : Tree) (d : Datatype) → datatype_tree d ≡ behind t → tuple_types t ≡ tuple_types (datatype_tree d)
 tuples-at t d e = tuples-behind t ∙ ap tuple_types (sym e)
+
+pub tuple-at : (t : Tree) (d : Datatype) → datatype_tree d ≡ behind t → is_tuple t ≡ is_tuple (datatype_tree d)
+tuple-at t d e = ap is_some (tuples-at t d e)
 
 pub members-are : (ms : List RecordMember) → member_types (fields_of (map member_field ms)) ≡ map (λ m. tree_of m.tref) ms
 members-are [] = refl

@@ -1,6 +1,6 @@
 -- How the events and the instructions of the program are read: as the events of the machine.
 -- Each type is read as its tree, once, so that events say the same whatever pointers hold their types.
-use Rattle.std.specs.Prelude.{ℕ, List, map, length, Bool, true, false, Option, Some, None, option_map}
+use Rattle.std.specs.Prelude.{ℕ, List, map, length, Bool, true, false, option_map}
 use Rattle.witx_ast.specs.declared.function.InterfaceFuncParam.{InterfaceFuncParam}
 use Rattle.witx_ast.specs.declared.function.InterfaceFunc.{InterfaceFunc}
 use Rattle.std.specs.Borrow.{Bor}
@@ -11,8 +11,7 @@ use Rattle.witx_ast.specs.declared.types.Variant.{Variant, out-Variant}
 use Rattle.witx_ast.specs.Tree.{Tree, Arms, arms_of}
 use Rattle.witx_ast.specs.Reads.{tree_of, named_tree, case_arm}
 use Rattle.witx_ast.specs.Plain.{Plain}
-use Rattle.witx_ast.specs.declared.types.RecordKind.{RecordKind}
-use Rattle.witx_machine.specs.Functions.{Function, member_types}
+use Rattle.witx_machine.specs.Functions.{Function}
 use Rattle.witx_machine.specs.Signature.{pointers_at}
 use Rattle.witx_machine.specs.Events as machine
 use Rattle.witx_machine.specs.Events.{Step}
@@ -36,19 +35,13 @@ abbrev pub is_list_type : Plain → Bool
 is_list_type (Plain.list_of t) = true
 is_list_type _ = false
 
--- the types of a tuple's members, names looked through
-abbrev pub tuple_types : Tree → Option (List Tree)
-tuple_types (Tree.named n t d) = tuple_types t
-tuple_types (Tree.record_of RecordKind.Tuple ms) = Some (member_types ms)
-tuple_types _ = None
-
 -- the types of return pointers
 abbrev pub pointer_types : List (Bor (Rc NamedType Global)) → List Tree
 pointer_types ps = map (λ p. named_tree p.now.value) ps
 
 -- how many return pointers an ok type needs: one for each member of a tuple, else one
 abbrev pub pointer_number : Tree → ℕ
-pointer_number t = length (pointers_at t t)
+pointer_number t = length (pointers_at t)
 
 -- what an instruction says
 abbrev pub step_of : declared_instruction.Instruction → Step

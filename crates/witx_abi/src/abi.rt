@@ -26,7 +26,7 @@ pub trait AbiFunc {
 
     /// The types of the words that go in and of those that come back; return pointers go in last.
     ///
-    /// Refused exactly for the first result that is a list, or a record that isn't flags.
+    /// Refused exactly for the first result, under `Preview1`, that is a list, or a record that isn't flags.
     fn wasm_signature(&self, alloc: Global) -> Result<(WasmTypes, WasmTypes), SignatureError>
         ensures params { IfOk result (λ words. words.0 ≡ signature_params (function self.now)) }
         ensures results { IfOk result (λ words. words.1 ≡ signature_results (function self.now)) }
@@ -137,7 +137,7 @@ fn play_call<'a, B: Bindgen>(
     ensures place { unlowerable_place result ≡ None }
     ensures cause { Counts (is_bindgen_fault result) (B.faults bindgen.old) (B.faults bindgen.new) }
 {
-    let pointers = match return_pointers(alloc, &func.results) {
+    let pointers = match return_pointers(alloc, func.abi, &func.results) {
         Ok(pointers) => pointers,
         Err(OutOfMemory) => return Err(AbiError::OutOfMemory),
     };
@@ -162,7 +162,7 @@ fn play_callee<'a, B: Bindgen>(
     ensures place { unlowerable_place result ≡ None }
     ensures cause { Counts (is_bindgen_fault result) (B.faults bindgen.old) (B.faults bindgen.new) }
 {
-    let pointers = match return_pointers(alloc, &func.results) {
+    let pointers = match return_pointers(alloc, func.abi, &func.results) {
         Ok(pointers) => pointers,
         Err(OutOfMemory) => return Err(AbiError::OutOfMemory),
     };

@@ -12,7 +12,7 @@ use witx_ast::NamedType;
 use witx_base::{Failed, OutOfMemory};
 
 /// Why a generator refused an event.
-#[derive(Clone, Copy, PartialEq, Eq, Debug)]
+#[derive(Clone, Copy, PartialEq, Eq)]
 pub enum BindgenError {
     /// It counted a fault.
     Failed,

@@ -1,10 +1,11 @@
 ghost use Rattle.std.specs.Prelude.{◌≡◌, ◌+◌, ◌++◌, ◌∷◌, [], cond, IfOk, None, Some, is_some, length, option_map, position, not, true, false};
 ghost use Rattle.witx_ast.specs.Plain.{plain};
+ghost use Rattle.witx_ast.specs.declared.function.Abi.TheVariants.{Preview1};
 ghost use Rattle.witx_ast.specs.Reads.{tree_of};
 ghost use Rattle.witx_machine.specs.Events as machine;
 ghost use Rattle.witx_machine.specs.Functions.{is_tuple, result_cases};
 ghost use Rattle.witx_machine.specs.Lowerable.{can_be_param, can_be_err, can_be_result, unlowerable, unlowerable_result};
-ghost use Rattle.witx_machine.specs.Signature.{param_words, words_of_params, ok_pointers, pointers_of, pointers_by, return_pointers};
+ghost use Rattle.witx_machine.specs.Signature.{param_words, words_of_params, ok_pointers, pointers_of, pointers_by, pointers_under, return_pointers, signature_results};
 ghost use Rattle.witx_machine.specs.Traces as traces;
 ghost use Rattle.witx_abi.specs.Reads.{called, param_types, planned_events, pointer_types};
 
@@ -13,7 +14,7 @@ use crate::lowering::{lift, lower};
 use crate::plan::{Plan, Planned, add, put};
 use crate::pointers::Pointers;
 use crate::reading::{err_type, is_list, is_tuple, ok_type, result_cases};
-use witx_ast::{InterfaceFunc, Params, TypeRef};
+use witx_ast::{Abi, InterfaceFunc, Params, TypeRef};
 use witx_base::{Id, OutOfMemory};
 
 /// Plans the events of the side that is called.
@@ -31,9 +32,21 @@ pub fn plan_callee<'a>(
     let first = lift_params(plan, &func.params)?;
     let module = module_name.as_str();
     put(plan, Instruction::CallInterface { module, func })?;
-    lower_results(plan, &func.results, first, pointers)?;
-    let amt = func.results.len();
+    lower_results(plan, func.abi, &func.results, first, pointers)?;
+    let amt = word_count(func);
     put(plan, Instruction::Return { amt })
+}
+
+// How many words come back.
+#[tactic(auto, using(crate::proofs::Sides::side_rules))]
+fn word_count(func: &InterfaceFunc) -> usize
+    requires { unlowerable (called func.now) ≡ None }
+    ensures { result ≡ length (signature_results (called func.now)) }
+{
+    match func.abi {
+        Abi::Preview1 => func.results.len(),
+        Abi::Stored => 0,
+    }
 }
 
 // Answers the number of words: that of the first return pointer.
@@ -70,11 +83,29 @@ fn get_words<'a>(plan: &mut Plan<'a>, word: usize, tref: &TypeRef) -> Result<usi
 #[tactic(auto, using(crate::proofs::Sides::side_rules))]
 fn lower_results<'a>(
     plan: &mut Plan<'a>,
+    abi: Abi,
     results: &'a Params,
     first: usize,
     pointers: &Pointers<'a>,
 ) -> Result<(), OutOfMemory>
-    requires lowerable { unlowerable_result (param_types results.now) ≡ None }
+    requires lowerable { unlowerable_result abi (param_types results.now) ≡ None }
+    requires pointers { pointer_types pointers.now ≡ pointers_under abi (param_types results.now) }
+    ensures { IfOk result (λ _. planned_events plan.new ≡ planned_events plan.old ++ traces.lower_under abi first (param_types results.now)) }
+{
+    match abi {
+        Abi::Preview1 => lower_first(plan, results, first, pointers),
+        Abi::Stored => store_all(plan, first, pointers),
+    }
+}
+
+#[tactic(auto, using(crate::proofs::Sides::side_rules))]
+fn lower_first<'a>(
+    plan: &mut Plan<'a>,
+    results: &'a Params,
+    first: usize,
+    pointers: &Pointers<'a>,
+) -> Result<(), OutOfMemory>
+    requires lowerable { unlowerable_result Preview1 (param_types results.now) ≡ None }
     requires pointers { pointer_types pointers.now ≡ pointers_of (param_types results.now) }
     ensures { IfOk result (λ _. planned_events plan.new ≡ planned_events plan.old ++ traces.lower_of first (param_types results.now)) }
 {
@@ -91,7 +122,7 @@ fn lower_result<'a>(
     first: usize,
     pointers: &Pointers<'a>,
 ) -> Result<(), OutOfMemory>
-    requires lowerable { can_be_result (tree_of tref.now) ≡ true }
+    requires lowerable { can_be_result Preview1 (tree_of tref.now) ≡ true }
     requires pointers { pointer_types pointers.now ≡ pointers_by (result_cases (tree_of tref.now)) }
     ensures { IfOk result (λ _. planned_events plan.new ≡ planned_events plan.old ++ traces.lower_by (result_cases (tree_of tref.now)) first (tree_of tref.now)) }
 {

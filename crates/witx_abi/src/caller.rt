@@ -1,9 +1,10 @@
 ghost use Rattle.std.specs.Prelude.{◌≡◌, ◌++◌, ◌∷◌, [], IfOk, None, Some, cond, is_some, option_map, position, not, true};
+ghost use Rattle.witx_ast.specs.declared.function.Abi.TheVariants.{Preview1};
 ghost use Rattle.witx_ast.specs.Reads.{tree_of};
 ghost use Rattle.witx_machine.specs.Events as machine;
 ghost use Rattle.witx_machine.specs.Functions.{is_tuple, result_cases};
 ghost use Rattle.witx_machine.specs.Lowerable.{can_be_param, can_be_err, can_be_result, unlowerable, unlowerable_result};
-ghost use Rattle.witx_machine.specs.Signature.{signature_params, signature_results, ok_pointers, pointers_of, pointers_by, return_pointers};
+ghost use Rattle.witx_machine.specs.Signature.{signature_params, signature_results, ok_pointers, pointers_of, pointers_by, pointers_under, return_pointers};
 ghost use Rattle.witx_machine.specs.Traces as traces;
 ghost use Rattle.witx_abi.specs.Reads.{called, param_types, planned_events, pointer_types};
 
@@ -12,7 +13,7 @@ use crate::lowering::{lift, lower};
 use crate::plan::{Plan, Planned, add, put};
 use crate::pointers::Pointers;
 use crate::reading::{err_type, is_tuple, ok_type, result_cases};
-use witx_ast::{InterfaceFunc, Params, TypeRef};
+use witx_ast::{Abi, InterfaceFunc, Params, TypeRef};
 use witx_base::{Id, OutOfMemory};
 
 /// Plans the events of the side that calls.
@@ -44,7 +45,7 @@ pub fn plan_caller<'a>(
             results,
         },
     )?;
-    lift_results(plan, &func.results, pointers)?;
+    lift_results(plan, func.abi, &func.results, pointers)?;
     let amt = func.results.len();
     put(plan, Instruction::Return { amt })
 }
@@ -76,10 +77,27 @@ fn make_spaces<'a>(plan: &mut Plan<'a>, pointers: &Pointers<'a>) -> Result<(), O
 #[tactic(auto, using(crate::proofs::Sides::side_rules))]
 fn lift_results<'a>(
     plan: &mut Plan<'a>,
+    abi: Abi,
     results: &'a Params,
     pointers: &Pointers<'a>,
 ) -> Result<(), OutOfMemory>
-    requires lowerable { unlowerable_result (param_types results.now) ≡ None }
+    requires lowerable { unlowerable_result abi (param_types results.now) ≡ None }
+    requires pointers { pointer_types pointers.now ≡ pointers_under abi (param_types results.now) }
+    ensures { IfOk result (λ _. planned_events plan.new ≡ planned_events plan.old ++ traces.lift_under abi (param_types results.now)) }
+{
+    match abi {
+        Abi::Preview1 => lift_first(plan, results, pointers),
+        Abi::Stored => load_all(plan, pointers),
+    }
+}
+
+#[tactic(auto, using(crate::proofs::Sides::side_rules))]
+fn lift_first<'a>(
+    plan: &mut Plan<'a>,
+    results: &'a Params,
+    pointers: &Pointers<'a>,
+) -> Result<(), OutOfMemory>
+    requires lowerable { unlowerable_result Preview1 (param_types results.now) ≡ None }
     requires pointers { pointer_types pointers.now ≡ pointers_of (param_types results.now) }
     ensures { IfOk result (λ _. planned_events plan.new ≡ planned_events plan.old ++ traces.lift_of (param_types results.now)) }
 {
@@ -95,7 +113,7 @@ fn lift_result<'a>(
     tref: &'a TypeRef,
     pointers: &Pointers<'a>,
 ) -> Result<(), OutOfMemory>
-    requires lowerable { can_be_result (tree_of tref.now) ≡ true }
+    requires lowerable { can_be_result Preview1 (tree_of tref.now) ≡ true }
     requires pointers { pointer_types pointers.now ≡ pointers_by (result_cases (tree_of tref.now)) }
     ensures { IfOk result (λ _. planned_events plan.new ≡ planned_events plan.old ++ traces.lift_by (result_cases (tree_of tref.now)) (tree_of tref.now)) }
 {

@@ -1,23 +1,28 @@
 ghost use Rattle.std.specs.Prelude.{◌≡◌, ◌&&◌, ◌||◌, map, not, option_map, position};
 ghost use Rattle.witx_ast.specs.Reads.{tree_of, datatype_tree, record_tree, variant_tree};
-ghost use Rattle.witx_machine.specs.Lowerable.{can_be_result, can_be_ok, can_be_err, can_return, is_expected, members_are_named, all_names, can_be_param, unlowerable, unlowerable_result};
+ghost use Rattle.witx_machine.specs.Lowerable.{can_be_result, can_be_ok, can_be_err, can_return, members_are_named, all_names, can_be_param, unlowerable, unlowerable_result};
 ghost use Rattle.witx_ast.specs.Plain.{plain_arms};
+ghost use Rattle.witx_ast.specs.Tree.{arm_list};
+ghost use Rattle.witx_ast.specs.Words.{is_expected};
 ghost use Rattle.witx_machine.specs.Functions.{has_payload, ok_of, err_of};
 ghost use Rattle.witx_abi.specs.Reads.{called, param_types, variant_arms};
 ghost use Rattle.witx_abi.specs.Told.{refused_place};
 
 use crate::reading::{can_be_param, err_type, is_tuple, ok_type, passes_one_i32};
 use witx_ast::{
-    Datatype, IntRepr, InterfaceFunc, Members, Params, RecordDatatype, RecordKind, TypeRef, Variant,
+    Abi, Datatype, IntRepr, InterfaceFunc, Members, Params, RecordDatatype, RecordKind, TypeRef,
+    Variant,
 };
 use witx_machine::Place;
 
 /// Whether a function can be lowered, and if not, where: the first parameter that can't, else result 1
 /// where there are two or more results, else result 0.
 ///
-/// A parameter that is a record, a variant or a handle must be a name. A result is a builtin, a pointer,
-/// a named handle, named flags, or a variant of the cases `ok` and `err` whose tag isn't `u64`: named if
-/// it has no payload, with a name or a tuple of names for ok, and a name passed as one I32 for err.
+/// A parameter that is a record, a variant or a handle must be a name. Under `Stored` a result must be a
+/// name. Under `Preview1` it is a builtin, a pointer, a named handle, named flags, or a variant of the
+/// cases `ok` and `err` whose tag isn't `u64`: named if it has no payload, with a name or a tuple of names
+/// for ok, and a name passed as one I32 for err. Where ok's name stands for a tuple, that one's members
+/// must be names too.
 #[tactic(auto, using(crate::proofs::Results::lowerable_rules))]
 pub fn lowerable(func: &InterfaceFunc) -> Result<(), Place>
     ensures { refused_place result ≡ unlowerable (called func.now) }
@@ -25,7 +30,7 @@ pub fn lowerable(func: &InterfaceFunc) -> Result<(), Place>
     if let Some(i) = first_failing(&func.params) {
         return Err(Place::Param(i));
     }
-    match failing_result(&func.results) {
+    match failing_result(func.abi, &func.results) {
         None => Ok(()),
         Some(place) => Err(place),
     }
@@ -42,13 +47,13 @@ fn first_failing(params: &Params) -> Option<usize>
 }
 
 #[tactic(auto, using(crate::proofs::Results::lowerable_rules))]
-fn failing_result(results: &Params) -> Option<Place>
-    ensures { result ≡ unlowerable_result (param_types results.now) }
+fn failing_result(abi: Abi, results: &Params) -> Option<Place>
+    ensures { result ≡ unlowerable_result abi (param_types results.now) }
 {
     match results.as_slice() {
         [] => None,
         [only] => {
-            if can_be_result(&only.tref) {
+            if can_be_result(abi, &only.tref) {
                 None
             } else {
                 Some(Place::Result(0))
@@ -59,10 +64,13 @@ fn failing_result(results: &Params) -> Option<Place>
 }
 
 #[tactic(auto, using(witx_ast::proofs::TreeKinds::kind_rules, crate::proofs::Results::lowerable_rules))]
-fn can_be_result(tref: &TypeRef) -> bool
-    ensures { result ≡ can_be_result (tree_of tref.now) }
+fn can_be_result(abi: Abi, tref: &TypeRef) -> bool
+    ensures { result ≡ can_be_result abi (tree_of tref.now) }
 {
-    can_return(tref.type_(), tref.named())
+    match abi {
+        Abi::Preview1 => can_return(tref.type_(), tref.named()),
+        Abi::Stored => tref.named(),
+    }
 }
 
 #[tactic(auto, using(witx_ast::proofs::TreeKinds::kind_rules, crate::proofs::Results::lowerable_rules))]
@@ -100,7 +108,7 @@ fn variant_can_return(variant: &Variant, named: bool) -> bool
 
 #[tactic(auto, using(witx_ast::proofs::TreeKinds::kind_rules, crate::proofs::Results::lowerable_rules))]
 fn cases_can_return(variant: &Variant, named: bool) -> bool
-    ensures { result ≡ is_expected (variant_arms variant.now) && ((has_payload (plain_arms (variant_arms variant.now)) || named) && (can_be_ok (ok_of (variant_arms variant.now)) && can_be_err (err_of (variant_arms variant.now)))) }
+    ensures { result ≡ is_expected (arm_list (variant_arms variant.now)) && ((has_payload (plain_arms (variant_arms variant.now)) || named) && (can_be_ok (ok_of (variant_arms variant.now)) && can_be_err (err_of (variant_arms variant.now)))) }
 {
     variant.as_expected().is_some()
         && (!variant.is_enum() || named)

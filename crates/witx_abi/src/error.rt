@@ -5,15 +5,15 @@ use witx_base::OutOfMemory;
 use witx_machine::Place;
 
 /// Why a function has no signature.
-#[derive(Clone, Copy, PartialEq, Eq, Debug)]
+#[derive(Clone, Copy, PartialEq, Eq)]
 pub enum SignatureError {
-    /// This result is a list, or a record that isn't flags.
+    /// This result, under `Preview1`, is a list, or a record that isn't flags.
     Unlowerable(Place),
     OutOfMemory,
 }
 
 /// Why a function's events weren't all made.
-#[derive(Clone, Copy, PartialEq, Eq, Debug)]
+#[derive(Clone, Copy, PartialEq, Eq)]
 pub enum AbiError {
     /// This parameter or result can't be lowered; there was no event.
     Unlowerable(Place),
@@ -29,26 +29,6 @@ impl From<OutOfMemory> for SignatureError {
 
     fn from(_refused: OutOfMemory) -> SignatureError {
         SignatureError::OutOfMemory
-    }
-}
-
-impl From<OutOfMemory> for AbiError {
-    ghost use Rattle.witx_abi.specs.declared.error.AbiError.{AbiError};
-
-    ghost from_gives = { λ refused error. error ≡ AbiError.OutOfMemory };
-
-    fn from(_refused: OutOfMemory) -> AbiError {
-        AbiError::OutOfMemory
-    }
-}
-
-impl From<Place> for AbiError {
-    ghost use Rattle.witx_abi.specs.declared.error.AbiError.{AbiError};
-
-    ghost from_gives = { λ place error. error ≡ AbiError.Unlowerable place };
-
-    fn from(place: Place) -> AbiError {
-        AbiError::Unlowerable(place)
     }
 }
 

@@ -4,7 +4,7 @@ use witx_ast::{NamedType, TypeRef, TypeRefs};
 use witx_base::{Id, Items};
 
 /// What an instruction said, kept: the variants of [`Instruction`](crate::Instruction) with owned fields.
-#[derive(PartialEq, Eq, Debug, Drop)]
+#[derive(PartialEq, Eq, Drop)]
 pub enum Step {
     /// Pushes an argument: the caller's values or the callee's words, numbered from 0.
     GetArg {
@@ -130,7 +130,7 @@ pub enum Step {
 }
 
 /// One call of a generator.
-#[derive(PartialEq, Eq, Debug, Drop)]
+#[derive(PartialEq, Eq, Drop)]
 pub enum Event {
     Emit(Step),
     /// Room was made for a result of this type, and numbered.

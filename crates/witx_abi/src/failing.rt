@@ -16,7 +16,7 @@ use witx_base::{CallCounter, Calls};
 
 /// A trace some of whose calls fail: exactly those with the listed numbers, counted from 0 over all
 /// four kinds of call. A call that fails records no event.
-#[derive(Debug, Drop)]
+#[derive(Drop)]
 pub struct FailingBindgen {
     trace: Trace,
     calls: CallCounter,

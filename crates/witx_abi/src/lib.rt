@@ -14,10 +14,10 @@ mod kept;
 mod lowering;
 mod plan;
 mod pointers;
+mod promises;
 mod reading;
+mod recorded;
 mod signature;
-#[cfg(test)]
-mod tests;
 mod trace;
 
 pub use abi::AbiFunc;
@@ -27,6 +27,9 @@ pub use error::{AbiError, SignatureError};
 pub use event::{Event, Events, Step};
 pub use failing::FailingBindgen;
 pub use instruction::{Instruction, WasmTypes};
+pub use promises::functions_are_read_as_their_trees;
+pub use recorded::{callee_trace, caller_trace};
+pub use signature::{words_back, words_in};
 pub use trace::Trace;
 pub use witx_ast::TypeRefs;
 pub use witx_machine::{Place, WasmType};

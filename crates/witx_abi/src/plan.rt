@@ -14,7 +14,7 @@ use witx_ast::NamedType;
 use witx_base::{Items, OutOfMemory};
 
 /// One event to come, with what it speaks of borrowed.
-#[derive(Debug, Drop)]
+#[derive(Drop)]
 pub enum Planned<'a> {
     Emit(Instruction<'a>),
     Space { slot: usize, ty: &'a Rc<NamedType> },

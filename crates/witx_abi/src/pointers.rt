@@ -1,15 +1,16 @@
-ghost use Rattle.std.specs.Prelude.{◌≡◌, ◌++◌, ◌∷◌, [], None, Some, IfOk, map, option_map, true};
+ghost use Rattle.std.specs.Prelude.{◌≡◌, ◌++◌, ◌∷◌, [], None, Some, IfOk, map, option_map, take, true};
+ghost use Rattle.witx_ast.specs.declared.function.Abi.TheVariants.{Preview1, Stored};
 ghost use Rattle.witx_ast.specs.Reads.{tree_of};
 ghost use Rattle.witx_ast.specs.Words.{is_named};
 ghost use Rattle.witx_machine.specs.Lowerable.{can_be_ok, can_be_result, all_names, unlowerable_result};
 ghost use Rattle.witx_machine.specs.Functions.{result_cases};
-ghost use Rattle.witx_machine.specs.Signature.{ok_pointers, pointers_of, pointers_by};
+ghost use Rattle.witx_machine.specs.Signature.{ok_pointers, pointers_of, pointers_by, pointers_under};
 ghost use Rattle.witx_abi.specs.Reads.{param_types, pointer_types};
 
 use crate::reading::{ok_type, result_cases, tuple_members};
 use std::alloc::Global;
 use std::rc::Rc;
-use witx_ast::{Members, NamedType, Params, TypeRef};
+use witx_ast::{Abi, Members, NamedType, Params, TypeRef};
 use witx_base::{Items, OutOfMemory};
 
 /// The types of return pointers, in order.
@@ -17,8 +18,36 @@ pub type Pointers<'a> = Items<&'a Rc<NamedType>>;
 
 /// The return pointers of a function that can be lowered.
 #[tactic(auto, using(crate::proofs::Sides::side_rules))]
-pub fn return_pointers<'a>(alloc: Global, results: &'a Params) -> Result<Pointers<'a>, OutOfMemory>
-    requires { unlowerable_result (param_types results.now) ≡ None }
+pub fn return_pointers<'a>(
+    alloc: Global,
+    abi: Abi,
+    results: &'a Params,
+) -> Result<Pointers<'a>, OutOfMemory>
+    requires { unlowerable_result abi (param_types results.now) ≡ None }
+    ensures { IfOk result (λ pointers. pointer_types pointers ≡ pointers_under abi (param_types results.now)) }
+{
+    match abi {
+        Abi::Preview1 => first_pointers(alloc, results),
+        Abi::Stored => stored_pointer(alloc, results),
+    }
+}
+
+// The one pointer to a result that is stored whole.
+#[tactic(auto, using(crate::proofs::Sides::side_rules, crate::proofs::PointerTypes::pointer_rules))]
+fn stored_pointer<'a>(alloc: Global, results: &'a Params) -> Result<Pointers<'a>, OutOfMemory>
+    requires { unlowerable_result Stored (param_types results.now) ≡ None }
+    ensures { IfOk result (λ pointers. pointer_types pointers ≡ take 1 (param_types results.now)) }
+{
+    let mut pointers = Items::new(alloc);
+    if let Some(only) = results.get(0) {
+        push_named(&mut pointers, &only.tref)?;
+    }
+    Ok(pointers)
+}
+
+#[tactic(auto, using(crate::proofs::Sides::side_rules))]
+fn first_pointers<'a>(alloc: Global, results: &'a Params) -> Result<Pointers<'a>, OutOfMemory>
+    requires { unlowerable_result Preview1 (param_types results.now) ≡ None }
     ensures { IfOk result (λ pointers. pointer_types pointers ≡ pointers_of (param_types results.now)) }
 {
     match results.get(0) {
@@ -29,7 +58,7 @@ pub fn return_pointers<'a>(alloc: Global, results: &'a Params) -> Result<Pointer
 
 #[tactic(auto, using(crate::proofs::Sides::side_rules))]
 fn result_pointers<'a>(alloc: Global, tref: &'a TypeRef) -> Result<Pointers<'a>, OutOfMemory>
-    requires { can_be_result (tree_of tref.now) ≡ true }
+    requires { can_be_result Preview1 (tree_of tref.now) ≡ true }
     ensures { IfOk result (λ pointers. pointer_types pointers ≡ pointers_by (result_cases (tree_of tref.now))) }
 {
     match result_cases(tref) {

@@ -1,11 +1,11 @@
 ghost use Rattle.std.specs.Prelude.{◌≡◌, ◌++◌, ◌∷◌, [], IfOk, map, option_map};
 ghost use Rattle.witx_ast.specs.Plain.{plain};
 ghost use Rattle.witx_ast.specs.Reads.{tree_of, datatype_tree, record_tree, case_arm};
-ghost use Rattle.witx_machine.specs.Functions.{ok_of, err_of, is_tuple, result_cases};
+ghost use Rattle.witx_machine.specs.Functions.{ok_of, err_of, tuple_types, is_tuple, result_cases};
 ghost use Rattle.witx_machine.specs.Signature.{param_words, result_word};
 ghost use Rattle.witx_machine.specs.Words.{builtin_word_type, same_types};
 ghost use Rattle.witx_machine.specs.Lowerable.{can_be_param};
-ghost use Rattle.witx_abi.specs.Reads.{variant_arms, is_list_type, tuple_types};
+ghost use Rattle.witx_abi.specs.Reads.{variant_arms, is_list_type};
 
 use crate::instruction::WasmTypes;
 use witx_ast::{

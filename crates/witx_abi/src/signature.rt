@@ -1,8 +1,8 @@
-ghost use Rattle.std.specs.Prelude.{◌≡◌, ◌++◌, IfOk, is_none, length, map, option_map, position, replicate};
+ghost use Rattle.std.specs.Prelude.{◌≡◌, ◌++◌, IfOk, is_none, length, map, option_map, position, replicate, take};
 ghost use Rattle.witx_ast.specs.Plain.{plain};
 ghost use Rattle.witx_ast.specs.Reads.{tree_of, datatype_tree, record_tree};
 ghost use Rattle.witx_machine.specs.Functions.{result_cases};
-ghost use Rattle.witx_machine.specs.Signature.{pointers_by, ok_pointers, pointers_of, result_word, signature_params, signature_results, without_signature, words_of_params};
+ghost use Rattle.witx_machine.specs.Signature.{first_wordless, pointers_under, words_of_results, pointers_by, ok_pointers, pointers_of, result_word, signature_params, signature_results, without_signature, words_of_params};
 ghost use Rattle.witx_abi.specs.Reads.{called, param_types, pointer_number};
 ghost use Rattle.witx_abi.specs.Told.{signature_place};
 
@@ -10,7 +10,7 @@ use crate::error::SignatureError;
 use crate::instruction::WasmTypes;
 use crate::reading::{ok_type, push_param_words, result_cases, result_word};
 use std::alloc::Global;
-use witx_ast::{Datatype, InterfaceFunc, Params, RecordDatatype, RecordKind, TypeRef};
+use witx_ast::{Abi, Datatype, InterfaceFunc, Params, RecordDatatype, RecordKind, TypeRef};
 use witx_base::{Items, OutOfMemory};
 use witx_machine::{Place, WasmType};
 
@@ -24,10 +24,21 @@ pub fn signature(
     ensures results { IfOk result (λ words. words.1 ≡ signature_results (called func.now)) }
     ensures unlowerable { signature_place result ≡ without_signature (called func.now) }
 {
-    if let Some(i) = first_without_word(&func.results) {
+    if let Some(i) = first_wordless(func.abi, &func.results) {
         return Err(SignatureError::Unlowerable(Place::Result(i)));
     }
     Ok((words_in(alloc, func)?, words_back(alloc, func)?))
+}
+
+// The first result that would have to come back as a word, and has none.
+#[tactic(auto, using(crate::proofs::Signatures::signature_rules))]
+fn first_wordless(abi: Abi, results: &Params) -> Option<usize>
+    ensures { result ≡ first_wordless abi (param_types results.now) }
+{
+    match abi {
+        Abi::Preview1 => first_without_word(results),
+        Abi::Stored => None,
+    }
 }
 
 // The first result that has no word.
@@ -47,7 +58,7 @@ pub fn words_in(alloc: Global, func: &InterfaceFunc) -> Result<WasmTypes, OutOfM
 {
     let mut words = Items::new(alloc);
     push_params(&mut words, &func.params)?;
-    push_pointers(&mut words, &func.results)?;
+    push_pointers(&mut words, func.abi, &func.results)?;
     Ok(words)
 }
 
@@ -56,8 +67,18 @@ pub fn words_in(alloc: Global, func: &InterfaceFunc) -> Result<WasmTypes, OutOfM
 pub fn words_back(alloc: Global, func: &InterfaceFunc) -> Result<WasmTypes, OutOfMemory>
     ensures { IfOk result (λ words. words ≡ signature_results (called func.now)) }
 {
+    match func.abi {
+        Abi::Preview1 => result_words(alloc, &func.results),
+        Abi::Stored => Ok(Items::new(alloc)),
+    }
+}
+
+#[tactic(auto, using(crate::proofs::Signatures::signature_rules))]
+fn result_words(alloc: Global, results: &Params) -> Result<WasmTypes, OutOfMemory>
+    ensures { IfOk result (λ words. words ≡ words_of_results (param_types results.now)) }
+{
     let mut words = Items::new(alloc);
-    for each in func.results.as_slice() {
+    for each in results.as_slice() {
         if let Some(word) = result_word(&each.tref) {
             words.push(word)?;
         }
@@ -77,7 +98,29 @@ fn push_params(words: &mut WasmTypes, params: &Params) -> Result<(), OutOfMemory
 
 // A word for each return pointer.
 #[tactic(auto, using(crate::proofs::Signatures::signature_rules))]
-fn push_pointers(words: &mut WasmTypes, results: &Params) -> Result<(), OutOfMemory>
+fn push_pointers(words: &mut WasmTypes, abi: Abi, results: &Params) -> Result<(), OutOfMemory>
+    ensures { IfOk result (λ _. words.new ≡ words.old ++ map (λ t. WasmType.I32) (pointers_under abi (param_types results.now))) }
+{
+    match abi {
+        Abi::Preview1 => push_ok_pointers(words, results),
+        Abi::Stored => push_one_pointer(words, results),
+    }
+}
+
+// The pointer to the whole result, if there is one.
+#[tactic(auto, using(crate::proofs::Signatures::signature_rules))]
+fn push_one_pointer(words: &mut WasmTypes, results: &Params) -> Result<(), OutOfMemory>
+    ensures { IfOk result (λ _. words.new ≡ words.old ++ map (λ t. WasmType.I32) (take 1 (param_types results.now))) }
+{
+    match results.get(0) {
+        Some(_) => words.push(WasmType::I32),
+        None => Ok(()),
+    }
+}
+
+// A pointer for each part of what an `ok` carries.
+#[tactic(auto, using(crate::proofs::Signatures::signature_rules))]
+fn push_ok_pointers(words: &mut WasmTypes, results: &Params) -> Result<(), OutOfMemory>
     ensures { IfOk result (λ _. words.new ≡ words.old ++ map (λ t. WasmType.I32) (pointers_of (param_types results.now))) }
 {
     for each in results.as_slice() {

@@ -1,19 +1,21 @@
-ghost use Rattle.std.specs.Prelude.{◌≡◌, [], map, All, OnOk, Some, is_some, vec_len};
+ghost use Rattle.std.specs.Prelude.{◌≡◌, [], map, All, IfOk, OnOk, Some, is_some, vec_len};
 ghost use Rattle.witx_machine.specs.Events.{emit, finish};
 ghost use Rattle.witx_machine.specs.Rows.{operands_count, results_count};
-ghost use Rattle.witx_abi.specs.Reads.{event_of, step_of};
+ghost use Rattle.witx_abi.specs.Reads.{event_of, planned_events, step_of};
 ghost use Rattle.witx_abi.specs.Told.{told_after, is_fault, Counts};
 
 use crate::bindgen::{Bindgen, BindgenError};
 use crate::event::{Event, Events, Step};
 use crate::instruction::Instruction;
+use crate::kept::kept_event;
+use crate::plan::Plan;
 use std::alloc::Global;
 use std::rc::Rc;
 use witx_ast::NamedType;
-use witx_base::Items;
+use witx_base::{Items, OutOfMemory};
 
 /// A generator that records the events of a trace, and never fails. Its operands are all 0.
-#[derive(Debug, Drop)]
+#[derive(Drop)]
 pub struct Trace {
     events: Events,
 }
@@ -26,6 +28,17 @@ impl Trace {
         Trace {
             events: Items::new(alloc),
         }
+    }
+
+    /// The trace of a plan.
+    pub(crate) fn of(alloc: Global, plan: &Plan<'_>) -> Result<Trace, OutOfMemory>
+        ensures { IfOk result (λ trace. map event_of trace.events ≡ planned_events plan.now) }
+    {
+        let mut events = Items::new(alloc);
+        for planned in plan.as_slice() {
+            events.push(kept_event(alloc, planned)?)?;
+        }
+        Ok(Trace { events })
     }
 
     /// The events so far.
@@ -56,8 +69,8 @@ impl Bindgen for Trace {
         ensures event { Some (map event_of self.new.events) ≡ told_after result (emit (step_of inst.now)) (Some (map event_of self.old.events)) }
         ensures cause { Counts (is_fault result) 0 0 }
     {
-        let step = Step::of(self.events.allocator(), inst)?;
         results.resize(inst.results_len(), 0)?;
+        let step = Step::of(self.events.allocator(), inst)?;
         self.events.push(Event::Emit(step))?;
         Ok(())
     }

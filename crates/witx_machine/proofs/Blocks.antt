@@ -4,7 +4,7 @@ use Rattle.witx_ast.specs.Tree.{Tree}
 use Rattle.witx_machine.specs.Events.{Event, emit, space, push, finish}
 use Rattle.witx_machine.specs.Rows.{result_lower, result_lift}
 use Rattle.witx_machine.specs.Traces.{block_of}
-use Rattle.witx_machine.specs.Machine.{Domain, went, State, Side, Inside, in_lower, in_lift, Item, word_item, value_item, plain_item, Block, found, next, flowing, gathering, runs_within, run_block, payload_item, result_word, lifted_payload, left_over, with_stack}
+use Rattle.witx_machine.specs.Machine.{Domain, went, State, Side, Inside, in_lower, in_lift, Item, word_item, value_item, plain_item, Block, found, next, flowing, gathering, runs_within, run_block, payload_item, block_word, lifted_payload, left_over, with_stack}
 use Rattle.witx_machine.proofs.Runs.{Try, Runs, only_true, plays, acts}
 
 -- steps alone
@@ -52,10 +52,10 @@ module _ {V W M C : Type 0} (D : Domain V W M) (side : Side (Unit {0}) Event V W
         ap (λ t. next (next t (λ s. left_over {P = Unit {0}} tt b.has_value s.stack s)) then_do) ran ∙ ap (λ t. next t then_do) left
 
     -- s: the state without the value and the two blocks
-    pub lowers_result : (inside : Inside V W) (ok err : Option Tree) (v : V) (c : Option Tree) (e : Bool) (p : Option (V × Option Tree)) (a b : Block Event) (s s' : State Event V W M C) (x : Option (Item V W)) (w : W) → T (side.has_cases ok err) → D.picks ok err v ≡ Some (e, p) → runs (in_lower (payload_item p)) (cond e b a).events (with_stack [] s) ≡ went s' → left_over {P = Unit {0}} tt (cond e b a).has_value s'.stack s' ≡ went (x, s') → result_word D e x ≡ Some w → acts D side runs inside (result_lower ok err) (record s { stack = value_item v c ∷ s.stack; blocks = b ∷ a ∷ s.blocks }) ≡ went (record s' { stack = word_item w ∷ s.stack })
+    pub lowers_result : (inside : Inside V W) (ok err : Option Tree) (v : V) (c : Option Tree) (e : Bool) (p : Option (V × Option Tree)) (a b : Block Event) (s s' : State Event V W M C) (x : Option (Item V W)) (w : W) → T (side.has_cases ok err) → D.picks ok err v ≡ Some (e, p) → runs (in_lower (payload_item p)) (cond e b a).events (with_stack [] s) ≡ went s' → left_over {P = Unit {0}} tt (cond e b a).has_value s'.stack s' ≡ went (x, s') → block_word D e x ≡ Some w → acts D side runs inside (result_lower ok err) (record s { stack = value_item v c ∷ s.stack; blocks = b ∷ a ∷ s.blocks }) ≡ went (record s' { stack = word_item w ∷ s.stack })
     lowers_result inside ok err v c e p a b s s' x w has is ran left word =
-        only_true (side.has_cases ok err) _ has ∙ ap (λ o. found o (λ c. next (run_block (λ e. e) (λ e. tt) D side runs (in_lower (payload_item c.1)) (cond c.0 b a) (record s { stack = value_item v None ∷ s.stack })) (λ r. found (result_word D c.0 r.0) (λ w. went (with_stack (word_item w ∷ s.stack) r.1))))) is
-        ∙ run_goes (in_lower (payload_item p)) (cond e b a) (record s { stack = value_item v None ∷ s.stack }) s' x (λ r. found (result_word D e r.0) (λ w. went (with_stack (word_item w ∷ s.stack) r.1))) ran left
+        only_true (side.has_cases ok err) _ has ∙ ap (λ o. found o (λ c. next (run_block (λ e. e) (λ e. tt) D side runs (in_lower (payload_item c.1)) (cond c.0 b a) (record s { stack = value_item v None ∷ s.stack })) (λ r. found (block_word D c.0 r.0) (λ w. went (with_stack (word_item w ∷ s.stack) r.1))))) is
+        ∙ run_goes (in_lower (payload_item p)) (cond e b a) (record s { stack = value_item v None ∷ s.stack }) s' x (λ r. found (block_word D e r.0) (λ w. went (with_stack (word_item w ∷ s.stack) r.1))) ran left
         ∙ ap (λ o. found o (λ w. went (with_stack (word_item w ∷ s.stack) s'))) word
 
     pub lifts_result : (inside : Inside V W) (w : W) (e : Bool) (a b : Block Event) (s s' : State Event V W M C) (x : Option (Item V W)) (p : Option V) → D.chooses w ≡ Some e → runs in_lift (cond e b a).events (with_stack [] s) ≡ went s' → left_over {P = Unit {0}} tt (cond e b a).has_value s'.stack s' ≡ went (x, s') → lifted_payload x ≡ Some p → acts D side runs inside result_lift (record s { stack = word_item w ∷ s.stack; blocks = b ∷ a ∷ s.blocks }) ≡ went (record s' { stack = plain_item (D.result e p) ∷ s.stack })

@@ -1,21 +1,31 @@
 -- The caller's whole run, around the callee's.
-use Rattle.std.proofs.Common.{◌≡◌, ℕ, true, T, refl, sym, ap, ◌∙◌, Option, Some, None, List, [], ◌∷◌, ◌++◌, append_assoc, option_and_then, option_to_list, map, length}
+use Rattle.std.proofs.Common.{◌≡◌, ℕ, ◌+◌, true, T, refl, sym, ap, ◌∙◌, Option, Some, None, List, [], ◌∷◌, ◌++◌, append_assoc, option_and_then, option_to_list, map, length}
 use Rattle.witx_machine.specs.Events.{Step, Event, emit}
 use Rattle.witx_machine.specs.Functions.{Function}
 use Rattle.witx_machine.specs.Signature.{signature_params, signature_results, return_pointers}
 use Rattle.witx_machine.specs.Traces.{lower_params, make_spaces, lift_results, caller_events}
 use Rattle.witx_machine.specs.Machine.{Domain, went, State, Side, Inside, outside, Item, word_item, value_item, Flow, found, next, only, flowing, after, pushed, runs_within, run_trace, ended, is_nil}
-use Rattle.witx_machine.specs.Run.{callee_side, caller_side, called_with, start, typed, words_in, values_in, one_word, Call, run}
+use Rattle.witx_machine.specs.Run.{callee_side, caller_side, handed_on, called_with, Receiver, numbers, in_order, start, typed, words_in, values_in, one_word, Call, run_to}
 use Rattle.witx_machine.specs.Passage.{Meaning}
 use Rattle.witx_machine.proofs.Scalars.{both_true, same_types_self}
 use Rattle.witx_machine.proofs.Laws.{Laws}
 use Rattle.witx_machine.proofs.Runs.{Try, Runs, only_true, runs_then, plays, runs_act, AreItemsOf, all_words_off, all_items_off}
-use Rattle.witx_machine.proofs.Params.{typed_length}
-use Rattle.witx_machine.proofs.Callee.{same_name_refl, as_items}
+use Rattle.witx_machine.proofs.Params.{StandAt, typed_length}
+use Rattle.witx_machine.proofs.Callee.{same_name_refl, as_items, stand_all}
 
 words_in_items : {W : Type 0} (V : Type 0) (ws : List W) → words_in (as_items V ws) ≡ Some ws
 words_in_items V [] = refl
 words_in_items V (w ∷ ws) = ap (option_and_then (λ ws. Some (w ∷ ws))) (words_in_items V ws)
+
+-- all words, as they are
+pub words_from : {W : Type 0} (all : List W) (k : ℕ) (ws : List W) → StandAt all k ws → in_order (numbers k (length ws)) all ≡ Some ws
+words_from all k [] h = refl
+words_from all k (w ∷ ws) h =
+    ap (option_and_then (λ w. option_and_then (λ more. Some (w ∷ more)) (in_order (numbers (k + 1) (length ws)) all))) h.0
+    ∙ ap (option_and_then (λ more. Some (w ∷ more))) (words_from all (k + 1) ws h.1)
+
+pub all_in_order : {W : Type 0} (ws : List W) (n : ℕ) → n ≡ length ws → in_order (numbers 0 n) ws ≡ Some ws
+all_in_order ws n e = ap (λ n. in_order (numbers 0 n) ws) e ∙ words_from ws 0 ws (stand_all ws)
 
 module _ {V W : Type 0} where
   pub values_in_items : (xs : List (Item V W)) (vs : List V) → AreItemsOf xs vs → values_in xs ≡ Some vs
@@ -28,16 +38,18 @@ module _ {V W : Type 0} where
 
 module _ {V W M : Type 0} {D : Domain V W M} {J : Meaning V W M} (L : Laws D J) where
   -- what the callee did
-  pub record CalleeRan (m : List ℕ) (f : Function) (callee : List Event) (reply : Option V) (words : List W) (before : M) : Type 0 where
+  pub record CalleeRan (m : List ℕ) (f : Function) (to : Receiver) (callee : List Event) (reply : Option V) (words : List W) (before : M) : Type 0 where
+    pub own : List W
+    pub handed : in_order to.order words ≡ Some own
     pub noted : List V
     pub results : List W
     pub end : State Event V W M (List V)
-    pub ran : run_trace {P = Unit {0}} (λ e. e) (λ e. tt) D (callee_side (λ e. e) (λ e. tt) D m f reply words) tt callee (start before) ≡ went (noted, map word_item results, end)
+    pub ran : run_trace {P = Unit {0}} (λ e. e) (λ e. tt) D (callee_side (λ e. e) (λ e. tt) D to.module_name to.function reply own) tt callee (start before) ≡ went (noted, map word_item results, end)
     pub types : T (typed D (signature_results f) results)
 
-  module _ (m : List ℕ) (f : Function) (callee : List Event) (vs : List V) (reply : Option V) where
+  module _ (m : List ℕ) (f : Function) (to : Receiver) (callee : List Event) (vs : List V) (reply : Option V) where
     abbrev pub side : Side (Unit {0}) Event V W M (Call V W M)
-    side = caller_side (λ e. e) (λ e. tt) D m f tt callee vs reply
+    side = caller_side (λ e. e) (λ e. tt) D m f to tt callee vs reply
 
     abbrev pub deep : ℕ → Inside V W → List Event → State Event V W M (Call V W M) → Try (State Event V W M (Call V W M))
     deep n = runs_within (λ e. e) (λ e. tt) D side n
@@ -51,22 +63,23 @@ module _ {V W M : Type 0} {D : Domain V W M} {J : Meaning V W M} (L : Laws D J) 
     abbrev pub late : List (ℕ × W) → List W → Call V W M → List (Item V W) → M → State Event V W M (Call V W M)
     late slots results call stack memory = record { stack = stack; slots = slots; memory = memory; blocks = []; returned = one_word results; called = Some call; answer = None }
 
-    abbrev pub call_of : {words : List W} {before : M} → CalleeRan m f callee reply words before → Call V W M
+    abbrev pub call_of : {words : List W} {before : M} → CalleeRan m f to callee reply words before → Call V W M
     call_of {words} {before} r = record { words = words; at_call = before; noted = r.noted; callee_words = r.results; at_return = r.end.memory }
 
-    pub call_goes : (n : ℕ) (slots : List (ℕ × W)) (words : List W) (before : M) → T (typed D (signature_params f) words) → (r : CalleeRan m f callee reply words before) → Runs (rule n) (emit (Step.CallWasm m f.name (signature_params f) (signature_results f)) ∷ []) (early slots (pushed (map word_item words) []) before) (late slots r.results (call_of r) (pushed (map word_item r.results) []) r.end.memory)
+    pub call_goes : (n : ℕ) (slots : List (ℕ × W)) (words : List W) (before : M) → T (typed D (signature_params f) words) → (r : CalleeRan m f to callee reply words before) → Runs (rule n) (emit (Step.CallWasm m f.name (signature_params f) (signature_results f)) ∷ []) (early slots (pushed (map word_item words) []) before) (late slots r.results (call_of r) (pushed (map word_item r.results) []) r.end.memory)
     call_goes n slots words before types r =
         let ps = signature_params f in
         let long : length ps ≡ length words = typed_length D ps words types in
         let ok = both_true _ _ (same_name_refl m) (both_true _ _ (same_name_refl f.name) (both_true _ _ (same_types_self ps) (same_types_self (signature_results f)))) in
         let s = early slots [] before in
         let after : List W → List V × List (Item V W) × State Event V W M (List V) → Try (State Event V W M (Call V W M)) = λ ws r'. went (record s { stack = pushed (map word_item ws) []; memory = r'.2.memory; returned = one_word ws; called = Some (record { words = words; at_call = before; noted = r'.0; callee_words = ws; at_return = r'.2.memory }) }) in
-        let ran : called_with (λ e. e) (λ e. tt) D m f tt callee reply words s ≡ went (late slots r.results (call_of r) (pushed (map word_item r.results) []) r.end.memory) =
-        ap (λ t. next t (λ r'. found (words_in r'.1) (λ ws. only (typed D (signature_results f) ws) (after ws r')))) r.ran
+        let ran : called_with (λ e. e) (λ e. tt) D m f to tt callee reply words s ≡ went (late slots r.results (call_of r) (pushed (map word_item r.results) []) r.end.memory) =
+        ap (λ o. found o (handed_on (λ e. e) (λ e. tt) D m f to tt callee reply words s)) r.handed
+        ∙ ap (λ t. next t (λ r'. found (words_in r'.1) (λ ws. only (typed D (signature_results f) ws) (after ws r')))) r.ran
         ∙ ap (λ o. found o (λ ws. only (typed D (signature_results f) ws) (after ws (r.noted, map word_item r.results, r.end)))) (words_in_items V r.results)
         ∙ only_true _ _ r.types in
         runs_act D side (deep n) outside _ (early slots (pushed (map word_item words) []) before) (late slots r.results (call_of r) (pushed (map word_item r.results) []) r.end.memory) (only_true _ _ ok
-        ∙ ap (λ o. found o (λ r. only (typed D ps r.0) (called_with (λ e. e) (λ e. tt) D m f tt callee reply r.0 (early slots r.1 before)))) (all_words_off words (length ps) long)
+        ∙ ap (λ o. found o (λ r. only (typed D ps r.0) (called_with (λ e. e) (λ e. tt) D m f to tt callee reply r.0 (early slots r.1 before)))) (all_words_off words (length ps) long)
         ∙ only_true _ _ types
         ∙ ran) refl
 
@@ -84,7 +97,7 @@ module _ {V W M : Type 0} {D : Domain V W M} {J : Meaning V W M} (L : Laws D J) 
       pub types : T (typed D (signature_params f) words)
       pub goes : Runs (rule n) (lower_params 0 f.params ++ make_spaces 0 (return_pointers f)) (early [] [] before) (early slots (pushed (map word_item words) []) after)
 
-    pub caller_runs : (before : M) (p : ParamsPassed (length (caller_events m f)) before) (r : CalleeRan m f callee reply p.words p.after) → (l : ResultLifted (length (caller_events m f)) p.slots r.results (call_of r) r.end.memory) → run {P = Unit {0}} (λ e. e) (λ e. tt) D m f tt tt (caller_events m f) callee vs reply before ≡ went (record { call = call_of r; back = l.items; memory = r.end.memory })
+    pub caller_runs : (before : M) (p : ParamsPassed (length (caller_events m f)) before) (r : CalleeRan m f to callee reply p.words p.after) → (l : ResultLifted (length (caller_events m f)) p.slots r.results (call_of r) r.end.memory) → run_to {P = Unit {0}} (λ e. e) (λ e. tt) D m f to tt tt (caller_events m f) callee vs reply before ≡ went (record { call = call_of r; back = l.items; memory = r.end.memory })
     caller_runs before p r l =
         let n = length (caller_events m f) in
         let call = emit (Step.CallWasm m f.name (signature_params f) (signature_results f)) in

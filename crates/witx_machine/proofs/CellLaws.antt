@@ -1,10 +1,11 @@
 -- The cells meet the laws, and so the two traces of a function that can be lowered are faithful.
-use Rattle.std.proofs.Common.{◌≡◌, ◌≢◌, ℕ, zero, suc, ◌+◌, ◌*◌, ◌^◌, ◌%◌, ◌/◌, ◌<◌, ◌≤◌, Bool, true, false, cond, not, ◌&&◌, T, refl, sym, ap, ◌∙◌, subst, arith, Option, Some, None, option_map, List, [], ◌∷◌, ◌++◌, length, map, nat_eq, ltb→lt, lt→ltb, leb→le, eqb→eq, nat_le, lit<, pow-suc, pow_mono, mod-eq_of_lt, lt_of_lt_of_le, inl, inr, IsTrue}
+use Rattle.std.proofs.Common.{◌≡◌, ◌≢◌, ℕ, zero, suc, ◌+◌, ◌*◌, ◌^◌, ◌%◌, ◌/◌, ◌<◌, ◌≤◌, Bool, true, false, cond, not, ◌&&◌, T, refl, sym, ap, ◌∙◌, subst, arith, Option, Some, None, option_map, option_and_then, List, [], ◌∷◌, ◌++◌, length, map, nat_eq, ltb→lt, lt→ltb, leb→le, eqb→eq, nat_le, lit<, pow-suc, pow_mono, mod-eq_of_lt, lt_of_lt_of_le, inl, inr, IsTrue}
 use lib.Dec.{eqb_refl}
+use Rattle.witx_ast.specs.declared.function.Abi.{Abi}
 use Rattle.witx_ast.specs.declared.types.BuiltinType.{BuiltinType}
 use Rattle.witx_ast.specs.declared.types.IntRepr.{IntRepr}
 use Rattle.witx_ast.specs.declared.types.RecordKind.{RecordKind}
-use Rattle.witx_ast.specs.Tree.{Tree, Field}
+use Rattle.witx_ast.specs.Tree.{Tree, Field, arm_list}
 use Rattle.witx_ast.specs.Tree.{Arms as TreeArms}
 use Rattle.witx_ast.specs.Plain.{Plain, Fields, Arms, plain, plain_arms, field_count, arm_count, all_bare}
 use Rattle.witx_ast.specs.Alike.{same_plain, same_builtin}
@@ -14,26 +15,39 @@ use Rattle.witx_ast.specs.Functions.{FunctionTree}
 use Rattle.witx_ast.specs.Tags.{fits, repr_bits, types_fit, function_fits}
 use Rattle.witx_ast.proofs.AlikeLaws.{alike-self, builtins-decide}
 use Rattle.witx_machine.specs.declared.surface.WasmType.{WasmType}
-use Rattle.witx_machine.specs.Words.{Word, i32, same_type, Scalar, number, address, const_address, handle_of, flags_of, enum_of, word_of, value_of, builtin_word_type, number_word, when, bits_of_flags, flags_from, flags_word, flags_value, repr_modulus, repr_word_type, enum_value, checked}
-use Rattle.witx_machine.specs.Functions.{function_of, has_payload, by_address, ok_of, err_of}
-use Rattle.witx_machine.specs.Lowerable.{is_expected, lowerable}
+use Rattle.witx_machine.specs.Words.{Word, i32, same_type, Scalar, number_of, pointer, const_pointer, handle_of, flags_of, enum_of, word_of, value_of, word_type, is_for, word_in, value_in, builtin_word_type, number_word, when, bits_of_flags, flags_from, repr_modulus, repr_word_type, checked}
+use Rattle.witx_machine.specs.Functions.{Function, function_of, has_payload, by_address, ok_of, err_of}
+use Rattle.witx_ast.specs.Words.{is_expected}
+use Rattle.witx_machine.specs.Lowerable.{lowerable}
 use Rattle.witx_machine.specs.Traces.{caller_events, callee_events}
-use Rattle.witx_machine.specs.Cells.{Cell, Cells, Memory, Taken, get, insert, given, loaded, stored, is_i32, list_words, list_of_values, values_of, tuple_parts, case_picked, result_value, cells, outcome}
-use Rattle.witx_machine.specs.Faithful.{cell_meaning, At, IsTaken, AreFree, AreOther, direct_words, is_zero, zero_of, zero_by, zero_in, are_arguments, is_reply, Faithful}
+use Rattle.witx_machine.specs.Cells.{Cell, Cells, Memory, Taken, get, insert, given, loaded, stored, is_i32, list_words, list_at, list_of_values, values_of, tuple_parts, case_picked, result_value, cells, outcome}
+use Rattle.witx_machine.specs.Faithful.{cell_meaning, At, IsTaken, AreFree, AreOther, direct_words, is_zero, zero_of, zero_by, zero_in, zero_under, are_arguments, is_reply, FaithfulTo, Faithful}
+use Rattle.witx_machine.specs.Events.{Event}
+use Rattle.witx_machine.specs.Run.{Receiver, itself, in_order}
+use Rattle.witx_machine.specs.Shims.{StandsIn, pass, FaithfulThrough}
 use Rattle.witx_machine.proofs.Scalars.{cut_back, truth, true_of, same_type_self, same_type_is, when_true, both_true, left_true, right_true}
-use Rattle.witx_machine.proofs.Laws.{Laws, Lowers, scalar_type, AreMembers, PayloadIs, named_payload}
+use Rattle.witx_machine.proofs.Alikes.{AlikeOption}
+use Rattle.witx_machine.proofs.Laws.{Laws, Lowers, AreMembers, PayloadIs, named_payload}
 use Rattle.witx_machine.proofs.Params.{AreArguments}
-use Rattle.witx_machine.proofs.Whole.{IsReply}
+use Rattle.witx_machine.proofs.Whole.{IsReply, RunWell}
 use Rattle.witx_machine.proofs.All.{all_fit, traces_run_well}
+use Rattle.witx_machine.proofs.Orders.{shim_runs_well}
+
+-- lowering by a name, as its type has it
+abbrev lowered : Scalar → Value → Plain → Option Word
+lowered x v p = when (is_for x p && is_value p v) (word_in p v)
+
+abbrev lifted : Scalar → Word → Plain → Option Value
+lifted x w p = when (is_for x p && same_type w.type (word_type x)) (option_and_then (checked p) (value_in p w.bits))
 
 -- scalars
 abbrev pub Converts : Scalar → Plain → Value → Type 0
-Converts x t v = (w : Word) × (word_of x v ≡ Some w) × (value_of x w ≡ Some v) × T (same_type w.type (scalar_type x)) × (direct_words t v ≡ Some (w ∷ []))
+Converts x t v = (w : Word) × (word_of x v ≡ Some w) × (value_of x w ≡ Some v) × T (same_type w.type (word_type x)) × (direct_words t v ≡ Some (w ∷ []))
 
 same_kind_is : (k j : BuiltinType) → T (same_builtin j k) → k ≡ j
 same_kind_is k j h = sym ((builtins-decide j k).0 (true_of _ h))
 
-number_words : (k : BuiltinType) (v : Value) → T (is_value (Plain.builtin k) v) → Converts (number k) (Plain.builtin k) v
+number_words : (k : BuiltinType) (v : Value) → T (is_value (Plain.builtin k) v) → Converts (number_of k) (Plain.builtin k) v
 number_words k (Value.number j z) h =
     let e = same_kind_is k j (left_true (same_builtin j k) (in_range k z) h) in
     let range = right_true (same_builtin j k) (in_range k z) h in
@@ -48,29 +62,29 @@ number_words k (Value.number j z) h =
 number_words k _ h = absurd h
 
 -- flags
-bit_low : (b : Bool) (x : ℕ) → nat_eq ((cond b 1 0 + 2 * x) % 2) 1 ≡ b
+pub bit_low : (b : Bool) (x : ℕ) → nat_eq ((cond b 1 0 + 2 * x) % 2) 1 ≡ b
 bit_low true x = let e : (1 + 2 * x) % 2 ≡ 1 = omega arith in ap (λ n. nat_eq n 1) e
 bit_low false x = let e : (0 + 2 * x) % 2 ≡ 0 = omega arith in ap (λ n. nat_eq n 1) e
 
-bit_rest : (b : Bool) (x : ℕ) → (cond b 1 0 + 2 * x) / 2 ≡ x
+pub bit_rest : (b : Bool) (x : ℕ) → (cond b 1 0 + 2 * x) / 2 ≡ x
 bit_rest true x = omega arith
 bit_rest false x = omega arith
 
 cons_both : {A : Type 0} {x y : A} {xs ys : List A} → x ≡ y → xs ≡ ys → x ∷ xs ≡ y ∷ ys
 cons_both p q i = p i ∷ q i
 
-flags_back : (bs : List Bool) (n : ℕ) → n ≡ length bs → flags_from n (bits_of_flags bs) ≡ bs
+pub flags_back : (bs : List Bool) (n : ℕ) → n ≡ length bs → flags_from n (bits_of_flags bs) ≡ bs
 flags_back [] zero e = refl
 flags_back [] (suc n) e = absurd (omega arith)
 flags_back (b ∷ bs) zero e = absurd (omega arith)
 flags_back (b ∷ bs) (suc n) e = cons_both (bit_low b (bits_of_flags bs)) (ap (flags_from n) (bit_rest b (bits_of_flags bs)) ∙ flags_back bs n (omega arith))
 
-flags_below : (bs : List Bool) → bits_of_flags bs < 2 ^ length bs
+pub flags_below : (bs : List Bool) → bits_of_flags bs < 2 ^ length bs
 flags_below [] = lit< tt
 flags_below (true ∷ bs) = omega (arith, pow-suc 2 (length bs), flags_below bs)
 flags_below (false ∷ bs) = omega (arith, pow-suc 2 (length bs), flags_below bs)
 
-modulus_is : (r : IntRepr) → 2 ^ repr_bits r ≡ repr_modulus r
+pub modulus_is : (r : IntRepr) → 2 ^ repr_bits r ≡ repr_modulus r
 modulus_is IntRepr.U8 = refl
 modulus_is IntRepr.U16 = refl
 modulus_is IntRepr.U32 = refl
@@ -93,8 +107,8 @@ flags_words t r ms e f (Value.flag_bits bs) h =
     let back : flags_from n (x % repr_modulus r) ≡ bs = ap (flags_from n) below ∙ flags_back bs n (sym long) in
     let w : Word = record { type = ty; bits = x } in (
       w,
-      ap (λ p. flags_word ty p (Value.flag_bits bs)) e ∙ when_true _ _ (both_true _ _ (same_type_self ty) h),
-      when_true _ _ (same_type_self ty) ∙ ap (λ p. flags_value ty p x) e ∙ when_true _ _ (both_true _ _ (same_type_self ty) (lt→ltb _ _ lt)) ∙ ap (λ bs. Some (Value.flag_bits bs)) back,
+      ap (lowered (flags_of ty t) (Value.flag_bits bs)) e ∙ when_true _ _ (both_true _ _ (same_type_self ty) h),
+      ap (lifted (flags_of ty t) w) e ∙ when_true _ _ (both_true _ _ (same_type_self ty) (same_type_self ty)) ∙ ap (option_and_then (checked (Plain.record_of (RecordKind.Bitflags r) ms))) (when_true _ _ (lt→ltb _ _ lt) ∙ ap (λ bs. Some (Value.flag_bits bs)) back) ∙ when_true _ _ h,
       same_type_self ty,
       refl,
     )
@@ -102,16 +116,15 @@ flags_words t r ms e f _ h = absurd h
 
 handle_words : (n : Tree) → plain n ≡ Plain.handle → (v : Value) → T (is_value Plain.handle v) → Converts (handle_of n) Plain.handle v
 handle_words n e (Value.handle_number x) h =
-    let own : T (is_value (plain n) (Value.handle_number x)) = subst (λ p. T (is_value p (Value.handle_number x))) (sym e) h in
-    (i32 x, when_true _ _ own, when_true _ _ own, tt, refl)
+    (i32 x, ap (lowered (handle_of n) (Value.handle_number x)) e ∙ when_true _ _ h, ap (lifted (handle_of n) (i32 x)) e ∙ when_true _ _ h, tt, refl)
 handle_words n e _ h = absurd h
 
-pointer_words : (t : Plain) (v : Value) → T (is_value (Plain.pointer_to t) v) → Converts address (Plain.pointer_to t) v
-pointer_words t (Value.address n) h = (i32 n, refl, refl, tt, refl)
+pointer_words : (t : Plain) (v : Value) → T (is_value (Plain.pointer_to t) v) → Converts pointer (Plain.pointer_to t) v
+pointer_words t (Value.address n) h = (i32 n, when_true _ _ h, when_true _ _ h, tt, refl)
 pointer_words t _ h = absurd h
 
-const_pointer_words : (t : Plain) (v : Value) → T (is_value (Plain.const_pointer_to t) v) → Converts const_address (Plain.const_pointer_to t) v
-const_pointer_words t (Value.const_address n) h = (i32 n, refl, refl, tt, refl)
+const_pointer_words : (t : Plain) (v : Value) → T (is_value (Plain.const_pointer_to t) v) → Converts const_pointer (Plain.const_pointer_to t) v
+const_pointer_words t (Value.const_address n) h = (i32 n, when_true _ _ h, when_true _ _ h, tt, refl)
 const_pointer_words t _ h = absurd h
 
 takes_payload : (cs : Arms) (i : ℕ) (p : Value) → T (is_case_with cs i p) → T (has_payload cs)
@@ -122,12 +135,12 @@ takes_payload (Arms.carries n t cs) i p h = tt
 
 enum_words : (n : Tree) (r : IntRepr) (cs : Arms) → plain n ≡ Plain.variant_of r cs → has_payload cs ≡ false → T (nat_le (arm_count cs) (2 ^ repr_bits r)) → (v : Value) → T (is_value (Plain.variant_of r cs) v) → Converts (enum_of n) (Plain.variant_of r cs) v
 enum_words n r cs e none f (Value.enum_index i) h =
-    let own : T (is_value (plain n) (Value.enum_index i)) = subst (λ p. T (is_value p (Value.enum_index i))) (sym e) h in
+    let bare : T (all_bare cs) = left_true (all_bare cs) _ h in
     let lt = ltb→lt i (arm_count cs) (right_true (all_bare cs) _ h) in
     let below : i % repr_modulus r ≡ i = mod-eq_of_lt (lt_of_lt_of_le lt (subst (λ n. arm_count cs ≤ n) (modulus_is r) (leb→le _ _ f))) in (
       i32 i,
-      when_true _ _ own,
-      ap (λ p. enum_value p i) e ∙ ap (λ j. checked (Plain.variant_of r cs) (Value.enum_index j)) below ∙ when_true _ _ h,
+      ap (lowered (enum_of n) (Value.enum_index i)) e ∙ when_true _ _ (both_true _ _ bare h),
+      ap (lifted (enum_of n) (i32 i)) e ∙ when_true _ _ (both_true _ _ bare tt) ∙ ap (λ j. checked (Plain.variant_of r cs) (Value.enum_index j)) below ∙ when_true _ _ h,
       tt,
       refl,
     )
@@ -140,15 +153,15 @@ along : (x : Scalar) (t q : Plain) (v : Value) → t ≡ q → (T (is_value q v)
 along x t q v e f h = subst (λ t. Converts x t v) (sym e) (f (subst (λ t. T (is_value t v)) e h))
 
 pub scalar_words : (x : Scalar) (t : Plain) (v : Value) → Lowers x t → T (is_value t v) → Converts x t v
-scalar_words (number k) t v e h = along (number k) t _ v e (number_words k v) h
-scalar_words address t v e h = along address t _ v e.1 (pointer_words e.0 v) h
-scalar_words const_address t v e h = along const_address t _ v e.1 (const_pointer_words e.0 v) h
+scalar_words (number_of k) t v e h = along (number_of k) t _ v e (number_words k v) h
+scalar_words pointer t v e h = along pointer t _ v e.1 (pointer_words e.0 v) h
+scalar_words const_pointer t v e h = along const_pointer t _ v e.1 (const_pointer_words e.0 v) h
 scalar_words (handle_of n) t v e h = along (handle_of n) t _ v e.0 (handle_words n e.1 v) h
 scalar_words (flags_of w n) t v e h = subst (λ w. Converts (flags_of w n) t v) (sym e.4) (along (flags_of (repr_word_type e.0) n) t _ v e.2 (flags_words n e.0 e.1 e.3 e.5 v) h)
 scalar_words (enum_of n) t v e h = along (enum_of n) t _ v e.2 (enum_words n e.0 e.1 e.3 e.4 e.5 v) h
 
-list_words_back : (t : Plain) (v : Value) → T (is_value (Plain.list_of t) v) → (a : Word) × (l : Word) × (list_words v ≡ Some (a, l)) × (when (is_i32 a && is_i32 l) (Some (Value.list_at a.bits l.bits)) ≡ Some v) × T (same_type a.type WasmType.I32) × T (same_type l.type WasmType.I32) × (direct_words (Plain.list_of t) v ≡ Some (a ∷ l ∷ []))
-list_words_back t (Value.list_at a l) h = (i32 a, i32 l, refl, refl, tt, tt, refl)
+list_words_back : (t : Plain) (v : Value) → T (is_value (Plain.list_of t) v) → (a : Word) × (l : Word) × (list_words v ≡ Some (a, l)) × (when (is_i32 a && is_i32 l) (list_at a.bits l.bits) ≡ Some v) × T (same_type a.type WasmType.I32) × T (same_type l.type WasmType.I32) × (direct_words (Plain.list_of t) v ≡ Some (a ∷ l ∷ []))
+list_words_back t (Value.list_at a l) h = (i32 a, i32 l, when_true _ _ h, when_true _ _ h, tt, tt, refl)
 list_words_back t _ h = absurd h
 
 -- tuples
@@ -190,19 +203,29 @@ abbrev Returned : Plain → Value → Type 0
 Returned t v = T (is_zero (direct_words t v)) → ⊥
 
 abbrev Came : Option Tree → Option Tree → Value → Type 0
-Came ok err v = (e : Bool) × (p : Option Value) × (case_picked ok err v ≡ Some (e, named_payload (cond e err ok) p)) × (result_value e p ≡ v) × (cells.chooses (cells.case_word e) ≡ Some e) × PayloadIs (λ u q. Is u q × cond e (Returned u q) (Unit {0})) (cond e err ok) p
+Came ok err v = (e : Bool) × (p : Option Value) × (result_value e p ≡ v) × (cells.chooses (cells.case_word e) ≡ Some e) × PayloadIs (λ u q. Is u q × cond e (Returned u q) (Unit {0})) (cond e err ok) p
 
 -- an error's payload isn't zero
 abbrev NotZero : Option Tree → Value → Type 0
 NotZero err v = (p : Value) → v ≡ Value.case_with (suc zero) p → T (zero_of err p) → ⊥
 
 came_ok : (t : Tree) (err : Option Tree) (p : Value) → T (is_value (plain t) p) → Came (Some t) err (Value.case_with zero p)
-came_ok t err p h = (false, Some p, ap (option_map (λ x. (false, x))) (when_true _ _ h), refl, refl, (h, tt))
+came_ok t err p h = (false, Some p, refl, refl, (h, tt))
 
 came_err : (u : Tree) (ok : Option Tree) (p : Value) → T (is_value (plain u) p) → NotZero (Some u) (Value.case_with (suc zero) p) → Came ok (Some u) (Value.case_with (suc zero) p)
-came_err u ok p h z = (true, Some p, ap (option_map (λ x. (true, x))) (when_true _ _ h), refl, refl, (h, z p refl))
+came_err u ok p h z = (true, Some p, refl, refl, (h, z p refl))
 
-came : (cs : TreeArms) → T (is_expected cs) → T (has_payload (plain_arms cs)) → (v : Value) → Payload (plain_arms cs) v → NotZero (err_of cs) v → Came (ok_of cs) (err_of cs) v
+picks_own : (ok err : Option Tree) (e : Bool) (p : Option Value) → PayloadIs Is (cond e err ok) p → case_picked ok err (result_value e p) ≡ Some (e, named_payload (cond e err ok) p)
+picks_own None err false None h = refl
+picks_own (Some t) err false (Some p) h = ap (option_map (λ x. (false, x))) (when_true _ _ h)
+picks_own ok None true None h = refl
+picks_own ok (Some u) true (Some p) h = ap (option_map (λ x. (true, x))) (when_true _ _ h)
+picks_own None err false (Some p) h = absurd h
+picks_own (Some t) err false None h = absurd h
+picks_own ok None true (Some p) h = absurd h
+picks_own ok (Some u) true None h = absurd h
+
+came : (cs : TreeArms) → T (is_expected (arm_list cs)) → T (has_payload (plain_arms cs)) → (v : Value) → Payload (plain_arms cs) v → NotZero (err_of cs) v → Came (ok_of cs) (err_of cs) v
 came TreeArms.no_arms is has v p z = absurd is
 came (TreeArms.bare a da TreeArms.no_arms) is has v p z = absurd is
 came (TreeArms.bare a da (TreeArms.bare b db TreeArms.no_arms)) is has v p z = absurd has
@@ -221,7 +244,7 @@ came (TreeArms.bare a da (TreeArms.carries b u db TreeArms.no_arms)) is has v p 
     go v (carried zero p h) z = absurd h
     go v (carried (suc zero) p h) z = came_err u None p h z
     go v (carried (suc (suc i)) p h) z = absurd h
-    go v (alone zero h) z = (false, None, refl, refl, refl, tt)
+    go v (alone zero h) z = (false, None, refl, refl, tt)
     go v (alone (suc zero) h) z = absurd h
     go v (alone (suc (suc i)) h) z = absurd h
 came (TreeArms.carries a t da (TreeArms.bare b db TreeArms.no_arms)) is has v p z = go v p
@@ -231,7 +254,7 @@ came (TreeArms.carries a t da (TreeArms.bare b db TreeArms.no_arms)) is has v p 
     go v (carried (suc zero) p h) = absurd h
     go v (carried (suc (suc i)) p h) = absurd h
     go v (alone zero h) = absurd h
-    go v (alone (suc zero) h) = (true, None, refl, refl, refl, tt)
+    go v (alone (suc zero) h) = (true, None, refl, refl, tt)
     go v (alone (suc (suc i)) h) = absurd h
 came (TreeArms.carries a t da (TreeArms.carries b u db TreeArms.no_arms)) is has v p z = go v p z
   where
@@ -242,6 +265,25 @@ came (TreeArms.carries a t da (TreeArms.carries b u db TreeArms.no_arms)) is has
     go v (alone zero h) z = absurd h
     go v (alone (suc zero) h) z = absurd h
     go v (alone (suc (suc i)) h) z = absurd h
+
+payload_of_alike : (e : Bool) (o u : Option Tree) (p : Option Value) → AlikeOption o u → PayloadIs (λ u q. Is u q × cond e (Returned u q) (Unit {0})) o p → PayloadIs Is u p
+payload_of_alike e None None None a h = tt
+payload_of_alike e (Some t) (Some u) (Some p) a h = subst (λ q. Is q p) a h.0
+payload_of_alike e None (Some u) p a h = absurd a
+payload_of_alike e (Some t) None p a h = absurd a
+payload_of_alike e None None (Some p) a h = absurd h
+payload_of_alike e (Some t) (Some u) None a h = absurd h
+
+-- the case is picked under any alike types
+abbrev Picks : TreeArms → Value → Bool → Option Value → Type 0
+Picks cs v e p = (ok err : Option Tree) → AlikeOption (ok_of cs) ok → AlikeOption (err_of cs) err → case_picked ok err v ≡ Some (e, named_payload (cond e err ok) p)
+
+with_picks : (cs : TreeArms) (v : Value) → Came (ok_of cs) (err_of cs) v → (e : Bool) × (p : Option Value) × (result_value e p ≡ v) × (cells.chooses (cells.case_word e) ≡ Some e) × PayloadIs (λ u q. Is u q × cond e (Returned u q) (Unit {0})) (cond e (err_of cs) (ok_of cs)) p × Picks cs v e p
+with_picks cs v c = (c.0, c.1, c.2, c.3, c.4, λ ok err a b. ap (case_picked ok err) (sym c.2) ∙ picks_own ok err c.0 c.1 (payload_of_alike c.0 (cond c.0 (err_of cs) (ok_of cs)) (cond c.0 err ok) c.1 (either c.0 ok err a b) c.4))
+  where
+    either : (e : Bool) (ok err : Option Tree) → AlikeOption (ok_of cs) ok → AlikeOption (err_of cs) err → AlikeOption (cond e (err_of cs) (ok_of cs)) (cond e err ok)
+    either true ok err a b = b
+    either false ok err a b = a
 
 -- memories
 pub not_zero : (n : ℕ) → (T (nat_eq n 0) → ⊥) → cond (nat_eq n 0) false true ≡ true
@@ -350,7 +392,7 @@ puts t v n m by is room =
     )
 
 abbrev Gives : Tree → ℕ → Memory → Type 0
-Gives t n m = (w : Word) × (m' : Memory) × (cells.give t m ≡ Some (w, m')) × cell_meaning.given m' w × cell_meaning.made_for m' w (plain t) × T (same_type w.type WasmType.I32) × Keeps m m' × Room n m' × New m w
+Gives t n m = (w : Word) × (m' : Memory) × (cells.give t m ≡ Some (w, m')) × cell_meaning.given m' w × cell_meaning.made_for m' w t × T (same_type w.type WasmType.I32) × Keeps m m' × Room n m' × New m w
 
 gives_space : (t : Tree) (n : ℕ) (m : Memory) → Room (suc n) m → Gives t n m
 gives_space t n m room =
@@ -361,12 +403,12 @@ gives_space t n m room =
 abbrev Sets : Memory → Memory → Tree → Word → Value → Type 0
 Sets base m t w v =
     (m' : Memory) × (cells.set t w v m ≡ Some m') × (cells.get t w m' ≡ Some v) × cell_meaning.holds m' w v × Keeps base m' ×
-    ((u : Word) → cell_meaning.given m u → cell_meaning.given m' u) × ((u : Word) (q : Plain) → u ≢ w → cell_meaning.made_for m u q → cell_meaning.made_for m' u q) ×
+    ((u : Word) → cell_meaning.given m u → cell_meaning.given m' u) × ((u : Word) (q : Tree) → u ≢ w → cell_meaning.made_for m u q → cell_meaning.made_for m' u q) ×
     ((u : Word) (x : Value) → u ≢ w → cell_meaning.holds m u x → cell_meaning.holds m' u x) × ((q : Tree) (u : Word) (x : Value) → u ≢ w → cells.get q u m ≡ Some x → cells.get q u m' ≡ Some x)
 
-sets_at : (base m : Memory) (t : Tree) (a : ℕ) (v : Value) (c : Cell) → Keeps base m → get base.cells a ≡ None → get m.cells a ≡ Some c → plain c.made_for ≡ plain t → T (is_value (plain t) v) → Sets base m t (i32 a) v
-sets_at base m t a v c keeps none found made is =
-    let alike_t : T (same_plain (plain c.made_for) (plain t)) = subst (λ q. T (same_plain q (plain t))) (sym made) (alike_is_self (plain t)) in
+sets_at : (base m : Memory) (q t : Tree) (a : ℕ) (v : Value) (c : Cell) → plain q ≡ plain t → Keeps base m → get base.cells a ≡ None → get m.cells a ≡ Some c → c.made_for ≡ q → T (is_value (plain t) v) → Sets base m t (i32 a) v
+sets_at base m q t a v c same keeps none found made is =
+    let alike_t : T (same_plain (plain c.made_for) (plain t)) = subst (λ q. T (same_plain q (plain t))) (sym (ap plain made ∙ same)) (alike_is_self (plain t)) in
     let new : Cell = record c { content = Some v } in
     let m' : Memory = record { cells = insert m.cells a new; fresh = m.fresh; taken = m.taken } in
     let can : stored t v (get m.cells a) ≡ Some new = ap (stored t v) found ∙ when_true _ _ (both_true _ _ alike_t is) in
@@ -395,30 +437,45 @@ sets_at base m t a v c keeps none found made is =
         go false is e = absurd (none' x e)
         go true is e = ap (loaded q) (insert_other cs a u.bits new (λ p. n (is_address u (subst T (sym is) tt) ∙ ap i32 p))) ∙ e
 
-sets : (base m : Memory) (t : Tree) (w : Word) (v : Value) → Keeps base m → New base w → cell_meaning.made_for m w (plain t) → T (is_value (plain t) v) → Sets base m t w v
-sets base m t w v keeps new made is =
+sets : (base m : Memory) (q t : Tree) (w : Word) (v : Value) → plain q ≡ plain t → Keeps base m → New base w → cell_meaning.made_for m w q → T (is_value (plain t) v) → Sets base m t w v
+sets base m q t w v alike keeps new made is =
     let a = new.0 in
     let same : made.0 ≡ a = same_address (sym made.1 ∙ new.1) in
     let found : get m.cells a ≡ Some made.2.0 = subst (λ b. get m.cells b ≡ Some made.2.0) same made.2.1 in
-    subst (λ w. Sets base m t w v) (sym new.1) (sets_at base m t a v made.2.0 keeps new.2 found made.2.2 is)
+    subst (λ w. Sets base m t w v) (sym new.1) (sets_at base m q t a v made.2.0 alike keeps new.2 found made.2.2 is)
 
 error_word : (t : Plain) (v : Value) (w : Word) → Returned t v → T (same_type w.type WasmType.I32) → direct_words t v ≡ Some (w ∷ []) → cells.chooses w ≡ Some true
 error_word t v w r is_32 e =
     when_true (is_i32 w) _ is_32 ∙ ap Some (not_zero w.bits (λ z. r (subst T (sym (ap is_zero e)) z)))
 
+got_alike : (m : Memory) (t q : Tree) (w : Word) (v : Value) → plain t ≡ plain q → cells.get t w m ≡ Some v → cells.get q w m ≡ Some v
+got_alike m t q w v e h = ap (when (is_i32 w)) (sym (same (get m.cells w.bits))) ∙ h
+  where
+    same : (o : Option Cell) → loaded t o ≡ loaded q o
+    same None = refl
+    same (Some c) = ap (λ p. when (same_plain (plain c.made_for) p) c.content) e
+
+direct_once : (t : Plain) (v : Value) (ws us : List Word) → direct_words t v ≡ Some ws → direct_words t v ≡ Some us → ws ≡ us
+direct_once t v ws us h k = ap (words_or ws) (sym h ∙ k)
+  where
+    words_or : List Word → Option (List Word) → List Word
+    words_or d None = d
+    words_or d (Some ws) = ws
+
 pub cell_laws : Laws cells cell_meaning
 cell_laws = record {
   Is = Is;
-  Replies = λ t v. T (is_value (plain t) v) × (T (zero_in (t ∷ []) (Some v)) → ⊥);
+  Replies = λ abi t v. T (is_value (plain t) v) × (T (zero_under abi (t ∷ []) (Some v)) → ⊥);
   Returned = Returned;
   Room = Room;
   Keeps = Keeps;
   New = New;
-  reply_is = λ t v h. h.0;
+  reply_is = λ abi t v h. h.0;
   scalar = scalar_words;
   list = list_words_back;
+  direct_once = direct_once;
   tuple = tuple_back;
-  cases = λ t r cs v e p is has h. came cs is has v (payload_of_value r (plain_arms cs) has v (subst (λ q. T (is_value q v)) p h.0)) (λ q is z. h.1 (subst (λ v. T (zero_in (t ∷ []) (Some v))) (sym is) (subst (λ c. T (zero_by c q)) (sym e) z)));
+  cases = λ t r cs v e p is has h. with_picks cs v (came cs is has v (payload_of_value r (plain_arms cs) has v (subst (λ q. T (is_value q v)) p h.0)) (λ q is z. h.1 (subst (λ v. T (zero_in (t ∷ []) (Some v))) (sym is) (subst (λ c. T (zero_by c q)) (sym e) z))));
   case_type = λ e. tt;
   error_word = error_word;
   keeps_all = λ m. record { kept = λ a c e. e; taken = λ a h. h };
@@ -427,6 +484,7 @@ cell_laws = record {
   keeps_held = λ m m' w v g h. (h.0, h.1, (h.2.0, g.kept h.0 h.2.0 h.2.1, h.2.2));
   keeps_made = λ m m' w t g h. (h.0, h.1, (h.2.0, g.kept h.0 h.2.0 h.2.1, h.2.2));
   keeps_got = keeps_got;
+  got_alike = got_alike;
   less_room = λ n m r. record { enough = let e = r.enough in omega arith; free = r.free };
   new_before = λ m m' w g h. (h.0, h.1, before m m' h.0 g h.2);
   new_other = λ m u w t made new e. none_some new.2 (subst (λ b. get m.cells b ≡ Some made.2.0) (same_address (sym made.1 ∙ e ∙ new.1)) made.2.1);
@@ -454,24 +512,37 @@ arguments_are (t ∷ ts) (v ∷ vs) h = both (is_value (plain t) v) h (arguments
     both true h f = (tt, f h)
     both false h f = absurd h
 
-reply_is : (ts : List Tree) (reply : Option Value) → T (is_reply ts reply) → (T (zero_in ts reply) → ⊥) → IsReply cell_laws ts reply
+reply_is : (abi : Abi) (ts : List Tree) (reply : Option Value) → T (is_reply ts reply) → (T (zero_under abi ts reply) → ⊥) → IsReply cell_laws abi ts reply
 unfolding cell_laws
-reply_is [] None h z = tt
-reply_is [] (Some v) h z = absurd h
-reply_is (t ∷ []) None h z = absurd h
-reply_is (t ∷ []) (Some v) h z = (h, z)
-reply_is (t ∷ u ∷ ts) reply h z = absurd h
+reply_is abi [] None h z = tt
+reply_is abi [] (Some v) h z = absurd h
+reply_is abi (t ∷ []) None h z = absurd h
+reply_is abi (t ∷ []) (Some v) h z = (h, z)
+reply_is abi (t ∷ u ∷ ts) reply h z = absurd h
 
 types_all_fit : (ps : List Field) → T (types_fit ps) → T (all_fit (map (λ p. p.tree) ps))
 types_all_fit [] h = tt
 types_all_fit (p ∷ ps) h = both_true _ _ (left_true (fits (plain p.tree)) _ h) (types_all_fit ps (right_true (fits (plain p.tree)) _ h))
 
-pub traces_are_faithful : (m : List ℕ) (f : FunctionTree) → IsTrue (lowerable (function_of f)) → IsTrue (function_fits f) → Faithful m (function_of f) (caller_events m (function_of f)) (callee_events m (function_of f))
+-- what runs well in every domain is faithful over cells
+faithful_by : (m : List ℕ) (f : Function) (to : Receiver) (arranged : List Value → Option (List Value)) (caller callee : List Event) → RunWell cell_laws m f to arranged caller callee → FaithfulTo m f to arranged caller callee
 unfolding cell_laws
-traces_are_faithful m f h k arguments reply memory addresses are is_r nonzero free long =
+faithful_by m f to arranged caller callee well arguments reply memory addresses are is_r nonzero free long =
     let before : Memory = record { cells = memory; fresh = addresses; taken = [] } in
-    let g = function_of f in
-    let fit = types_all_fit f.params (left_true (types_fit f.params) _ (truth k)) in
-    let fit' = types_all_fit f.results (right_true (types_fit f.params) _ (truth k)) in
-    let r = traces_run_well cell_laws m g (truth h) fit fit' arguments reply before (arguments_are g.params arguments (truth are)) (reply_is g.results reply (truth is_r) (λ z. subst T nonzero z)) (record { enough = omega arith; free = free }) in
+    let r = well arguments reply before (arguments_are f.params arguments (truth are)) (reply_is f.abi f.results reply (truth is_r) (λ z. subst T nonzero z)) (record { enough = omega arith; free = free }) in
     (r.0, ap outcome r.1, r.2, r.3.kept)
+
+params_fit : (f : FunctionTree) → IsTrue (function_fits f) → T (all_fit (function_of f).params)
+params_fit f k = types_all_fit f.params (left_true (types_fit f.params) _ (truth k))
+
+results_fit : (f : FunctionTree) → IsTrue (function_fits f) → T (all_fit (function_of f).results)
+results_fit f k = types_all_fit f.results (right_true (types_fit f.params) _ (truth k))
+
+pub traces_are_faithful : (m : List ℕ) (f : FunctionTree) → IsTrue (lowerable (function_of f)) → IsTrue (function_fits f) → Faithful m (function_of f) (caller_events m (function_of f)) (callee_events m (function_of f))
+traces_are_faithful m f h k = faithful_by m (function_of f) (itself m (function_of f)) (λ vs. Some vs) (caller_events m (function_of f)) (callee_events m (function_of f)) (traces_run_well cell_laws m (function_of f) (truth h) (params_fit f k) (results_fit f k))
+
+pub shims_are_faithful : (m n : List ℕ) (old new : FunctionTree) (order words : List ℕ) → IsTrue (lowerable (function_of old)) → IsTrue (lowerable (function_of new)) → IsTrue (function_fits old) → IsTrue (function_fits new) →
+    StandsIn order (function_of old) (function_of new) → pass order (function_of old) ≡ Some words →
+    FaithfulThrough m n (function_of old) (function_of new) order words (caller_events m (function_of old)) (callee_events n (function_of new))
+shims_are_faithful m n old new order words h h' k k' in_place passes =
+    faithful_by m (function_of old) (record { module_name = n; function = function_of new; order = words }) (in_order order) (caller_events m (function_of old)) (callee_events n (function_of new)) (shim_runs_well cell_laws m n (function_of old) (function_of new) order words (truth h) (truth h') (params_fit old k) (results_fit old k) (params_fit new k') (results_fit new k') in_place passes)

@@ -1,18 +1,20 @@
 -- In the two traces of a function that can be lowered each step has the operands that it takes.
 use Rattle.std.proofs.Common.{◌≡◌, ◌≤◌, ◌+◌, ◌-◌, ℕ, suc, List, [], ◌∷◌, ◌++◌, Bool, true, false, ◌||◌, cond, T, Option, Some, None, is_some, is_none, option_and_then, map, length, length-append, refl, sym, ap, ◌∙◌, subst, arith, le→leb}
+use Rattle.witx_ast.specs.declared.function.Abi.{Abi}
 use Rattle.witx_ast.specs.declared.types.BuiltinType.{BuiltinType}
 use Rattle.witx_ast.specs.declared.types.IntRepr.{IntRepr}
 use Rattle.witx_ast.specs.declared.types.RecordKind.{RecordKind}
-use Rattle.witx_ast.specs.Tree.{Tree, Arms}
+use Rattle.witx_ast.specs.Tree.{Tree, Arms, arm_list}
 use Rattle.witx_ast.specs.Plain.{plain, plain_arms}
 use Rattle.witx_ast.specs.Words.{is_named}
+use Rattle.witx_ast.specs.Words.{is_expected}
 use Rattle.witx_machine.specs.declared.surface.WasmType.{WasmType}
 use Rattle.witx_machine.specs.Events.{Step, Event, emit, finish}
 use Rattle.witx_machine.specs.Rows.{operands_count, results_count}
-use Rattle.witx_machine.specs.Functions.{Function, has_payload, is_tuple, ok_of, err_of, result_cases}
-use Rattle.witx_machine.specs.Signature.{param_words, words_of_params, words_of_results, pointers_at, return_pointers, signature_params, signature_results}
-use Rattle.witx_machine.specs.Lowerable.{can_return, can_be_ok, can_be_err, is_narrow, is_expected, unlowerable_result, lowerable}
-use Rattle.witx_machine.specs.Traces.{lower_builtin, lift_builtin, lower_at, lift_at, lower_step, lift_step, lower_params, get_args, lift_params, make_spaces, load_all, store_all, ok_lifted, err_lifted, lift_cases, lift_by, lift_of, ok_lowered, err_lowered, lower_cases, lower_by, lower_of, lower_results, lift_results, caller_events, callee_events, block_of}
+use Rattle.witx_machine.specs.Functions.{Function, has_payload, tuple_types, is_tuple, ok_of, err_of, result_cases}
+use Rattle.witx_machine.specs.Signature.{param_words, words_of_params, words_of_results, words_back, or_alone, pointers_at, return_pointers, signature_params, signature_results}
+use Rattle.witx_machine.specs.Lowerable.{can_return, can_be_ok, can_be_err, is_narrow, unlowerable_result, lowerable}
+use Rattle.witx_machine.specs.Traces.{lower_builtin, lift_builtin, lower_at, lift_at, lower_step, lift_step, lower_params, get_args, lift_params, make_spaces, load_all, store_all, ok_lifted, err_lifted, lift_cases, lift_by, lift_under, ok_lowered, err_lowered, lower_cases, lower_by, lower_under, lower_results, lift_results, caller_events, callee_events, block_of}
 use Rattle.witx_machine.proofs.Scalars.{right_true, same_types_is}
 use Rattle.witx_machine.proofs.All.{params_lower, result_lowers}
 use Rattle.witx_machine.specs.Heights.{moved, height_after, heights}
@@ -179,7 +181,7 @@ stores-level w n (t ∷ ts) =
     level-then (store_all (w + 1) ts) (emit (Step.GetArg w) ∷ emit (Step.Store t) ∷ []) (n + length (t ∷ ts)) (n + 1) n (at (store_all (w + 1) ts) (n + 1 + length ts) (n + length (t ∷ ts)) (n + 1) (n + 1) e refl (stores-level (w + 1) (n + 1) ts))
     (level-then (emit (Step.GetArg w) ∷ []) (emit (Step.Store t) ∷ []) (n + 1) (n + 1 + 1) n (get-level w (n + 1)) (at (emit (Step.Store t) ∷ []) (n + 2) (n + 1 + 1) (n + 0) n (sym two) none (step-level (Step.Store t) 2 0 n refl refl)))
 
-one-pointer : (whole t : Tree) → is_tuple t ≡ false → length (pointers_at whole t) ≡ 1
+one-pointer : (whole t : Tree) → is_tuple t ≡ false → length (or_alone whole (tuple_types t)) ≡ 1
 one-pointer whole (Tree.named n t d) e = one-pointer whole t e
 one-pointer whole (Tree.builtin b) e = refl
 one-pointer whole Tree.handle e = refl
@@ -195,18 +197,18 @@ one-pointer whole (Tree.record_of RecordKind.Other ms) e = refl
 one-pointer whole (Tree.variant_of r cs) e = refl
 
 -- from one value to its members, and back
-unpack-level : (t : Tree) (n : ℕ) → heights (cond (is_tuple t) (emit (Step.TupleLower (length (pointers_at t t))) ∷ []) []) (n + 1) ≡ Some (n + length (pointers_at t t))
+unpack-level : (t : Tree) (n : ℕ) → heights (cond (is_tuple t) (emit (Step.TupleLower (length (pointers_at t))) ∷ []) []) (n + 1) ≡ Some (n + length (pointers_at t))
 unpack-level t n = go (is_tuple t) refl
   where
-    go : (b : Bool) → is_tuple t ≡ b → heights (cond b (emit (Step.TupleLower (length (pointers_at t t))) ∷ []) []) (n + 1) ≡ Some (n + length (pointers_at t t))
-    go true e = step-level (Step.TupleLower (length (pointers_at t t))) 1 (length (pointers_at t t)) n refl refl
+    go : (b : Bool) → is_tuple t ≡ b → heights (cond b (emit (Step.TupleLower (length (pointers_at t))) ∷ []) []) (n + 1) ≡ Some (n + length (pointers_at t))
+    go true e = step-level (Step.TupleLower (length (pointers_at t))) 1 (length (pointers_at t)) n refl refl
     go false e = ap (λ k. Some (n + k)) (sym (one-pointer t t e))
 
-pack-level : (t : Tree) (n : ℕ) → heights (cond (is_tuple t) (emit (Step.TupleLift (length (pointers_at t t))) ∷ []) []) (n + length (pointers_at t t)) ≡ Some (n + 1)
+pack-level : (t : Tree) (n : ℕ) → heights (cond (is_tuple t) (emit (Step.TupleLift (length (pointers_at t))) ∷ []) []) (n + length (pointers_at t)) ≡ Some (n + 1)
 pack-level t n = go (is_tuple t) refl
   where
-    go : (b : Bool) → is_tuple t ≡ b → heights (cond b (emit (Step.TupleLift (length (pointers_at t t))) ∷ []) []) (n + length (pointers_at t t)) ≡ Some (n + 1)
-    go true e = step-level (Step.TupleLift (length (pointers_at t t))) (length (pointers_at t t)) 1 n refl refl
+    go : (b : Bool) → is_tuple t ≡ b → heights (cond b (emit (Step.TupleLift (length (pointers_at t))) ∷ []) []) (n + length (pointers_at t)) ≡ Some (n + 1)
+    go true e = step-level (Step.TupleLift (length (pointers_at t))) (length (pointers_at t)) 1 n refl refl
     go false e = ap (λ k. Some (n + k)) (one-pointer t t e)
 
 block-level : (es : List Event) (v : Bool) (n : ℕ) → heights es n ≡ Some (n + cond v 1 0) → heights (block_of es v) n ≡ Some n
@@ -219,8 +221,8 @@ ok-lowered-level : (w n : ℕ) (ok : Option Tree) → heights (ok_lowered w ok) 
 ok-lowered-level w n None = let e : n ≡ n + 0 = omega arith in ap Some e
 ok-lowered-level w n (Some t) =
     let e : n ≡ n + 0 = omega arith in
-    let unpack = cond (is_tuple t) (emit (Step.TupleLower (length (pointers_at t t))) ∷ []) [] in
-    level-then (emit Step.VariantPayload ∷ []) (unpack ++ store_all w (pointers_at t t)) n (n + 1) (n + 0) (payload-level n) (level-then (cond (is_tuple t) (emit (Step.TupleLower (length (pointers_at t t))) ∷ []) []) (store_all w (pointers_at t t)) (n + 1) (n + length (pointers_at t t)) (n + 0) (unpack-level t n) (stores-level w n (pointers_at t t) ∙ ap Some e))
+    let unpack = cond (is_tuple t) (emit (Step.TupleLower (length (pointers_at t))) ∷ []) [] in
+    level-then (emit Step.VariantPayload ∷ []) (unpack ++ store_all w (pointers_at t)) n (n + 1) (n + 0) (payload-level n) (level-then (cond (is_tuple t) (emit (Step.TupleLower (length (pointers_at t))) ∷ []) []) (store_all w (pointers_at t)) (n + 1) (n + length (pointers_at t)) (n + 0) (unpack-level t n) (stores-level w n (pointers_at t) ∙ ap Some e))
 
 one-i32 : (t : Tree) → T (can_be_err (Some t)) → length (param_words (plain t)) ≡ 1
 one-i32 t h = ap length (same_types_is (param_words (plain t)) (WasmType.I32 ∷ []) (right_true (is_named t) _ h))
@@ -236,7 +238,7 @@ lower-cases-level ok err w h =
 
 ok-lifted-level : (n : ℕ) (ok : Option Tree) → heights (ok_lifted ok) n ≡ Some (n + cond (is_some ok) 1 0)
 ok-lifted-level n None = let e : n ≡ n + 0 = omega arith in ap Some e
-ok-lifted-level n (Some t) = level-then (load_all 0 (pointers_at t t)) (cond (is_tuple t) (emit (Step.TupleLift (length (pointers_at t t))) ∷ []) []) n (n + length (pointers_at t t)) (n + 1) (loads-level 0 n (pointers_at t t)) (pack-level t n)
+ok-lifted-level n (Some t) = level-then (load_all 0 (pointers_at t)) (cond (is_tuple t) (emit (Step.TupleLift (length (pointers_at t))) ∷ []) []) n (n + length (pointers_at t)) (n + 1) (loads-level 0 n (pointers_at t)) (pack-level t n)
 
 reuse-level : (n : ℕ) → heights (emit Step.ReuseReturn ∷ []) n ≡ Some (n + 1)
 reuse-level n = let e : n + 0 ≡ n = omega arith in at (emit Step.ReuseReturn ∷ []) (n + 0) n (n + 1) (n + 1) e refl (step-level Step.ReuseReturn 0 1 n refl refl)
@@ -256,7 +258,7 @@ data Sort (t : Tree) : Type 0 where
   cased : (cs : Arms) → result_cases t ≡ Some cs → T (can_be_err (err_of cs)) → length (words_of_results (t ∷ [])) ≡ 1 → Sort t
 
 variant-sort : (named : Bool) (r : IntRepr) (cs : Arms) → T (can_return named (Tree.variant_of r cs)) → (b : Bool) → has_payload (plain_arms cs) ≡ b → Sort (Tree.variant_of r cs)
-variant-sort named r cs h true e = cased cs (ap (λ b. cond b (Some cs) None) e) (right_true (can_be_ok (ok_of cs)) _ (right_true (has_payload (plain_arms cs) || named) _ (right_true (is_expected cs) _ (right_true (is_narrow r) _ h)))) refl
+variant-sort named r cs h true e = cased cs (ap (λ b. cond b (Some cs) None) e) (right_true (can_be_ok (ok_of cs)) _ (right_true (has_payload (plain_arms cs) || named) _ (right_true (is_expected (arm_list cs)) _ (right_true (is_narrow r) _ h)))) refl
 variant-sort named r cs h false e = single (ap (λ b. cond b (Some cs) None) e) refl refl
 
 sort-named : (n : List ℕ) (t : Tree) (d : List ℕ) → Sort t → Sort (Tree.named n t d)
@@ -287,20 +289,24 @@ one-result : (t : Tree) → Sort t → length (words_of_results (t ∷ [])) ≡ 
 one-result t (single e l r) = r
 one-result t (cased cs e c r) = r
 
-lower-of-level : (w : ℕ) (ts : List Tree) → T (is_none (unlowerable_result ts)) → heights (lower_of w ts) (length ts) ≡ Some (length (words_of_results ts))
-lower-of-level w [] h = refl
-lower-of-level w (t ∷ []) h = let s = sort-of false t (result_lowers t h) in lower-result-level w t s ∙ ap Some (sym (one-result t s))
-lower-of-level w (t ∷ u ∷ ts) h = absurd h
+lower-under-level : (abi : Abi) (w : ℕ) (ts : List Tree) → T (is_none (unlowerable_result abi ts)) → heights (lower_under abi w ts) (length ts) ≡ Some (length (words_back abi ts))
+lower-under-level Abi.Preview1 w [] h = refl
+lower-under-level Abi.Stored w [] h = refl
+lower-under-level Abi.Preview1 w (t ∷ []) h = let s = sort-of false t (result_lowers Abi.Preview1 t h) in lower-result-level w t s ∙ ap Some (sym (one-result t s))
+lower-under-level Abi.Stored w (t ∷ []) h = stores-level w 0 (t ∷ [])
+lower-under-level abi w (t ∷ u ∷ ts) h = absurd h
 
-lift-of-level : (ts : List Tree) → T (is_none (unlowerable_result ts)) → heights (lift_of ts) (length (words_of_results ts)) ≡ Some (length ts)
-lift-of-level [] h = refl
-lift-of-level (t ∷ []) h = let s = sort-of false t (result_lowers t h) in subst (λ k. heights (lift_by (result_cases t) t) k ≡ Some 1) (sym (one-result t s)) (lift-result-level t s)
-lift-of-level (t ∷ u ∷ ts) h = absurd h
+lift-under-level : (abi : Abi) (ts : List Tree) → T (is_none (unlowerable_result abi ts)) → heights (lift_under abi ts) (length (words_back abi ts)) ≡ Some (length ts)
+lift-under-level Abi.Preview1 [] h = refl
+lift-under-level Abi.Stored [] h = refl
+lift-under-level Abi.Preview1 (t ∷ []) h = let s = sort-of false t (result_lowers Abi.Preview1 t h) in subst (λ k. heights (lift_by (result_cases t) t) k ≡ Some 1) (sym (one-result t s)) (lift-result-level t s)
+lift-under-level Abi.Stored (t ∷ []) h = loads-level 0 0 (t ∷ [])
+lift-under-level abi (t ∷ u ∷ ts) h = absurd h
 
--- the result of a function that can be lowered has one word
-pub words-count : (ts : List Tree) → T (is_none (unlowerable_result ts)) → length (words_of_results ts) ≡ length ts
+-- under Preview1 the result of a function that can be lowered has one word
+pub words-count : (ts : List Tree) → T (is_none (unlowerable_result Abi.Preview1 ts)) → length (words_of_results ts) ≡ length ts
 words-count [] h = refl
-words-count (t ∷ []) h = one-result t (sort-of false t (result_lowers t h))
+words-count (t ∷ []) h = one-result t (sort-of false t (result_lowers Abi.Preview1 t h))
 words-count (t ∷ u ∷ ts) h = absurd h
 
 return-level : (n : ℕ) → heights (emit (Step.Return n) ∷ []) n ≡ Some 0
@@ -315,7 +321,7 @@ length-map f (x ∷ xs) = ap suc (length-map f xs)
 
 pub callee-level : (m : List ℕ) (f : Function) → T (lowerable f) → heights (callee_events m f) 0 ≡ Some 0
 callee-level m f h =
-    let result = (params_lower f.params f.results h).1 in
+    let result = (params_lower f.params (unlowerable_result f.abi f.results) h).1 in
     let call = Step.CallInterface m f.name f.params f.results in
     let last = emit (Step.Return (length (signature_results f))) ∷ [] in
     let zero : 0 + length f.params ≡ length f.params = omega arith in
@@ -323,11 +329,11 @@ callee-level m f h =
     let leaves : 0 + length f.results ≡ length f.results = omega arith in
     level-then (lift_params 0 f.params) (emit call ∷ (lower_results f ++ last)) 0 (length f.params) 0 (lifts-level 0 0 f.params ∙ ap Some zero)
     (level-then (emit call ∷ []) (lower_results f ++ last) (length f.params) (length f.results) 0 (at (emit call ∷ []) (0 + length f.params) (length f.params) (0 + length f.results) (length f.results) pops leaves (step-level call (length f.params) (length f.results) 0 refl refl))
-    (level-then (lower_results f) last (length f.results) (length (signature_results f)) 0 (lower-of-level (length (words_of_params f.params)) f.results result) (return-level (length (signature_results f)))))
+    (level-then (lower_results f) last (length f.results) (length (signature_results f)) 0 (lower-under-level f.abi (length (words_of_params f.params)) f.results result) (return-level (length (signature_results f)))))
 
 pub caller-level : (m : List ℕ) (f : Function) → T (lowerable f) → heights (caller_events m f) 0 ≡ Some 0
 caller-level m f h =
-    let result = (params_lower f.params f.results h).1 in
+    let result = (params_lower f.params (unlowerable_result f.abi f.results) h).1 in
     let ws = words_of_params f.params in
     let ps = return_pointers f in
     let call = Step.CallWasm m f.name (signature_params f) (signature_results f) in
@@ -339,4 +345,4 @@ caller-level m f h =
     level-then (lower_params 0 f.params) (make_spaces 0 ps ++ (emit call ∷ (lift_results f ++ last))) 0 (length ws) 0 (params-level 0 0 f.params ∙ ap Some zero)
     (level-then (make_spaces 0 ps) (emit call ∷ (lift_results f ++ last)) (length ws) (length (signature_params f)) 0 (spaces-level 0 (length ws) ps ∙ ap Some all)
     (level-then (emit call ∷ []) (lift_results f ++ last) (length (signature_params f)) (length (signature_results f)) 0 (at (emit call ∷ []) (0 + length (signature_params f)) (length (signature_params f)) (0 + length (signature_results f)) (length (signature_results f)) pops leaves (step-level call (length (signature_params f)) (length (signature_results f)) 0 refl refl))
-    (level-then (lift_results f) last (length (signature_results f)) (length f.results) 0 (lift-of-level f.results result) (return-level (length f.results)))))
+    (level-then (lift_results f) last (length (signature_results f)) (length f.results) 0 (lift-under-level f.abi f.results result) (return-level (length f.results)))))

@@ -1,5 +1,6 @@
 pub mod Scalars
 pub mod Runs
+pub mod Alikes
 pub mod Laws
 pub mod Ways
 pub mod Params
@@ -11,8 +12,12 @@ pub mod Caller
 pub mod Whole
 pub mod Cases
 pub mod All
+pub mod Orders
 pub mod CellLaws
 pub mod HeightLaws
 pub mod Moving
 pub mod OutcomeLaws
+pub mod Simulation
+pub mod RunSimulation
+pub mod Following
 pub mod Examples

@@ -9,8 +9,8 @@ use Rattle.witx_machine.specs.Events.{Step, Event}
 use Rattle.witx_machine.specs.Rows.{Row, row, operands_count, results_count, get_arg, addr_of, lowering, lifting, list_pointer_length, list_from_pointer_length, return_pointer_get, load, store, tuple_lift, tuple_lower, variant_payload, reuse_return, result_lower, result_lift}
 use Rattle.witx_machine.specs.Functions.{Function}
 use Rattle.witx_machine.specs.Signature.{signature_params, signature_results}
-use Rattle.witx_machine.specs.Machine.{Domain, went, no_rule, stuck_at, found, next, only, Item, word_item, value_item, plain_item, Block, State, Side, Inside, outside, in_lower, in_lift, is_nil, slot_word, pushed, words_off, values_off, items_off, payload_item, payload_in, result_word, lifted_payload, top_word, top_value, two_blocks, return_items, run_block, run_trace}
-use Rattle.witx_machine.specs.Run.{same_trees, words_in, typed, reply_items, Call, start, caller_side, callee_side, called_with}
+use Rattle.witx_machine.specs.Machine.{Domain, went, no_rule, stuck_at, found, next, only, Item, word_item, value_item, plain_item, Block, State, Side, Inside, outside, in_lower, in_lift, is_nil, slot_word, pushed, words_off, values_off, items_off, payload_item, payload_in, block_word, lifted_payload, top_word, top_value, two_blocks, return_items, run_block, run_trace}
+use Rattle.witx_machine.specs.Run.{Receiver, in_order, same_trees, words_in, typed, reply_items, Call, start, caller_side, callee_side, called_with}
 use Rattle.witx_machine.specs.Cells.{Memory, cells, tuple_parts, list_of_values}
 use Rattle.witx_machine.specs.Moves.{Moves, KeepsToTable, RowsKeepToTable}
 use Rattle.witx_machine.proofs.Runs.{Try, acts}
@@ -199,7 +199,7 @@ module _ {V W M C : Type 0} (D : Domain V W M) (side : Side (Unit {0}) Event V W
     result_lower_moves ok err s =
         then_only (Moved 1 1 s) (side.has_cases ok err) _ (λ b. then_value (Moved 1 1 s) s.stack _ (λ v t rest h. then_blocks (Moved 1 1 s) s.blocks _ (λ a b more. then_found (Moved 1 1 s) (D.picks ok err v) _ (λ c g.
         then_next (Moved 1 1 s) (run_block (λ e. e) (λ e. tt) D side runs (in_lower (payload_item c.1)) (cond c.0 b a) (record s { blocks = more })) _ (λ r.
-        then_found (Moved 1 1 s) (result_word D c.0 r.0) _ (λ w f. then_went (Moved 1 1 s) _ (moves 1 1 s.stack _ rest (one_off _ s.stack rest h) (one_on (word_item w) rest))))))))
+        then_found (Moved 1 1 s) (block_word D c.0 r.0) _ (λ w f. then_went (Moved 1 1 s) _ (moves 1 1 s.stack _ rest (one_off _ s.stack rest h) (one_on (word_item w) rest))))))))
 
     result_lift_moves : RowMoves 1 1 result_lift
     result_lift_moves s =
@@ -314,14 +314,15 @@ module _ (m : List ℕ) (f : Function) where
   own_types : {C : Type 0} (m' n : List ℕ) (b : Bool) (s : State Event Value Word Memory C) → T (is_own m' n b s) → T b
   own_types m' n b s h = right_true (same_bytes n f.name) _ (right_true (same_bytes m' m) _ (right_true (is_none s.called) _ h))
 
-  called_moves : (callee : List Event) (reply : Option Value) (words : List Word) (s : State Event Value Word Memory (Call Value Word Memory)) (Q : State Event Value Word Memory (Call Value Word Memory) → Type 0) → ((ws : List Word) (s' : State Event Value Word Memory (Call Value Word Memory)) → s'.stack ≡ pushed (map word_item ws) s.stack → T (typed cells (signature_results f) ws) → Q s') → Then Q (called_with (λ e. e) (λ e. tt) cells m f tt callee reply words s)
-  called_moves callee reply words s Q h =
-      then_next Q (run_trace (λ e. e) (λ e. tt) cells (callee_side (λ e. e) (λ e. tt) cells m f reply words) tt callee (start s.memory)) _ (λ q. then_found Q (words_in q.1) _ (λ ws g. then_only Q (typed cells (signature_results f) ws) _ (λ y. then_went Q _ (h ws _ refl y))))
+  called_moves : (to : Receiver) (callee : List Event) (reply : Option Value) (words : List Word) (s : State Event Value Word Memory (Call Value Word Memory)) (Q : State Event Value Word Memory (Call Value Word Memory) → Type 0) → ((ws : List Word) (s' : State Event Value Word Memory (Call Value Word Memory)) → s'.stack ≡ pushed (map word_item ws) s.stack → T (typed cells (signature_results f) ws) → Q s') → Then Q (called_with (λ e. e) (λ e. tt) cells m f to tt callee reply words s)
+  called_moves to callee reply words s Q h =
+      then_found Q (in_order to.order words) _ (λ own d.
+      then_next Q (run_trace (λ e. e) (λ e. tt) cells (callee_side (λ e. e) (λ e. tt) cells to.module_name to.function reply own) tt callee (start s.memory)) _ (λ q. then_found Q (words_in q.1) _ (λ ws g. then_only Q (typed cells (signature_results f) ws) _ (λ y. then_went Q _ (h ws _ refl y)))))
 
-  caller_call : (callee : List Event) (arguments : List Value) (reply : Option Value) → WasmCallMoves cells (caller_side (λ e. e) (λ e. tt) cells m f tt callee arguments reply)
-  caller_call callee arguments reply m' n ps rs s =
-      let Q = Moved cells (caller_side (λ e. e) (λ e. tt) cells m f tt callee arguments reply) (length ps) (length rs) s in
-      then_only Q (is_own m' n (same_types ps (signature_params f) && same_types rs (signature_results f)) s) _ (λ b. then_found Q (words_off (length ps) [] s.stack) _ (λ r h. then_only Q (typed cells ps r.0) _ (λ k. called_moves callee reply r.0 (record s { stack = r.1 }) Q (λ ws s' e y. go b r h ws s' e y))))
+  caller_call : (to : Receiver) (callee : List Event) (arguments : List Value) (reply : Option Value) → WasmCallMoves cells (caller_side (λ e. e) (λ e. tt) cells m f to tt callee arguments reply)
+  caller_call to callee arguments reply m' n ps rs s =
+      let Q = Moved cells (caller_side (λ e. e) (λ e. tt) cells m f to tt callee arguments reply) (length ps) (length rs) s in
+      then_only Q (is_own m' n (same_types ps (signature_params f) && same_types rs (signature_results f)) s) _ (λ b. then_found Q (words_off (length ps) [] s.stack) _ (λ r h. then_only Q (typed cells ps r.0) _ (λ k. called_moves to callee reply r.0 (record s { stack = r.1 }) Q (λ ws s' e y. go b r h ws s' e y))))
     where
       go : T (is_own m' n (same_types ps (signature_params f) && same_types rs (signature_results f)) s) → (r : List Word × List (Item Value Word)) → words_off (length ps) [] s.stack ≡ Some r → (ws : List Word) (s' : State Event Value Word Memory (Call Value Word Memory)) → s'.stack ≡ pushed (map word_item ws) r.1 → T (typed cells (signature_results f) ws) → Moves (length ps) (length rs) s.stack s'.stack
       go b r h ws s' e y =
@@ -342,10 +343,10 @@ module _ (m : List ℕ) (f : Function) where
           let given = replies f.results reply xs g in
           then_went (Moved cells (callee_side (λ e. e) (λ e. tt) cells m f reply words) (length ps) (length rs) s) _ (moves (length ps) (length rs) s.stack (xs ++ r.1) r.1 (taken.0, taken.1, taken.2 ∙ sym (same_number ps f.params (left_true (same_trees ps f.params) _ types))) (xs, refl, given ∙ sym (same_number rs f.results (right_true (same_trees ps f.params) _ types))))
 
-  caller_steps : (callee : List Event) (arguments : List Value) (reply : Option Value) → KeepsToTable (caller_side (λ e. e) (λ e. tt) cells m f tt callee arguments reply)
-  caller_steps callee arguments reply runs inside x s s' e =
-      let side = caller_side (λ e. e) (λ e. tt) cells m f tt callee arguments reply in
-      then_is (Moved cells side (operands_count x) (results_count x) s) _ s' (step_moves cells side runs inside all_parts (caller_call callee arguments reply) (λ m n ps rs s. then_none _) x s) e
+  caller_steps : (to : Receiver) (callee : List Event) (arguments : List Value) (reply : Option Value) → KeepsToTable (caller_side (λ e. e) (λ e. tt) cells m f to tt callee arguments reply)
+  caller_steps to callee arguments reply runs inside x s s' e =
+      let side = caller_side (λ e. e) (λ e. tt) cells m f to tt callee arguments reply in
+      then_is (Moved cells side (operands_count x) (results_count x) s) _ s' (step_moves cells side runs inside all_parts (caller_call to callee arguments reply) (λ m n ps rs s. then_none _) x s) e
 
   callee_steps : (reply : Option Value) (words : List Word) → KeepsToTable (callee_side (λ e. e) (λ e. tt) cells m f reply words)
   callee_steps reply words runs inside x s s' e =

@@ -10,4 +10,4 @@ same_one {A} o x y e f = ap some_of (sym e ∙ f)
     some_of (Some z) = z
 
 pub at_most_one_outcome : AtMostOneOutcome
-at_most_one_outcome m f caller callee arguments reply memory addresses o o' e e' = same_one _ o o' e e'
+at_most_one_outcome m f to caller callee arguments reply memory addresses o o' e e' = same_one _ o o' e e'

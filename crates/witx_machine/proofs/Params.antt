@@ -115,6 +115,35 @@ module _ {V W M : Type 0} {D : Domain V W M} {J : Meaning V W M} (L : Laws D J) 
   passed_all_kept m m' (t ∷ ts) ways [] ws g p = p
   passed_all_kept m m' (t ∷ ts) ways (v ∷ vs) ws g p = (p.0, p.1, p.2, passed_kept m m' t ways.0 v p.0 g p.3, passed_all_kept m m' ts ways.1 vs p.1 g p.4)
 
+  -- lifting finds the same under an alike type
+  carried : (m : M) (t u : Tree) (way : Way (name_of t) t t) (own : Way (name_of u) u u) (v : V) (ws : List W) → plain t ≡ plain u → L.Is (plain u) v → Carries m (name_of t) t t way v ws → ParamWords D J m (plain u) v ws → Carries m (name_of u) u u own v ws
+  carried m t u way (one_word x o) v ws e is c h =
+      let d = L.scalar x (plain u) v o.lowers is in
+      (d.0, L.direct_once (plain u) v ws (d.0 ∷ []) (direct_of m (plain u) v ws o.direct h) d.4, d.2)
+  carried m t u way (two_words o) v ws e is c h =
+      let d = L.list o.target v (subst (λ q. L.Is q v) o.is_list is) in
+      let direct = subst (λ q. ParamWords D J m q v ws) o.is_list h in
+      (d.0, d.1, L.direct_once (Plain.list_of o.target) v ws (d.0 ∷ d.1 ∷ []) direct d.6, d.3)
+  carried m t u (by_cell o) (by_cell own) v ws e is c h = (c.0, c.1, L.got_alike m t u c.0 v e c.2)
+  carried m t u (one_word x o) (by_cell own) v ws e is c h = absurd (clash (sym own.address ∙ sym (ap by_address e) ∙ o.direct))
+    where
+      clash : true ≡ false → ⊥
+      clash e = cc
+  carried m t u (two_words o) (by_cell own) v ws e is c h = absurd (clash (sym own.address ∙ sym (ap by_address e) ∙ ap by_address o.is_list))
+    where
+      clash : true ≡ false → ⊥
+      clash e = cc
+
+  -- what was passed for a type was passed for an alike one
+  pub passed_alike : (m : M) (t u : Tree) (way : Way (name_of t) t t) (own : Way (name_of u) u u) (v : V) (ws : List W) → plain t ≡ plain u → L.Is (plain t) v → Passed m t way v ws → Passed m u own v ws
+  passed_alike m t u way own v ws e is p =
+      let passes = subst (λ q. ParamWords D J m q v ws) e p.passes in
+      record {
+        types = subst (λ q. T (typed D (param_words q) ws)) e p.types;
+        carries = carried m t u way own v ws e (subst (λ q. L.Is q v) e is) p.carries passes;
+        passes = passes;
+      }
+
   module _ {C : Type 0} (side : Side (Unit {0}) Event V W M C) (runs : Inside V W → List Event → State Event V W M C → Try (State Event V W M C)) (inside : Inside V W) (slots : List (ℕ × W)) (blocks : List (Block Event)) (returned : Option W) (called : Option C) where
     abbrev pub at : List (Item V W) → M → State Event V W M C
     at stack memory = record { stack = stack; slots = slots; memory = memory; blocks = blocks; returned = returned; called = called; answer = None }

@@ -41,21 +41,21 @@ pub right_true : (a b : Bool) → T (a && b) → T b
 right_true true b h = h
 right_true false b h = absurd h
 
-below : {A : Type 0} (b : Bool) (x y : A) → T b → cond b x y ≡ x
+pub below : {A : Type 0} (b : Bool) (x y : A) → T b → cond b x y ≡ x
 below true x y h = refl
 below false x y h = absurd h
 
-past : (x n : ℕ) {A : Type 0} (y z : A) → n ≤ x → cond (ltb x n) y z ≡ z
+pub past : (x n : ℕ) {A : Type 0} (y z : A) → n ≤ x → cond (ltb x n) y z ≡ z
 past x n y z h = go (ltb x n) (λ t. ltb→lt x n t)
   where
     go : (b : Bool) → (T b → x < n) → cond b y z ≡ z
     go true k = absurd (omega (arith, k tt))
     go false k = refl
 
-positive : (half x y : ℕ) → T (ltb x half) → y ≡ x → with_sign half y ≡ pos x
+pub positive : (half x y : ℕ) → T (ltb x half) → y ≡ x → with_sign half y ≡ pos x
 positive half x y h e = ap (with_sign half) e ∙ below (ltb x half) _ _ h
 
-negative : (half x y : ℕ) → x < half → y ≡ half + half - 1 - x → with_sign half y ≡ negsuc x
+pub negative : (half x y : ℕ) → x < half → y ≡ half + half - 1 - x → with_sign half y ≡ negsuc x
 negative half x y h e =
     let le : half ≤ half + half - 1 - x = omega arith in
     let back : half + half - 1 - (half + half - 1 - x) ≡ x = omega arith in

@@ -2,7 +2,6 @@
 use Rattle.std.proofs.Common.{◌≡◌, ◌≢◌, ℕ, suc, ◌+◌, ◌<◌, ◌≤◌, Bool, true, false, cond, T, refl, sym, ap, ◌∙◌, subst, arith, Option, Some, None, List, [], ◌∷◌, map, length, nat_eq, eqb→eq}
 use lib.Dec.{eqb_refl}
 use Rattle.witx_ast.specs.Tree.{Tree}
-use Rattle.witx_ast.specs.Plain.{Plain, plain}
 use Rattle.witx_machine.specs.declared.surface.WasmType.{WasmType}
 use Rattle.witx_machine.specs.Events.{Step, Event, emit, space}
 use Rattle.witx_machine.specs.Rows.{return_pointer_get}
@@ -43,7 +42,7 @@ module _ {V W M : Type 0} {D : Domain V W M} {J : Meaning V W M} (L : Laws D J) 
   -- addresses that are new to base, made for these types, and all different
   pub record Pointer (base m : M) (t : Tree) (a : W) : Type 0 where
     pub new : L.New base a
-    pub made : J.made_for m a (plain t)
+    pub made : J.made_for m a t
     pub given : J.given m a
     pub is_32 : T (D.has_type WasmType.I32 a)
 
@@ -54,7 +53,7 @@ module _ {V W M : Type 0} {D : Domain V W M} {J : Meaning V W M} (L : Laws D J) 
   PointersAt base m (t ∷ ts) [] = ⊥
 
   -- pointers over a later base are pointers over an earlier one, and differ from what was made for the later
-  pub earlier_base : (base later m : M) (a : W) (q : Plain) (ts : List Tree) (rest : List W) → L.Keeps base later → J.made_for later a q → PointersAt later m ts rest → AreOther a rest × PointersAt base m ts rest
+  pub earlier_base : (base later m : M) (a : W) (q : Tree) (ts : List Tree) (rest : List W) → L.Keeps base later → J.made_for later a q → PointersAt later m ts rest → AreOther a rest × PointersAt base m ts rest
   earlier_base base later m a q [] [] g made h = (tt, tt)
   earlier_base base later m a q (t ∷ ts) (b ∷ rest) g made h =
       let more = earlier_base base later m a q ts rest g made h.2 in
@@ -114,7 +113,7 @@ module _ {V W M : Type 0} {D : Domain V W M} {J : Meaning V W M} (L : Laws D J) 
         let d = L.give t (n + length ts) m (subst (λ k. L.Room k m) e room) in
         let a = d.0 in
         let rest = made ts (k + 1) n ((k, a) ∷ slots) (word_item a ∷ stack) d.1 (λ j le. other_slot j k a slots (λ e. absurd (omega arith)) ∙ unused j (omega arith)) d.7 in
-        let back = earlier_base m d.1 rest.memory a (plain t) ts rest.addresses d.6 d.4 rest.pointers in
+        let back = earlier_base m d.1 rest.memory a t ts rest.addresses d.6 d.4 rest.pointers in
         record {
           addresses = a ∷ rest.addresses;
           after_slots = rest.after_slots;
@@ -122,7 +121,7 @@ module _ {V W M : Type 0} {D : Domain V W M} {J : Meaning V W M} (L : Laws D J) 
           goes = runs_then (space_goes k t slots stack m d.1 a d.2 (unused k (omega arith))) rest.goes;
           found = (rest.kept k (omega arith) ∙ own_slot k a slots, rest.found);
           kept = λ j lt. rest.kept j (omega arith) ∙ other_slot j k a slots (λ e. absurd (omega arith));
-          pointers = (record { new = d.8; made = L.keeps_made d.1 rest.memory a (plain t) rest.keeps d.4; given = L.keeps_given d.1 rest.memory a rest.keeps d.3; is_32 = d.5 }, back.0, back.1);
+          pointers = (record { new = d.8; made = L.keeps_made d.1 rest.memory a t rest.keeps d.4; given = L.keeps_given d.1 rest.memory a rest.keeps d.3; is_32 = d.5 }, back.0, back.1);
           keeps = L.keeps_then m d.1 rest.memory d.6 rest.keeps;
           room = rest.room;
         }

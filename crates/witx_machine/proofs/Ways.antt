@@ -8,20 +8,20 @@ use Rattle.witx_ast.specs.Tree.{Fields as TreeFields, Arms as TreeArms}
 use Rattle.witx_ast.specs.Plain.{Plain, plain, plain_fields, plain_arms, field_count, arm_count}
 use Rattle.witx_ast.specs.Tags.{fits, repr_bits, node_fits}
 use Rattle.witx_machine.specs.declared.surface.WasmType.{WasmType}
-use Rattle.witx_machine.specs.Words.{Scalar, number, address, const_address, handle_of, flags_of, enum_of, repr_word_type}
+use Rattle.witx_machine.specs.Words.{word_type, Scalar, number_of, pointer, const_pointer, handle_of, flags_of, enum_of, repr_word_type}
 use Rattle.witx_machine.specs.Events.{Step}
 use Rattle.witx_machine.specs.Rows.{row, addr_of, lowering, lifting, list_pointer_length, list_from_pointer_length, load}
 use Rattle.witx_machine.specs.Functions.{has_payload, by_address, name_of}
 use Rattle.witx_machine.specs.Signature.{param_words}
 use Rattle.witx_machine.specs.Traces.{lower_at, lift_at, lower_builtin, lift_builtin}
 use Rattle.witx_machine.proofs.Scalars.{left_true}
-use Rattle.witx_machine.proofs.Laws.{Lowers, scalar_type}
+use Rattle.witx_machine.proofs.Laws.{Lowers}
 
 -- as one word
 pub record OneWord (whole : Tree) (t : Tree) (x : Scalar) : Type 0 where
   pub lower : row (lower_at whole t) ≡ lowering x
   pub lift : row (lift_at whole t) ≡ lifting x
-  pub types : param_words (plain t) ≡ scalar_type x ∷ []
+  pub types : param_words (plain t) ≡ word_type x ∷ []
   pub direct : by_address (plain t) ≡ false
   pub lowers : Lowers x (plain t)
 
@@ -50,7 +50,7 @@ abbrev pub Ways : List Tree → Type 0
 Ways [] = Unit {0}
 Ways (t ∷ ts) = Way (name_of t) t t × Ways ts
 
-builtin_lower : (b : BuiltinType) → row (lower_builtin b) ≡ lowering (number b)
+builtin_lower : (b : BuiltinType) → row (lower_builtin b) ≡ lowering (number_of b)
 builtin_lower (BuiltinType.U8 true) = refl
 builtin_lower (BuiltinType.U8 false) = refl
 builtin_lower (BuiltinType.U32 true) = refl
@@ -65,7 +65,7 @@ builtin_lower BuiltinType.S64 = refl
 builtin_lower BuiltinType.F32 = refl
 builtin_lower BuiltinType.F64 = refl
 
-builtin_lift : (b : BuiltinType) → row (lift_builtin b) ≡ lifting (number b)
+builtin_lift : (b : BuiltinType) → row (lift_builtin b) ≡ lifting (number_of b)
 builtin_lift (BuiltinType.U8 true) = refl
 builtin_lift (BuiltinType.U8 false) = refl
 builtin_lift (BuiltinType.U32 true) = refl
@@ -80,7 +80,7 @@ builtin_lift BuiltinType.S64 = refl
 builtin_lift BuiltinType.F32 = refl
 builtin_lift BuiltinType.F64 = refl
 
-pub builtin_word : (whole : Tree) (k : BuiltinType) → OneWord whole (Tree.builtin k) (number k)
+pub builtin_word : (whole : Tree) (k : BuiltinType) → OneWord whole (Tree.builtin k) (number_of k)
 builtin_word whole k = record { lower = builtin_lower k; lift = builtin_lift k; types = refl; direct = refl; lowers = refl }
 
 pub flags_way : (whole : Tree) (r : IntRepr) (ms : TreeFields) → plain whole ≡ Plain.record_of (RecordKind.Bitflags r) (plain_fields ms) → T (nat_le (field_count (plain_fields ms)) (repr_bits r)) → OneWord whole (Tree.record_of (RecordKind.Bitflags r) ms) (flags_of (repr_word_type r) whole)
@@ -101,10 +101,10 @@ flags_way whole r ms e f = record { lower = lower_row r; lift = lift_row r; type
 pub handle_way : (whole : Tree) → plain whole ≡ Plain.handle → OneWord whole Tree.handle (handle_of whole)
 handle_way whole e = record { lower = refl; lift = refl; types = refl; direct = refl; lowers = (refl, e) }
 
-pub pointer_way : (whole : Tree) (t : Tree) → OneWord whole (Tree.pointer_to t) address
+pub pointer_way : (whole : Tree) (t : Tree) → OneWord whole (Tree.pointer_to t) pointer
 pointer_way whole t = record { lower = refl; lift = refl; types = refl; direct = refl; lowers = (plain t, refl) }
 
-pub const_pointer_way : (whole : Tree) (t : Tree) → OneWord whole (Tree.const_pointer_to t) const_address
+pub const_pointer_way : (whole : Tree) (t : Tree) → OneWord whole (Tree.const_pointer_to t) const_pointer
 const_pointer_way whole t = record { lower = refl; lift = refl; types = refl; direct = refl; lowers = (plain t, refl) }
 
 pub enum_way : (whole : Tree) (r : IntRepr) (cs : TreeArms) → plain whole ≡ Plain.variant_of r (plain_arms cs) → has_payload (plain_arms cs) ≡ false → T (nat_le (arm_count (plain_arms cs)) (2 ^ repr_bits r)) → OneWord whole (Tree.variant_of r cs) (enum_of whole)
@@ -117,10 +117,10 @@ named_way c whole n t d (by_cell o) = by_cell (record { lower = o.lower; lift = 
 
 pub way_at : (c : Option Tree) (whole : Tree) (t : Tree) → plain whole ≡ plain t → (T (by_address (plain t)) → c ≡ Some whole) → T (fits (plain t)) → Way c whole t
 way_at c whole (Tree.named n t d) e h f = named_way c whole n t d (way_at c whole t e h f)
-way_at c whole (Tree.builtin k) e h f = one_word (number k) (builtin_word whole k)
+way_at c whole (Tree.builtin k) e h f = one_word (number_of k) (builtin_word whole k)
 way_at c whole Tree.handle e h f = one_word (handle_of whole) (handle_way whole e)
-way_at c whole (Tree.pointer_to t) e h f = one_word address (pointer_way whole t)
-way_at c whole (Tree.const_pointer_to t) e h f = one_word const_address (const_pointer_way whole t)
+way_at c whole (Tree.pointer_to t) e h f = one_word pointer (pointer_way whole t)
+way_at c whole (Tree.const_pointer_to t) e h f = one_word const_pointer (const_pointer_way whole t)
 way_at c whole (Tree.list_of t) e h f = two_words (record { lower = refl; lift = refl; target = plain t; is_list = refl })
 way_at c whole (Tree.record_of (RecordKind.Bitflags r) ms) e h f = one_word (flags_of (repr_word_type r) whole) (flags_way whole r ms e (left_true (nat_le (field_count (plain_fields ms)) (repr_bits r)) _ f))
 way_at c whole (Tree.record_of RecordKind.Tuple ms) e h f = by_cell (record { lower = refl; lift = refl; types = refl; carries = h tt; same = e; address = refl })

@@ -7,11 +7,11 @@ use Rattle.witx_ast.specs.Alike.{same_plain}
 use Rattle.witx_ast.specs.Values.{Value, Values}
 use Rattle.witx_ast.specs.ValueTests.{is_value}
 use Rattle.witx_machine.specs.declared.surface.WasmType.{WasmType}
-use Rattle.witx_machine.specs.Words.{Word, i32, same_type, word_of, value_of, when}
+use Rattle.witx_machine.specs.Words.{Word, i32, same_type, word_of, value_of, when, is_u32}
 use Rattle.witx_machine.specs.Events.{Event}
 use Rattle.witx_machine.specs.Functions.{Function, name_of, by_address}
 use Rattle.witx_machine.specs.Machine.{Domain, Tried, went, no_rule, stuck_at}
-use Rattle.witx_machine.specs.Run.{Outcome, run}
+use Rattle.witx_machine.specs.Run.{Outcome, Receiver, itself, run_to}
 
 abbrev pub list_of_values : Values → List Value
 list_of_values Values.no_values = []
@@ -64,8 +64,11 @@ stored t v None = None
 stored t v (Some c) = when (same_plain (plain c.made_for) (plain t) && is_value (plain t) v) (Some (record c { content = Some v }))
 
 abbrev pub list_words : Value → Option (Word × Word)
-list_words (Value.list_at a l) = Some (i32 a, i32 l)
+list_words (Value.list_at a l) = when (is_u32 a && is_u32 l) (Some (i32 a, i32 l))
 list_words _ = None
+
+abbrev pub list_at : ℕ → ℕ → Option Value
+list_at a l = when (is_u32 a && is_u32 l) (Some (Value.list_at a l))
 
 abbrev pub tuple_parts : ℕ → Value → Option (List Value)
 tuple_parts n (Value.tuple_values vs) = when (nat_eq n (length (list_of_values vs))) (Some (list_of_values vs))
@@ -97,7 +100,7 @@ cells = record {
   lower = word_of;
   lift = value_of;
   list_words = list_words;
-  list_value = λ a l. when (is_i32 a && is_i32 l) (Some (Value.list_at a.bits l.bits));
+  list_value = λ a l. when (is_i32 a && is_i32 l) (list_at a.bits l.bits);
   tuple = λ vs. Value.tuple_values (values_of vs);
   parts = tuple_parts;
   give = λ t m. given t None m.cells m.fresh m.taken;
@@ -116,6 +119,9 @@ outcome (went x) = Some x
 outcome no_rule = None
 outcome (stuck_at p) = None
 
+abbrev pub run_cells_to : List ℕ → Function → Receiver → (caller callee : List Event) → List Value → Option Value → Cells → List ℕ → Option (Outcome Value Word Memory)
+run_cells_to m f to caller callee arguments reply memory addresses =
+    outcome (run_to {P = Unit {0}} (λ e. e) (λ e. tt) cells m f to tt tt caller callee arguments reply (record { cells = memory; fresh = addresses; taken = [] }))
+
 abbrev pub run_cells : List ℕ → Function → (caller callee : List Event) → List Value → Option Value → Cells → List ℕ → Option (Outcome Value Word Memory)
-run_cells m f caller callee arguments reply memory addresses =
-    outcome (run {P = Unit {0}} (λ e. e) (λ e. tt) cells m f tt tt caller callee arguments reply (record { cells = memory; fresh = addresses; taken = [] }))
+run_cells m f = run_cells_to m f (itself m f)

@@ -1,6 +1,6 @@
 -- What a call is about: the function's ABI, its name, and the types of its parameters and results.
 -- The names and the documentation of parameters play no part in a call.
-use Rattle.std.specs.Prelude.{ℕ, List, [], ◌∷◌, map, Bool, true, false, cond, not, Option, Some, None}
+use Rattle.std.specs.Prelude.{ℕ, List, [], ◌∷◌, map, Bool, true, false, cond, not, Option, Some, None, is_some}
 use Rattle.witx_ast.specs.declared.function.Abi.{Abi}
 use Rattle.witx_ast.specs.Tree.{Tree, Fields, Arms}
 use Rattle.witx_ast.specs.Plain as plain_tree
@@ -33,16 +33,19 @@ abbrev pub name_of : Tree → Option Tree
 name_of (Tree.named n t d) = Some (Tree.named n t d)
 name_of _ = None
 
--- a tuple, names looked through
-abbrev pub is_tuple : Tree → Bool
-is_tuple (Tree.named n t d) = is_tuple t
-is_tuple (Tree.record_of RecordKind.Tuple ms) = true
-is_tuple _ = false
-
 -- the types of a record's members
 abbrev pub member_types : Fields → List Tree
 member_types Fields.no_fields = []
 member_types (Fields.field n t d ms) = t ∷ member_types ms
+
+-- the types of a tuple's members, names looked through; none of another type
+abbrev pub tuple_types : Tree → Option (List Tree)
+tuple_types (Tree.named n t d) = tuple_types t
+tuple_types (Tree.record_of RecordKind.Tuple ms) = Some (member_types ms)
+tuple_types _ = None
+
+abbrev pub is_tuple : Tree → Bool
+is_tuple t = is_some (tuple_types t)
 
 -- the type that the first case carries, and that the second one carries
 abbrev pub ok_of : Arms → Option Tree

@@ -1,5 +1,6 @@
 -- How many operands are at hand along a list of events, so that each step has those that it takes.
 -- A step takes its operands and leaves its results; the end of a block takes the operand that it leaves.
+-- For whoever hands a generator each instruction with its operands: a list of events that has heights can be played.
 use Rattle.std.specs.Prelude.{ℕ, ◌+◌, ◌-◌, List, [], ◌∷◌, cond, nat_le, Option, Some, None, option_and_then}
 use Rattle.witx_machine.specs.Events.{Event, emit, space, push, finish}
 use Rattle.witx_machine.specs.Rows.{operands_count, results_count}

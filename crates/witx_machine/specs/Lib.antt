@@ -10,6 +10,7 @@ pub mod Run
 pub mod Cells
 pub mod Passage
 pub mod Faithful
+pub mod Shims
 pub mod Positions
 pub mod Moves
 pub mod Outcomes

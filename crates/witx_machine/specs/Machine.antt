@@ -122,10 +122,10 @@ payload_in in_lift = None
 payload_in (in_lower x) = x
 
 -- what result_lower pushes, from what its block left
-abbrev pub result_word : {V W M : Type 0} → Domain V W M → Bool → Option (Item V W) → Option W
-result_word D e None = Some (D.case_word e)
-result_word D e (Some (word_item w)) = cond (D.has_type WasmType.I32 w) (Some w) None
-result_word D e (Some (value_item v t)) = None
+abbrev pub block_word : {V W M : Type 0} → Domain V W M → Bool → Option (Item V W) → Option W
+block_word D e None = Some (D.case_word e)
+block_word D e (Some (word_item w)) = cond (D.has_type WasmType.I32 w) (Some w) None
+block_word D e (Some (value_item v t)) = None
 
 -- the payload of what result_lift pushes, from what its block left
 abbrev pub lifted_payload : {V W : Type 0} → Option (Item V W) → Option (Option V)
@@ -223,7 +223,7 @@ module _ {P E V W M C : Type 0} (event : E → Event) (place : E → P) (D : Dom
       act (result_lower ok err) s =
           only (side.has_cases ok err) (top_value s.stack (λ v t rest. two_blocks s.blocks (λ a b more. found (D.picks ok err v) (λ c.
           next (run_block (in_lower (payload_item c.1)) (cond c.0 b a) (record s { blocks = more })) (λ r.
-          found (result_word D c.0 r.0) (λ w. went (with_stack (word_item w ∷ rest) r.1)))))))
+          found (block_word D c.0 r.0) (λ w. went (with_stack (word_item w ∷ rest) r.1)))))))
       act result_lift s =
           top_word s.stack (λ w rest. two_blocks s.blocks (λ a b more. found (D.chooses w) (λ e.
           next (run_block in_lift (cond e b a) (record s { blocks = more })) (λ r.

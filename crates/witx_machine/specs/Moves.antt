@@ -7,7 +7,7 @@ use Rattle.witx_machine.specs.Events.{Step, Event}
 use Rattle.witx_machine.specs.Rows.{row, operands_count, results_count}
 use Rattle.witx_machine.specs.Functions.{Function}
 use Rattle.witx_machine.specs.Machine.{Tried, went, State, Side, Inside, act}
-use Rattle.witx_machine.specs.Run.{caller_side, callee_side}
+use Rattle.witx_machine.specs.Run.{Receiver, caller_side, callee_side}
 use Rattle.witx_machine.specs.Cells.{Memory, cells}
 
 pub record Moves {A : Type 0} (operands results : ℕ) (before after : List A) : Type 0 where
@@ -27,5 +27,5 @@ KeepsToTable {C} side =
 
 abbrev pub RowsKeepToTable : Type 0
 RowsKeepToTable =
-    ((m : List ℕ) (f : Function) (callee : List Event) (arguments : List Value) (reply : Option Value) → KeepsToTable (caller_side (λ e. e) (λ e. tt) cells m f tt callee arguments reply)) ×
+    ((m : List ℕ) (f : Function) (to : Receiver) (callee : List Event) (arguments : List Value) (reply : Option Value) → KeepsToTable (caller_side (λ e. e) (λ e. tt) cells m f to tt callee arguments reply)) ×
     ((m : List ℕ) (f : Function) (reply : Option Value) (words : List Word) → KeepsToTable (callee_side (λ e. e) (λ e. tt) cells m f reply words))

@@ -1,8 +1,10 @@
 -- What the words of a call have to be, going in and coming back.
 -- In: per parameter its word, a list's address and length, or an address whose cell holds the argument; then
--- an address made for each return pointer; nothing else. Back: no word without a result; the value's word; for
--- an ok reply the word 0, with the payload at the return pointers; for an error its word or its address.
+-- an address made for each return pointer; nothing else. Back: no word without a result. Under Stored no word,
+-- with the reply at the one return pointer. Under Preview1 the value's word; for an ok reply the word 0, with
+-- the payload at the return pointers; for an error its word or its address.
 use Rattle.std.specs.Prelude.{◌≡◌, ℕ, List, [], ◌∷◌, ◌++◌, length, Bool, true, false, cond, Option, Some, None, ◌-◌, drop}
+use Rattle.witx_ast.specs.declared.function.Abi.{Abi}
 use Rattle.witx_ast.specs.Tree.{Tree, Arms}
 use Rattle.witx_ast.specs.Plain.{Plain, plain}
 use Rattle.witx_machine.specs.Functions.{Function, is_tuple, by_address, ok_of, err_of, result_cases}
@@ -17,7 +19,8 @@ pub record Meaning (V W M : Type 0) : Type 1 where
   -- the word is an address that was given
   pub given : M → W → Type 0
   pub holds : M → W → V → Type 0
-  pub made_for : M → W → Plain → Type 0
+  -- its cell was made for that type, as it is written
+  pub made_for : M → W → Tree → Type 0
 
 abbrev pub last_words : {W : Type 0} → ℕ → List W → List W
 last_words n ws = drop (length ws - n) ws
@@ -31,7 +34,7 @@ module _ {V W M : Type 0} (D : Domain V W M) (J : Meaning V W M) where
   abbrev pub PointerWords : M → List Tree → List W → Type 0
   PointerWords m [] ws = ws ≡ []
   PointerWords m (t ∷ ts) ws =
-      (a : W) × (rest : List W) × (ws ≡ a ∷ rest) × J.given m a × J.made_for m a (plain t) × PointerWords m ts rest
+      (a : W) × (rest : List W) × (ws ≡ a ∷ rest) × J.given m a × J.made_for m a t × PointerWords m ts rest
 
   abbrev pub PassesWords : M → List Tree → List Tree → List V → List W → Type 0
   PassesWords m pointers [] [] ws = PointerWords m pointers ws
@@ -78,11 +81,19 @@ module _ {V W M : Type 0} (D : Domain V W M) (J : Meaning V W M) where
   ReturnsBy (Some cs) t v o =
       ReturnsPicked (ok_of cs) (err_of cs) (last_words (length (pointers_by (Some cs))) o.call.words) (D.picks (ok_of cs) (err_of cs) v) o
 
-  abbrev pub ReturnsOf : List Tree → Option V → Outcome V W M → Type 0
-  ReturnsOf [] None o = o.call.callee_words ≡ []
-  ReturnsOf (t ∷ []) (Some v) o = ReturnsBy (result_cases t) t v o
-  ReturnsOf _ _ o = ⊥
+  -- stored whole, at the last address
+  abbrev pub ReturnsWhole : V → Outcome V W M → Type 0
+  ReturnsWhole v o = (o.call.callee_words ≡ []) × HoldAll o.call.at_return (last_words 1 o.call.words) (v ∷ [])
+
+  abbrev pub ReturnsUnder : Abi → Tree → V → Outcome V W M → Type 0
+  ReturnsUnder Abi.Preview1 t v o = ReturnsBy (result_cases t) t v o
+  ReturnsUnder Abi.Stored t v o = ReturnsWhole v o
+
+  abbrev pub ReturnsOf : Abi → List Tree → Option V → Outcome V W M → Type 0
+  ReturnsOf abi [] None o = o.call.callee_words ≡ []
+  ReturnsOf abi (t ∷ []) (Some v) o = ReturnsUnder abi t v o
+  ReturnsOf abi _ _ o = ⊥
 
   -- RETURNS: the callee's words, read in the memory as it stands at its return
   abbrev pub Returns : Function → Option V → Outcome V W M → Type 0
-  Returns f reply o = ReturnsOf f.results reply o
+  Returns f reply o = ReturnsOf f.abi f.results reply o

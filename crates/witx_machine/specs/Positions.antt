@@ -1,5 +1,6 @@
 -- Events with their places in the two traces, so that a run that gets stuck names one.
 -- The place after a trace's last event stands for a return that isn't there.
+-- For a checker of traces, which says which event has no rule; runs that are only faithful or not need no places.
 use Rattle.std.specs.Prelude.{ℕ, ◌+◌, List, [], ◌∷◌, length, Option}
 use Rattle.witx_machine.specs.Events.{Event}
 use Rattle.witx_machine.specs.Functions.{Function}

@@ -4,7 +4,7 @@ use Rattle.std.specs.Prelude.{ℕ, List, true, false, Option, length}
 use Rattle.witx_ast.specs.declared.types.BuiltinType.{BuiltinType}
 use Rattle.witx_ast.specs.Tree.{Tree}
 use Rattle.witx_machine.specs.declared.surface.WasmType.{WasmType}
-use Rattle.witx_machine.specs.Words.{Scalar, number, address, const_address, handle_of, flags_of, enum_of}
+use Rattle.witx_machine.specs.Words.{Scalar, number_of, pointer, const_pointer, handle_of, flags_of, enum_of}
 use Rattle.witx_machine.specs.Events.{Step}
 
 pub data Row : Type 0 where
@@ -30,44 +30,44 @@ pub data Row : Type 0 where
 abbrev pub row : Step → Row
 row (Step.GetArg n) = get_arg n
 row Step.AddrOf = addr_of
-row Step.I32FromChar = lowering (number BuiltinType.Char)
-row Step.I64FromU64 = lowering (number BuiltinType.U64)
-row Step.I64FromS64 = lowering (number BuiltinType.S64)
-row Step.I32FromU32 = lowering (number (BuiltinType.U32 false))
-row Step.I32FromS32 = lowering (number BuiltinType.S32)
-row Step.I32FromUsize = lowering (number (BuiltinType.U32 true))
-row Step.I32FromU16 = lowering (number BuiltinType.U16)
-row Step.I32FromS16 = lowering (number BuiltinType.S16)
-row Step.I32FromU8 = lowering (number (BuiltinType.U8 false))
-row Step.I32FromS8 = lowering (number BuiltinType.S8)
-row Step.I32FromChar8 = lowering (number (BuiltinType.U8 true))
-row Step.I32FromPointer = lowering address
-row Step.I32FromConstPointer = lowering const_address
+row Step.I32FromChar = lowering (number_of BuiltinType.Char)
+row Step.I64FromU64 = lowering (number_of BuiltinType.U64)
+row Step.I64FromS64 = lowering (number_of BuiltinType.S64)
+row Step.I32FromU32 = lowering (number_of (BuiltinType.U32 false))
+row Step.I32FromS32 = lowering (number_of BuiltinType.S32)
+row Step.I32FromUsize = lowering (number_of (BuiltinType.U32 true))
+row Step.I32FromU16 = lowering (number_of BuiltinType.U16)
+row Step.I32FromS16 = lowering (number_of BuiltinType.S16)
+row Step.I32FromU8 = lowering (number_of (BuiltinType.U8 false))
+row Step.I32FromS8 = lowering (number_of BuiltinType.S8)
+row Step.I32FromChar8 = lowering (number_of (BuiltinType.U8 true))
+row Step.I32FromPointer = lowering pointer
+row Step.I32FromConstPointer = lowering const_pointer
 row (Step.I32FromHandle t) = lowering (handle_of t)
 row (Step.I32FromBitflags t) = lowering (flags_of WasmType.I32 t)
 row (Step.I64FromBitflags t) = lowering (flags_of WasmType.I64 t)
-row Step.F32FromIf32 = lowering (number BuiltinType.F32)
-row Step.F64FromIf64 = lowering (number BuiltinType.F64)
+row Step.F32FromIf32 = lowering (number_of BuiltinType.F32)
+row Step.F64FromIf64 = lowering (number_of BuiltinType.F64)
 row Step.ListPointerLength = list_pointer_length
 row (Step.ListFromPointerLength t) = list_from_pointer_length
 row (Step.CallWasm m n ps rs) = call_wasm m n ps rs
 row (Step.CallInterface m n ps rs) = call_interface m n ps rs
-row Step.S8FromI32 = lifting (number BuiltinType.S8)
-row Step.U8FromI32 = lifting (number (BuiltinType.U8 false))
-row Step.S16FromI32 = lifting (number BuiltinType.S16)
-row Step.U16FromI32 = lifting (number BuiltinType.U16)
-row Step.S32FromI32 = lifting (number BuiltinType.S32)
-row Step.U32FromI32 = lifting (number (BuiltinType.U32 false))
-row Step.S64FromI64 = lifting (number BuiltinType.S64)
-row Step.U64FromI64 = lifting (number BuiltinType.U64)
-row Step.CharFromI32 = lifting (number BuiltinType.Char)
-row Step.Char8FromI32 = lifting (number (BuiltinType.U8 true))
-row Step.UsizeFromI32 = lifting (number (BuiltinType.U32 true))
-row Step.If32FromF32 = lifting (number BuiltinType.F32)
-row Step.If64FromF64 = lifting (number BuiltinType.F64)
+row Step.S8FromI32 = lifting (number_of BuiltinType.S8)
+row Step.U8FromI32 = lifting (number_of (BuiltinType.U8 false))
+row Step.S16FromI32 = lifting (number_of BuiltinType.S16)
+row Step.U16FromI32 = lifting (number_of BuiltinType.U16)
+row Step.S32FromI32 = lifting (number_of BuiltinType.S32)
+row Step.U32FromI32 = lifting (number_of (BuiltinType.U32 false))
+row Step.S64FromI64 = lifting (number_of BuiltinType.S64)
+row Step.U64FromI64 = lifting (number_of BuiltinType.U64)
+row Step.CharFromI32 = lifting (number_of BuiltinType.Char)
+row Step.Char8FromI32 = lifting (number_of (BuiltinType.U8 true))
+row Step.UsizeFromI32 = lifting (number_of (BuiltinType.U32 true))
+row Step.If32FromF32 = lifting (number_of BuiltinType.F32)
+row Step.If64FromF64 = lifting (number_of BuiltinType.F64)
 row (Step.HandleFromI32 t) = lifting (handle_of t)
-row (Step.PointerFromI32 t) = lifting address
-row (Step.ConstPointerFromI32 t) = lifting const_address
+row (Step.PointerFromI32 t) = lifting pointer
+row (Step.ConstPointerFromI32 t) = lifting const_pointer
 row (Step.BitflagsFromI32 t) = lifting (flags_of WasmType.I32 t)
 row (Step.BitflagsFromI64 t) = lifting (flags_of WasmType.I64 t)
 row (Step.ReturnPointerGet n) = return_pointer_get n

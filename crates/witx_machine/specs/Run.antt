@@ -1,8 +1,10 @@
 -- A run of two traces: the caller's on the arguments, and at its call the callee's on the words.
 -- The callee has the caller's memory and the addresses that are left; stack, slots and blocks are its own.
--- Each side calls once, by the module's and the function's own names, with words, values and types that
--- are the function's; the run ends where both traces have made their call and reached their return.
-use Rattle.std.specs.Prelude.{ℕ, List, [], ◌∷◌, ◌++◌, length, Bool, true, false, ◌&&◌, Option, Some, None, is_none, map, option_and_then}
+-- It may be another function's, of another module, and get the words in another order; in a plain run it is
+-- the called function's own, and gets the words as they are.
+-- Each side calls once, by its own module's and function's names, with words, values and types that are
+-- its function's; the run ends where both traces have made their call and reached their return.
+use Rattle.std.specs.Prelude.{ℕ, zero, suc, ◌+◌, List, [], ◌∷◌, ◌++◌, length, Bool, true, false, ◌&&◌, Option, Some, None, is_none, map, slice_get, option_and_then}
 use Rattle.witx_ast.specs.Tree.{Tree, Arms}
 use Rattle.witx_ast.specs.Same.{same_bytes, same_tree}
 use Rattle.witx_machine.specs.declared.surface.WasmType.{WasmType}
@@ -86,29 +88,81 @@ abbrev pub start : {E V W M C : Type 0} → M → State E V W M C
 start memory =
     record { stack = []; slots = []; memory = memory; blocks = []; returned = None; called = None; answer = None }
 
-module _ {P E V W M : Type 0} (event : E → Event) (place : E → P) (D : Domain V W M) (m : List ℕ) (f : Function) where
-  abbrev pub callee_side : Option V → List W → Side P E V W M (List V)
-  callee_side reply words = record {
-    arguments = map word_item words;
-    has_cases = result_has_cases f.results;
-    on_wasm = λ m' n ps rs s. no_rule;
-    on_interface = λ m' n ps rs s. only (is_none s.called && (same_bytes m' m && (same_bytes n f.name && (same_trees ps f.params && same_trees rs f.results)))) (found (values_off (length f.params) [] s.stack) (λ r. found (reply_items f.results reply) (λ xs. went (record s { stack = xs ++ r.1; called = Some r.0 }))));
-  }
+-- who gets the words: the module and the function of the callee, and the numbers of the caller's words in the order in which it gets them
+pub record Receiver : Type 0 where
+  pub module_name : List ℕ
+  pub function : Function
+  pub order : List ℕ
 
-  -- the callee's run as the caller has it; last: the place after the callee's last event
-  abbrev pub called_with : P → List E → Option V → List W → State E V W M (Call V W M) → Tried P (State E V W M (Call V W M))
-  called_with last callee reply words s =
-      next (run_trace event place D (callee_side reply words) last callee (start s.memory)) (λ r. found (words_in r.1) (λ ws. only (typed D (signature_results f) ws) (went (record s { stack = pushed (map word_item ws) s.stack; memory = r.2.memory; returned = one_word ws; called = Some (record { words = words; at_call = s.memory; noted = r.0; callee_words = ws; at_return = r.2.memory }) }))))
+-- the numbers from k on, n of them
+abbrev pub numbers : ℕ → ℕ → List ℕ
+numbers k zero = []
+numbers k (suc n) = k ∷ numbers (k + 1) n
 
-  abbrev pub caller_side : P → List E → List V → Option V → Side P E V W M (Call V W M)
-  caller_side last callee arguments reply = record {
-    arguments = argument_items f.params arguments;
-    has_cases = result_has_cases f.results;
-    on_wasm = λ m' n ps rs s. only (is_none s.called && (same_bytes m' m && (same_bytes n f.name && (same_types ps (signature_params f) && same_types rs (signature_results f))))) (found (words_off (length ps) [] s.stack) (λ r. only (typed D ps r.0) (called_with last callee reply r.0 (record s { stack = r.1 }))));
-    on_interface = λ m' n ps rs s. no_rule;
-  }
+-- the called function itself, which gets the words as they are
+abbrev pub itself : List ℕ → Function → Receiver
+itself m f = record { module_name = m; function = f; order = numbers 0 (length (signature_params f)) }
 
-  -- A RUN; the places after the last events name a trace that doesn't return
-  abbrev pub run : P → P → (caller callee : List E) → List V → Option V → M → Tried P (Outcome V W M)
-  run caller_end callee_end caller callee arguments reply memory =
-      next (run_trace event place D (caller_side callee_end callee arguments reply) caller_end caller (start memory)) (λ r. went (record { call = r.0; back = r.1; memory = r.2.memory }))
+-- the items of these numbers, in this order
+abbrev pub in_order : {A : Type 0} → List ℕ → List A → Option (List A)
+in_order [] xs = Some []
+in_order (i ∷ is) xs = option_and_then (λ x. option_and_then (λ more. Some (x ∷ more)) (in_order is xs)) (slice_get xs i)
+
+module _ {P E V W M : Type 0} (event : E → Event) (place : E → P) (D : Domain V W M) where
+  -- the callee, a function f of the module m
+  module _ (m : List ℕ) (f : Function) where
+    -- its first call of the interface, by its names and types
+    abbrev pub calls_interface : State E V W M (List V) → List ℕ → List ℕ → List Tree → List Tree → Bool
+    calls_interface s m' n ps rs = is_none s.called && (same_bytes m' m && (same_bytes n f.name && (same_trees ps f.params && same_trees rs f.results)))
+
+    -- the values that the call took off are noted, and the reply is pushed
+    abbrev pub replied : Option V → List V → List (Item V W) → State E V W M (List V) → Tried P (State E V W M (List V))
+    replied reply noted rest s = found (reply_items f.results reply) (λ xs. went (record s { stack = xs ++ rest; called = Some noted }))
+
+    abbrev pub callee_side : Option V → List W → Side P E V W M (List V)
+    callee_side reply words = record {
+      arguments = map word_item words;
+      has_cases = result_has_cases f.results;
+      on_wasm = λ m' n ps rs s. no_rule;
+      on_interface = λ m' n ps rs s. only (calls_interface s m' n ps rs) (found (values_off (length f.params) [] s.stack) (λ r. replied reply r.0 r.1 s));
+    }
+
+  -- the caller, of a function f of the module m, and who gets its words
+  module _ (m : List ℕ) (f : Function) (to : Receiver) where
+    -- the caller's state after the callee's run, which gave these words back and left this memory
+    abbrev pub answered : List W → List V → List W → M → State E V W M (Call V W M) → State E V W M (Call V W M)
+    answered words noted results at_return s =
+        record s { stack = pushed (map word_item results) s.stack; memory = at_return; returned = one_word results; called = Some (record { words = words; at_call = s.memory; noted = noted; callee_words = results; at_return = at_return }) }
+
+    -- what the callee gave back is words of the result types
+    abbrev pub taken_back : List W → State E V W M (Call V W M) → List V × List (Item V W) × State E V W M (List V) → Tried P (State E V W M (Call V W M))
+    taken_back words s r = found (words_in r.1) (λ ws. only (typed D (signature_results f) ws) (went (answered words r.0 ws r.2.memory s)))
+
+    -- the callee's run on its words, as the caller has it; last: the place after the callee's last event
+    abbrev pub handed_on : P → List E → Option V → List W → State E V W M (Call V W M) → List W → Tried P (State E V W M (Call V W M))
+    handed_on last callee reply words s own =
+        next (run_trace event place D (callee_side to.module_name to.function reply own) last callee (start s.memory)) (taken_back words s)
+
+    abbrev pub called_with : P → List E → Option V → List W → State E V W M (Call V W M) → Tried P (State E V W M (Call V W M))
+    called_with last callee reply words s = found (in_order to.order words) (handed_on last callee reply words s)
+
+    -- its first call, by its names and types of words
+    abbrev pub calls_wasm : State E V W M (Call V W M) → List ℕ → List ℕ → List WasmType → List WasmType → Bool
+    calls_wasm s m' n ps rs = is_none s.called && (same_bytes m' m && (same_bytes n f.name && (same_types ps (signature_params f) && same_types rs (signature_results f))))
+
+    abbrev pub caller_side : P → List E → List V → Option V → Side P E V W M (Call V W M)
+    caller_side last callee arguments reply = record {
+      arguments = argument_items f.params arguments;
+      has_cases = result_has_cases f.results;
+      on_wasm = λ m' n ps rs s. only (calls_wasm s m' n ps rs) (found (words_off (length ps) [] s.stack) (λ r. only (typed D ps r.0) (called_with last callee reply r.0 (record s { stack = r.1 }))));
+      on_interface = λ m' n ps rs s. no_rule;
+    }
+
+    -- A RUN of a caller against a callee; the places after the last events name a trace that doesn't return
+    abbrev pub run_to : P → P → (caller callee : List E) → List V → Option V → M → Tried P (Outcome V W M)
+    run_to caller_end callee_end caller callee arguments reply memory =
+        next (run_trace event place D (caller_side callee_end callee arguments reply) caller_end caller (start memory)) (λ r. went (record { call = r.0; back = r.1; memory = r.2.memory }))
+
+  -- A PLAIN RUN: both traces are of the one function
+  abbrev pub run : List ℕ → Function → P → P → (caller callee : List E) → List V → Option V → M → Tried P (Outcome V W M)
+  run m f = run_to m f (itself m f)

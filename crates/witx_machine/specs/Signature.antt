@@ -1,14 +1,16 @@
 -- The signature of a function: the types of the words that go in, and of those that come back.
--- A result variant comes back as one word; what its first case carries is stored at return pointers,
--- which are further words in: one for each member of a tuple, else one.
-use Rattle.std.specs.Prelude.{List, [], ◌∷◌, ◌++◌, map, Option, Some, None, position, is_none, option_map}
+-- Under Preview1 a result comes back as one word; what the first case of a variant carries is stored at
+-- return pointers, which are further words in: one for each member of a tuple, else one.
+-- Under Stored no word comes back: the whole result is stored at one return pointer.
+use Rattle.std.specs.Prelude.{ℕ, List, [], ◌∷◌, ◌++◌, map, take, Option, Some, None, position, is_none, option_map}
+use Rattle.witx_ast.specs.declared.function.Abi.{Abi}
 use Rattle.witx_ast.specs.declared.types.RecordKind.{RecordKind}
 use Rattle.witx_ast.specs.Tree.{Tree, Arms}
 use Rattle.witx_ast.specs.Plain.{Plain, plain}
 use Rattle.witx_machine.specs.declared.surface.WasmType.{WasmType}
 use Rattle.witx_machine.specs.declared.surface.Place.{Place}
 use Rattle.witx_machine.specs.Words.{builtin_word_type, repr_word_type}
-use Rattle.witx_machine.specs.Functions.{Function, member_types, ok_of, result_cases}
+use Rattle.witx_machine.specs.Functions.{Function, tuple_types, ok_of, result_cases}
 
 -- the words of a parameter
 abbrev pub param_words : Plain → List WasmType
@@ -21,7 +23,7 @@ abbrev pub words_of_params : List Tree → List WasmType
 words_of_params [] = []
 words_of_params (t ∷ ts) = param_words (plain t) ++ words_of_params ts
 
--- the word of a result; a list and a record that isn't flags have none
+-- the word of a result that comes back as one; a list and a record that isn't flags have none
 abbrev pub result_word : Plain → Option WasmType
 result_word (Plain.builtin b) = Some (builtin_word_type b)
 result_word Plain.handle = Some WasmType.I32
@@ -39,15 +41,21 @@ abbrev pub words_of_results : List Tree → List WasmType
 words_of_results [] = []
 words_of_results (t ∷ ts) = before_rest (result_word (plain t)) (words_of_results ts)
 
--- the return pointers of an ok type, by what it is behind its names
-abbrev pub pointers_at : Tree → Tree → List Tree
-pointers_at whole (Tree.named n t d) = pointers_at whole t
-pointers_at whole (Tree.record_of RecordKind.Tuple ms) = member_types ms
-pointers_at whole _ = whole ∷ []
+abbrev pub words_back : Abi → List Tree → List WasmType
+words_back Abi.Preview1 results = words_of_results results
+words_back Abi.Stored results = []
+
+abbrev pub or_alone : Tree → Option (List Tree) → List Tree
+or_alone t None = t ∷ []
+or_alone t (Some ts) = ts
+
+-- the return pointers of an ok type: one for each member of a tuple, else the one of the type itself
+abbrev pub pointers_at : Tree → List Tree
+pointers_at t = or_alone t (tuple_types t)
 
 abbrev pub ok_pointers : Option Tree → List Tree
 ok_pointers None = []
-ok_pointers (Some t) = pointers_at t t
+ok_pointers (Some t) = pointers_at t
 
 abbrev pub pointers_by : Option Arms → List Tree
 pointers_by None = []
@@ -57,17 +65,25 @@ abbrev pub pointers_of : List Tree → List Tree
 pointers_of [] = []
 pointers_of (t ∷ ts) = pointers_by (result_cases t) ++ pointers_of ts
 
+abbrev pub pointers_under : Abi → List Tree → List Tree
+pointers_under Abi.Preview1 results = pointers_of results
+pointers_under Abi.Stored results = take 1 results
+
 -- the types of a function's return pointers
 abbrev pub return_pointers : Function → List Tree
-return_pointers f = pointers_of f.results
+return_pointers f = pointers_under f.abi f.results
 
 -- THE SIGNATURE
 abbrev pub signature_params : Function → List WasmType
 signature_params f = words_of_params f.params ++ map (λ t. WasmType.I32) (return_pointers f)
 
 abbrev pub signature_results : Function → List WasmType
-signature_results f = words_of_results f.results
+signature_results f = words_back f.abi f.results
 
--- the first result that has no word
+-- the first result that would have to come back as a word, and has none
+abbrev pub first_wordless : Abi → List Tree → Option ℕ
+first_wordless Abi.Preview1 results = position (λ t. is_none (result_word (plain t))) results
+first_wordless Abi.Stored results = None
+
 abbrev pub without_signature : Function → Option Place
-without_signature f = option_map Place.Result (position (λ t. is_none (result_word (plain t))) f.results)
+without_signature f = option_map Place.Result (first_wordless f.abi f.results)

@@ -1,7 +1,8 @@
 -- The events that the two sides of a call make for a function: the caller's and the callee's.
 -- The caller lowers its arguments, makes a space for each return pointer, calls, and lifts the result.
 -- The callee lifts its words, calls the interface's function, and lowers the result.
-use Rattle.std.specs.Prelude.{ℕ, ◌+◌, List, [], ◌∷◌, ◌++◌, length, Bool, false, cond, Option, Some, None, is_some}
+use Rattle.std.specs.Prelude.{ℕ, ◌+◌, List, [], ◌∷◌, ◌++◌, take, length, Bool, false, cond, Option, Some, None, is_some}
+use Rattle.witx_ast.specs.declared.function.Abi.{Abi}
 use Rattle.witx_ast.specs.declared.types.BuiltinType.{BuiltinType}
 use Rattle.witx_ast.specs.declared.types.IntRepr.{IntRepr}
 use Rattle.witx_ast.specs.declared.types.RecordKind.{RecordKind}
@@ -108,7 +109,7 @@ load_all k (t ∷ ts) = emit (Step.ReturnPointerGet k) ∷ emit (Step.Load t) �
 abbrev pub ok_lifted : Option Tree → List Event
 ok_lifted None = []
 ok_lifted (Some t) =
-    load_all 0 (pointers_at t t) ++ cond (is_tuple t) (emit (Step.TupleLift (length (pointers_at t t))) ∷ []) []
+    load_all 0 (pointers_at t) ++ cond (is_tuple t) (emit (Step.TupleLift (length (pointers_at t))) ∷ []) []
 
 abbrev pub err_lifted : Option Tree → List Event
 err_lifted None = []
@@ -127,8 +128,13 @@ abbrev pub lift_of : List Tree → List Event
 lift_of [] = []
 lift_of (t ∷ ts) = lift_by (result_cases t) t
 
+-- stored whole, it is loaded through the one pointer
+abbrev pub lift_under : Abi → List Tree → List Event
+lift_under Abi.Preview1 results = lift_of results
+lift_under Abi.Stored results = load_all 0 (take 1 results)
+
 abbrev pub lift_results : Function → List Event
-lift_results f = lift_of f.results
+lift_results f = lift_under f.abi f.results
 
 -- lowering a result: the callee's side. It stores by the last pointer first; w: the number of the first pointer's word
 abbrev pub store_all : ℕ → List Tree → List Event
@@ -138,7 +144,7 @@ store_all w (t ∷ ts) = store_all (w + 1) ts ++ (emit (Step.GetArg w) ∷ emit 
 abbrev pub ok_lowered : ℕ → Option Tree → List Event
 ok_lowered w None = []
 ok_lowered w (Some t) =
-    emit Step.VariantPayload ∷ (cond (is_tuple t) (emit (Step.TupleLower (length (pointers_at t t))) ∷ []) [] ++ store_all w (pointers_at t t))
+    emit Step.VariantPayload ∷ (cond (is_tuple t) (emit (Step.TupleLower (length (pointers_at t))) ∷ []) [] ++ store_all w (pointers_at t))
 
 abbrev pub err_lowered : Option Tree → List Event
 err_lowered None = []
@@ -156,8 +162,12 @@ abbrev pub lower_of : ℕ → List Tree → List Event
 lower_of w [] = []
 lower_of w (t ∷ ts) = lower_by (result_cases t) w t
 
+abbrev pub lower_under : Abi → ℕ → List Tree → List Event
+lower_under Abi.Preview1 w results = lower_of w results
+lower_under Abi.Stored w results = store_all w (take 1 results)
+
 abbrev pub lower_results : Function → List Event
-lower_results f = lower_of (length (words_of_params f.params)) f.results
+lower_results f = lower_under f.abi (length (words_of_params f.params)) f.results
 
 -- THE CALLER'S EVENTS, for a function of the module m
 abbrev pub caller_events : List ℕ → Function → List Event

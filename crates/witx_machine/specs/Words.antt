@@ -1,12 +1,12 @@
 -- The words of WebAssembly, and the one word of a scalar value, both ways.
 -- An unsigned number, a char, a pointer and a handle are zero-extended; a signed number is in two's
 -- complement of the word's width; an enum case is its position; flag k is bit k; a float is its bit pattern.
-use Rattle.std.specs.Prelude.{ℕ, zero, suc, ◌+◌, ◌-◌, ◌*◌, ◌%◌, ◌/◌, ◌^◌, List, [], ◌∷◌, Bool, true, false, ◌&&◌, cond, nat_lt, nat_eq, length, ℤ, pos, negsuc, Option, Some, None}
+use Rattle.std.specs.Prelude.{ℕ, zero, suc, ◌+◌, ◌-◌, ◌*◌, ◌%◌, ◌/◌, ◌^◌, List, [], ◌∷◌, Bool, true, false, ◌&&◌, cond, nat_lt, nat_eq, ℤ, pos, negsuc, Option, Some, None, option_and_then}
 use Rattle.witx_ast.specs.declared.types.BuiltinType.{BuiltinType}
 use Rattle.witx_ast.specs.declared.types.IntRepr.{IntRepr}
 use Rattle.witx_ast.specs.declared.types.RecordKind.{RecordKind}
 use Rattle.witx_ast.specs.Tree.{Tree}
-use Rattle.witx_ast.specs.Plain.{Plain, plain, field_count}
+use Rattle.witx_ast.specs.Plain.{Plain, plain, field_count, all_bare}
 use Rattle.witx_ast.specs.Values.{Value}
 use Rattle.witx_ast.specs.ValueTests.{is_value}
 use Rattle.witx_machine.specs.declared.surface.WasmType.{WasmType}
@@ -103,57 +103,83 @@ repr_modulus IntRepr.U64 = 2 ^ 64
 -- What is lowered to one word and lifted from it: a builtin, a pointer, or a handle, flags or a variant
 -- without payloads, each of these three by the named type under which it is passed.
 pub data Scalar : Type 0 where
-  number : BuiltinType → Scalar
-  address : Scalar
-  const_address : Scalar
+  number_of : BuiltinType → Scalar
+  pointer : Scalar
+  const_pointer : Scalar
   handle_of : Tree → Scalar
   flags_of : WasmType → Tree → Scalar
   enum_of : Tree → Scalar
+
+-- the type of its word
+abbrev pub word_type : Scalar → WasmType
+word_type (number_of b) = builtin_word_type b
+word_type pointer = WasmType.I32
+word_type const_pointer = WasmType.I32
+word_type (handle_of t) = WasmType.I32
+word_type (flags_of w t) = w
+word_type (enum_of t) = WasmType.I32
+
+-- the type of its values; what a pointer points to plays no part
+abbrev pub type_for : Scalar → Plain
+type_for (number_of b) = Plain.builtin b
+type_for pointer = Plain.pointer_to Plain.handle
+type_for const_pointer = Plain.const_pointer_to Plain.handle
+type_for (handle_of t) = plain t
+type_for (flags_of w t) = plain t
+type_for (enum_of t) = plain t
+
+-- whether that type is of the kind; flags have a word of one width alone
+abbrev pub is_for : Scalar → Plain → Bool
+is_for (number_of b) t = true
+is_for pointer t = true
+is_for const_pointer t = true
+is_for (handle_of n) Plain.handle = true
+is_for (handle_of n) _ = false
+is_for (flags_of w n) (Plain.record_of (RecordKind.Bitflags r) ms) = same_type w (repr_word_type r)
+is_for (flags_of w n) _ = false
+is_for (enum_of n) (Plain.variant_of r cs) = all_bare cs
+is_for (enum_of n) _ = false
 
 abbrev pub when : {A : Type 0} → Bool → Option A → Option A
 when true o = o
 when false o = None
 
--- flags have a word of one width alone, and only as many flags as their type has members
-abbrev pub flags_word : WasmType → Plain → Value → Option Word
-flags_word w (Plain.record_of (RecordKind.Bitflags r) ms) (Value.flag_bits bs) =
-    when (same_type w (repr_word_type r) && nat_eq (length bs) (field_count ms)) (Some (record { type = w; bits = bits_of_flags bs }))
-flags_word w _ _ = None
+-- an address, a length: a number below 2^32
+abbrev pub is_u32 : ℕ → Bool
+is_u32 n = nat_lt n (2 ^ 32)
 
--- lowering: only a value of that kind, and under a name only a value of its type
-abbrev pub word_of : Scalar → Value → Option Word
-word_of (number b) (Value.number c n) = when (is_value (Plain.builtin b) (Value.number c n)) (Some (number_word b n))
-word_of (number b) _ = None
-word_of address (Value.address n) = Some (i32 n)
-word_of address _ = None
-word_of const_address (Value.const_address n) = Some (i32 n)
-word_of const_address _ = None
-word_of (handle_of t) (Value.handle_number n) = when (is_value (plain t) (Value.handle_number n)) (Some (i32 n))
-word_of (handle_of t) _ = None
-word_of (flags_of w t) v = flags_word w (plain t) v
-word_of (enum_of t) (Value.enum_index i) = when (is_value (plain t) (Value.enum_index i)) (Some (i32 i))
-word_of (enum_of t) _ = None
+-- THE WORD of a value of a type, where that is one word
+abbrev pub word_in : Plain → Value → Option Word
+word_in (Plain.builtin b) (Value.number c n) = Some (number_word b n)
+word_in Plain.handle (Value.handle_number n) = Some (i32 n)
+word_in (Plain.pointer_to t) (Value.address n) = Some (i32 n)
+word_in (Plain.const_pointer_to t) (Value.const_address n) = Some (i32 n)
+word_in (Plain.record_of (RecordKind.Bitflags r) ms) (Value.flag_bits bs) = Some (record { type = repr_word_type r; bits = bits_of_flags bs })
+word_in (Plain.variant_of r cs) (Value.enum_index i) = Some (i32 i)
+word_in _ _ = None
+
+-- so many flags; bits beyond them are refused
+abbrev pub flags_in : ℕ → ℕ → Option Value
+flags_in n x = when (nat_lt x (2 ^ n)) (Some (Value.flag_bits (flags_from n x)))
+
+-- THE VALUE of a type whose word has these bits, cut to the width of the kind
+abbrev pub value_in : Plain → ℕ → Option Value
+value_in (Plain.builtin b) x = Some (Value.number b (cut b x))
+value_in Plain.handle x = Some (Value.handle_number x)
+value_in (Plain.pointer_to t) x = Some (Value.address x)
+value_in (Plain.const_pointer_to t) x = Some (Value.const_address x)
+value_in (Plain.record_of (RecordKind.Bitflags r) ms) x = flags_in (field_count ms) (x % repr_modulus r)
+value_in (Plain.variant_of r cs) x = Some (Value.enum_index (x % repr_modulus r))
+value_in _ x = None
 
 -- the value itself, where it is one of the type
 abbrev pub checked : Plain → Value → Option Value
 checked t v = when (is_value t v) (Some v)
 
--- flags are cut to their width; bits beyond the members are refused
-abbrev pub flags_value : WasmType → Plain → ℕ → Option Value
-flags_value w (Plain.record_of (RecordKind.Bitflags r) ms) x =
-    when (same_type w (repr_word_type r) && nat_lt (x % repr_modulus r) (2 ^ field_count ms)) (Some (Value.flag_bits (flags_from (field_count ms) (x % repr_modulus r))))
-flags_value w _ x = None
-
--- a case is cut to the width of its tag
-abbrev pub enum_value : Plain → ℕ → Option Value
-enum_value (Plain.variant_of r cs) x = checked (Plain.variant_of r cs) (Value.enum_index (x % repr_modulus r))
-enum_value _ x = None
+-- lowering: only a value of that kind, and under a name only a value of its type
+abbrev pub word_of : Scalar → Value → Option Word
+word_of x v = when (is_for x (type_for x) && is_value (type_for x) v) (word_in (type_for x) v)
 
 -- lifting: from a word of that type alone, and only to a value of the kind, under a name of its type
 abbrev pub value_of : Scalar → Word → Option Value
-value_of (number b) w = when (same_type w.type (builtin_word_type b)) (checked (Plain.builtin b) (Value.number b (cut b w.bits)))
-value_of address w = when (same_type w.type WasmType.I32) (Some (Value.address w.bits))
-value_of const_address w = when (same_type w.type WasmType.I32) (Some (Value.const_address w.bits))
-value_of (handle_of t) w = when (same_type w.type WasmType.I32) (checked (plain t) (Value.handle_number w.bits))
-value_of (flags_of ty t) w = when (same_type w.type ty) (flags_value ty (plain t) w.bits)
-value_of (enum_of t) w = when (same_type w.type WasmType.I32) (enum_value (plain t) w.bits)
+value_of x w = when (is_for x (type_for x) && same_type w.type (word_type x)) (option_and_then (checked (type_for x)) (value_in (type_for x) w.bits))

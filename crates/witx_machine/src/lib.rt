@@ -5,5 +5,7 @@
 mod promises;
 mod surface;
 
-pub use promises::{a_run_has_at_most_one_outcome, rows_keep_to_the_table, traces_are_faithful};
+pub use promises::{
+    a_run_has_at_most_one_outcome, rows_keep_to_the_table, shims_are_faithful, traces_are_faithful,
+};
 pub use surface::{Place, WasmType};

@@ -1,10 +1,11 @@
-ghost use Rattle.std.specs.Prelude.{ℕ, List, IsTrue};
+ghost use Rattle.std.specs.Prelude.{◌≡◌, ℕ, List, Some, IsTrue};
 ghost use Rattle.witx_ast.specs.Functions.{FunctionTree};
 ghost use Rattle.witx_ast.specs.Tags.{function_fits};
 ghost use Rattle.witx_machine.specs.Functions.{function_of};
 ghost use Rattle.witx_machine.specs.Lowerable.{lowerable};
 ghost use Rattle.witx_machine.specs.Traces.{caller_events, callee_events};
 ghost use Rattle.witx_machine.specs.Faithful.{Faithful};
+ghost use Rattle.witx_machine.specs.Shims.{StandsIn, pass, FaithfulThrough};
 ghost use Rattle.witx_machine.specs.Moves.{RowsKeepToTable};
 ghost use Rattle.witx_machine.specs.Outcomes.{AtMostOneOutcome};
 
@@ -13,6 +14,15 @@ ghost use Rattle.witx_machine.specs.Outcomes.{AtMostOneOutcome};
 pub fn traces_are_faithful()
     ensures { (module_name : List ℕ) (func : FunctionTree) → IsTrue (lowerable (function_of func)) → IsTrue (function_fits func) →
         Faithful module_name (function_of func) (caller_events module_name (function_of func)) (callee_events module_name (function_of func)) }
+{}
+
+/// An old function's caller against a new function's callee is faithful, where the callee gets the old
+/// words in the order of its own parameters, then the return pointers, and all types are alike.
+pub fn shims_are_faithful()
+    ensures { (old_module new_module : List ℕ) (old new : FunctionTree) (order words : List ℕ) →
+        IsTrue (lowerable (function_of old)) → IsTrue (lowerable (function_of new)) → IsTrue (function_fits old) → IsTrue (function_fits new) →
+        StandsIn order (function_of old) (function_of new) → pass order (function_of old) ≡ Some words →
+        FaithfulThrough old_module new_module (function_of old) (function_of new) order words (caller_events old_module (function_of old)) (callee_events new_module (function_of new)) }
 {}
 
 /// Each row of the machine takes as many operands off the stack, and leaves as many results there, as

@@ -1,4 +1,4 @@
-use Rattle.std.proofs.Common.{◌≡◌, ◌+◌, ◌++◌, drop}
+use Rattle.std.proofs.Common.{◌≡◌, ◌++◌, drop}
 use Rattle.witx_machine.specs.Traces.{lower_params}
 use Rattle.witx_abi.specs.Reads.{param_types, planned_events}
 use Rattle.witx_abi.proofs.caller.lower_params.Given as goal

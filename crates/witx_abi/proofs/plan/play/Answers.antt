@@ -1,3 +1,5 @@
+use Rattle.std.proofs.Common.{arith}
+use Rattle.std.proofs.lemmas.Grind.{common_steps}
 use Rattle.std.proofs.Common.{◌≡◌, ◌<◌, ◌∙◌, length, get_or, subst, Result, Ok, Err}
 use Rattle.std.specs.Prelude.{OnErr}
 use Rattle.witx_abi.proofs.Plans.{front-next, told-next, ready-next}
@@ -24,3 +26,6 @@ loop-planned-preserved g c =
       ready = ready-next c.args.plan.now i _ _ c.planned-item.result lt is c.in_ok-play_one.ensures.height c.loop-planned.invariant.ready;
       counted = c.in_ok-play_one.ensures.cause ∙ c.loop-planned.invariant.counted;
     }
+
+pub returns-clause-events : goal.returns-clause-events
+returns-clause-events g c = grind (arith, common_steps)

@@ -1,7 +1,7 @@
 use Rattle.std.proofs.Common.{◌≡◌, ◌++◌, drop}
 use Rattle.witx_machine.specs.Signature.{words_of_results}
 use Rattle.witx_abi.specs.Reads.{param_types}
-use Rattle.witx_abi.proofs.signature.words_back.Given as goal
+use Rattle.witx_abi.proofs.signature.result_words.Given as goal
 
 abbrev pub invariant-loop-each : goal.invariant-loop-each
-invariant-loop-each l = l.words ++ words_of_results (param_types (drop l.each-index l.func.results)) ≡ words_of_results (param_types l.func.results)
+invariant-loop-each l = l.words ++ words_of_results (param_types (drop l.each-index l.results)) ≡ words_of_results (param_types l.results)

@@ -1,0 +1,54 @@
+ghost use Rattle.std.specs.Prelude.{◌≡◌, IfOk, None, map};
+ghost use Rattle.witx_machine.specs.Lowerable.{unlowerable};
+ghost use Rattle.witx_machine.specs.Signature.{signature_params, signature_results};
+ghost use Rattle.witx_machine.specs.Traces.{caller_events, callee_events};
+ghost use Rattle.witx_abi.specs.Reads.{called, event_of};
+
+use crate::callee::plan_callee;
+use crate::caller::plan_caller;
+use crate::instruction::WasmTypes;
+use crate::pointers::return_pointers;
+use crate::trace::Trace;
+use std::alloc::Global;
+use witx_ast::InterfaceFunc;
+use witx_base::{Id, Items, OutOfMemory};
+
+/// The trace of the side that calls a function that can be lowered, with the words of its signature.
+///
+/// The events are those that [`call_wasm`](crate::AbiFunc::call_wasm) hands a generator.
+#[tactic(auto, using(crate::proofs::Plans::play_rules))]
+pub fn caller_trace<'a>(
+    alloc: Global,
+    owner: &'a Id,
+    func: &'a InterfaceFunc,
+    params: &'a WasmTypes,
+    results: &'a WasmTypes,
+) -> Result<Trace, OutOfMemory>
+    requires lowerable { unlowerable (called func.now) ≡ None }
+    requires params { params.now ≡ signature_params (called func.now) }
+    requires results { results.now ≡ signature_results (called func.now) }
+    ensures { IfOk result (λ trace. map event_of trace.events ≡ caller_events owner.now (called func.now)) }
+{
+    let pointers = return_pointers(alloc, func.abi, &func.results)?;
+    let mut plan = Items::new(alloc);
+    plan_caller(&mut plan, owner, func, &pointers, params, results)?;
+    Trace::of(alloc, &plan)
+}
+
+/// The trace of the side that is called, of a function that can be lowered.
+///
+/// The events are those that [`call_interface`](crate::AbiFunc::call_interface) hands a generator.
+#[tactic(auto, using(crate::proofs::Plans::play_rules))]
+pub fn callee_trace<'a>(
+    alloc: Global,
+    owner: &'a Id,
+    func: &'a InterfaceFunc,
+) -> Result<Trace, OutOfMemory>
+    requires { unlowerable (called func.now) ≡ None }
+    ensures { IfOk result (λ trace. map event_of trace.events ≡ callee_events owner.now (called func.now)) }
+{
+    let pointers = return_pointers(alloc, func.abi, &func.results)?;
+    let mut plan = Items::new(alloc);
+    plan_callee(&mut plan, owner, func, &pointers)?;
+    Trace::of(alloc, &plan)
+}
