@@ -5,8 +5,9 @@ use Rattle.std.specs.Map.{lookup}
 use Rattle.std.specs.Ordering.{is_eq, nat_cmp}
 use Rattle.std.specs.Cmp.Lexicographic.{slice_cmp}
 use Rattle.witx_files.specs.declared.location.Location.{Location}
+use Rattle.witx_ast.specs.declared.definition.Constant.{Constant}
 use Rattle.witx_check.specs.declared.constants.ConstantName.{ConstantName}
-use Rattle.witx_check.specs.Constants.{constant_place}
+use Rattle.witx_check.specs.Constants.{constant_place, place_under, place_with}
 use Rattle.witx_check.specs.Positions.{is_name}
 use Rattle.witx_check.proofs.ConstantKeys.{constant_cmp, key-found, both-equal}
 use Rattle.witx_check.proofs.Steps.{is_eq-swap}
@@ -27,15 +28,14 @@ places-more old new key p more ty n =
     ∙ (ap (λ c. cond c (Some p) (lookup (λ other. is_eq (constant_cmp q other)) old)) (swap-key key q)
     ∙ ap (cond (is_name ty key.ty && is_name n key.name) (Some p)) (key-found old q)))
 
--- the same for a key whose two names, and a place, are given by equations
-pub places-named : (old new : List (ConstantName × Location)) (key : ConstantName) (p at : Location) (t m : List ℕ)
-    → ((q : ConstantName) → lookup (λ other. is_eq (constant_cmp q other)) new ≡ cond (is_eq (constant_cmp key q)) (Some p) (lookup (λ other. is_eq (constant_cmp q other)) old))
-    → key.ty ≡ t → key.name ≡ m → p ≡ at
-    → (ty n : List ℕ) → constant_place new ty n ≡ cond (is_name ty t && is_name n m) (Some at) (constant_place old ty n)
-places-named old new key p at t m more a b e ty n =
-    places-more old new key p more ty n
-    ∙ (ap (λ x. cond (is_name ty x && is_name n key.name) (Some p) (constant_place old ty n)) a
-    ∙ (ap (λ x. cond (is_name ty t && is_name n x) (Some p) (constant_place old ty n)) b
-    ∙ ap (λ x. cond (is_name ty t && is_name n m) (Some x) (constant_place old ty n)) e))
+-- the same for a constant whose two names the key has
+pub places-of : (old new : List (ConstantName × Location)) (key : ConstantName) (p : Location) (c : Constant)
+    → (key.ty ≡ c.ty) × (key.name ≡ c.name)
+    → ((ty n : List ℕ) → constant_place new ty n ≡ place_under old key p ty n)
+    → (ty n : List ℕ) → constant_place new ty n ≡ place_with old c p ty n
+places-of old new key p c same more ty n =
+    more ty n
+    ∙ (ap (λ x. cond (is_name ty x && is_name n key.name) (Some p) (constant_place old ty n)) same.0
+    ∙ ap (λ x. cond (is_name ty c.ty && is_name n x) (Some p) (constant_place old ty n)) same.1)
 
 pub ruleset constant_rules = (places-more, cut-back, definitions-more)

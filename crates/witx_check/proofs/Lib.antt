@@ -1,14 +1,13 @@
 pub mod Answered
-pub mod AnsweredByForm
 pub mod ArmNames
 pub mod ByPosition
 pub mod ConstantKeys
 pub mod ConstantSteps
+pub mod Examples
 pub mod Finished
 pub mod Finishing
 pub mod Fits
 pub mod Funcs
-pub mod LinePlaces
 pub mod ModuleItems
 pub mod NamePlaces
 pub mod Onward
@@ -18,4 +17,5 @@ pub mod Reporting
 pub mod Steps
 pub mod SyntaxTrees
 pub mod Validated
+pub mod Validating
 pub mod Within

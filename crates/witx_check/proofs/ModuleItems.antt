@@ -72,7 +72,7 @@ items-end ds i l = rw (drop_all i ds l) refl
 -- scopes that answer alike give the same checks
 pub item-alike : (h : Here) (a b : Marks) (d : DeclTree) → ((q : List ℕ) → found a q ≡ found b q) → item_checks h a d ≡ item_checks h b d
 item-alike h a b (memory name) s = rw (s name.text) refl
-item-alike h a b (function name params results noreturn) s = rw (s name.text) refl
+item-alike h a b (function name params results noreturn stored) s = rw (s name.text) refl
 
 pub items-alike : (h : Here) (a b : Marks) (items : List NotedDecl) → ((q : List ℕ) → found a q ≡ found b q) → items_checks h a items ≡ items_checks h b items
 items-alike h a b [] s = refl
@@ -135,11 +135,11 @@ head-none (Some f) cs e = absurd (cc)
 -- an item whose checks pass has a new name
 pub item-new : (h : Here) (old : Marks) (d : DeclTree) → first_fault (item_checks h old d) ≡ None → found old (quoted_name d).text ≡ None
 item-new h old (memory name) e = no-mark (found old name.text) h name.text name.start (head-none (new_mark h old name.text name.start) [] e)
-item-new h old (function name params results noreturn) e = no-mark (found old name.text) h name.text name.start (head-none (new_mark h old name.text name.start) _ e)
+item-new h old (function name params results noreturn stored) e = no-mark (found old name.text) h name.text name.start (head-none (new_mark h old name.text name.start) _ e)
 
 called-meant : (h : Here) (comments : List (List ℕ)) (d : DeclTree) → item_called (decl_meant h comments d) ≡ (quoted_name d).text
 called-meant h comments (memory name) = refl
-called-meant h comments (function name params results noreturn) = refl
+called-meant h comments (function name params results noreturn stored) = refl
 
 called-name : (t : ItemTree) → item_name t ≡ Some (item_called t)
 called-name (import_of i) = refl

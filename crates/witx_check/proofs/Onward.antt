@@ -1,13 +1,13 @@
 -- One check, and one part, more.
-use Rattle.std.specs.Prelude.{◌≡◌, ◌&&◌, ◌||◌, option_map, ℕ, List, [], ◌∷◌, ◌++◌, ◌+◌, ◌<◌, ◌≤◌, length, drop, Option, Some, None, map, true, false}
+use Rattle.std.specs.Prelude.{Bool, not, ◌≡◌, ◌&&◌, ◌||◌, option_map, ℕ, List, [], ◌∷◌, ◌++◌, ◌+◌, ◌<◌, ◌≤◌, length, drop, Option, Some, None, map, true, false}
 use Rattle.std.proofs.Common.{refl, add-one, sym, ap, get_or, append_assoc, ◌∙◌}
 use Rattle.std.proofs.lemmas.List.{drop_more, drop_all, map-append, append-nil}
 use Rattle.witx_base.specs.Found.{found}
 use Rattle.witx_files.specs.declared.location.Location.{Location}
 use Rattle.witx_comments.specs.Docs.{documentation_of}
-use Rattle.witx_tree.specs.Trees.{Member, Fields, no_fields, one_field, no_types, one_type, no_union_fields, one_union_field, Cases, no_cases, one_case, union_of, variant_of}
+use Rattle.witx_tree.specs.Trees.{Member, Fields, no_fields, one_field, no_types, one_type, no_union_fields, one_union_field, Cases, no_cases, one_case, union_of, variant_of, TypeTree, ident, builtin, string, boolean, handle, list_of, pointer_to, const_pointer_to, tuple_of, enum_of, flags_of, record_of, expected}
 use Rattle.witx_tree.specs.Views.{type_view, name_view, member_view, comments_view, fields_view, types_view, union_fields_view, cases_view, boxed_view, maybe_of}
-use Rattle.witx_check.specs.Slices.{union_checks, variant_checks, member_views}
+use Rattle.witx_check.specs.SyntaxChecks.{lacks_name, union_checks, variant_checks, member_views, name_check, Sees}
 use Rattle.witx_check.proofs.ArmNames.{arm_names-arm}
 use Rattle.witx_check.proofs.NamePlaces.{has-push, seen-more}
 use Rattle.std.specs.Map.{keys_of}
@@ -31,7 +31,7 @@ use Rattle.witx_ast.proofs.Trees.{tree_rules, tree-RecordMember, tree-Case}
 use Rattle.witx_check.specs.declared.error.CheckError.{CheckError}
 use Rattle.witx_check.specs.declared.error.CheckError.TheVariants as check_error
 use Rattle.witx_check.specs.Blame.{Blames, fault_of}
-use Rattle.witx_check.specs.Faults.{Fault, Check, first_fault}
+use Rattle.witx_check.specs.Faults.{Fault, Check, first_fault, anonymous_record}
 use Rattle.witx_check.specs.Names.{Here, Marks, new_mark}
 use Rattle.witx_check.specs.Checks.{type_checks, field_checks, each_type_checks, union_field_checks, member_checks, case_checks, maybe_checks, union_fields_count, cases_count}
 use Rattle.witx_check.specs.Trees.{tree_meant, fields_meant, types_meant, number_name, member_arm, flag_field, bool_tree, union_arms, union_name, case_arms, maybe_tree}
@@ -64,6 +64,9 @@ blames-append check_error.OutOfMemory xs ys b = tt
 pub blames-to : (e : CheckError) (f g : Option Fault) → f ≡ g → Blames e f → Blames e g
 blames-to e f g p b = rw p at b
 
+pub blames-past : (e : CheckError) (c : Check) (cs : List Check) → c ≡ None → Blames e (first_fault cs) → Blames e (first_fault (c ∷ cs))
+blames-past e c cs n b = blames-to e (first_fault cs) (first_fault (c ∷ cs)) (sym (fault-past c cs n)) b
+
 -- from a list of checks to the whole whose first fault it has
 pub step-past : (c : Check) (xs ys : List Check) (x : Option Fault) → first_fault (c ∷ (xs ++ ys)) ≡ x → c ≡ None → first_fault xs ≡ None → first_fault ys ≡ x
 step-past c xs ys x e n t = let e1 = rw (fault-past c (xs ++ ys) n, fault-append xs ys t) at e in e1
@@ -84,6 +87,18 @@ names-alike h a b no_fields s = refl
 names-alike h a b (one_field docs m t fs) s =
     let e = names-alike h ((m.name, m.start) ∷ a) ((m.name, m.start) ∷ b) fs (λ q. rw (s q) refl) in
     rw (s m.name, e) refl
+
+-- ---- one member, and one case, more
+
+pub member-pushed : (ms : List RecordMember) (n : List ℕ) (r : TypeRef) (d e : List ℕ) → d ≡ e
+    → map member_field (ms ++ record { name = n; tref = r; docs = d } ∷ []) ≡ map member_field ms ++ record { called = n; tree = tree_of r; comment = e } ∷ []
+member-pushed ms n r d e same = rw (map-append member_field ms (record { name = n; tref = r; docs = d } ∷ []), tree-RecordMember (record { name = n; tref = r; docs = d }), same) refl
+
+pub case-pushed : (cs : List Case) (n : List ℕ) (r : Option TypeRef) (d e : List ℕ) → d ≡ e
+    → map case_arm (cs ++ record { name = n; tref = r; docs = d } ∷ []) ≡ map case_arm cs ++ record { called = n; payload = option_map tree_of r; comment = e } ∷ []
+case-pushed cs n r d e same = rw (map-append case_arm cs (record { name = n; tref = r; docs = d } ∷ []), tree-Case (record { name = n; tref = r; docs = d }), same) refl
+
+pub ruleset push_rules = (member-pushed, case-pushed)
 
 -- ---- the fields of a record
 
@@ -129,14 +144,15 @@ pub row-none : (h : Here) (fs : List (Documented FieldSyntax)) (i : ℕ) (old : 
     → length fs ≤ i → first_fault (field_checks h old (fields_view (drop i fs))) ≡ x → x ≡ None
 row-none h fs i old x l q = sym (rw (rows-end fs i l) at q)
 
-pub fields-next : (h : Here) (fs : List (Documented FieldSyntax)) (i : ℕ) (f : Documented FieldSyntax) (ms : List RecordMember) (m : RecordMember) (x : List Field)
+pub fields-next : (h : Here) (fs : List (Documented FieldSyntax)) (i : ℕ) (f : Documented FieldSyntax) (old new : List Field) (n : List ℕ) (t : Tree) (x : List Field)
     → i < length fs → f ≡ get_or fs i f
-    → map member_field ms ++ fields_meant h (fields_view (drop i fs)) ≡ x
-    → m.name ≡ f.item.name.name.now → tree_of m.tref ≡ tree_meant h (type_view f.item.type_) → m.docs ≡ documentation_of (comments_view f.comments)
-    → map member_field (ms ++ m ∷ []) ++ fields_meant h (fields_view (drop (i + 1) fs)) ≡ x
-fields-next h fs i f ms m x l p e a b c =
+    → old ++ fields_meant h (fields_view (drop i fs)) ≡ x
+    → new ≡ old ++ record { called = n; tree = t; comment = documentation_of (comments_view f.comments) } ∷ []
+    → n ≡ f.item.name.name.now → t ≡ tree_meant h (type_view f.item.type_)
+    → new ++ fields_meant h (fields_view (drop (i + 1) fs)) ≡ x
+fields-next h fs i f old new n t x l p e more a b =
     let e1 = rw (rows-drop fs i f l p) at e in
-    rw (map-append member_field ms (m ∷ []), append_assoc, tree-RecordMember m, a, b, c) e1
+    rw (more, append_assoc, a, b) e1
 
 pub fields-end : (h : Here) (fs : List (Documented FieldSyntax)) (i : ℕ) (ms : List RecordMember) (x : List Field)
     → length fs ≤ i → map member_field ms ++ fields_meant h (fields_view (drop i fs)) ≡ x → map member_field ms ≡ x
@@ -229,27 +245,29 @@ pub noted-none : (h : Here) (ns : List (Documented IdSyntax)) (i : ℕ) (old : M
     → length ns ≤ i → first_fault (member_checks h old (member_views (drop i ns))) ≡ x → x ≡ None
 noted-none h ns i old x l q = sym (rw (noted-end ns i l) at q)
 
-pub noted_arms-next : (ns : List (Documented IdSyntax)) (i : ℕ) (n : Documented IdSyntax) (cs : List Case) (c : Case) (x : List Arm)
+pub noted_arms-next : (ns : List (Documented IdSyntax)) (i : ℕ) (n : Documented IdSyntax) (old new : List Arm) (m : List ℕ) (x : List Arm)
     → i < length ns → n ≡ get_or ns i n
-    → map case_arm cs ++ map member_arm (member_views (drop i ns)) ≡ x
-    → c.name ≡ n.item.name.now → c.tref ≡ None → c.docs ≡ documentation_of (comments_view n.comments)
-    → map case_arm (cs ++ c ∷ []) ++ map member_arm (member_views (drop (i + 1) ns)) ≡ x
-noted_arms-next ns i n cs c x l p e a b d =
+    → old ++ map member_arm (member_views (drop i ns)) ≡ x
+    → new ≡ old ++ record { called = m; payload = None; comment = documentation_of (comments_view n.comments) } ∷ []
+    → m ≡ n.item.name.now
+    → new ++ map member_arm (member_views (drop (i + 1) ns)) ≡ x
+noted_arms-next ns i n old new m x l p e more a =
     let e1 = rw (noted-drop ns i n l p) at e in
-    rw (map-append case_arm cs (c ∷ []), append_assoc, tree-Case c, a, b, d) e1
+    rw (more, append_assoc, a) e1
 
 pub noted_arms-end : (ns : List (Documented IdSyntax)) (i : ℕ) (cs : List Case) (x : List Arm)
     → length ns ≤ i → map case_arm cs ++ map member_arm (member_views (drop i ns)) ≡ x → map case_arm cs ≡ x
 noted_arms-end ns i cs x l e = let e1 = rw (noted-end ns i l, append-nil) at e in e1
 
-pub noted_flags-next : (ns : List (Documented IdSyntax)) (i : ℕ) (n : Documented IdSyntax) (ms : List RecordMember) (m : RecordMember) (x : List Field)
+pub noted_flags-next : (ns : List (Documented IdSyntax)) (i : ℕ) (n : Documented IdSyntax) (old new : List Field) (m : List ℕ) (t : Tree) (x : List Field)
     → i < length ns → n ≡ get_or ns i n
-    → map member_field ms ++ map flag_field (member_views (drop i ns)) ≡ x
-    → m.name ≡ n.item.name.now → tree_of m.tref ≡ bool_tree → m.docs ≡ documentation_of (comments_view n.comments)
-    → map member_field (ms ++ m ∷ []) ++ map flag_field (member_views (drop (i + 1) ns)) ≡ x
-noted_flags-next ns i n ms m x l p e a b d =
+    → old ++ map flag_field (member_views (drop i ns)) ≡ x
+    → new ≡ old ++ record { called = m; tree = t; comment = documentation_of (comments_view n.comments) } ∷ []
+    → m ≡ n.item.name.now → t ≡ bool_tree
+    → new ++ map flag_field (member_views (drop (i + 1) ns)) ≡ x
+noted_flags-next ns i n old new m t x l p e more a b =
     let e1 = rw (noted-drop ns i n l p) at e in
-    rw (map-append member_field ms (m ∷ []), append_assoc, tree-RecordMember m, a, b, d) e1
+    rw (more, append_assoc, a, b) e1
 
 pub noted_flags-end : (ns : List (Documented IdSyntax)) (i : ℕ) (ms : List RecordMember) (x : List Field)
     → length ns ≤ i → map member_field ms ++ map flag_field (member_views (drop i ns)) ≡ x → map member_field ms ≡ x
@@ -315,14 +333,15 @@ pub upart-none : (h : Here) (near : Location) (ts : List (Documented TypedefSynt
     → length ts ≤ i → first_fault (union_field_checks h near (union_fields_view (drop i ts))) ≡ x → x ≡ None
 upart-none h near ts i x l q = sym (rw (uparts-end ts i l) at q)
 
-pub uarm-next : (h : Here) (names : Option (List (List ℕ))) (ts : List (Documented TypedefSyntax)) (i : ℕ) (t : Documented TypedefSyntax) (cs : List Case) (c : Case) (r : TypeRef) (x : List Arm)
+pub uarm-next : (h : Here) (names : Option (List (List ℕ))) (ts : List (Documented TypedefSyntax)) (i : ℕ) (t : Documented TypedefSyntax) (old new : List Arm) (n : List ℕ) (r : Tree) (x : List Arm)
     → i < length ts → t ≡ get_or ts i t
-    → map case_arm cs ++ union_arms h names i (union_fields_view (drop i ts)) ≡ x
-    → c.name ≡ union_name names i → c.tref ≡ Some r → tree_of r ≡ tree_meant h (type_view t.item) → c.docs ≡ documentation_of (comments_view t.comments)
-    → map case_arm (cs ++ c ∷ []) ++ union_arms h names (i + 1) (union_fields_view (drop (i + 1) ts)) ≡ x
-uarm-next h names ts i t cs c r x l p e a b k d =
+    → old ++ union_arms h names i (union_fields_view (drop i ts)) ≡ x
+    → new ≡ old ++ record { called = n; payload = Some r; comment = documentation_of (comments_view t.comments) } ∷ []
+    → n ≡ union_name names i → r ≡ tree_meant h (type_view t.item)
+    → new ++ union_arms h names (i + 1) (union_fields_view (drop (i + 1) ts)) ≡ x
+uarm-next h names ts i t old new n r x l p e more a b =
     let e1 = rw (uparts-drop ts i t l p) at e in
-    rw (map-append case_arm cs (c ∷ []), append_assoc, tree-Case c, a, b, k, d) e1
+    rw (more, append_assoc, a, b) e1
 
 pub uarm-end : (h : Here) (names : Option (List (List ℕ))) (ts : List (Documented TypedefSyntax)) (i : ℕ) (cs : List Case) (x : List Arm)
     → length ts ≤ i → map case_arm cs ++ union_arms h names i (union_fields_view (drop i ts)) ≡ x → map case_arm cs ≡ x
@@ -350,49 +369,60 @@ seen-alike h names a b (one_case docs m t cs) s =
     let e = seen-alike h names (a ++ m.name ∷ []) (b ++ m.name ∷ []) cs (λ q. has-push a m.name q ∙ ap (λ t. t || has_name (m.name ∷ []) q) (s q) ∙ sym (has-push b m.name q)) in
     rw (case-alike names a b m.name (h.place m.start) (s m.name), e) refl
 
-pub choice-next : (h : Here) (names : Option (List (List ℕ))) (cs : List (Documented CaseSyntax)) (i : ℕ) (c : Documented CaseSyntax) (old new : Marks) (n : List ℕ) (x : Option Fault)
-    → i < length cs → c ≡ get_or cs i c → n ≡ c.item.name.name.now
+-- without names no case is asked for those before it
+untagged-alike : (h : Here) (a b : List (List ℕ)) (cs : Cases) → case_checks h None a cs ≡ case_checks h None b cs
+untagged-alike h a b no_cases = refl
+untagged-alike h a b (one_case docs m t cs) = rw (untagged-alike h (a ++ m.name ∷ []) (b ++ m.name ∷ []) cs) refl
+
+sees-more : (h : Here) (names : Option (List (List ℕ))) (old new : Marks) (n : IdSyntax) (cs : Cases) → Sees names old new n
+    → case_checks h names (keys_of new) cs ≡ case_checks h names (keys_of old ++ n.name.now ∷ []) cs
+sees-more h None old new n cs s = untagged-alike h (keys_of new) (keys_of old ++ n.name.now ∷ []) cs
+sees-more h (Some names) old new n cs s = seen-alike h (Some names) (keys_of new) (keys_of old ++ n.name.now ∷ []) cs (λ q. seen-more old new n.name.now q n.span.start (s q))
+
+pub choice-next : (h : Here) (names : Option (List (List ℕ))) (cs : List (Documented CaseSyntax)) (i : ℕ) (c : Documented CaseSyntax) (old new : Marks) (x : Option Fault)
+    → i < length cs → c ≡ get_or cs i c
     → first_fault (case_checks h names (keys_of old) (cases_view (drop i cs))) ≡ x
-    → case_check names (keys_of old) n (h.place c.item.name.span.start) ≡ None
+    → name_check h names old c.item.name ≡ None
     → first_fault (maybe_checks h (h.place c.item.name.span.start) (maybe_of (option_map type_view c.item.ty))) ≡ None
-    → ((q : List ℕ) → found new q ≡ found ((n, c.item.name.span.start) ∷ old) q)
+    → Sees names old new c.item.name
     → first_fault (case_checks h names (keys_of new) (cases_view (drop (i + 1) cs))) ≡ x
-choice-next h names cs i c old new n x l p s e k t f =
-    let e1 = rw (choices-drop cs i c l p, ← s) at e in
-    let e2 = step-past (case_check names (keys_of old) n (h.place c.item.name.span.start)) (maybe_checks h (h.place c.item.name.span.start) (maybe_of (option_map type_view c.item.ty))) (case_checks h names (keys_of old ++ n ∷ []) (cases_view (drop (i + 1) cs))) x e1 k t in
-    rw (seen-alike h names (keys_of new) (keys_of old ++ n ∷ []) (cases_view (drop (i + 1) cs)) (λ q. seen-more old new n q c.item.name.span.start (f q))) e2
+choice-next h names cs i c old new x l p e k t s =
+    let e1 = rw (choices-drop cs i c l p) at e in
+    let e2 = step-past (name_check h names old c.item.name) (maybe_checks h (h.place c.item.name.span.start) (maybe_of (option_map type_view c.item.ty))) (case_checks h names (keys_of old ++ c.item.name.name.now ∷ []) (cases_view (drop (i + 1) cs))) x e1 k t in
+    rw (sees-more h names old new c.item.name (cases_view (drop (i + 1) cs)) s) e2
 
-pub choice-bad : (h : Here) (names : Option (List (List ℕ))) (cs : List (Documented CaseSyntax)) (i : ℕ) (c : Documented CaseSyntax) (seen : List (List ℕ)) (n : List ℕ) (e : CheckError) (x : Option Fault)
-    → i < length cs → c ≡ get_or cs i c → n ≡ c.item.name.name.now
-    → first_fault (case_checks h names seen (cases_view (drop i cs))) ≡ x
-    → Blames e (case_check names seen n (h.place c.item.name.span.start))
+pub choice-bad : (h : Here) (names : Option (List (List ℕ))) (cs : List (Documented CaseSyntax)) (i : ℕ) (c : Documented CaseSyntax) (seen : Marks) (e : CheckError) (x : Option Fault)
+    → i < length cs → c ≡ get_or cs i c
+    → first_fault (case_checks h names (keys_of seen) (cases_view (drop i cs))) ≡ x
+    → Blames e (name_check h names seen c.item.name)
     → Blames e x
-choice-bad h names cs i c seen n e x l p s q b =
-    let q1 = rw (choices-drop cs i c l p, ← s) at q in
-    step-head e (case_check names seen n (h.place c.item.name.span.start)) (maybe_checks h (h.place c.item.name.span.start) (maybe_of (option_map type_view c.item.ty)) ++ case_checks h names (seen ++ n ∷ []) (cases_view (drop (i + 1) cs))) x q1 b
+choice-bad h names cs i c seen e x l p q b =
+    let q1 = rw (choices-drop cs i c l p) at q in
+    step-head e (name_check h names seen c.item.name) (maybe_checks h (h.place c.item.name.span.start) (maybe_of (option_map type_view c.item.ty)) ++ case_checks h names (keys_of seen ++ c.item.name.name.now ∷ []) (cases_view (drop (i + 1) cs))) x q1 b
 
-pub choice-wrong : (h : Here) (names : Option (List (List ℕ))) (cs : List (Documented CaseSyntax)) (i : ℕ) (c : Documented CaseSyntax) (seen : List (List ℕ)) (n : List ℕ) (e : CheckError) (x : Option Fault)
-    → i < length cs → c ≡ get_or cs i c → n ≡ c.item.name.name.now
-    → first_fault (case_checks h names seen (cases_view (drop i cs))) ≡ x
-    → case_check names seen n (h.place c.item.name.span.start) ≡ None
+pub choice-wrong : (h : Here) (names : Option (List (List ℕ))) (cs : List (Documented CaseSyntax)) (i : ℕ) (c : Documented CaseSyntax) (seen : Marks) (e : CheckError) (x : Option Fault)
+    → i < length cs → c ≡ get_or cs i c
+    → first_fault (case_checks h names (keys_of seen) (cases_view (drop i cs))) ≡ x
+    → name_check h names seen c.item.name ≡ None
     → Blames e (first_fault (maybe_checks h (h.place c.item.name.span.start) (maybe_of (option_map type_view c.item.ty))))
     → Blames e x
-choice-wrong h names cs i c seen n e x l p s q k b =
-    let q1 = rw (choices-drop cs i c l p, ← s) at q in
-    step-wrong e (case_check names seen n (h.place c.item.name.span.start)) (maybe_checks h (h.place c.item.name.span.start) (maybe_of (option_map type_view c.item.ty))) (case_checks h names (seen ++ n ∷ []) (cases_view (drop (i + 1) cs))) x q1 k b
+choice-wrong h names cs i c seen e x l p q k b =
+    let q1 = rw (choices-drop cs i c l p) at q in
+    step-wrong e (name_check h names seen c.item.name) (maybe_checks h (h.place c.item.name.span.start) (maybe_of (option_map type_view c.item.ty))) (case_checks h names (keys_of seen ++ c.item.name.name.now ∷ []) (cases_view (drop (i + 1) cs))) x q1 k b
 
 pub choice-none : (h : Here) (names : Option (List (List ℕ))) (cs : List (Documented CaseSyntax)) (i : ℕ) (seen : List (List ℕ)) (x : Option Fault)
     → length cs ≤ i → first_fault (case_checks h names seen (cases_view (drop i cs))) ≡ x → x ≡ None
 choice-none h names cs i seen x l q = sym (rw (choices-end cs i l) at q)
 
-pub carm-next : (h : Here) (cs : List (Documented CaseSyntax)) (i : ℕ) (s : Documented CaseSyntax) (ms : List Case) (c : Case) (x : List Arm)
+pub carm-next : (h : Here) (cs : List (Documented CaseSyntax)) (i : ℕ) (s : Documented CaseSyntax) (old new : List Arm) (n : List ℕ) (t : Option Tree) (x : List Arm)
     → i < length cs → s ≡ get_or cs i s
-    → map case_arm ms ++ case_arms h (cases_view (drop i cs)) ≡ x
-    → c.name ≡ s.item.name.name.now → option_map tree_of c.tref ≡ maybe_tree h (maybe_of (option_map type_view s.item.ty)) → c.docs ≡ documentation_of (comments_view s.comments)
-    → map case_arm (ms ++ c ∷ []) ++ case_arms h (cases_view (drop (i + 1) cs)) ≡ x
-carm-next h cs i s ms c x l p e a k d =
+    → old ++ case_arms h (cases_view (drop i cs)) ≡ x
+    → new ≡ old ++ record { called = n; payload = t; comment = documentation_of (comments_view s.comments) } ∷ []
+    → n ≡ s.item.name.name.now → t ≡ maybe_tree h (maybe_of (option_map type_view s.item.ty))
+    → new ++ case_arms h (cases_view (drop (i + 1) cs)) ≡ x
+carm-next h cs i s old new n t x l p e more a b =
     let e1 = rw (choices-drop cs i s l p) at e in
-    rw (map-append case_arm ms (c ∷ []), append_assoc, tree-Case c, a, k, d) e1
+    rw (more, append_assoc, a, b) e1
 
 pub carm-end : (h : Here) (cs : List (Documented CaseSyntax)) (i : ℕ) (ms : List Case) (x : List Arm)
     → length cs ≤ i → map case_arm ms ++ case_arms h (cases_view (drop i cs)) ≡ x → map case_arm ms ≡ x
@@ -436,3 +466,49 @@ variant-checks h near u =
     rw (cases_count-in (out-VariantSyntax u).cases) (ap first_fault (sym e))
 
 pub ruleset checked_rules = (type_rules, union-checks, variant-checks)
+
+-- ---- the guard on a type without a name
+
+lacks-none : (b : Bool) → not b ≡ false → b ≡ true
+lacks-none true e = refl
+lacks-none false e = absurd (cc)
+
+pub guard-passed : (h : Here) (named : Bool) (near : Location) (t : TypeTree) → lacks_name named t ≡ false → first_fault (type_checks h named near t) ≡ first_fault (type_checks h true near t)
+guard-passed h named near (ident m) e = refl
+guard-passed h named near (builtin b) e = refl
+guard-passed h named near string e = refl
+guard-passed h named near boolean e = refl
+guard-passed h named near handle e = rw (lacks-none named e) refl
+guard-passed h named near (list_of t) e = refl
+guard-passed h named near (pointer_to t) e = refl
+guard-passed h named near (const_pointer_to t) e = refl
+guard-passed h named near (tuple_of ts) e = refl
+guard-passed h named near (enum_of r ns) e = rw (lacks-none named e) refl
+guard-passed h named near (flags_of r ns) e = rw (lacks-none named e) refl
+guard-passed h named near (record_of rs) e = rw (lacks-none named e) refl
+guard-passed h named near (union_of tag ps) e = rw (lacks-none named e) refl
+guard-passed h named near (variant_of tag cs) e = refl
+guard-passed h named near (expected ok err) e = refl
+
+lacks-one : (b : Bool) → not b ≡ true → b ≡ false
+lacks-one true e = absurd (cc)
+lacks-one false e = refl
+
+pub guard-stopped : (h : Here) (named : Bool) (near : Location) (t : TypeTree) → lacks_name named t ≡ true → first_fault (type_checks h named near t) ≡ Some (anonymous_record near)
+guard-stopped h named near (ident m) e = absurd (cc)
+guard-stopped h named near (builtin b) e = absurd (cc)
+guard-stopped h named near string e = absurd (cc)
+guard-stopped h named near boolean e = absurd (cc)
+guard-stopped h named near handle e = rw (lacks-one named e) refl
+guard-stopped h named near (list_of t) e = absurd (cc)
+guard-stopped h named near (pointer_to t) e = absurd (cc)
+guard-stopped h named near (const_pointer_to t) e = absurd (cc)
+guard-stopped h named near (tuple_of ts) e = absurd (cc)
+guard-stopped h named near (enum_of r ns) e = rw (lacks-one named e) refl
+guard-stopped h named near (flags_of r ns) e = rw (lacks-one named e) refl
+guard-stopped h named near (record_of rs) e = rw (lacks-one named e) refl
+guard-stopped h named near (union_of tag ps) e = rw (lacks-one named e) refl
+guard-stopped h named near (variant_of tag cs) e = absurd (cc)
+guard-stopped h named near (expected ok err) e = absurd (cc)
+
+pub ruleset guarded_rules = (checked_rules, guard-passed, guard-stopped)

@@ -173,7 +173,7 @@ params-stand before (f ∷ fs) e = (e.0, params-stand before fs e.1)
 item-stands : (before : List DefinitionTree) (h : Here) → ((q : List ℕ) → NamesStand before (sense_tree (h.sense q))) → (comments : List (List ℕ)) (d : syntax.DeclTree) (rest : List ItemTree)
     → ItemNamesStand before rest → ItemNamesStand before (decl_meant h comments d ∷ rest)
 item-stands before h s comments (syntax.memory name) rest r = r
-item-stands before h s comments (syntax.function name params results noreturn) rest r = (params-stand before (fields_meant h params) (members-of before h s params), params-stand before (fields_meant h results) (members-of before h s results), r)
+item-stands before h s comments (syntax.function name params results noreturn stored) rest r = (params-stand before (fields_meant h params) (members-of before h s params), params-stand before (fields_meant h results) (members-of before h s results), r)
 
 items-stand : (before : List DefinitionTree) (h : Here) → ((q : List ℕ) → NamesStand before (sense_tree (h.sense q))) → (items : List syntax.NotedDecl) → ItemNamesStand before (map (item_meant h) items)
 items-stand before h s [] = tt

@@ -1,34 +1,31 @@
 -- One parameter, and one result, more.
 use Rattle.std.specs.Prelude.{◌≡◌, ℕ, List, [], ◌∷◌, ◌++◌, ◌+◌, ◌<◌, ◌≤◌, length, drop, Option, None, map, false}
-use Rattle.std.proofs.Common.{refl, sym, get_or, append_assoc, ◌∙◌}
+use Rattle.std.proofs.Common.{refl, sym, get_or, ◌∙◌}
 use Rattle.std.proofs.lemmas.List.{map-append, append-nil}
 use Rattle.witx_base.specs.Found.{found}
 use Rattle.witx_tree.specs.Trees.{Fields, no_fields, one_field}
-use Rattle.witx_tree.specs.Views.{type_view, comments_view, fields_view}
-use Rattle.witx_comments.specs.Docs.{documentation_of}
+use Rattle.witx_tree.specs.Views.{type_view, fields_view}
 use Rattle.witx_tree.specs.declared.comment.Documented.{Documented}
 use Rattle.witx_tree.specs.declared.tree.FieldSyntax.{FieldSyntax}
 use Rattle.witx_ast.specs.Tree.{Field}
 use Rattle.witx_ast.specs.Reads.{tree_of}
 use Rattle.witx_ast.specs.Functions.{param_field}
+use Rattle.witx_ast.specs.declared.types.TypeRef.{TypeRef}
 use Rattle.witx_ast.specs.declared.function.InterfaceFuncParam.{InterfaceFuncParam}
 use Rattle.witx_check.specs.declared.error.CheckError.{CheckError}
 use Rattle.witx_check.specs.Blame.{Blames}
 use Rattle.witx_check.specs.Faults.{Fault, Check, first_fault}
 use Rattle.witx_check.specs.Names.{Here, Marks, new_mark}
 use Rattle.witx_check.specs.Checks.{type_checks}
-use Rattle.witx_check.specs.Trees.{tree_meant, fields_meant}
+use Rattle.witx_check.specs.Trees.{fields_meant}
 use Rattle.witx_check.specs.Functions.{fields_scope, result_checks}
-use Rattle.witx_check.proofs.Onward.{row-next, row-known, row-wrong, row-none, rows-drop, rows-end, fault-past, fault-append, blames-to, blames-append, blames-head}
+use Rattle.witx_check.proofs.Onward.{row-next, row-known, row-wrong, row-none, fields-next, rows-drop, rows-end, fault-past, fault-append, blames-to, blames-append, blames-head}
 
-pub params-next : (h : Here) (fs : List (Documented FieldSyntax)) (i : ℕ) (f : Documented FieldSyntax) (ms : List InterfaceFuncParam) (m : InterfaceFuncParam) (x : List Field)
-    → i < length fs → f ≡ get_or fs i f
-    → map param_field ms ++ fields_meant h (fields_view (drop i fs)) ≡ x
-    → m.name ≡ f.item.name.name.now → tree_of m.tref ≡ tree_meant h (type_view f.item.type_) → m.docs ≡ documentation_of (comments_view f.comments)
-    → map param_field (ms ++ m ∷ []) ++ fields_meant h (fields_view (drop (i + 1) fs)) ≡ x
-params-next h fs i f ms m x l p e a b c =
-    let e1 = rw (rows-drop fs i f l p) at e in
-    rw (map-append param_field ms (m ∷ []), append_assoc, a, b, c) e1
+pub param-pushed : (ps : List InterfaceFuncParam) (n : List ℕ) (r : TypeRef) (d e : List ℕ) → d ≡ e
+    → map param_field (ps ++ record { name = n; tref = r; docs = d } ∷ []) ≡ map param_field ps ++ record { called = n; tree = tree_of r; comment = e } ∷ []
+param-pushed ps n r d e same = rw (map-append param_field ps (record { name = n; tref = r; docs = d } ∷ []), same) refl
+
+pub ruleset push_rules = (param-pushed)
 
 pub params-end : (h : Here) (fs : List (Documented FieldSyntax)) (i : ℕ) (ms : List InterfaceFuncParam) (x : List Field)
     → length fs ≤ i → map param_field ms ++ fields_meant h (fields_view (drop i fs)) ≡ x → map param_field ms ≡ x
@@ -51,7 +48,7 @@ pub scope-end : (h : Here) (fs : List (Documented FieldSyntax)) (i : ℕ) (old :
     → length fs ≤ i → found (fields_scope old (fields_view (drop i fs))) q ≡ x → found old q ≡ x
 scope-end h fs i old q x l e = let e1 = rw (rows-end fs i l) at e in e1
 
-pub ruleset param_rules = (row-next, row-known, row-wrong, row-none, params-next, params-end, scope-next, scope-end)
+pub ruleset param_rules = (row-next, row-known, row-wrong, row-none, fields-next, params-end, scope-next, scope-end)
 
 pub results-alike : (h : Here) (a b : Marks) (rs : Fields) → ((q : List ℕ) → found a q ≡ found b q) → result_checks h a rs ≡ result_checks h b rs
 results-alike h a b no_fields s = refl
@@ -97,4 +94,4 @@ pub result-none : (h : Here) (fs : List (Documented FieldSyntax)) (i : ℕ) (old
     → length fs ≤ i → first_fault (result_checks h old (fields_view (drop i fs))) ≡ x → x ≡ None
 result-none h fs i old x l q = sym (rw (rows-end fs i l) at q)
 
-pub ruleset result_rules = (result-next, result-wrong, result-known, result-none, params-next, params-end)
+pub ruleset result_rules = (result-next, result-wrong, result-known, result-none, fields-next, params-end)

@@ -1,6 +1,5 @@
 -- What an error of the code says.
-use Rattle.std.specs.Prelude.{◌≡◌, Option, Some, Result, Ok, Err}
-use Rattle.witx_base.specs.declared.memory.OutOfMemory.{OutOfMemory}
+use Rattle.std.specs.Prelude.{◌≡◌, Option, Some}
 use Rattle.witx_check.specs.Faults.{Fault, unknown_name, recursive, name_already_exists, wrong_kind_name, invalid_repr, abi, invalid_union_tag, anonymous_record, union_size_mismatch, invalid_union_field}
 use Rattle.witx_check.specs.declared.error.ValidationError.{ValidationError}
 use Rattle.witx_check.specs.declared.error.ValidationError.TheVariants as error
@@ -23,8 +22,3 @@ fault_of (error.InvalidUnionField n r l) = invalid_union_field n r.now l
 abbrev pub Blames : CheckError → Option Fault → Type 0
 Blames (check_error.Validation e) f = Some (fault_of e) ≡ f
 Blames check_error.OutOfMemory f = Unit {0}
-
--- the error that carries what was made
-abbrev pub Says : CheckError → Result ValidationError OutOfMemory → Type 0
-Says e (Ok f) = e ≡ check_error.Validation f
-Says e (Err m) = e ≡ check_error.OutOfMemory

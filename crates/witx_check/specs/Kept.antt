@@ -1,15 +1,17 @@
 -- What a validator keeps, and when it keeps what the declarations so far have left: each introduced name with its first
 -- place, the finished typenames and modules, and the accepted constants of each type name.
-use Rattle.std.specs.Prelude.{◌≡◌, ℕ, List, Option, Some, None}
+use Rattle.std.specs.Prelude.{◌≡◌, ℕ, List, Option, Some, None, option_map, cond}
 use Rattle.witx_base.specs.Found.{found}
 use Rattle.witx_files.specs.declared.location.Location.{Location}
-use Rattle.witx_ast.specs.Reads.{named_tree}
+use Rattle.witx_ast.specs.Reads.{tree_of, named_tree}
+use Rattle.witx_ast.specs.declared.types.NamedType.{NamedType}
+use Rattle.witx_ast.specs.Definitions.{DefinitionTree, typename_of, entry_tree}
 use Rattle.witx_ast.specs.declared.definition.Entry.{Entry}
 use Rattle.witx_ast.specs.declared.definition.Entry.TheVariants as entry
 use Rattle.witx_check.specs.declared.constants.ConstantName.{ConstantName}
 use Rattle.witx_check.specs.Constants.{constant_place}
 use Rattle.witx_check.specs.Names.{Sense, a_module, a_type, Names}
-use Rattle.witx_check.specs.Positions.{Outcome, refused, made_type, made_module, Taken, introducer, first_place}
+use Rattle.witx_check.specs.Positions.{is_name, Outcome, refused, made_type, made_module, Taken, introducer, first_place}
 use Rattle.witx_check.specs.Declarations.{Past, TakenConstant, constants_of_type}
 
 -- the names and places, the entries, and the constants by the names of their types
@@ -32,6 +34,17 @@ abbrev pub entry_sense_of : Option Entry → Option Sense
 entry_sense_of None = None
 entry_sense_of (Some (entry.Typename n)) = Some (a_type (named_tree n.value))
 entry_sense_of (Some (entry.Module m)) = Some a_module
+
+-- the definition of a typename
+abbrev pub made_typename : NamedType → DefinitionTree
+made_typename n = typename_of n.name (tree_of n.tref) n.docs
+
+-- what a name denotes, and the definition that it goes by, with one name more
+abbrev pub sense_with : List (List ℕ × Entry) → List ℕ → Option Sense → List ℕ → Option Sense
+sense_with es n sense q = cond (is_name q n) sense (entry_sense_of (found es q))
+
+abbrev pub tree_with : List (List ℕ × Entry) → List ℕ → DefinitionTree → List ℕ → Option DefinitionTree
+tree_with es n tree q = cond (is_name q n) (Some tree) (option_map entry_tree (found es q))
 
 pub record KeepsNames (names : Names) (entries : List (List ℕ × Entry)) (taken : List Taken) : Type 0 where
   pub places : (n : List ℕ) → found names n ≡ first_place taken n

@@ -15,8 +15,11 @@ pub mod Names
 pub mod Places
 pub mod Positions
 pub mod Reports
+pub mod Scopes
 pub mod Senses
-pub mod Slices
+pub mod Sites
+pub mod SyntaxChecks
 pub mod Tags
 pub mod Trees
+pub mod Validates
 pub mod Validators

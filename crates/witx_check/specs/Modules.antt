@@ -1,25 +1,22 @@
 -- The checks of a module's declarations, as one list, and what they define.
 -- Imports and functions share one scope; a function's parameters and results have one of their own.
-use Rattle.std.specs.Prelude.{ℕ, List, [], ◌∷◌, ◌++◌, Bool}
+use Rattle.std.specs.Prelude.{ℕ, List, [], ◌∷◌, ◌++◌}
 use Rattle.witx_comments.specs.Docs.{documentation_of}
-use Rattle.witx_tree.specs.Trees.{QuotedText, Fields, DeclTree, memory, function, NotedDecl}
-use Rattle.witx_ast.specs.declared.function.Abi.TheVariants.{Preview1}
+use Rattle.witx_tree.specs.Trees.{QuotedText, DeclTree, memory, function, NotedDecl}
 use Rattle.witx_ast.specs.declared.module.ModuleImportVariant.TheVariants.{Memory}
-use Rattle.witx_ast.specs.Functions.{FunctionTree}
 use Rattle.witx_ast.specs.Items as items
 use Rattle.witx_check.specs.Faults.{Check}
 use Rattle.witx_check.specs.Names.{Here, Marks, new_mark}
-use Rattle.witx_check.specs.Trees.{fields_meant}
-use Rattle.witx_check.specs.Functions.{func_checks}
+use Rattle.witx_check.specs.Functions.{abi_of, func_checks, func_meant}
 
 -- the quoted name of an import or a function
 abbrev pub quoted_name : DeclTree → QuotedText
 quoted_name (memory name) = name
-quoted_name (function name params results noreturn) = name
+quoted_name (function name params results noreturn stored) = name
 
 abbrev pub item_checks : Here → Marks → DeclTree → List Check
 item_checks h before (memory name) = new_mark h before name.text name.start ∷ []
-item_checks h before (function name params results noreturn) = func_checks h before name params results
+item_checks h before (function name params results noreturn stored) = func_checks h before (abi_of stored) name params results
 
 abbrev pub with_name : DeclTree → Marks → Marks
 with_name d before = ((quoted_name d).text, (quoted_name d).start) ∷ before
@@ -28,19 +25,9 @@ abbrev pub items_checks : Here → Marks → List NotedDecl → List Check
 items_checks h before [] = []
 items_checks h before (d ∷ ds) = item_checks h before d.decl ++ items_checks h (with_name d.decl before) ds
 
-abbrev pub func_meant : Here → QuotedText → Fields → Fields → Bool → List (List ℕ) → FunctionTree
-func_meant h name params results noreturn comments = record {
-  abi = Preview1;
-  name = name.text;
-  params = fields_meant h params;
-  results = fields_meant h results;
-  noreturn = noreturn;
-  comment = documentation_of comments;
-}
-
 abbrev pub decl_meant : Here → List (List ℕ) → DeclTree → items.ItemTree
 decl_meant h comments (memory name) = items.import_of (record { name = name.text; variant = Memory; docs = documentation_of comments })
-decl_meant h comments (function name params results noreturn) = items.func_of (func_meant h name params results noreturn comments)
+decl_meant h comments (function name params results noreturn stored) = items.func_of (func_meant h name params results noreturn stored comments)
 
 abbrev pub item_meant : Here → NotedDecl → items.ItemTree
 item_meant h d = decl_meant h d.comments d.decl

@@ -13,9 +13,6 @@ use Rattle.witx_check.specs.Names.{Here, sense_tree}
 use Rattle.witx_check.specs.Tags.{builtin_type, repr_meant, tag_repr, tag_names}
 use Rattle.witx_ast.specs.declared.types.BuiltinType.TheVariants as kind
 
-abbrev pub no_comment : List ℕ
-no_comment = []
-
 -- the decimal digits
 abbrev pub number_name : ℕ → List ℕ
 number_name i = decimal i

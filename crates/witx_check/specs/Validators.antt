@@ -2,9 +2,10 @@
 use Rattle.std.specs.Prelude.{[]}
 use Rattle.witx_check.specs.declared.validator.DocValidation.{DocValidation}
 use Rattle.witx_check.specs.Kept.{Kept}
+use Rattle.witx_check.specs.Sites.{kept_in}
 
 abbrev pub kept_by : DocValidation → Kept
-kept_by v = record { names = v.names; entries = v.entries; constants = v.constants.entries }
+kept_by v = kept_in v.tables
 
 abbrev pub nothing_kept : Kept
 nothing_kept = record { names = []; entries = []; constants = [] }

@@ -1,8 +1,6 @@
 ghost use Rattle.std.specs.Prelude.{◌≡◌, IfOk, IfErr, OnOk, None};
-ghost use Rattle.witx_tree.specs.Views.{comments_view};
-ghost use Rattle.witx_comments.specs.Docs.{documentation_of};
 ghost use Rattle.witx_check.specs.Blame.{Blames};
-ghost use Rattle.witx_check.specs.Constants.{repeated_constant};
+ghost use Rattle.witx_check.specs.Constants.{made_constant, repeated_constant};
 
 use crate::error::CheckError;
 use crate::place::SharedPlace;
@@ -14,7 +12,7 @@ use witx_base::Id;
 use witx_tree::{ConstSyntax, Documented};
 
 /// A constant goes by its type's name and its own.
-#[derive(PartialEq, Eq, PartialOrd, Ord, Debug, Drop)]
+#[derive(PartialEq, Eq, PartialOrd, Ord, Drop)]
 pub struct ConstantName {
     pub ty: Id,
     pub name: Id,
@@ -32,7 +30,7 @@ pub fn checked_constant(
     decl: &Documented<'_, ConstSyntax<'_>>,
 ) -> Result<Constant, CheckError>
     ensures ok { OnOk result (repeated_constant places.now.entries decl.now.item.ty.name.now decl.now.item.name.name.now place.now ≡ None) }
-    ensures constant { IfOk result (λ c. c ≡ record { ty = decl.now.item.ty.name.now; name = decl.now.item.name.name.now; value = decl.now.item.value; docs = documentation_of (comments_view decl.now.comments) }) }
+    ensures constant { IfOk result (λ c. c ≡ made_constant decl.now) }
     ensures fault { IfErr result (λ e. Blames e (repeated_constant places.now.entries decl.now.item.ty.name.now decl.now.item.name.name.now place.now)) }
 {
     let key = ConstantName {

@@ -60,7 +60,7 @@ pub enum ValidationError {
     AnonymousRecord {
         location: Location,
     },
-    /// As many fields or cases as the tag has no names.
+    /// Not as many fields or cases as the tag has names.
     #[error("Union expected {expected} variants, found {found}")]
     UnionSizeMismatch {
         expected: usize,
@@ -77,7 +77,7 @@ pub enum ValidationError {
 }
 
 /// Why a declaration was refused.
-#[derive(PartialEq, Eq, Debug, Drop)]
+#[derive(PartialEq, Eq, Drop)]
 pub enum CheckError {
     Validation(ValidationError),
     OutOfMemory,

@@ -1,23 +1,47 @@
-ghost use Rattle.std.specs.Prelude.{◌≡◌, ◌∷◌, IfOk, IfErr, OnOk, None, [], map};
+ghost use Rattle.std.specs.Prelude.{◌≡◌, ◌∷◌, ◌++◌, IfOk, IfErr, OnOk, None, [], map};
 ghost use Rattle.witx_base.specs.Found.{found};
+ghost use Rattle.witx_ast.specs.Reads.{tree_of};
 ghost use Rattle.witx_ast.specs.Functions.{param_field, func_tree};
 ghost use Rattle.witx_check.specs.Faults.{first_fault};
 ghost use Rattle.witx_check.specs.Names.{new_mark};
 ghost use Rattle.witx_check.specs.Checks.{field_checks};
 ghost use Rattle.witx_check.specs.Trees.{fields_meant};
-ghost use Rattle.witx_check.specs.Functions.{fields_scope, result_checks, func_checks};
+ghost use Rattle.witx_check.specs.Functions.{abi_of, fields_scope, result_checks, checks_inside, checks_func, makes_func, with_export};
 ghost use Rattle.witx_tree.specs.Views.{comments_view, fields_view};
-ghost use Rattle.witx_comments.specs.Docs.{documentation_of};
-ghost use Rattle.witx_ast.specs.declared.function.Abi.TheVariants.{Preview1};
+ghost use Rattle.witx_check.specs.SyntaxChecks.{made_field};
 ghost use Rattle.witx_check.specs.Blame.{Blames};
 ghost use Rattle.witx_check.specs.Senses.{here_of};
 
 use crate::error::CheckError;
 use crate::scope::{Marks, Scope, abi_fault, introduce_mark};
 use crate::types::checked_type;
-use witx_ast::{Abi, InterfaceFunc, InterfaceFuncParam, Params};
-use witx_base::Id;
+use std::alloc::Global;
+use witx_ast::{Abi, InterfaceFunc, InterfaceFuncParam, Params, TypeRef};
+use witx_base::{Id, OutOfMemory};
 use witx_tree::{CommentSyntax, Documented, FieldSyntax, InterfaceFuncSyntax};
+
+/// The ABI of a function, by whether its result is stored whole.
+fn abi_of(stored: bool) -> Abi
+    ensures { result ≡ abi_of stored }
+{
+    if stored { Abi::Stored } else { Abi::Preview1 }
+}
+
+/// Puts a parameter or a result, with its documentation, behind the others.
+#[tactic(auto, using(crate::proofs::Params::push_rules))]
+fn push_param(
+    params: &mut Params,
+    alloc: Global,
+    name: Id,
+    tref: TypeRef,
+    comments: &CommentSyntax<'_>,
+) -> Result<(), OutOfMemory>
+    ensures { OnOk result (map param_field params.new ≡ map param_field params.old ++ made_field name (tree_of tref) comments.now ∷ []) }
+{
+    let docs = comments.docs(alloc)?;
+    params.push(InterfaceFuncParam { name, tref, docs })?;
+    Ok(())
+}
 
 #[tactic(auto, using(crate::proofs::Params::param_rules))]
 pub fn checked_params(
@@ -35,8 +59,7 @@ pub fn checked_params(
         let at = field.item.name.span.start;
         let name = introduce_mark(names, scope, field.item.name.name, at)?;
         let tref = checked_type(&field.item.type_, scope, false, at)?;
-        let docs = field.comments.docs(scope.alloc)?;
-        params.push(InterfaceFuncParam { name, tref, docs })?;
+        push_param(&mut params, scope.alloc, name, tref, &field.comments)?;
     }
     Ok(params)
 }
@@ -56,8 +79,7 @@ pub fn checked_results(
         let at = field.item.name.span.start;
         let tref = checked_type(&field.item.type_, scope, false, at)?;
         let name = introduce_mark(names, scope, field.item.name.name, at)?;
-        let docs = field.comments.docs(scope.alloc)?;
-        results.push(InterfaceFuncParam { name, tref, docs })?;
+        push_param(&mut results, scope.alloc, name, tref, &field.comments)?;
     }
     Ok(results)
 }
@@ -69,7 +91,7 @@ fn func_name(
 ) -> Result<Id, CheckError>
     ensures ok { OnOk result (new_mark (here_of scope.now) taken.old func.now.export func.now.export_loc.start ≡ None) }
     ensures id { IfOk result (λ id. id ≡ func.now.export) }
-    ensures kept { (q : _) → OnOk result (found taken.new q ≡ found ((func.now.export, func.now.export_loc.start) ∷ taken.old) q) }
+    ensures kept { (q : _) → OnOk result (found taken.new q ≡ found (with_export func.now taken.old) q) }
     ensures fault { IfErr result (λ e. Blames e (new_mark (here_of scope.now) taken.old func.now.export func.now.export_loc.start)) }
 {
     introduce_mark(taken, scope, func.export.as_str(), func.export_loc.start)
@@ -101,6 +123,31 @@ fn func_results(
     checked_results(func.results.as_slice(), scope, own)
 }
 
+/// What stands in a function.
+#[derive(Drop)]
+struct Inside {
+    params: Params,
+    results: Params,
+}
+
+/// The parameters and the results of a function, where its ABI permits these.
+#[tactic(auto, using(crate::proofs::Funcs::inner_rules))]
+fn func_inside(func: &InterfaceFuncSyntax<'_>, scope: &Scope<'_>) -> Result<Inside, CheckError>
+    ensures ok { OnOk result (first_fault (checks_inside (here_of scope.now) func.now) ≡ None) }
+    ensures params { IfOk result (λ made. map param_field made.params ≡ fields_meant (here_of scope.now) (fields_view func.now.params)) }
+    ensures results { IfOk result (λ made. map param_field made.results ≡ fields_meant (here_of scope.now) (fields_view func.now.results)) }
+    ensures fault { IfErr result (λ e. Blames e (first_fault (checks_inside (here_of scope.now) func.now))) }
+{
+    let mut own = Marks::new(scope.alloc);
+    let params = func_params(func, scope, &mut own)?;
+    let results = func_results(func, scope, &mut own)?;
+    match abi_of(func.stored).validate(&params, &results) {
+        Ok(()) => Ok(Inside { params, results }),
+        Err(reason) => Err(abi_fault(scope, reason, func.export_loc.start)),
+    }
+}
+
+/// A function, whose name is taken in before what stands in it is checked.
 #[tactic(auto, using(crate::proofs::Funcs::func_rules))]
 pub fn checked_func(
     func: &InterfaceFuncSyntax<'_>,
@@ -108,34 +155,20 @@ pub fn checked_func(
     taken: &mut Marks,
     comments: &CommentSyntax<'_>,
 ) -> Result<InterfaceFunc, CheckError>
-    ensures ok { OnOk result (first_fault (func_checks (here_of scope.now) taken.old (record { text = func.now.export; start = func.now.export_loc.start; end = func.now.export_loc.end }) (fields_view func.now.params) (fields_view func.now.results)) ≡ None) }
-    ensures tree { IfOk result (λ f. func_tree f ≡ record { abi = Preview1; name = func.now.export; params = fields_meant (here_of scope.now) (fields_view func.now.params); results = fields_meant (here_of scope.now) (fields_view func.now.results); noreturn = func.now.noreturn; comment = documentation_of (comments_view comments.now) }) }
-    ensures fault { IfErr result (λ e. Blames e (first_fault (func_checks (here_of scope.now) taken.old (record { text = func.now.export; start = func.now.export_loc.start; end = func.now.export_loc.end }) (fields_view func.now.params) (fields_view func.now.results)))) }
-    ensures kept { (q : _) → OnOk result (found taken.new q ≡ found ((func.now.export, func.now.export_loc.start) ∷ taken.old) q) }
+    ensures ok { OnOk result (first_fault (checks_func (here_of scope.now) taken.old func.now) ≡ None) }
+    ensures tree { IfOk result (λ f. func_tree f ≡ makes_func (here_of scope.now) (comments_view comments.now) func.now) }
+    ensures fault { IfErr result (λ e. Blames e (first_fault (checks_func (here_of scope.now) taken.old func.now))) }
+    ensures kept { (q : _) → OnOk result (found taken.new q ≡ found (with_export func.now taken.old) q) }
 {
-    let at = func.export_loc.start;
-    let name = match func_name(func, scope, taken) {
-        Ok(name) => name,
-        Err(error) => return Err(error),
-    };
-    let mut own = Marks::new(scope.alloc);
-    let params = match func_params(func, scope, &mut own) {
-        Ok(params) => params,
-        Err(error) => return Err(error),
-    };
-    let results = match func_results(func, scope, &mut own) {
-        Ok(results) => results,
-        Err(error) => return Err(error),
-    };
-    match Abi::Preview1.validate(&params, &results) {
-        Err(reason) => Err(abi_fault(scope, reason, at)),
-        Ok(()) => Ok(InterfaceFunc {
-            abi: Abi::Preview1,
-            name,
-            params,
-            results,
-            noreturn: func.noreturn,
-            docs: comments.docs(scope.alloc)?,
-        }),
-    }
+    let name = func_name(func, scope, taken)?;
+    let inside = func_inside(func, scope)?;
+    let docs = comments.docs(scope.alloc)?;
+    Ok(InterfaceFunc {
+        abi: abi_of(func.stored),
+        name,
+        params: inside.params,
+        results: inside.results,
+        noreturn: func.noreturn,
+        docs,
+    })
 }

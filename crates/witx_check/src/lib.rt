@@ -6,22 +6,22 @@ mod constants;
 mod error;
 mod functions;
 mod laws;
-mod line_cursor;
 mod modules;
 mod parts;
 mod place;
 mod report;
 mod scope;
+mod site;
+mod tables;
 mod typenames;
 mod types;
 mod validate;
+mod validation_scope;
 mod validator;
 
 pub use error::{CheckError, ValidationError};
 pub use laws::{names_by_position, nothing_by_position};
-pub use line_cursor::LineCursor;
 pub use place::SharedPath;
-pub use validator::{DocValidation, DocValidationScope};
-
-#[cfg(test)]
-mod tests;
+pub use validation_scope::DocValidationScope;
+pub use validator::DocValidation;
+pub use witx_lex::LineCursor;

@@ -3,8 +3,7 @@ ghost use Rattle.witx_base.specs.Found.{found};
 ghost use Rattle.witx_ast.specs.Items.{item_tree, entry_item, ItemsFit};
 ghost use Rattle.witx_ast.specs.Definitions.{module_tree};
 ghost use Rattle.witx_comments.specs.Docs.{documentation_of};
-ghost use Rattle.witx_tree.specs.Views.{noted_decl, comments_view, name_view};
-ghost use Rattle.witx_check.specs.Places.{location_in};
+ghost use Rattle.witx_tree.specs.Views.{noted_decl, comments_view};
 ghost use Rattle.witx_check.specs.Faults.{first_fault};
 ghost use Rattle.witx_check.specs.Names.{new_mark};
 ghost use Rattle.witx_check.specs.Blame.{Blames};
@@ -13,19 +12,20 @@ ghost use Rattle.witx_check.specs.Senses.{here_of};
 ghost use Rattle.witx_check.specs.DeclarationForms.{items_in};
 ghost use Rattle.witx_check.specs.Modules.{with_name, item_called, item_checks, items_checks, item_meant};
 ghost use Rattle.witx_check.specs.Positions.{is_name};
-ghost use Rattle.witx_check.specs.Inside.{within, module_checks, module_meant, TakesAtMost, Refuses};
+ghost use Rattle.witx_check.specs.Inside.{TakesAtMost, Refuses};
+ghost use Rattle.witx_check.specs.Sites.{place_at, checks_module, makes_module};
 
 use crate::error::CheckError;
 use crate::functions::checked_func;
-use crate::place::SharedPlace;
 use crate::scope::{Marks, Names, Scope, introduce, introduce_mark};
+use crate::site::Site;
 use std::alloc::Global;
 use std::rc::Rc;
 use witx_ast::{
     Entries, Module, ModuleDefinition, ModuleDefinitions, ModuleEntries, ModuleEntry, ModuleImport,
     ModuleImportVariant,
 };
-use witx_base::{Duplicate, Id, OutOfMemory, WitxPath};
+use witx_base::{Duplicate, Id, OutOfMemory};
 use witx_tree::{CommentSyntax, Documented, ModuleDeclSyntax, ModuleImportSyntax, ModuleSyntax};
 
 /// The items of a module, in order and by name.
@@ -141,26 +141,26 @@ fn checked_items(
 pub fn checked_module(
     names: &mut Names,
     entries: &Entries,
-    text: &str,
-    path: &WitxPath,
     alloc: Global,
-    place: SharedPlace,
+    site: Site<'_>,
     decl: &ModuleSyntax<'_>,
-    comments: &CommentSyntax<'_>,
 ) -> Result<Module, CheckError>
-    requires { place ≡ location_in text.now path.now decl.now.name.span.start }
-    ensures ok { OnOk result (first_fault (module_checks names.old (within names.old entries.now (location_in text.now path.now) (name_view decl.now.name)) (name_view decl.now.name) (items_in decl.now.decls)) ≡ None) }
-    ensures tree { IfOk result (λ m. module_tree m ≡ module_meant (within names.old entries.now (location_in text.now path.now) (name_view decl.now.name)) decl.now.name.name.now (items_in decl.now.decls) (comments_view comments.now)) }
+    requires { site.place ≡ place_at site decl.now.name }
+    ensures ok { OnOk result (first_fault (checks_module names.old entries.now site.entry decl.now) ≡ None) }
+    ensures tree { IfOk result (λ m. module_tree m ≡ makes_module names.old entries.now site.entry decl.now) }
     ensures name { IfOk result (λ m. m.name ≡ decl.now.name.name.now) }
-    ensures fault { IfErr result (λ e. Blames e (first_fault (module_checks names.old (within names.old entries.now (location_in text.now path.now) (name_view decl.now.name)) (name_view decl.now.name) (items_in decl.now.decls)))) }
-    ensures kept { (q : _) → OnOk result (found names.new q ≡ found ((decl.now.name.name.now, location_in text.now path.now decl.now.name.span.start) ∷ names.old) q) }
-    ensures refused { IfErr result (λ e. IsFault e → Refuses names.old names.new decl.now.name.name.now (location_in text.now path.now decl.now.name.span.start)) }
-    ensures left { OnErr result (TakesAtMost names.old names.new decl.now.name.name.now (location_in text.now path.now decl.now.name.span.start)) }
+    ensures fault { IfErr result (λ e. Blames e (first_fault (checks_module names.old entries.now site.entry decl.now))) }
+    ensures kept { (q : _) → OnOk result (found names.new q ≡ found ((decl.now.name.name.now, place_at site.entry decl.now.name) ∷ names.old) q) }
+    ensures refused { IfErr result (λ e. IsFault e → Refuses names.old names.new decl.now.name.name.now (place_at site.entry decl.now.name)) }
+    ensures left { OnErr result (TakesAtMost names.old names.new decl.now.name.name.now (place_at site.entry decl.now.name)) }
 {
-    let name = match introduce(names, alloc, decl.name.name, place) {
-        Ok(name) => name,
-        Err(error) => return Err(error),
-    };
+    let Site {
+        text,
+        path,
+        place,
+        comments,
+    } = site;
+    let name = introduce(names, alloc, decl.name.name, place)?;
     let scope = Scope {
         names,
         entries,
@@ -168,10 +168,7 @@ pub fn checked_module(
         path,
         alloc,
     };
-    let contents = match checked_items(decl.decls.as_slice(), &scope) {
-        Ok(contents) => contents,
-        Err(error) => return Err(error),
-    };
+    let contents = checked_items(decl.decls.as_slice(), &scope)?;
     let docs = comments.docs(alloc)?;
     Ok(Module::new(name, contents.definitions, contents.entries, docs))
 }

@@ -1,19 +1,20 @@
-ghost use Rattle.std.specs.Prelude.{◌≡◌, ◌∷◌, IfOk, IfErr, OnOk, Some, None, [], map, option_map};
-ghost use Rattle.witx_ast.specs.Tree.{behind, arms_of};
+ghost use Rattle.std.specs.Prelude.{◌≡◌, ◌∷◌, ◌++◌, IfOk, IfErr, OnOk, Some, None, [], map, option_map};
+ghost use Rattle.witx_ast.specs.Tree.{Tree, behind, arms_of};
 ghost use Rattle.witx_ast.specs.Reads.{tree_of, datatype_tree, record_tree, variant_tree, member_field, case_arm};
 ghost use Rattle.witx_check.specs.Faults.{first_fault};
 ghost use Rattle.witx_check.specs.Checks.{member_checks};
-ghost use Rattle.witx_check.specs.Trees.{member_arm, flag_field, bool_tree, string_tree, expected_tree, number_name, union_name, enum_tree, flags_tree};
+ghost use Rattle.witx_check.specs.Trees.{in_order, member_arm, flag_field, bool_tree, string_tree, expected_tree, number_name, union_name, enum_tree, flags_tree};
 ghost use Rattle.witx_check.specs.Tags.{builtin_type, repr_check, repr_meant, repr_of, has_name, case_check, size_check, tag_check, repr_in, names_in, arm_names};
-ghost use Rattle.witx_check.specs.Slices.{member_views};
+ghost use Rattle.witx_base.specs.Found.{found};
+ghost use Rattle.witx_check.specs.SyntaxChecks.{made_field, made_arm, member_views, enum_checks, flags_checks, name_check, Sees};
 ghost use Rattle.witx_check.specs.Blame.{Blames};
 ghost use Rattle.witx_check.specs.Senses.{here_of};
 ghost use Rattle.std.specs.Map.{keys_of};
 
-use crate::cases::{TagNames, case_names, case_with};
+use crate::cases::{TagNames, case_names, case_with, ordered};
 use crate::error::CheckError;
 use crate::scope::{
-    Marks, Scope, bad_field, bad_tag, introduce_mark, repr, wrong_kind, wrong_size,
+    Marks, Scope, bad_field, bad_tag, introduce_mark, mark, repr, wrong_kind, wrong_size,
 };
 use std::alloc::Global;
 use std::rc::Rc;
@@ -22,7 +23,7 @@ use witx_ast::{
     TypeRef, Variant,
 };
 use witx_base::{Duplicate, Id, OutOfMemory};
-use witx_tree::{BuiltinSyntax, Documented, EnumSyntax, FlagsSyntax, IdSyntax};
+use witx_tree::{BuiltinSyntax, CommentSyntax, Documented, EnumSyntax, FlagsSyntax, IdSyntax};
 
 #[tactic(auto, using(crate::proofs::Steps::step_rules))]
 pub fn value(alloc: Global, datatype: Datatype) -> Result<TypeRef, OutOfMemory>
@@ -80,29 +81,21 @@ pub fn bool_type(alloc: Global) -> Result<TypeRef, OutOfMemory>
     let no = case_with(alloc, "false", None)?;
     let yes = case_with(alloc, "true", None)?;
     let cases = two_cases(alloc, no, yes)?;
-    value(
-        alloc,
-        Datatype::Variant(Variant {
-            tag_repr: IntRepr::U32,
-            cases,
-        }),
-    )
+    variant_type(alloc, IntRepr::U32, cases)
 }
 
 #[tactic(auto, using(crate::proofs::Steps::step_rules))]
-pub fn expected_variant(
+pub fn expected_type(
     alloc: Global,
     ok: Option<TypeRef>,
     err: Option<TypeRef>,
-) -> Result<Variant, OutOfMemory>
-    ensures { IfOk result (λ v. variant_tree v ≡ expected_tree (option_map tree_of ok) (option_map tree_of err)) }
+) -> Result<TypeRef, OutOfMemory>
+    ensures { IfOk result (λ t. tree_of t ≡ expected_tree (option_map tree_of ok) (option_map tree_of err)) }
 {
     let ok = case_with(alloc, "ok", ok)?;
     let err = case_with(alloc, "err", err)?;
-    Ok(Variant {
-        tag_repr: IntRepr::U32,
-        cases: two_cases(alloc, ok, err)?,
-    })
+    let cases = two_cases(alloc, ok, err)?;
+    variant_type(alloc, IntRepr::U32, cases)
 }
 
 pub fn unsigned(of: BuiltinType) -> Option<IntRepr>
@@ -145,6 +138,38 @@ fn checked_repr(
     }
 }
 
+/// Puts a member, with its documentation, behind the others.
+#[tactic(auto, using(crate::proofs::Onward::push_rules))]
+pub fn push_member(
+    members: &mut Members,
+    alloc: Global,
+    name: Id,
+    tref: TypeRef,
+    comments: &CommentSyntax<'_>,
+) -> Result<(), OutOfMemory>
+    ensures { OnOk result (map member_field members.new ≡ map member_field members.old ++ made_field name (tree_of tref) comments.now ∷ []) }
+{
+    let docs = comments.docs(alloc)?;
+    members.push(RecordMember { name, tref, docs })?;
+    Ok(())
+}
+
+/// Puts a case, with its documentation, behind the others.
+#[tactic(auto, using(crate::proofs::Onward::push_rules))]
+pub fn push_case(
+    cases: &mut Cases,
+    alloc: Global,
+    name: Id,
+    tref: Option<TypeRef>,
+    comments: &CommentSyntax<'_>,
+) -> Result<(), OutOfMemory>
+    ensures { OnOk result (map case_arm cases.new ≡ map case_arm cases.old ++ made_arm name (option_map tree_of tref) comments.now ∷ []) }
+{
+    let docs = comments.docs(alloc)?;
+    cases.push(Case { name, tref, docs })?;
+    Ok(())
+}
+
 #[tactic(auto, using(crate::proofs::Onward::noted_rules))]
 fn noted_cases(
     members: &[Documented<'_, IdSyntax<'_>>],
@@ -158,12 +183,7 @@ fn noted_cases(
     let mut cases = Cases::new(scope.alloc);
     for member in members {
         let name = introduce_mark(&mut names, scope, member.item.name, member.item.span.start)?;
-        let docs = member.comments.docs(scope.alloc)?;
-        cases.push(Case {
-            name,
-            tref: None,
-            docs,
-        })?;
+        push_case(&mut cases, scope.alloc, name, None, &member.comments)?;
     }
     Ok(cases)
 }
@@ -183,12 +203,8 @@ fn noted_flags(
     let mut members = Members::new(scope.alloc);
     for flag in flags {
         let name = introduce_mark(&mut names, scope, flag.item.name, flag.item.span.start)?;
-        let docs = flag.comments.docs(scope.alloc)?;
-        members.push(RecordMember {
-            name,
-            tref: bool_type.clone()?,
-            docs,
-        })?;
+        let tref = bool_type.clone()?;
+        push_member(&mut members, scope.alloc, name, tref, &flag.comments)?;
     }
     Ok(members)
 }
@@ -198,14 +214,14 @@ pub fn checked_enum(
     syntax: &EnumSyntax<'_>,
     scope: &Scope<'_>,
     near: usize,
-) -> Result<Variant, CheckError>
-    ensures ok { OnOk result (first_fault (repr_check syntax.now.repr ((here_of scope.now).place near) ∷ member_checks (here_of scope.now) [] (member_views syntax.now.members)) ≡ None) }
-    ensures tree { IfOk result (λ v. variant_tree v ≡ enum_tree syntax.now.repr (member_views syntax.now.members)) }
-    ensures fault { IfErr result (λ e. Blames e (first_fault (repr_check syntax.now.repr ((here_of scope.now).place near) ∷ member_checks (here_of scope.now) [] (member_views syntax.now.members)))) }
+) -> Result<TypeRef, CheckError>
+    ensures ok { OnOk result (first_fault (enum_checks (here_of scope.now) ((here_of scope.now).place near) syntax.now) ≡ None) }
+    ensures tree { IfOk result (λ t. tree_of t ≡ enum_tree syntax.now.repr (member_views syntax.now.members)) }
+    ensures fault { IfErr result (λ e. Blames e (first_fault (enum_checks (here_of scope.now) ((here_of scope.now).place near) syntax.now))) }
 {
     let tag_repr = checked_repr(&syntax.repr, scope, near)?;
     let cases = noted_cases(syntax.members.as_slice(), scope)?;
-    Ok(Variant { tag_repr, cases })
+    Ok(variant_type(scope.alloc, tag_repr, cases)?)
 }
 
 #[tactic(auto, using(crate::proofs::Onward::enum_rules))]
@@ -213,18 +229,19 @@ pub fn checked_flags(
     syntax: &FlagsSyntax<'_>,
     scope: &Scope<'_>,
     near: usize,
-) -> Result<RecordDatatype, CheckError>
-    ensures ok { OnOk result (first_fault (repr_check syntax.now.repr ((here_of scope.now).place near) ∷ member_checks (here_of scope.now) [] (member_views syntax.now.flags)) ≡ None) }
-    ensures tree { IfOk result (λ v. record_tree v ≡ flags_tree syntax.now.repr (member_views syntax.now.flags)) }
-    ensures fault { IfErr result (λ e. Blames e (first_fault (repr_check syntax.now.repr ((here_of scope.now).place near) ∷ member_checks (here_of scope.now) [] (member_views syntax.now.flags)))) }
+) -> Result<TypeRef, CheckError>
+    ensures ok { OnOk result (first_fault (flags_checks (here_of scope.now) ((here_of scope.now).place near) syntax.now) ≡ None) }
+    ensures tree { IfOk result (λ t. tree_of t ≡ flags_tree syntax.now.repr (member_views syntax.now.flags)) }
+    ensures fault { IfErr result (λ e. Blames e (first_fault (flags_checks (here_of scope.now) ((here_of scope.now).place near) syntax.now))) }
 {
     let repr = checked_repr(&syntax.repr, scope, near)?;
     let bool_type = bool_type(scope.alloc)?;
     let members = noted_flags(syntax.flags.as_slice(), scope, &bool_type)?;
-    Ok(RecordDatatype {
-        kind: RecordKind::Bitflags(repr),
-        members,
-    })
+    let kind = RecordKind::Bitflags(repr);
+    Ok(value(
+        scope.alloc,
+        Datatype::Record(RecordDatatype { kind, members }),
+    )?)
 }
 
 /// What a union or a variant takes from its tag.
@@ -232,6 +249,23 @@ pub fn checked_flags(
 pub struct Tag {
     pub repr: IntRepr,
     pub names: Option<TagNames>,
+}
+
+/// A variant of these cases.
+#[tactic(auto, using(crate::proofs::Steps::step_rules))]
+pub fn variant_type(alloc: Global, repr: IntRepr, cases: Cases) -> Result<TypeRef, OutOfMemory>
+    ensures { IfOk result (λ t. tree_of t ≡ Tree.variant_of repr (arms_of (map case_arm cases))) }
+{
+    let tag_repr = repr;
+    value(alloc, Datatype::Variant(Variant { tag_repr, cases }))
+}
+
+/// A variant of these cases, in the order of the tag's names.
+pub fn ordered_type(alloc: Global, tag: Tag, cases: Cases) -> Result<TypeRef, OutOfMemory>
+    ensures { IfOk result (λ t. tree_of t ≡ Tree.variant_of tag.repr (arms_of (in_order tag.names (map case_arm cases)))) }
+{
+    let cases = ordered(alloc, &tag.names, cases)?;
+    variant_type(alloc, tag.repr, cases)
 }
 
 fn tag_names(alloc: Global, cases: &[Case]) -> Result<TagNames, OutOfMemory>
@@ -304,31 +338,50 @@ fn is_marked(marks: &Marks, name: &Id) -> bool
     marks.get(name).is_some()
 }
 
-/// A case under a tag with names has one of them, and is the first that has it.
-pub fn checked_case(
-    names: &Option<TagNames>,
-    before: &Marks,
+/// Takes the name of a case in, which is one of the tag's and stands nowhere earlier.
+#[tactic(auto, using(crate::proofs::Steps::step_rules))]
+fn take_case(
+    names: &TagNames,
+    seen: &mut Marks,
     name: &Id,
     scope: &Scope<'_>,
     at: usize,
 ) -> Result<(), CheckError>
-    ensures ok { OnOk result (case_check names.now (keys_of before.now) name.now ((here_of scope.now).place at) ≡ None) }
-    ensures fault { IfErr result (λ e. Blames e (case_check names.now (keys_of before.now) name.now ((here_of scope.now).place at))) }
+    ensures ok { OnOk result (case_check (Some names.now) (keys_of seen.old) name.now ((here_of scope.now).place at) ≡ None) }
+    ensures kept { (q : _) → OnOk result (found seen.new q ≡ found ((name.now, at) ∷ seen.old) q) }
+    ensures fault { IfErr result (λ e. Blames e (case_check (Some names.now) (keys_of seen.old) name.now ((here_of scope.now).place at))) }
 {
+    if names.has(name) && !is_marked(seen, name) {
+        Ok(mark(seen, name, at)?)
+    } else {
+        Err(bad_field(
+            scope,
+            name.as_str(),
+            "does not correspond to variant in tag `tag`",
+            at,
+        ))
+    }
+}
+
+/// The name of a case. Only a tag with names asks for the names of the cases before it.
+pub fn checked_case(
+    names: &Option<TagNames>,
+    seen: &mut Marks,
+    name: &IdSyntax<'_>,
+    scope: &Scope<'_>,
+) -> Result<Id, CheckError>
+    ensures ok { OnOk result (name_check (here_of scope.now) names.now seen.old name.now ≡ None) }
+    ensures id { IfOk result (λ id. id ≡ name.now.name.now) }
+    ensures kept { OnOk result (Sees names.now seen.old seen.new name.now) }
+    ensures fault { IfErr result (λ e. Blames e (name_check (here_of scope.now) names.now seen.old name.now)) }
+{
+    let id = Id::new(scope.alloc, name.name)?;
     match names {
         Some(names) => {
-            if names.has(name) && !is_marked(before, name) {
-                Ok(())
-            } else {
-                Err(bad_field(
-                    scope,
-                    name.as_str(),
-                    "does not correspond to variant in tag `tag`",
-                    at,
-                ))
-            }
+            take_case(names, seen, &id, scope, name.span.start)?;
+            Ok(id)
         }
-        None => Ok(()),
+        None => Ok(id),
     }
 }
 

@@ -1,11 +1,13 @@
 ghost use Rattle.std.specs.Prelude.{◌≡◌, IfOk};
 ghost use Rattle.witx_files.specs.declared.location.Location.{Location};
+ghost use Rattle.witx_check.specs.Places.{location_in};
 
 use std::alloc::Global;
 use std::marker::Model;
 use std::rc::Rc;
 use witx_base::{Duplicate, OutOfMemory, WitxPath};
 use witx_files::Location;
+use witx_lex::LineCursor;
 
 /// A path, together with a shared copy of it for the places of its file.
 #[derive(Clone, Copy)]
@@ -17,7 +19,7 @@ pub struct SharedPath<'a> {
 }
 
 impl<'a> SharedPath<'a> {
-    /// The path that is shared.
+    /// A shared path.
     pub fn new(shared: &'a Rc<WitxPath>) -> SharedPath<'a>
         ensures { result.path.now ≡ shared.now.value }
     {
@@ -27,11 +29,18 @@ impl<'a> SharedPath<'a> {
         }
     }
 
-    /// The path, once more shared.
-    pub fn share(&self) -> Result<Rc<WitxPath>, OutOfMemory>
-        ensures { IfOk result (λ shared. shared.value ≡ self.now.path.now) }
+    /// The place of the byte at an offset of the file's text, to which the cursor moves.
+    #[tactic(auto, unfolding(crate::specs::Places::location_in))]
+    pub fn place(&self, lines: &mut LineCursor<'_>, at: usize) -> Result<SharedPlace, OutOfMemory>
+        ensures place { IfOk result (λ p. p ≡ location_in lines.old.text.now self.now.path.now at) }
+        ensures text { lines.new.text.now ≡ lines.old.text.now }
     {
-        Ok(self.shared.clone()?)
+        let (line, column) = lines.line_column(at);
+        Ok(SharedPlace {
+            path: self.shared.clone()?,
+            line,
+            column,
+        })
     }
 }
 
@@ -79,12 +88,6 @@ impl Model for SharedPlace {
 }
 
 impl SharedPlace {
-    pub fn new(path: Rc<WitxPath>, line: usize, column: usize) -> SharedPlace
-        ensures { result ≡ record { path = path.value; line = line; column = column } }
-    {
-        SharedPlace { path, line, column }
-    }
-
     /// The location, with a path of its own.
     pub fn location(&self) -> Result<Location, OutOfMemory>
         ensures { IfOk result (λ l. l ≡ self.now) }

@@ -3,7 +3,7 @@ ghost use Rattle.witx_base.specs.Found.{found};
 ghost use Rattle.witx_check.specs.Places.{location_in};
 ghost use Rattle.witx_check.specs.Names.{new_mark, new_name, use_check, sense_tree};
 ghost use Rattle.witx_check.specs.Faults.{unknown_name, recursive, wrong_kind_name, name_already_exists, anonymous_record, invalid_repr, invalid_union_tag, abi, union_size_mismatch, invalid_union_field};
-ghost use Rattle.witx_check.specs.Blame.{Blames, Says, fault_of};
+ghost use Rattle.witx_check.specs.Blame.{Blames};
 ghost use Rattle.witx_check.specs.Senses.{here_of};
 ghost use Rattle.witx_ast.specs.Reads.{tree_of};
 
@@ -54,60 +54,28 @@ impl<'a> Scope<'a> {
     }
 }
 
-fn fault(made: Result<ValidationError, OutOfMemory>) -> CheckError
-    ensures { Says result made }
-{
-    match made {
-        Ok(fault) => CheckError::Validation(fault),
-        Err(_) => CheckError::OutOfMemory,
-    }
-}
-
-fn make_unknown(scope: &Scope<'_>, name: &str, at: usize) -> Result<ValidationError, OutOfMemory>
-    ensures { IfOk result (λ f. fault_of f ≡ unknown_name name.now ((here_of scope.now).place at)) }
-{
-    Ok(ValidationError::UnknownName {
-        name: Text::new(scope.alloc, name)?,
-        location: scope.location(at)?,
-    })
-}
-
-fn make_recursive(scope: &Scope<'_>, name: &str, at: usize) -> Result<ValidationError, OutOfMemory>
-    ensures { IfOk result (λ f. fault_of f ≡ recursive name.now ((here_of scope.now).place at)) }
-{
-    Ok(ValidationError::Recursive {
-        name: Text::new(scope.alloc, name)?,
-        location: scope.location(at)?,
-    })
-}
-
-fn make_wrong_kind(
-    scope: &Scope<'_>,
-    name: &str,
-    expected: &'static str,
-    got: &'static str,
-    at: usize,
-) -> Result<ValidationError, OutOfMemory>
-    ensures { IfOk result (λ f. fault_of f ≡ wrong_kind_name name.now expected.now got.now ((here_of scope.now).place at)) }
-{
-    Ok(ValidationError::WrongKindName {
-        name: Text::new(scope.alloc, name)?,
-        expected,
-        got,
-        location: scope.location(at)?,
-    })
-}
-
 pub fn unknown(scope: &Scope<'_>, name: &str, at: usize) -> CheckError
     ensures { Blames result (Some (unknown_name name.now ((here_of scope.now).place at))) }
 {
-    fault(make_unknown(scope, name, at))
+    match (Text::new(scope.alloc, name), scope.location(at)) {
+        (Ok(name), Ok(location)) => CheckError::Validation(ValidationError::UnknownName {
+            name,
+            location,
+        }),
+        _ => CheckError::OutOfMemory,
+    }
 }
 
 pub fn recursive(scope: &Scope<'_>, name: &str, at: usize) -> CheckError
     ensures { Blames result (Some (recursive name.now ((here_of scope.now).place at))) }
 {
-    fault(make_recursive(scope, name, at))
+    match (Text::new(scope.alloc, name), scope.location(at)) {
+        (Ok(name), Ok(location)) => CheckError::Validation(ValidationError::Recursive {
+            name,
+            location,
+        }),
+        _ => CheckError::OutOfMemory,
+    }
 }
 
 pub fn wrong_kind(
@@ -119,162 +87,118 @@ pub fn wrong_kind(
 ) -> CheckError
     ensures { Blames result (Some (wrong_kind_name name.now expected.now got.now ((here_of scope.now).place at))) }
 {
-    fault(make_wrong_kind(scope, name, expected, got, at))
-}
-
-fn make_repr(
-    scope: &Scope<'_>,
-    repr: BuiltinType,
-    at: usize,
-) -> Result<ValidationError, OutOfMemory>
-    ensures { IfOk result (λ f. fault_of f ≡ invalid_repr repr ((here_of scope.now).place at)) }
-{
-    Ok(ValidationError::InvalidRepr {
-        repr,
-        location: scope.location(at)?,
-    })
+    match (Text::new(scope.alloc, name), scope.location(at)) {
+        (Ok(name), Ok(location)) => CheckError::Validation(ValidationError::WrongKindName {
+            name,
+            expected,
+            got,
+            location,
+        }),
+        _ => CheckError::OutOfMemory,
+    }
 }
 
 pub fn repr(scope: &Scope<'_>, repr: BuiltinType, at: usize) -> CheckError
     ensures { Blames result (Some (invalid_repr repr ((here_of scope.now).place at))) }
 {
-    fault(make_repr(scope, repr, at))
-}
-
-fn make_bad_tag(
-    scope: &Scope<'_>,
-    reason: &'static str,
-    at: usize,
-) -> Result<ValidationError, OutOfMemory>
-    ensures { IfOk result (λ f. fault_of f ≡ invalid_union_tag reason.now ((here_of scope.now).place at)) }
-{
-    Ok(ValidationError::InvalidUnionTag {
-        reason,
-        location: scope.location(at)?,
-    })
+    match scope.location(at) {
+        Ok(location) => CheckError::Validation(ValidationError::InvalidRepr { repr, location }),
+        Err(_) => CheckError::OutOfMemory,
+    }
 }
 
 pub fn bad_tag(scope: &Scope<'_>, reason: &'static str, at: usize) -> CheckError
     ensures { Blames result (Some (invalid_union_tag reason.now ((here_of scope.now).place at))) }
 {
-    fault(make_bad_tag(scope, reason, at))
-}
-
-fn make_abi_fault(
-    scope: &Scope<'_>,
-    reason: &'static str,
-    at: usize,
-) -> Result<ValidationError, OutOfMemory>
-    ensures { IfOk result (λ f. fault_of f ≡ abi reason.now ((here_of scope.now).place at)) }
-{
-    Ok(ValidationError::Abi {
-        reason,
-        location: scope.location(at)?,
-    })
+    match scope.location(at) {
+        Ok(location) => CheckError::Validation(ValidationError::InvalidUnionTag {
+            reason,
+            location,
+        }),
+        Err(_) => CheckError::OutOfMemory,
+    }
 }
 
 pub fn abi_fault(scope: &Scope<'_>, reason: &'static str, at: usize) -> CheckError
     ensures { Blames result (Some (abi reason.now ((here_of scope.now).place at))) }
 {
-    fault(make_abi_fault(scope, reason, at))
-}
-
-fn make_anonymous_type(scope: &Scope<'_>, at: usize) -> Result<ValidationError, OutOfMemory>
-    ensures { IfOk result (λ f. fault_of f ≡ anonymous_record ((here_of scope.now).place at)) }
-{
-    Ok(ValidationError::AnonymousRecord {
-        location: scope.location(at)?,
-    })
+    match scope.location(at) {
+        Ok(location) => CheckError::Validation(ValidationError::Abi { reason, location }),
+        Err(_) => CheckError::OutOfMemory,
+    }
 }
 
 pub fn anonymous_type(scope: &Scope<'_>, at: usize) -> CheckError
     ensures { Blames result (Some (anonymous_record ((here_of scope.now).place at))) }
 {
-    fault(make_anonymous_type(scope, at))
-}
-
-fn make_wrong_size(
-    scope: &Scope<'_>,
-    expected: usize,
-    found: usize,
-    at: usize,
-) -> Result<ValidationError, OutOfMemory>
-    ensures { IfOk result (λ f. fault_of f ≡ union_size_mismatch expected found ((here_of scope.now).place at)) }
-{
-    Ok(ValidationError::UnionSizeMismatch {
-        expected,
-        found,
-        location: scope.location(at)?,
-    })
+    match scope.location(at) {
+        Ok(location) => CheckError::Validation(ValidationError::AnonymousRecord { location }),
+        Err(_) => CheckError::OutOfMemory,
+    }
 }
 
 pub fn wrong_size(scope: &Scope<'_>, expected: usize, found: usize, at: usize) -> CheckError
     ensures { Blames result (Some (union_size_mismatch expected found ((here_of scope.now).place at))) }
 {
-    fault(make_wrong_size(scope, expected, found, at))
-}
-
-fn make_bad_field(
-    scope: &Scope<'_>,
-    name: &str,
-    reason: &'static str,
-    at: usize,
-) -> Result<ValidationError, OutOfMemory>
-    ensures { IfOk result (λ f. fault_of f ≡ invalid_union_field name.now reason.now ((here_of scope.now).place at)) }
-{
-    Ok(ValidationError::InvalidUnionField {
-        name: Text::new(scope.alloc, name)?,
-        reason,
-        location: scope.location(at)?,
-    })
+    match scope.location(at) {
+        Ok(location) => CheckError::Validation(ValidationError::UnionSizeMismatch {
+            expected,
+            found,
+            location,
+        }),
+        Err(_) => CheckError::OutOfMemory,
+    }
 }
 
 pub fn bad_field(scope: &Scope<'_>, name: &str, reason: &'static str, at: usize) -> CheckError
     ensures { Blames result (Some (invalid_union_field name.now reason.now ((here_of scope.now).place at))) }
 {
-    fault(make_bad_field(scope, name, reason, at))
-}
-
-fn make_known(
-    alloc: Global,
-    name: &Id,
-    at: &SharedPlace,
-    before: &SharedPlace,
-) -> Result<ValidationError, OutOfMemory>
-    ensures { IfOk result (λ f. fault_of f ≡ name_already_exists name.now at.now before.now) }
-{
-    Ok(ValidationError::NameAlreadyExists {
-        name: Text::new(alloc, name.as_str())?,
-        at_location: at.location()?,
-        previous_location: before.location()?,
-    })
+    match (Text::new(scope.alloc, name), scope.location(at)) {
+        (Ok(name), Ok(location)) => CheckError::Validation(ValidationError::InvalidUnionField {
+            name,
+            reason,
+            location,
+        }),
+        _ => CheckError::OutOfMemory,
+    }
 }
 
 pub fn known(alloc: Global, name: &Id, at: &SharedPlace, before: &SharedPlace) -> CheckError
     ensures { Blames result (Some (name_already_exists name.now at.now before.now)) }
 {
-    fault(make_known(alloc, name, at, before))
-}
-
-fn make_known_mark(
-    scope: &Scope<'_>,
-    name: &Id,
-    at: usize,
-    before: usize,
-) -> Result<ValidationError, OutOfMemory>
-    ensures { IfOk result (λ f. fault_of f ≡ name_already_exists name.now ((here_of scope.now).place at) ((here_of scope.now).place before)) }
-{
-    Ok(ValidationError::NameAlreadyExists {
-        name: Text::new(scope.alloc, name.as_str())?,
-        at_location: scope.location(at)?,
-        previous_location: scope.location(before)?,
-    })
+    match (
+        Text::new(alloc, name.as_str()),
+        at.location(),
+        before.location(),
+    ) {
+        (Ok(name), Ok(at_location), Ok(previous_location)) => CheckError::Validation(
+            ValidationError::NameAlreadyExists {
+                name,
+                at_location,
+                previous_location,
+            },
+        ),
+        _ => CheckError::OutOfMemory,
+    }
 }
 
 fn known_mark(scope: &Scope<'_>, name: &Id, at: usize, before: usize) -> CheckError
     ensures { Blames result (Some (name_already_exists name.now ((here_of scope.now).place at) ((here_of scope.now).place before))) }
 {
-    fault(make_known_mark(scope, name, at, before))
+    match (
+        Text::new(scope.alloc, name.as_str()),
+        scope.location(at),
+        scope.location(before),
+    ) {
+        (Ok(name), Ok(at_location), Ok(previous_location)) => CheckError::Validation(
+            ValidationError::NameAlreadyExists {
+                name,
+                at_location,
+                previous_location,
+            },
+        ),
+        _ => CheckError::OutOfMemory,
+    }
 }
 
 /// Takes a name into a scope inside the declaration.

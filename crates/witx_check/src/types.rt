@@ -1,40 +1,59 @@
-ghost use Rattle.std.specs.Prelude.{◌≡◌, ◌++◌, IfOk, IfErr, OnOk, None, [], map, option_map};
-ghost use Rattle.witx_tree.specs.Trees.{tuple_of, expected, record_of, union_of, variant_of};
+ghost use Rattle.std.specs.Prelude.{◌≡◌, IfOk, IfErr, OnOk, None, [], map, option_map};
 ghost use Rattle.witx_tree.specs.Views.{type_view, fields_view, types_view, union_fields_view, cases_view, boxed_view, maybe_of};
-ghost use Rattle.witx_tree.specs.declared.tree.UnionSyntax.{out-UnionSyntax};
-ghost use Rattle.witx_tree.specs.declared.tree.VariantSyntax.{out-VariantSyntax};
-ghost use Rattle.witx_check.specs.Slices.{all_tag_checks, union_checks, variant_checks};
-ghost use Rattle.witx_tree.specs.declared.tree.RecordSyntax.{out-RecordSyntax};
-ghost use Rattle.witx_tree.specs.declared.tree.ExpectedSyntax.{out-ExpectedSyntax};
-ghost use Rattle.witx_tree.specs.declared.tree.TupleSyntax.{out-TupleSyntax};
-ghost use Rattle.witx_ast.specs.Reads.{tree_of, record_tree, variant_tree, member_field, case_arm};
+ghost use Rattle.witx_check.specs.SyntaxChecks.{lacks_name, record_checks, record_meant, tuple_checks, tuple_meant, expected_checks, expected_meant, all_tag_checks, union_checks, union_meant, variant_checks, variant_meant};
+ghost use Rattle.witx_ast.specs.Reads.{tree_of, member_field, case_arm};
 ghost use Rattle.witx_check.specs.Faults.{first_fault};
 ghost use Rattle.witx_check.specs.Checks.{type_checks, field_checks, each_type_checks, union_field_checks, maybe_checks, case_checks};
-ghost use Rattle.witx_check.specs.Trees.{tree_meant, fields_meant, types_meant, maybe_tree, number_name, union_arms, case_arms};
-ghost use Rattle.witx_check.specs.Tags.{builtin_type, tag_repr, tag_names};
+ghost use Rattle.witx_check.specs.Trees.{tree_meant, fields_meant, types_meant, maybe_tree, union_arms, case_arms};
+ghost use Rattle.witx_check.specs.Tags.{tag_repr, tag_names};
 ghost use Rattle.witx_check.specs.Blame.{Blames};
 ghost use Rattle.witx_check.specs.Senses.{here_of};
 
-use crate::cases::{TagNames, ordered};
+use crate::cases::TagNames;
 use crate::error::CheckError;
 use crate::parts::{
     Tag, bool_type, builtin_type, checked_case, checked_enum, checked_flags, checked_size,
-    expected_variant, number_name, string_type, tag_of, union_name, value,
+    expected_type, number_name, ordered_type, push_case, push_member, string_type, tag_of,
+    union_name, value, variant_type,
 };
-use crate::scope::{Marks, Scope, anonymous_type, introduce_mark, mark, used};
+use crate::scope::{Marks, Scope, anonymous_type, introduce_mark, used};
 use witx_ast::{
-    Case, Cases, Datatype, HandleDatatype, IntRepr, Members, RecordDatatype, RecordKind,
-    RecordMember, TypeRef, Variant,
+    Cases, Datatype, HandleDatatype, IntRepr, Members, RecordDatatype, RecordKind, RecordMember,
+    TypeRef,
 };
-use witx_base::{Id, Text};
+use witx_base::Text;
 use witx_tree::{
     CaseSyntax, Documented, ExpectedSyntax, FieldSyntax, RecordSyntax, TupleSyntax, TypedefSyntax,
     UnionSyntax, VariantSyntax,
 };
 
+/// Whether a type that stands for itself only under a name has none.
+#[tactic(auto, using(crate::proofs::SyntaxTrees::form_rules))]
+fn is_anonymous(syntax: &TypedefSyntax<'_>, named: bool) -> bool
+    ensures { result ≡ lacks_name named (type_view syntax.now) }
+{
+    match syntax {
+        TypedefSyntax::Handle(_)
+        | TypedefSyntax::Record(_)
+        | TypedefSyntax::Enum(_)
+        | TypedefSyntax::Flags(_)
+        | TypedefSyntax::Union(_) => !named,
+        TypedefSyntax::Ident(_)
+        | TypedefSyntax::Builtin(_)
+        | TypedefSyntax::List(_)
+        | TypedefSyntax::Pointer(_)
+        | TypedefSyntax::ConstPointer(_)
+        | TypedefSyntax::Tuple(_)
+        | TypedefSyntax::Variant(_)
+        | TypedefSyntax::Expected(_)
+        | TypedefSyntax::String
+        | TypedefSyntax::Bool => false,
+    }
+}
+
 /// The type of a syntax, whose place is that of the innermost identifier around it.
 #[cycle(types)]
-#[tactic(auto, using(crate::proofs::Onward::checked_rules))]
+#[tactic(auto, using(crate::proofs::Onward::guarded_rules))]
 pub fn checked_type(
     syntax: &TypedefSyntax<'_>,
     scope: &Scope<'_>,
@@ -45,6 +64,9 @@ pub fn checked_type(
     ensures tree { IfOk result (λ t. tree_of t ≡ tree_meant (here_of scope.now) (type_view syntax.now)) }
     ensures fault { IfErr result (λ e. Blames e (first_fault (type_checks (here_of scope.now) named ((here_of scope.now).place near) (type_view syntax.now)))) }
 {
+    if is_anonymous(syntax, named) {
+        return Err(anonymous_type(scope, near));
+    }
     match syntax {
         TypedefSyntax::Ident(name) => used(scope, name),
         TypedefSyntax::Builtin(of) => Ok(value(scope.alloc, Datatype::Builtin(builtin_type(*of)))?),
@@ -60,52 +82,14 @@ pub fn checked_type(
             let of = checked_type(of, scope, false, near)?;
             Ok(value(scope.alloc, Datatype::ConstPointer(of))?)
         }
-        TypedefSyntax::Handle(_) => {
-            if !named {
-                return Err(anonymous_type(scope, near));
-            }
-            Ok(value(scope.alloc, Datatype::Handle(HandleDatatype))?)
-        }
-        TypedefSyntax::Record(record) => {
-            if !named {
-                return Err(anonymous_type(scope, near));
-            }
-            let record = checked_record(record, scope)?;
-            Ok(value(scope.alloc, Datatype::Record(record))?)
-        }
-        TypedefSyntax::Tuple(tuple) => {
-            let record = checked_tuple(tuple, scope, near)?;
-            Ok(value(scope.alloc, Datatype::Record(record))?)
-        }
-        TypedefSyntax::Enum(of) => {
-            if !named {
-                return Err(anonymous_type(scope, near));
-            }
-            let variant = checked_enum(of, scope, near)?;
-            Ok(value(scope.alloc, Datatype::Variant(variant))?)
-        }
-        TypedefSyntax::Flags(of) => {
-            if !named {
-                return Err(anonymous_type(scope, near));
-            }
-            let record = checked_flags(of, scope, near)?;
-            Ok(value(scope.alloc, Datatype::Record(record))?)
-        }
-        TypedefSyntax::Union(of) => {
-            if !named {
-                return Err(anonymous_type(scope, near));
-            }
-            let variant = checked_union(of, scope, near)?;
-            Ok(value(scope.alloc, Datatype::Variant(variant))?)
-        }
-        TypedefSyntax::Variant(of) => {
-            let variant = checked_variant(of, scope, near)?;
-            Ok(value(scope.alloc, Datatype::Variant(variant))?)
-        }
-        TypedefSyntax::Expected(of) => {
-            let variant = checked_expected(of, scope, near)?;
-            Ok(value(scope.alloc, Datatype::Variant(variant))?)
-        }
+        TypedefSyntax::Handle(_) => Ok(value(scope.alloc, Datatype::Handle(HandleDatatype))?),
+        TypedefSyntax::Record(of) => checked_record(of, scope),
+        TypedefSyntax::Tuple(of) => checked_tuple(of, scope, near),
+        TypedefSyntax::Enum(of) => checked_enum(of, scope, near),
+        TypedefSyntax::Flags(of) => checked_flags(of, scope, near),
+        TypedefSyntax::Union(of) => checked_union(of, scope, near),
+        TypedefSyntax::Variant(of) => checked_variant(of, scope, near),
+        TypedefSyntax::Expected(of) => checked_expected(of, scope, near),
         TypedefSyntax::String => Ok(string_type(scope.alloc)?),
         TypedefSyntax::Bool => Ok(bool_type(scope.alloc)?),
     }
@@ -113,19 +97,17 @@ pub fn checked_type(
 
 #[cycle(types)]
 #[tactic(auto, using(crate::proofs::Onward::type_rules))]
-fn checked_record(
-    syntax: &RecordSyntax<'_>,
-    scope: &Scope<'_>,
-) -> Result<RecordDatatype, CheckError>
-    ensures ok { OnOk result (first_fault (field_checks (here_of scope.now) [] (fields_view (out-RecordSyntax syntax.now).fields)) ≡ None) }
-    ensures tree { IfOk result (λ r. record_tree r ≡ tree_meant (here_of scope.now) (record_of (fields_view (out-RecordSyntax syntax.now).fields))) }
-    ensures fault { IfErr result (λ e. Blames e (first_fault (field_checks (here_of scope.now) [] (fields_view (out-RecordSyntax syntax.now).fields)))) }
+fn checked_record(syntax: &RecordSyntax<'_>, scope: &Scope<'_>) -> Result<TypeRef, CheckError>
+    ensures ok { OnOk result (first_fault (record_checks (here_of scope.now) syntax.now) ≡ None) }
+    ensures tree { IfOk result (λ t. tree_of t ≡ record_meant (here_of scope.now) syntax.now) }
+    ensures fault { IfErr result (λ e. Blames e (first_fault (record_checks (here_of scope.now) syntax.now))) }
 {
     let members = checked_rows(syntax.fields.as_slice(), scope)?;
-    Ok(RecordDatatype {
-        kind: RecordKind::Other,
-        members,
-    })
+    let kind = RecordKind::Other;
+    Ok(value(
+        scope.alloc,
+        Datatype::Record(RecordDatatype { kind, members }),
+    )?)
 }
 
 #[cycle(types)]
@@ -144,8 +126,7 @@ fn checked_rows(
         let at = field.item.name.span.start;
         let name = introduce_mark(&mut names, scope, field.item.name.name, at)?;
         let tref = checked_type(&field.item.type_, scope, false, at)?;
-        let docs = field.comments.docs(scope.alloc)?;
-        members.push(RecordMember { name, tref, docs })?;
+        push_member(&mut members, scope.alloc, name, tref, &field.comments)?;
     }
     Ok(members)
 }
@@ -156,16 +137,17 @@ fn checked_tuple(
     syntax: &TupleSyntax<'_>,
     scope: &Scope<'_>,
     near: usize,
-) -> Result<RecordDatatype, CheckError>
-    ensures ok { OnOk result (first_fault (each_type_checks (here_of scope.now) ((here_of scope.now).place near) (types_view (out-TupleSyntax syntax.now).types)) ≡ None) }
-    ensures tree { IfOk result (λ r. record_tree r ≡ tree_meant (here_of scope.now) (tuple_of (types_view (out-TupleSyntax syntax.now).types))) }
-    ensures fault { IfErr result (λ e. Blames e (first_fault (each_type_checks (here_of scope.now) ((here_of scope.now).place near) (types_view (out-TupleSyntax syntax.now).types)))) }
+) -> Result<TypeRef, CheckError>
+    ensures ok { OnOk result (first_fault (tuple_checks (here_of scope.now) ((here_of scope.now).place near) syntax.now) ≡ None) }
+    ensures tree { IfOk result (λ t. tree_of t ≡ tuple_meant (here_of scope.now) syntax.now) }
+    ensures fault { IfErr result (λ e. Blames e (first_fault (tuple_checks (here_of scope.now) ((here_of scope.now).place near) syntax.now))) }
 {
     let members = checked_parts(syntax.types.as_slice(), scope, near)?;
-    Ok(RecordDatatype {
-        kind: RecordKind::Tuple,
-        members,
-    })
+    let kind = RecordKind::Tuple;
+    Ok(value(
+        scope.alloc,
+        Datatype::Record(RecordDatatype { kind, members }),
+    )?)
 }
 
 #[cycle(types)]
@@ -229,14 +211,14 @@ fn checked_expected(
     syntax: &ExpectedSyntax<'_>,
     scope: &Scope<'_>,
     near: usize,
-) -> Result<Variant, CheckError>
-    ensures ok { OnOk result (first_fault (maybe_checks (here_of scope.now) ((here_of scope.now).place near) (boxed_view (out-ExpectedSyntax syntax.now).ok) ++ maybe_checks (here_of scope.now) ((here_of scope.now).place near) (boxed_view (out-ExpectedSyntax syntax.now).err)) ≡ None) }
-    ensures tree { IfOk result (λ v. variant_tree v ≡ tree_meant (here_of scope.now) (expected (boxed_view (out-ExpectedSyntax syntax.now).ok) (boxed_view (out-ExpectedSyntax syntax.now).err))) }
-    ensures fault { IfErr result (λ e. Blames e (first_fault (maybe_checks (here_of scope.now) ((here_of scope.now).place near) (boxed_view (out-ExpectedSyntax syntax.now).ok) ++ maybe_checks (here_of scope.now) ((here_of scope.now).place near) (boxed_view (out-ExpectedSyntax syntax.now).err)))) }
+) -> Result<TypeRef, CheckError>
+    ensures ok { OnOk result (first_fault (expected_checks (here_of scope.now) ((here_of scope.now).place near) syntax.now) ≡ None) }
+    ensures tree { IfOk result (λ t. tree_of t ≡ expected_meant (here_of scope.now) syntax.now) }
+    ensures fault { IfErr result (λ e. Blames e (first_fault (expected_checks (here_of scope.now) ((here_of scope.now).place near) syntax.now))) }
 {
     let ok = checked_maybe(&syntax.ok, scope, near)?;
     let err = checked_maybe(&syntax.err, scope, near)?;
-    Ok(expected_variant(scope.alloc, ok, err)?)
+    Ok(expected_type(scope.alloc, ok, err)?)
 }
 
 /// The types of a union.
@@ -257,12 +239,7 @@ fn union_cases(
         let part = &types[i];
         let tref = checked_type(&part.item, scope, false, near)?;
         let name = union_name(scope.alloc, names, i)?;
-        let docs = part.comments.docs(scope.alloc)?;
-        cases.push(Case {
-            name,
-            tref: Some(tref),
-            docs,
-        })?;
+        push_case(&mut cases, scope.alloc, name, Some(tref), &part.comments)?;
     }
     Ok(cases)
 }
@@ -282,13 +259,9 @@ fn variant_cases(
     let mut seen = Marks::new(scope.alloc);
     let mut made = Cases::new(scope.alloc);
     for case in cases {
-        let at = case.item.name.span.start;
-        let name = Id::new(scope.alloc, case.item.name.name)?;
-        checked_case(names, &seen, &name, scope, at)?;
-        let tref = checked_payload(&case.item.ty, scope, at)?;
-        let docs = case.comments.docs(scope.alloc)?;
-        mark(&mut seen, &name, at)?;
-        made.push(Case { name, tref, docs })?;
+        let name = checked_case(names, &mut seen, &case.item.name, scope)?;
+        let tref = checked_payload(&case.item.ty, scope, case.item.name.span.start)?;
+        push_case(&mut made, scope.alloc, name, tref, &case.comments)?;
     }
     Ok(made)
 }
@@ -323,18 +296,15 @@ fn checked_union(
     syntax: &UnionSyntax<'_>,
     scope: &Scope<'_>,
     near: usize,
-) -> Result<Variant, CheckError>
+) -> Result<TypeRef, CheckError>
     ensures ok { OnOk result (first_fault (union_checks (here_of scope.now) ((here_of scope.now).place near) syntax.now) ≡ None) }
-    ensures tree { IfOk result (λ v. variant_tree v ≡ tree_meant (here_of scope.now) (union_of (boxed_view (out-UnionSyntax syntax.now).tag) (union_fields_view (out-UnionSyntax syntax.now).fields))) }
+    ensures tree { IfOk result (λ t. tree_of t ≡ union_meant (here_of scope.now) syntax.now) }
     ensures fault { IfErr result (λ e. Blames e (first_fault (union_checks (here_of scope.now) ((here_of scope.now).place near) syntax.now))) }
 {
     let tag = checked_tag(&syntax.tag, scope, near)?;
     checked_size(&tag.names, syntax.fields.len(), scope, near)?;
     let cases = union_cases(syntax.fields.as_slice(), scope, &tag.names, near)?;
-    Ok(Variant {
-        tag_repr: tag.repr,
-        cases,
-    })
+    Ok(variant_type(scope.alloc, tag.repr, cases)?)
 }
 
 #[cycle(types)]
@@ -343,16 +313,13 @@ fn checked_variant(
     syntax: &VariantSyntax<'_>,
     scope: &Scope<'_>,
     near: usize,
-) -> Result<Variant, CheckError>
+) -> Result<TypeRef, CheckError>
     ensures ok { OnOk result (first_fault (variant_checks (here_of scope.now) ((here_of scope.now).place near) syntax.now) ≡ None) }
-    ensures tree { IfOk result (λ v. variant_tree v ≡ tree_meant (here_of scope.now) (variant_of (boxed_view (out-VariantSyntax syntax.now).tag) (cases_view (out-VariantSyntax syntax.now).cases))) }
+    ensures tree { IfOk result (λ t. tree_of t ≡ variant_meant (here_of scope.now) syntax.now) }
     ensures fault { IfErr result (λ e. Blames e (first_fault (variant_checks (here_of scope.now) ((here_of scope.now).place near) syntax.now))) }
 {
     let tag = checked_tag(&syntax.tag, scope, near)?;
     checked_size(&tag.names, syntax.cases.len(), scope, near)?;
     let cases = variant_cases(syntax.cases.as_slice(), scope, &tag.names)?;
-    Ok(Variant {
-        tag_repr: tag.repr,
-        cases: ordered(scope.alloc, &tag.names, cases)?,
-    })
+    Ok(ordered_type(scope.alloc, tag, cases)?)
 }

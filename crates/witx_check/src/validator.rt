@@ -1,36 +1,30 @@
-ghost use Rattle.std.specs.Prelude.{◌≡◌, ◌∷◌, ◌++◌, ◌⊎◌, [], IfOk, IfErr, OnOk, OnErr, None, map};
+ghost use Rattle.std.specs.Prelude.{◌≡◌, IfOk, map};
 ghost use Rattle.witx_ast.specs.Definitions.{definition_tree, DefinitionsFit};
 ghost use Rattle.witx_ast.specs.Ordered.{IsOrdered};
-ghost use Rattle.witx_ast.specs.Closed.{IsClosed};
-ghost use Rattle.witx_tree.specs.Views.{comments_view};
-ghost use Rattle.witx_check.specs.Places.{location_in};
-ghost use Rattle.witx_check.specs.Faults.{first_fault};
-ghost use Rattle.witx_check.specs.Blame.{Blames};
-ghost use Rattle.witx_check.specs.Answers.{IsFault};
-ghost use Rattle.witx_check.specs.DeclarationForms.{decl_form_of};
-ghost use Rattle.witx_check.specs.Declarations.{Past, decl_checks, decl_tree, accepted, rejected};
-ghost use Rattle.witx_check.specs.Kept.{Keeps};
+ghost use Rattle.witx_check.specs.Scopes.{kept_at, site_in};
+ghost use Rattle.witx_check.specs.Validates.{Validates, site};
 ghost use Rattle.witx_check.specs.Validators.{kept_by, nothing_kept};
 
 use crate::constants::ConstantPlaces;
 use crate::error::CheckError;
-use crate::line_cursor::LineCursor;
 use crate::place::{SharedPath, shared_path, with_shared};
 use crate::scope::Names;
+use crate::site::Site;
+use crate::tables::Tables;
 use crate::validate::{validate_constant, validate_module, validate_typename};
+use crate::validation_scope::DocValidationScope;
 use std::alloc::Global;
 use std::rc::Rc;
 use witx_ast::{Definitions, Document, Entries};
 use witx_base::{OutOfMemory, WitxPath};
+use witx_lex::LineCursor;
 use witx_tree::{CommentSyntax, DeclSyntax};
 
 /// What the checks of declarations keep: each introduced name with its place, the finished
 /// typenames and modules, and the accepted constants with their places.
 #[derive(Drop)]
 pub struct DocValidation {
-    names: Names,
-    entries: Entries,
-    constants: ConstantPlaces,
+    tables: Tables,
     /// The path of the file that a scope was last at.
     path: Option<Rc<WitxPath>>,
     alloc: Global,
@@ -42,9 +36,12 @@ impl DocValidation {
         ensures { IfOk result (λ v. kept_by v ≡ nothing_kept) }
     {
         Ok(DocValidation {
-            names: Names::new(alloc),
-            entries: Entries::new(alloc),
-            constants: ConstantPlaces::new(alloc),
+            tables: Tables {
+                names: Names::new(alloc),
+                entries: Entries::new(alloc),
+                constants: ConstantPlaces::new(alloc),
+                alloc,
+            },
             path: None,
             alloc,
         })
@@ -72,7 +69,7 @@ impl DocValidation {
     /// After a fault and after want of memory `definitions` is unchanged. A refused typename or
     /// module keeps its name introduced, a refused constant leaves nothing, and want of memory
     /// leaves at most the name.
-    #[tactic(auto, using(crate::proofs::Answered::answer_rules))]
+    #[tactic(auto, using(crate::proofs::Validating::nothing_rules))]
     pub fn validate_decl(
         &mut self,
         lines: &mut LineCursor<'_>,
@@ -81,51 +78,40 @@ impl DocValidation {
         comments: &CommentSyntax<'_>,
         definitions: &mut Definitions,
     ) -> Result<(), CheckError>
-        ensures ok { (past : Past) → OnOk result (Keeps (kept_by self.old) past → first_fault (decl_checks past (location_in lines.old.text.now path.now.path.now) (decl_form_of decl.now)) ≡ None) }
-        ensures appended { (past : Past) → OnOk result (Keeps (kept_by self.old) past → map definition_tree definitions.new ≡ map definition_tree definitions.old ++ decl_tree past (location_in lines.old.text.now path.now.path.now) (comments_view comments.now) (decl_form_of decl.now) ∷ []) }
-        ensures accepted { (past : Past) → OnOk result (Keeps (kept_by self.old) past → Keeps (kept_by self.new) (accepted past (location_in lines.old.text.now path.now.path.now) (comments_view comments.now) (decl_form_of decl.now))) }
-        ensures fault { (past : Past) → IfErr result (λ e. Keeps (kept_by self.old) past → Blames e (first_fault (decl_checks past (location_in lines.old.text.now path.now.path.now) (decl_form_of decl.now)))) }
-        ensures rejected { (past : Past) → IfErr result (λ e. IsFault e → Keeps (kept_by self.old) past → Keeps (kept_by self.new) (rejected past (location_in lines.old.text.now path.now.path.now) (decl_form_of decl.now))) }
-        ensures unchanged { OnErr result (definitions.new ≡ definitions.old) }
-        ensures out_of_memory { (past : Past) → OnErr result (Keeps (kept_by self.old) past → Keeps (kept_by self.new) past ⊎ Keeps (kept_by self.new) (rejected past (location_in lines.old.text.now path.now.path.now) (decl_form_of decl.now))) }
-        ensures fits { (past : Past) → Keeps (kept_by self.old) past → DefinitionsFit definitions.old (kept_by self.old).entries → DefinitionsFit definitions.new (kept_by self.new).entries }
-        ensures ordered { DefinitionsFit definitions.old (kept_by self.old).entries → IsOrdered (map definition_tree definitions.old) → IsOrdered (map definition_tree definitions.new) }
-        ensures closed { DefinitionsFit definitions.old (kept_by self.old).entries → IsClosed (map definition_tree definitions.old) → IsClosed (map definition_tree definitions.new) }
+        ensures validates { Validates (kept_by self.old) (kept_by self.new) definitions.old definitions.new (site lines.old.text.now path.now.path.now comments.now decl.now) result }
         ensures text { lines.new.text.now ≡ lines.old.text.now }
     {
         let text = lines.text;
         match decl {
             DeclSyntax::Typename(decl) => {
-                let place = lines.place(path, decl.ident.span.start)?;
-                validate_typename(
-                    &mut self.names,
-                    &mut self.entries,
+                let place = path.place(lines, decl.ident.span.start)?;
+                let site = Site {
                     text,
-                    path.path,
-                    self.alloc,
+                    path: path.path,
                     place,
-                    decl,
                     comments,
-                    definitions,
-                )
+                };
+                validate_typename(&mut self.tables, site, decl, definitions)
             }
             DeclSyntax::Module(decl) => {
-                let place = lines.place(path, decl.name.span.start)?;
-                validate_module(
-                    &mut self.names,
-                    &mut self.entries,
+                let place = path.place(lines, decl.name.span.start)?;
+                let site = Site {
                     text,
-                    path.path,
-                    self.alloc,
+                    path: path.path,
                     place,
-                    decl,
                     comments,
-                    definitions,
-                )
+                };
+                validate_module(&mut self.tables, site, decl, definitions)
             }
             DeclSyntax::Const(decl) => {
-                let place = lines.place(path, decl.item.name.span.start)?;
-                validate_constant(&mut self.constants, place, self.alloc, decl, definitions)
+                let place = path.place(lines, decl.item.name.span.start)?;
+                validate_constant(
+                    &mut self.tables.constants,
+                    place,
+                    self.alloc,
+                    decl,
+                    definitions,
+                )
             }
         }
     }
@@ -138,31 +124,7 @@ impl DocValidation {
         ensures entries { result.entries ≡ (kept_by self).entries }
         ensures ordered { IsOrdered (map definition_tree definitions) → IsOrdered (map definition_tree result.definitions) }
     {
-        Document::new(definitions, self.entries)
-    }
-}
-
-/// A validator at one file.
-pub struct DocValidationScope<'a> {
-    doc: &'a mut DocValidation,
-    text: &'a str,
-    path: &'a WitxPath,
-    /// Where the lines of the text are counted from.
-    lines: LineCursor<'a>,
-    ghost same_text: { lines.text.now ≡ text.now },
-}
-
-/// Lets the validator go on as the scope left it.
-impl<'a> Drop for DocValidationScope<'a> {
-    fn drop(self)
-        ensures { self.exit.0.now ≡ self.entry.doc.now }
-    {
-        let DocValidationScope {
-            doc: _doc,
-            text: _text,
-            path: _path,
-            lines: _lines,
-        } = self;
+        Document::new(definitions, self.tables.entries)
     }
 }
 
@@ -178,16 +140,7 @@ impl<'a> DocValidationScope<'a> {
         comments: &CommentSyntax<'_>,
         definitions: &mut Definitions,
     ) -> Result<(), CheckError>
-        ensures ok { (past : Past) → OnOk result (Keeps (kept_by self.old.doc.now) past → first_fault (decl_checks past (location_in self.old.text.now self.old.path.now) (decl_form_of decl.now)) ≡ None) }
-        ensures appended { (past : Past) → OnOk result (Keeps (kept_by self.old.doc.now) past → map definition_tree definitions.new ≡ map definition_tree definitions.old ++ decl_tree past (location_in self.old.text.now self.old.path.now) (comments_view comments.now) (decl_form_of decl.now) ∷ []) }
-        ensures accepted { (past : Past) → OnOk result (Keeps (kept_by self.old.doc.now) past → Keeps (kept_by self.new.doc.now) (accepted past (location_in self.old.text.now self.old.path.now) (comments_view comments.now) (decl_form_of decl.now))) }
-        ensures fault { (past : Past) → IfErr result (λ e. Keeps (kept_by self.old.doc.now) past → Blames e (first_fault (decl_checks past (location_in self.old.text.now self.old.path.now) (decl_form_of decl.now)))) }
-        ensures rejected { (past : Past) → IfErr result (λ e. IsFault e → Keeps (kept_by self.old.doc.now) past → Keeps (kept_by self.new.doc.now) (rejected past (location_in self.old.text.now self.old.path.now) (decl_form_of decl.now))) }
-        ensures unchanged { OnErr result (definitions.new ≡ definitions.old) }
-        ensures out_of_memory { (past : Past) → OnErr result (Keeps (kept_by self.old.doc.now) past → Keeps (kept_by self.new.doc.now) past ⊎ Keeps (kept_by self.new.doc.now) (rejected past (location_in self.old.text.now self.old.path.now) (decl_form_of decl.now))) }
-        ensures fits { (past : Past) → Keeps (kept_by self.old.doc.now) past → DefinitionsFit definitions.old (kept_by self.old.doc.now).entries → DefinitionsFit definitions.new (kept_by self.new.doc.now).entries }
-        ensures ordered { DefinitionsFit definitions.old (kept_by self.old.doc.now).entries → IsOrdered (map definition_tree definitions.old) → IsOrdered (map definition_tree definitions.new) }
-        ensures closed { DefinitionsFit definitions.old (kept_by self.old.doc.now).entries → IsClosed (map definition_tree definitions.old) → IsClosed (map definition_tree definitions.new) }
+        ensures validates { Validates (kept_at self.old) (kept_at self.new) definitions.old definitions.new (site_in self.old comments.now decl.now) result }
         ensures same_reference { self.new.doc.ghost_name ≡ self.old.doc.ghost_name }
         ensures text { self.new.text.now ≡ self.old.text.now }
         ensures path { self.new.path.now ≡ self.old.path.now }

@@ -3,7 +3,7 @@ use Rattle.witx_ast.specs.Reads.{case_arm}
 use Rattle.witx_check.specs.Faults.{first_fault}
 use Rattle.witx_check.specs.Checks.{member_checks}
 use Rattle.witx_check.specs.Trees.{member_arm}
-use Rattle.witx_check.specs.Slices.{member_views}
+use Rattle.witx_check.specs.SyntaxChecks.{member_views}
 use Rattle.witx_check.specs.Senses.{here_of}
 use Rattle.witx_check.proofs.parts.noted_cases.Given as goal
 

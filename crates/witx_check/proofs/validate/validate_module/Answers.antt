@@ -1,31 +1,23 @@
-use Rattle.std.proofs.Common.{ap, ◌∙◌, ℕ, List, Some}
-use Rattle.witx_ast.specs.Definitions.{introduced, module_of, module_tree}
-use Rattle.witx_ast.specs.declared.module.Module.{Module}
+use Rattle.std.proofs.lemmas.Result.{err_from_is_err_and}
+use Rattle.witx_tree.specs.Views.{name_view, comments_view}
 use Rattle.witx_check.specs.DeclarationForms.{items_in}
-use Rattle.witx_tree.specs.Views.{name_view}
-use Rattle.witx_ast.specs.declared.definition.Definition.TheVariants as definition
-use Rattle.witx_ast.specs.declared.definition.Entry.TheVariants as entry
-use Rattle.witx_check.specs.Places.{location_in}
-use Rattle.witx_check.specs.Inside.{within}
-use Rattle.witx_check.proofs.Finishing.{absent-module, fits-named, keeps-unchanged}
-use Rattle.witx_check.proofs.Finished.{keeps-left}
+use Rattle.witx_check.proofs.Validating.{module-refused, module-late, module-made}
 use Rattle.witx_check.proofs.validate.validate_module.Goals as goal
 
-pub returns-in-Ok-finish-clause-fits : goal.returns-in-Ok-finish-clause-fits
-returns-in-Ok-finish-clause-fits c past keeps fits =
-    fits-named c.args.names.now c.args.definitions.now c.finish.new.definitions (definition.Module c.in-Ok-clone.shared) (entry.Module c.in-Ok-new.module) c.args.entries.now c.finish.new.entries past c.args.decl.now.name.name.now c.in-Ok-copy.name
-    c.in-Ok-finish.ensures.definitions
-    (ap (λ (x : Module). introduced (module_of (module_tree x))) (c.in-Ok-clone.ensures.cases ∙ c.in-Ok-new.ensures.ok) ∙ ap (λ (x : List ℕ). Some x) c.in-Ok.ensures.name)
-    (ap (λ (x : Module). module_of (module_tree x)) c.in-Ok-clone.ensures.cases)
-    (absent-module c.args.names.now (within c.args.names.now c.args.entries.now (location_in c.args.text.now c.args.path.now) (name_view c.args.decl.now.name)) (name_view c.args.decl.now.name) (items_in c.args.decl.now.decls) c.in-Ok.ensures.ok)
-    (c.in-Ok-copy.ensures ∙ c.in-Ok.ensures.name) c.in-Ok-finish.ensures.trees keeps fits
+pub returns-in-Err : goal.returns-in-Err
+returns-in-Err c =
+    let e = c.in-Err.ensures in
+    module-refused _ _ _ c.args.tables.now.entries _ _ _ c.args.definitions.now (name_view c.args.decl.now.name) (comments_view c.args.site.comments.now) (items_in c.args.decl.now.decls) c.in-Err.error e.fault e.refused e.left
 
-pub returns-in-Err-finish-clause-left : goal.returns-in-Err-finish-clause-left
-returns-in-Err-finish-clause-left c past keeps =
-    keeps-unchanged c.args.names.now c.checked_module.new.names c.args.entries.now c.finish.new.entries past c.args.decl.now.name.name.now (location_in c.args.text.now c.args.path.now c.args.decl.now.name.span.start)
-    (absent-module c.args.names.now (within c.args.names.now c.args.entries.now (location_in c.args.text.now c.args.path.now) (name_view c.args.decl.now.name)) (name_view c.args.decl.now.name) (items_in c.args.decl.now.decls) c.in-Ok.ensures.ok)
-    c.in-Ok.ensures.kept c.in-Err-finish.ensures.entries_unchanged keeps
+pub returns-in_err-keep_module-in-Ok : goal.returns-in_err-keep_module-in-Ok
+returns-in_err-keep_module-in-Ok c =
+    let p = err_from_is_err_and c.from_residual.result c.from_residual.ensures.1 in
+    let e = c.in-Ok.ensures in
+    let k = c.in_err-keep_module-in-Ok.ensures in
+    rw (p.1, p.2) (module-late _ _ _ _ _ _ _ _ (name_view c.args.decl.now.name) (comments_view c.args.site.comments.now) (items_in c.args.decl.now.decls) e.ok e.kept k.unchanged k.entries_unchanged)
 
-pub returns-in-Err-clause-left : goal.returns-in-Err-clause-left
-returns-in-Err-clause-left c past k =
-    keeps-left c.args.names.now c.checked_module.new.names c.args.entries.now past c.args.decl.now.name.name.now (location_in c.args.text.now c.args.path.now c.args.decl.now.name.span.start) c.in-Err.ensures.left k
+pub returns-in_ok-keep_module-in-Ok : goal.returns-in_ok-keep_module-in-Ok
+returns-in_ok-keep_module-in-Ok c =
+    let e = c.in-Ok.ensures in
+    let k = c.in_ok-keep_module-in-Ok.ensures in
+    module-made _ _ _ _ _ _ _ _ (name_view c.args.decl.now.name) (comments_view c.args.site.comments.now) (items_in c.args.decl.now.decls) c.in-Ok.made e.ok e.tree e.name e.kept k.appended k.senses k.trees

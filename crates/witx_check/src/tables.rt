@@ -1,0 +1,14 @@
+use crate::constants::ConstantPlaces;
+use crate::scope::Names;
+use std::alloc::Global;
+use witx_ast::Entries;
+
+/// What names denote: each introduced name with its place, the finished typenames and modules, and
+/// the accepted constants with their places.
+#[derive(Drop)]
+pub struct Tables {
+    pub names: Names,
+    pub entries: Entries,
+    pub constants: ConstantPlaces,
+    pub alloc: Global,
+}
