@@ -2,7 +2,7 @@
 use Rattle.std.proofs.Common.{◌≡◌, ℕ, ◌+◌, ◌<◌, ◌≤◌, List, [], ◌∷◌, ◌++◌, Option, Some, None, length, subst, sym, refl, ap, ◌∙◌, append-nil, length-append, arith}
 use Rattle.std.proofs.KnownBytes.{Consumes-trans}
 use Rattle.std.specs.Io.KnownBytes.{Consumes, IsAtEnd}
-use Rattle.witx.specs.declared.input.TheConstants.{LONGEST}
+use Rattle.witx_bundle.specs.declared.bundle.TheConstants.{LONGEST_BUNDLE}
 use Rattle.std.specs.Prelude.{Result, Ok, Err}
 use Rattle.witx_files.specs.Files.{Files}
 use Rattle.witx_bundle.specs.Bundles.{IsRead, limit}
@@ -23,7 +23,7 @@ all-read None b xs p e = tt
 all-read (Some x) None xs p e = absurd p
 all-read (Some x) (Some y) xs p e = sym (append-nil xs) ∙ ap (λ l. xs ++ l) (sym e) ∙ sym p
 
-pub input-end : (a b c : Option (List ℕ)) (xs ys : List ℕ) (n : ℕ) → Consumes a b xs → TakesMore b c xs ys n → n ≡ 0 → length xs ≤ LONGEST → IsInput a c ys
+pub input-end : (a b c : Option (List ℕ)) (xs ys : List ℕ) (n : ℕ) → Consumes a b xs → TakesMore b c xs ys n → n ≡ 0 → length xs ≤ LONGEST_BUNDLE → IsInput a c ys
 input-end a b c xs ys n p t z l =
     let same : ys ≡ xs = no-more xs t.more ys t.joined (t.count ∙ ap (λ k. length xs + k) z) in
     record {
@@ -32,7 +32,7 @@ input-end a b c xs ys n p t z l =
       bounded = let k : length ys ≡ length xs = ap length same in omega arith;
     }
 
-pub input-full : (a b c : Option (List ℕ)) (xs ys : List ℕ) (n : ℕ) → Consumes a b xs → TakesMore b c xs ys n → LONGEST < length ys → length ys ≤ LONGEST + 1 → IsInput a c ys
+pub input-full : (a b c : Option (List ℕ)) (xs ys : List ℕ) (n : ℕ) → Consumes a b xs → TakesMore b c xs ys n → LONGEST_BUNDLE < length ys → length ys ≤ LONGEST_BUNDLE + 1 → IsInput a c ys
 input-full a b c xs ys n p t large small = record { taken = input-more a b c xs ys n p t; whole = λ l. absurd (omega arith); bounded = small }
 
 longer : (left : List ℕ) (b : Option (List ℕ)) (xs : List ℕ) → Consumes (Some left) b xs → limit < length xs → limit < length left

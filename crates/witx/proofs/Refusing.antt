@@ -1,10 +1,10 @@
 -- What a call below refuses is what the call above it refuses.
-use Rattle.std.specs.Prelude.{◌≡◌, ℕ, List, All, Any, Option, Some, None, Result, Ok, Err, OnOk, is_ok, if◌then◌else◌, map, codes, ◌++◌, ◌<◌, ◌≤◌, ◌^◌}
+use Rattle.std.specs.Prelude.{◌≡◌, ℕ, List, All, Any, Option, Some, None, [], Result, Ok, Err, OnOk, is_ok, if◌then◌else◌, map, codes, ◌++◌, ◌<◌, ◌≤◌, ◌^◌}
 use Rattle.std.proofs.Common.{◌∙◌, ap, append_assoc, inl, inr, subst, sym}
 use Rattle.witx_base.specs.Paths.{Path}
 use Rattle.witx_files.specs.Files.{Files, Aliases}
 use Rattle.witx_files.specs.declared.fault.IoFault.TheVariants as io_fault
-use Rattle.witx_ast.specs.Definitions.{DefinitionTree}
+use Rattle.witx_ast.specs.Definitions.{DefinitionTree, definition_tree}
 use Rattle.witx_walk.specs.Answers.{HasCause}
 use Rattle.witx_walk.specs.declared.error.WitxError.{WitxError}
 use Rattle.witx_walk.specs.declared.error.WitxError.TheVariants as witx_error
@@ -12,21 +12,20 @@ use Rattle.witx_adapt.specs.declared.error.DocumentError.{DocumentError}
 use Rattle.witx_adapt.specs.declared.error.DocumentError.TheVariants as document_error
 use Rattle.witx_adapt.specs.Adaptable.{IsAdaptable, Refuses}
 use Rattle.witx_adapt.specs.declared.adapted.Adapted.{Adapted}
-use Rattle.witx_adapt.specs.Entries.{IsFaithful, all_functions, all_layouts, entry_for, entry_of}
+use Rattle.witx_layout.specs.Layouts.{all_layouts}
+use Rattle.witx_adapt.specs.Entries.{IsFaithful, all_functions, entry_for, entry_of}
 use Rattle.witx_adapt.specs.Listings.{listing_text}
 use Rattle.witx_layout.specs.LayoutsText.{layouts_text, typename_sizes}
-use Rattle.witx_layout.specs.declared.tags.TagTooNarrow.{TagTooNarrow}
-use Rattle.witx_machine.specs.declared.surface.Place.{Place}
 use Rattle.witx.specs.declared.words.Command.TheVariants as command
 use Rattle.witx.specs.Causes.{IsOutput}
 use Rattle.witx.specs.Stops.{StopsWith}
 use Rattle.witx.specs.declared.refusal.Stop.{Stop}
 use Rattle.witx.specs.declared.refusal.Stop.TheVariants as stop
 use Rattle.witx.specs.declared.refusal.Refusal.TheVariants as refusal
-use Rattle.witx.specs.Reports.{CommandRefuses, IsAdaptReport, IsSizeReport, IsTextReport, name_at, part_name, size_report, tag_report, unlowerable_report}
-use Rattle.witx.specs.declared.error.AdaptError.{AdaptError}
-use Rattle.witx.specs.declared.error.AdaptError.TheVariants as adapt_error
-use Rattle.witx.specs.Adapting.{AdaptRefuses, AdaptRefusesBundle, HasAdaptCause, IsAdapted, Parses, defined, IsParsed, document_refusal, text_refusal}
+use Rattle.witx.specs.Reports.{CommandRefuses, IsAdaptReport, IsDocumentReport, IsSizeReport, IsTextReport, IsUnadaptedReport}
+use Rattle.witx.specs.declared.error.Unadapted.{Unadapted}
+use Rattle.witx.specs.declared.error.Unadapted.TheVariants as unadapted
+use Rattle.witx.specs.Adapting.{AdaptRefuses, HasAdaptCause, IsAdapted, IsMeant, IsParsed, Parses, RefusesBundle, defined, document_refusal, refusal_of, text_refusal}
 
 pub texts-refused : (files : Option Files) (aliases : Option Aliases) (handed : List Path) (before now : ℕ) (e : WitxError) → IsParsed files aliases handed before now (Err e)
     → AdaptRefuses files aliases handed before now (text_refusal e)
@@ -79,15 +78,39 @@ pub layouts-output : (files : Files) (handed : List Path) (text : List ℕ) (ds 
 unfolding IsOutput
 layouts-output files handed text ds p l e = (ds, p, l, e)
 
+-- a report of a document that is handed back is that of what is told
+document-told : (files : Files) (handed : List Path) (ds : List DefinitionTree) (e : DocumentError) (report : List ℕ) → Parses files handed (Ok ds) → IsDocumentReport ds e report
+    → IsAdaptReport files handed (document_refusal e) report
+unfolding IsAdaptReport
+document-told files handed ds (document_error.TagTooNarrow t) report h k = (ds, h, k)
+document-told files handed ds (document_error.TooLarge n) report h k = (ds, h, k)
+document-told files handed ds (document_error.Unlowerable m f p) report h k = (ds, h, k)
+document-told files handed ds document_error.OutOfMemory report h k = absurd k
+
+texts-told : (files : Files) (handed : List Path) (e : WitxError) (report : List ℕ) → IsTextReport files e report → IsAdaptReport files handed (text_refusal e) report
+unfolding IsAdaptReport IsTextReport
+texts-told files handed (witx_error.Io p f) report k = k
+texts-told files handed (witx_error.Parse e) report k = k
+texts-told files handed (witx_error.Validation e) report k = k
+texts-told files handed (witx_error.BadPath p) report k = k
+texts-told files handed (witx_error.TooManyFiles p) report k = k
+texts-told files handed witx_error.OutOfMemory report k = absurd k.0
+
+unadapted-told : (files : Files) (handed : List Path) (u : Unadapted) (report : List ℕ) → IsMeant (Some files) (Some []) handed 0 0 u → IsUnadaptedReport files u report
+    → IsAdaptReport files handed (refusal_of u) report
+unfolding IsUnadaptedReport
+unadapted-told files handed (unadapted.Texts e) report h k = texts-told files handed e report k
+unadapted-told files handed (unadapted.Document r) report h k = document-told files handed (map definition_tree r.document.definitions) r.error report h k
+
 -- the same of what ends a run
-pub adapt-stops : (files : Files) (handed : List Path) (e : AdaptError) (s : Stop) → AdaptRefusesBundle files handed e → StopsWith (IsAdaptReport files handed e) s
+pub adapt-stops : (files : Files) (handed : List Path) (u : Unadapted) (s : Stop) → RefusesBundle files handed u → StopsWith (IsUnadaptedReport files u) s
     → StopsWith (CommandRefuses command.Adapt files handed) s
-unfolding CommandRefuses
-adapt-stops files handed e (stop.Refused refusal.Usage) h k = k
-adapt-stops files handed e (stop.Refused refusal.Source) h k = k
-adapt-stops files handed e (stop.Refused (refusal.Bundle b)) h k = k
-adapt-stops files handed e (stop.Refused (refusal.Command report)) h k = (e, h, k)
-adapt-stops files handed e stop.OutOfMemory h k = tt
+unfolding CommandRefuses RefusesBundle
+adapt-stops files handed u (stop.Refused refusal.Usage) h k = k
+adapt-stops files handed u (stop.Refused refusal.Source) h k = k
+adapt-stops files handed u (stop.Refused (refusal.Bundle b)) h k = k
+adapt-stops files handed u (stop.Refused (refusal.Command report)) h k = (refusal_of u, h.0, unadapted-told files handed u report h.1 k)
+adapt-stops files handed u stop.OutOfMemory h k = tt
 
 pub adapt-memory : (files : Files) (handed : List Path) (s : Stop) → s ≡ stop.OutOfMemory → StopsWith (CommandRefuses command.Adapt files handed) s
 adapt-memory files handed s h = subst (StopsWith (CommandRefuses command.Adapt files handed)) (sym h) tt
@@ -119,28 +142,7 @@ size-stops ds stop.OutOfMemory h k = tt
 
 pub ruleset command_rules = (adapt-output, layouts-output, adapt-stops, adapt-memory, layouts-refused, layouts-large, size-stops)
 
--- a report with a name of the document
-pub text-told : (files : Files) (handed : List Path) (e : WitxError) (report : List ℕ) → IsTextReport files e report → IsAdaptReport files handed (adapt_error.Refused e) report
-unfolding IsAdaptReport
-text-told files handed e report h = h
-
-pub tag-told : (files : Files) (handed : List Path) (ds : List DefinitionTree) (t : TagTooNarrow) (report : List ℕ) → Parses files handed (Ok ds) → report ≡ tag_report (name_at ds t.definition) t
-    → IsAdaptReport files handed (adapt_error.TagTooNarrow t) report
-unfolding IsAdaptReport
-tag-told files handed ds t report h e = (ds, h, e)
-
-pub size-told : (files : Files) (handed : List Path) (ds : List DefinitionTree) (n : ℕ) (report : List ℕ) → Parses files handed (Ok ds) → report ≡ size_report (name_at ds n)
-    → IsAdaptReport files handed (adapt_error.TooLarge n) report
-unfolding IsAdaptReport
-size-told files handed ds n report h e = (ds, h, e)
-
-pub part-told : (files : Files) (handed : List Path) (ds : List DefinitionTree) (m f : List ℕ) (p : Place) (report : List ℕ) → Parses files handed (Ok ds)
-    → report ≡ unlowerable_report m f p (part_name ds m f p) → IsAdaptReport files handed (adapt_error.Unlowerable m f p) report
-unfolding IsAdaptReport
-part-told files handed ds m f p report h e = (ds, h, e)
-
-pub ruleset report_rules = (text-told, tag-told, size-told, part-told)
-
+-- texts put behind a text
 pub joined-twice : (old a b now after : List ℕ) → now ≡ old ++ a → after ≡ now ++ b → after ≡ old ++ (a ++ b)
 joined-twice old a b now after p q = q ∙ ap (λ s. s ++ b) p ∙ append_assoc old a b
 

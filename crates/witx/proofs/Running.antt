@@ -6,7 +6,8 @@ use Rattle.std.specs.Io.KnownBytes.{Appends}
 use Rattle.witx_base.specs.Paths.{Path}
 use Rattle.witx_files.specs.Files.{Files}
 use Rattle.witx_adapt.specs.declared.adapted.Adapted.{Adapted}
-use Rattle.witx_adapt.specs.Entries.{IsFaithful, all_functions, all_layouts, entry_for, entry_of}
+use Rattle.witx_layout.specs.Layouts.{all_layouts}
+use Rattle.witx_adapt.specs.Entries.{IsFaithful, all_functions, entry_for, entry_of}
 use Rattle.witx_adapt.specs.Listings.{listing_text}
 use Rattle.witx.specs.declared.words.Command.{Command}
 use Rattle.witx.specs.declared.words.Command.TheVariants as command

@@ -10,10 +10,13 @@ use Rattle.witx_walk.specs.declared.error.WitxError.TheVariants as witx_error
 use Rattle.witx_adapt.specs.declared.adapted.Adapted.{Adapted}
 use Rattle.witx_adapt.specs.declared.error.DocumentError.{DocumentError}
 use Rattle.witx_adapt.specs.declared.error.DocumentError.TheVariants as document_error
-use Rattle.witx_adapt.specs.Entries.{IsFaithful, all_functions, all_layouts, entry_for, entry_of}
+use Rattle.witx_layout.specs.Layouts.{all_layouts}
+use Rattle.witx_adapt.specs.Entries.{IsFaithful, all_functions, entry_for, entry_of}
 use Rattle.witx_adapt.specs.Adaptable.{IsAdaptable, Refuses}
 use Rattle.witx.specs.declared.error.AdaptError.{AdaptError}
 use Rattle.witx.specs.declared.error.AdaptError.TheVariants as adapt_error
+use Rattle.witx.specs.declared.error.Unadapted.{Unadapted}
+use Rattle.witx.specs.declared.error.Unadapted.TheVariants as unadapted
 
 -- what the document of an adapted value defines
 abbrev pub defined : Adapted → List DefinitionTree
@@ -73,3 +76,17 @@ document_refusal (document_error.TagTooNarrow t) = adapt_error.TagTooNarrow t
 document_refusal (document_error.TooLarge n) = adapt_error.TooLarge n
 document_refusal (document_error.Unlowerable m f p) = adapt_error.Unlowerable m f p
 document_refusal document_error.OutOfMemory = adapt_error.OutOfMemory
+
+-- what is told of files that can't be adapted
+abbrev pub refusal_of : Unadapted → AdaptError
+refusal_of (unadapted.Texts e) = text_refusal e
+refusal_of (unadapted.Document r) = document_refusal r.error
+
+-- a document that is handed back is the one that the files mean
+abbrev pub IsMeant : Option Files → Option Aliases → List Path → (before now : ℕ) → Unadapted → Type 0
+IsMeant files aliases handed before now (unadapted.Texts e) = Unit {0}
+IsMeant files aliases handed before now (unadapted.Document r) = IsParsed files aliases handed before now (Ok (map definition_tree r.document.definitions))
+
+-- so over the files of a bundle
+unfoldable pub RefusesBundle : Files → List Path → Unadapted → Type 0
+RefusesBundle files handed u = AdaptRefusesBundle files handed (refusal_of u) × IsMeant (Some files) (Some []) handed 0 0 u

@@ -1,5 +1,5 @@
 -- The report of a command's refusal, byte for byte. The names in it are those of the document that the files mean.
-use Rattle.std.specs.Prelude.{◌≡◌, ◌⊎◌, ℕ, ◌^◌, ◌≤◌, List, [], ◌++◌, Any, Option, Some, None, Ok, Err, slice_get, codes}
+use Rattle.std.specs.Prelude.{◌≡◌, ◌⊎◌, ℕ, ◌^◌, ◌≤◌, List, [], ◌++◌, Any, Option, Some, None, Ok, Err, map, slice_get, codes}
 use Rattle.std.specs.Option.{option_and_then}
 use Rattle.std.specs.Fmt.{decimal}
 use Rattle.witx_base.specs.Paths.{Path}
@@ -7,16 +7,20 @@ use Rattle.witx_files.specs.Files.{Files}
 use Rattle.witx_ast.specs.Tree.{Field}
 use Rattle.witx_ast.specs.Functions.{FunctionTree}
 use Rattle.witx_ast.specs.Items.{func_called}
-use Rattle.witx_ast.specs.Definitions.{DefinitionTree, typename_of, module_of, constant_of, ModuleTree, module_called}
+use Rattle.witx_ast.specs.Definitions.{DefinitionTree, definition_tree, typename_of, module_of, constant_of, ModuleTree, module_called}
 use Rattle.witx_layout.specs.declared.tags.TagTooNarrow.{TagTooNarrow}
 use Rattle.witx_layout.specs.LayoutsText.{typename_sizes}
 use Rattle.witx_machine.specs.declared.surface.Place.{Place}
+use Rattle.witx_adapt.specs.declared.error.DocumentError.{DocumentError}
+use Rattle.witx_adapt.specs.declared.error.DocumentError.TheVariants as document_error
 use Rattle.witx_walk.specs.declared.error.WitxError.{WitxError}
 use Rattle.witx_walk.specs.ErrorReports.{IsErrorReport}
 use Rattle.witx.specs.declared.words.Command.{Command}
 use Rattle.witx.specs.declared.words.Command.TheVariants as command
 use Rattle.witx.specs.declared.error.AdaptError.{AdaptError}
 use Rattle.witx.specs.declared.error.AdaptError.TheVariants as adapt_error
+use Rattle.witx.specs.declared.error.Unadapted.{Unadapted}
+use Rattle.witx.specs.declared.error.Unadapted.TheVariants as unadapted
 use Rattle.witx.specs.Adapting.{AdaptRefusesBundle, IsTextRefusal, Parses}
 
 abbrev pub definition_name : DefinitionTree → List ℕ
@@ -82,13 +86,28 @@ unlowerable_report owner function place part = function_text owner function ++ p
 unfoldable pub IsTextReport : Files → WitxError → List ℕ → Type 0
 IsTextReport files e report = IsTextRefusal e × IsErrorReport (Some files) e 0 0 (Ok report)
 
+-- the report of a refusal of a document, with the names that it has there
+abbrev pub IsDocumentReport : List DefinitionTree → DocumentError → List ℕ → Type 0
+IsDocumentReport ds (document_error.TagTooNarrow t) report = report ≡ tag_report (name_at ds t.definition) t
+IsDocumentReport ds (document_error.TooLarge n) report = report ≡ size_report (name_at ds n)
+IsDocumentReport ds (document_error.Unlowerable m f p) report = report ≡ unlowerable_report m f p (part_name ds m f p)
+IsDocumentReport ds document_error.OutOfMemory report = ⊥
+
+-- the report of files that can't be adapted
+unfoldable pub IsUnadaptedReport : Files → Unadapted → List ℕ → Type 0
+IsUnadaptedReport files (unadapted.Texts e) report = IsTextReport files e report
+IsUnadaptedReport files (unadapted.Document r) report = IsDocumentReport (map definition_tree r.document.definitions) r.error report
+
+-- the files mean a document of whose refusal this is the report
+abbrev pub IsMeantReport : Files → List Path → DocumentError → List ℕ → Type 0
+IsMeantReport files handed e report = (ds : List DefinitionTree) × Parses files handed (Ok ds) × IsDocumentReport ds e report
+
 -- the report of each refusal of adapt, over the files of a bundle
 unfoldable pub IsAdaptReport : Files → List Path → AdaptError → List ℕ → Type 0
 IsAdaptReport files handed (adapt_error.Refused e) report = IsTextReport files e report
-IsAdaptReport files handed (adapt_error.TagTooNarrow t) report = (ds : List DefinitionTree) × Parses files handed (Ok ds) × (report ≡ tag_report (name_at ds t.definition) t)
-IsAdaptReport files handed (adapt_error.TooLarge n) report = (ds : List DefinitionTree) × Parses files handed (Ok ds) × (report ≡ size_report (name_at ds n))
-IsAdaptReport files handed (adapt_error.Unlowerable m f p) report =
-    (ds : List DefinitionTree) × Parses files handed (Ok ds) × (report ≡ unlowerable_report m f p (part_name ds m f p))
+IsAdaptReport files handed (adapt_error.TagTooNarrow t) report = IsMeantReport files handed (document_error.TagTooNarrow t) report
+IsAdaptReport files handed (adapt_error.TooLarge n) report = IsMeantReport files handed (document_error.TooLarge n) report
+IsAdaptReport files handed (adapt_error.Unlowerable m f p) report = IsMeantReport files handed (document_error.Unlowerable m f p) report
 IsAdaptReport files handed adapt_error.OutOfMemory report = ⊥
 
 -- the report where a typename is too large for its layout to be shown

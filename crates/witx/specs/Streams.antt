@@ -1,7 +1,7 @@
 -- What a run takes from its source and gives to a sink, where these tell their bytes.
 use Rattle.std.specs.Prelude.{◌≡◌, ℕ, ◌+◌, ◌≤◌, List, [], ◌++◌, length, Option, None, Some}
 use Rattle.std.specs.Io.KnownBytes.{Appends, Consumes, IsAtEnd}
-use Rattle.witx.specs.declared.input.TheConstants.{LONGEST}
+use Rattle.witx_bundle.specs.declared.bundle.TheConstants.{LONGEST_BUNDLE}
 
 -- These are all bytes that were left.
 abbrev pub IsAll : Option (List ℕ) → List ℕ → Type 0
@@ -11,8 +11,8 @@ IsAll (Some left) bytes = bytes ≡ left
 -- A run takes its input from the front of what is left: all of it, or one byte more than a bundle may have.
 pub record IsInput (before after : Option (List ℕ)) (bytes : List ℕ) : Type 0 where
   pub taken : Consumes before after bytes
-  pub whole : length bytes ≤ LONGEST → IsAll before bytes
-  pub bounded : length bytes ≤ LONGEST + 1
+  pub whole : length bytes ≤ LONGEST_BUNDLE → IsAll before bytes
+  pub bounded : length bytes ≤ LONGEST_BUNDLE + 1
 
 -- Nothing is left, where the bytes left are told.
 abbrev pub Finished : Option (List ℕ) → Option (List ℕ) → Type 0

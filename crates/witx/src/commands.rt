@@ -1,14 +1,15 @@
 ghost use Rattle.std.specs.Prelude.{◌≡◌, ◌^◌, ◌<◌, All, IfErr, IfOk, None, Ok, OnOk, Some, codes, map};
 ghost use Rattle.witx_ast.specs.Definitions.{definition_tree};
+ghost use Rattle.witx_ast.specs.Ordered.{IsOrdered};
 ghost use Rattle.witx_adapt.specs.Listings.{listing_text};
 ghost use Rattle.witx_layout.specs.LayoutsText.{layouts_text as text_of_layouts, typename_sizes};
-ghost use Rattle.witx.specs.Adapting.{AdaptRefusesBundle, IsAdapted, Parses, defined};
+ghost use Rattle.witx.specs.Adapting.{IsAdapted, Parses, RefusesBundle, defined};
 ghost use Rattle.witx.specs.Causes.{IsOutput};
-ghost use Rattle.witx.specs.Reports.{CommandRefuses, IsAdaptReport, IsSizeReport, IsTextReport};
+ghost use Rattle.witx.specs.Reports.{CommandRefuses, IsSizeReport, IsTextReport, IsUnadaptedReport};
 ghost use Rattle.witx.specs.Stops.{StopsWith};
 
-use crate::adapting::adapt;
-use crate::error::AdaptError;
+use crate::adapting::adapted;
+use crate::error::Unadapted;
 use crate::parsing::{parsed_bundle, text_report};
 use crate::refusal::{Refusal, Stop};
 use crate::report::adapt_report;
@@ -18,11 +19,11 @@ use witx_adapt::{Adapted, listing};
 use witx_ast::Document;
 use witx_base::{Text, WitxPath};
 use witx_files::MockFs;
-use witx_layout::{LayoutError, layouts_text};
+use witx_layout::{LayoutError, ordered_layouts_text};
 use witx_walk::WitxError;
 
 /// What a command is to write, and the value that it lists.
-#[derive(Debug, Drop)]
+#[derive(Drop)]
 pub struct Output {
     pub text: Text,
     pub adapted: Option<Adapted>,
@@ -45,18 +46,18 @@ pub fn perform(
 }
 
 /// The adapted document that the files of a bundle mean.
-#[tactic(auto, using(crate::proofs::Refusing::bundle_rules), unfolding(crate::specs::Adapting::AdaptRefusesBundle))]
+#[tactic(auto, using(crate::proofs::Refusing::bundle_rules), unfolding(crate::specs::Adapting::AdaptRefusesBundle, crate::specs::Adapting::RefusesBundle))]
 fn adapted_bundle(
     alloc: Global,
     paths: &[WitxPath],
     files: &mut MockFs,
-) -> Result<Adapted, AdaptError>
+) -> Result<Adapted, Unadapted>
     ensures document { IfOk result (λ a. Parses files.old paths.now (Ok (defined a))) }
     ensures parts { IfOk result IsAdapted }
-    ensures refused { IfErr result (AdaptRefusesBundle files.old paths.now) }
+    ensures refused { IfErr result (RefusesBundle files.old paths.now) }
     ensures kept { files.new ≡ files.old }
 {
-    adapt(alloc, paths, files)
+    adapted(alloc, paths, files)
 }
 
 /// The listing of the adapted document that the files mean.
@@ -67,7 +68,7 @@ fn adapt_files(alloc: Global, paths: &[WitxPath], files: &mut MockFs) -> Result<
 {
     match adapted_bundle(alloc, paths, files) {
         Ok(adapted) => listed(alloc, adapted),
-        Err(error) => Err(adapt_stop(alloc, paths, files, &error)),
+        Err(unadapted) => Err(adapt_stop(alloc, files, &unadapted)),
     }
 }
 
@@ -86,11 +87,11 @@ fn listed(alloc: Global, adapted: Adapted) -> Result<Output, Stop>
     }
 }
 
-/// The end of a run whose files `adapt` refuses.
-fn adapt_stop(alloc: Global, paths: &[WitxPath], files: &mut MockFs, error: &AdaptError) -> Stop
-    ensures { StopsWith (IsAdaptReport files.old paths.now error.now) result }
+/// The end of a run whose files can't be adapted.
+fn adapt_stop(alloc: Global, files: &mut MockFs, unadapted: &Unadapted) -> Stop
+    ensures { StopsWith (IsUnadaptedReport files.old unadapted.now) result }
 {
-    match adapt_report(alloc, paths, files, error) {
+    match adapt_report(alloc, files, unadapted) {
         Ok(report) => Stop::Refused(Refusal::Command(report)),
         Err(_) => Stop::OutOfMemory,
     }
@@ -108,15 +109,16 @@ fn layouts_of_files(alloc: Global, paths: &[WitxPath], files: &mut MockFs) -> Re
     }
 }
 
-/// The layouts of a document.
+/// The layouts of an ordered document.
 #[tactic(auto, using(crate::proofs::Refusing::command_rules))]
 fn document_layouts(alloc: Global, document: &Document) -> Result<Output, Stop>
+    requires { IsOrdered (map definition_tree document.now.definitions) }
     ensures text { IfOk result (λ o. o.text ≡ text_of_layouts (map definition_tree document.now.definitions)) }
     ensures sizes { OnOk result (All (λ size. size < 2 ^ 64) (typename_sizes (map definition_tree document.now.definitions))) }
     ensures value { IfOk result (λ o. o.adapted ≡ None) }
     ensures too_large { IfErr result (StopsWith (IsSizeReport (map definition_tree document.now.definitions))) }
 {
-    match layouts_text(alloc, document) {
+    match ordered_layouts_text(alloc, document) {
         Ok(text) => Ok(Output {
             text,
             adapted: None,

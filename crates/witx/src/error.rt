@@ -1,3 +1,4 @@
+use witx_adapt::RefusedDocument;
 use witx_base::Id;
 use witx_layout::TagTooNarrow;
 use witx_machine::Place;
@@ -22,4 +23,13 @@ pub enum AdaptError {
         place: Place,
     },
     OutOfMemory,
+}
+
+/// Why files can't be adapted; where they mean a document, with that document.
+#[derive(Drop)]
+pub enum Unadapted {
+    /// They mean no document, or there was no memory.
+    Texts(WitxError),
+    /// They mean this document, which is refused.
+    Document(RefusedDocument),
 }

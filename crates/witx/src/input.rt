@@ -1,17 +1,15 @@
 ghost use Rattle.std.specs.Prelude.{◌≡◌, ◌<◌, ◌≤◌, ◌+◌, [], Ok, Err, IfOk, OnOk, IfErr, length};
+ghost use Rattle.witx_base.specs.Causes.{one_more};
 ghost use Rattle.witx.specs.Streams.{Finished, IsInput, TakesMore};
 ghost use Rattle.witx.specs.Causes.{InputCause, ReadCause, Reads};
 
 use std::alloc::{AllocError, Global};
 use witx_base::{Failed, Source};
-use witx_bundle::{Bundle, BundleError};
+use witx_bundle::{Bundle, BundleError, LONGEST_BUNDLE};
 use witx_files::MockFs;
 
-/// The most bytes that a bundle may have.
-pub const LONGEST: usize = 4_194_304;
-
 /// How often a run reads at most: each read but the last gives a byte.
-const READS: usize = LONGEST + 1;
+pub const READS: usize = LONGEST_BUNDLE + 1;
 
 /// How many bytes one read asks for.
 const CHUNK: usize = 65_536;
@@ -60,7 +58,7 @@ fn read_more<S: Source>(
     ensures no_fault { OnOk result (S.faults source.new ≡ S.faults source.old) }
     ensures refused { IfErr result (ReadCause (S.faults source.old) (S.faults source.new)) }
     ensures later { S.faults source.old ≤ S.faults source.new }
-    ensures one_read { S.reads source.new ≤ S.reads source.old + 1 }
+    ensures one_read { S.reads source.new ≡ one_more (S.reads source.old) }
 {
     let count = source.read(buffer)?;
     match bytes.extend_from_slice(&buffer[..count]) {
@@ -92,9 +90,9 @@ fn read_through<S: Source>(
     ensures reads { S.reads source.new ≤ S.reads source.old + READS }
 {
     for turn in 0..READS {
-        let room = (LONGEST + 1 - bytes.len()).min(buffer.len());
+        let room = (LONGEST_BUNDLE + 1 - bytes.len()).min(buffer.len());
         let count = read_more(source, &mut buffer[..room], bytes)?;
-        if count == 0 || LONGEST < bytes.len() {
+        if count == 0 || LONGEST_BUNDLE < bytes.len() {
             return Ok(());
         }
     }

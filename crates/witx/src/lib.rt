@@ -3,10 +3,6 @@
 
 mod adapting;
 mod commands;
-#[cfg(test)]
-mod declaration_tests;
-#[cfg(test)]
-mod device_tests;
 mod error;
 mod input;
 mod laws;
@@ -16,10 +12,7 @@ mod program;
 mod refusal;
 mod refused;
 mod report;
-#[cfg(test)]
-mod tests;
-#[cfg(test)]
-mod walk_tests;
+mod status;
 mod words;
 
 pub use adapting::adapt;
@@ -29,6 +22,7 @@ pub use laws::{output_or_refusal, valid_files_are_not_refused, valid_is_not_refu
 pub use output::put_text;
 pub use program::{Ran, run};
 pub use refusal::Refusal;
+pub use status::NO_MEMORY;
 pub use witx_adapt::{Adapted, AdaptedFunc, AdaptedFuncs, SizeAligns, listing};
 pub use witx_bundle::{Bundle, BundleError};
 pub use witx_walk::{WitxError, parse, parse_witx_with};

@@ -2,6 +2,7 @@ ghost use Rattle.std.specs.Prelude.{◌≡◌, Contains, Err, IfErr, IfOk, None,
 ghost use Rattle.witx_base.specs.Paths.{file_name};
 ghost use Rattle.witx_ast.specs.Closed.{IsClosed};
 ghost use Rattle.witx_ast.specs.Definitions.{definition_tree};
+ghost use Rattle.witx_ast.specs.Ordered.{IsOrdered};
 ghost use Rattle.witx_walk.specs.Answers.{HasCause};
 ghost use Rattle.witx.specs.Adapting.{IsParsed, Parses};
 ghost use Rattle.witx.specs.Reports.{IsTextReport};
@@ -20,6 +21,7 @@ pub fn parsed<I: WitxIo>(
     io: &mut I,
 ) -> Result<Document, WitxError>
     ensures document { IfOk result (λ d. IsParsed (I.files io.old) (I.aliases io.old) paths.now (I.faults io.old) (I.faults io.new) (Ok (map definition_tree d.definitions))) }
+    ensures ordered { IfOk result (λ d. IsOrdered (map definition_tree d.definitions)) }
     ensures closed { IfOk result (λ d. IsClosed (map definition_tree d.definitions)) }
     ensures refused { IfErr result (λ e. IsParsed (I.files io.old) (I.aliases io.old) paths.now (I.faults io.old) (I.faults io.new) (Err e)) }
     ensures cause { IfErr result (HasCause (λ p. Contains paths.now p × (file_name p ≡ None)) (I.files io.old) (I.faults io.old) (I.faults io.new)) }
@@ -37,6 +39,7 @@ pub fn parsed_bundle(
     files: &mut MockFs,
 ) -> Result<Document, WitxError>
     ensures document { IfOk result (λ d. Parses files.old paths.now (Ok (map definition_tree d.definitions))) }
+    ensures ordered { IfOk result (λ d. IsOrdered (map definition_tree d.definitions)) }
     ensures refused { IfErr result (λ e. Parses files.old paths.now (Err e)) }
     ensures kept { files.new ≡ files.old }
 {

@@ -3,7 +3,8 @@ ghost use Rattle.std.specs.Io.KnownBytes.{Appends};
 ghost use Rattle.witx_base.specs.Causes.{Rose};
 ghost use Rattle.witx_bundle.specs.Bundles.{IsRead};
 ghost use Rattle.witx_bundle.specs.declared.error.BundleError.{BundleError};
-ghost use Rattle.witx_adapt.specs.Entries.{IsFaithful, all_functions, all_layouts, entry_for, entry_of};
+ghost use Rattle.witx_adapt.specs.Entries.{IsFaithful, all_functions, entry_for, entry_of};
+ghost use Rattle.witx_layout.specs.Layouts.{all_layouts};
 ghost use Rattle.witx_adapt.specs.Listings.{listing_text};
 ghost use Rattle.witx_adapt.specs.declared.adapted.Adapted.{Adapted};
 ghost use Rattle.witx.specs.Words.{command_of, handed_by};
@@ -16,18 +17,19 @@ ghost use Rattle.witx.specs.declared.words.Command.{Command};
 ghost use Rattle.witx.specs.Causes.{Cause, IsAnswered, IsCause, IsMeaning, IsTold, IsValidFor, StopCause};
 
 use crate::commands::{Output, perform};
-use crate::input::{InputError, read_bundle};
+use crate::input::{InputError, READS, read_bundle};
 use crate::laws::{output_or_refusal, valid_is_not_refused};
 use crate::output::put_text;
 use crate::refusal::{Refusal, Stop};
-use crate::refused::{NO_MEMORY, UNWRITTEN, put_refusal};
+use crate::refused::put_refusal;
+use crate::status::{DONE, NO_MEMORY, UNWRITTEN};
 use crate::words::{Command, command_of, handed_by};
 use std::alloc::Global;
 use witx_adapt::Adapted;
 use witx_base::{Sink, Source, Text};
 
 /// How a run ended.
-#[derive(Debug, Drop)]
+#[derive(Drop)]
 pub struct Ran {
     /// 0 done, 1 refused, 2 no form, 3 the source failed, 4 a sink failed, 5 no memory, 6 no bundle.
     pub status: u8,
@@ -38,6 +40,12 @@ pub struct Ran {
 
 /// The program: reads the words, then the source, and writes what the command asks for on `out` or
 /// what is refused on `err`.
+///
+/// With `adapt` it ends with status 0 only having written the listing of the document that the texts
+/// mean and each function's caller and callee traces. On the machine, given unused nonzero addresses,
+/// caller against callee passes the ABI's words, hands over any arguments of the declared types and
+/// brings back any result, under `Preview1` any whose error word isn't 0, leaving an empty stack and
+/// memory in use unchanged.
 pub fn run<S: Source, O: Sink, E: Sink>(
     alloc: Global,
     words: &[Text],
@@ -102,7 +110,7 @@ fn prepare<S: Source>(alloc: Global, words: &[Text], source: &mut S) -> Result<O
     ensures usage { command_of words.now ≡ None → result ≡ Err (Stop.Refused Refusal.Usage) }
     ensures nothing_read { command_of words.now ≡ None → source.new ≡ source.old }
     ensures later { S.faults source.old ≤ S.faults source.new }
-    ensures reads { S.reads source.new ≤ S.reads source.old + 4194305 }
+    ensures reads { S.reads source.new ≤ S.reads source.old + READS }
 {
     match command_of(words) {
         Some(command) => prepare_command(alloc, command, words, source),
@@ -120,7 +128,7 @@ fn prepare_command<S: Source>(
     ensures answered { IfOk result (λ o. IsAnswered (Some command) (S.left source.old) (S.left source.new) (handed_by words.now) (S.faults source.old) (S.faults source.new) o.text o.adapted) }
     ensures stopped { IfErr result (StopCause (Some command) (S.left source.old) (handed_by words.now) (S.faults source.old) (S.faults source.new)) }
     ensures later { S.faults source.old ≤ S.faults source.new }
-    ensures reads { S.reads source.new ≤ S.reads source.old + 4194305 }
+    ensures reads { S.reads source.new ≤ S.reads source.old + READS }
 {
     match read_bundle(alloc, source) {
         Ok(mut files) => {
@@ -145,7 +153,7 @@ fn put_output<O: Sink>(output: Output, out: &mut O) -> Ran
     let status = put_whole(out, output.text.as_str());
     Ran {
         status,
-        adapted: if status == 0 { output.adapted } else { None },
+        adapted: if status == DONE { output.adapted } else { None },
     }
 }
 
@@ -157,7 +165,7 @@ fn put_whole<O: Sink>(out: &mut O, text: &str) -> u8
     ensures later { O.faults out.old ≤ O.faults out.new }
 {
     match put_text(out, text) {
-        Ok(()) => 0,
+        Ok(()) => DONE,
         Err(_) => UNWRITTEN,
     }
 }

@@ -1,6 +1,7 @@
 ghost use Rattle.std.specs.Prelude.{◌≡◌, ◌++◌, IfOk, codes};
 ghost use Rattle.witx.specs.Texts.{line, status_of, text_of};
 
+use crate::status::{NO_BUNDLE, NO_FORM, REFUSED, UNREAD};
 use std::alloc::Global;
 use witx_base::{OutOfMemory, Text};
 use witx_bundle::BundleError;
@@ -24,10 +25,10 @@ impl Refusal {
         ensures { result ≡ status_of self.now }
     {
         match self {
-            Refusal::Command(_) => 1,
-            Refusal::Usage => 2,
-            Refusal::Source => 3,
-            Refusal::Bundle(_) => 6,
+            Refusal::Command(_) => REFUSED,
+            Refusal::Usage => NO_FORM,
+            Refusal::Source => UNREAD,
+            Refusal::Bundle(_) => NO_BUNDLE,
         }
     }
 
@@ -69,7 +70,7 @@ fn bundle_text(alloc: Global, error: BundleError) -> Result<Text, OutOfMemory>
 }
 
 /// Why a run has no output.
-#[derive(PartialEq, Eq, Debug, Drop)]
+#[derive(Drop)]
 pub enum Stop {
     Refused(Refusal),
     OutOfMemory,

@@ -6,14 +6,9 @@ ghost use Rattle.witx.specs.Texts.{IsRefused, status_of, text_of};
 
 use crate::output::put_text;
 use crate::refusal::Refusal;
+use crate::status::{NO_MEMORY, UNWRITTEN};
 use std::alloc::Global;
 use witx_base::Sink;
-
-/// The status of a run that couldn't write its text.
-pub const UNWRITTEN: u8 = 4;
-
-/// The status of a run that found no memory.
-pub const NO_MEMORY: u8 = 5;
 
 /// Writes what is to be said of a refusal, and answers the status: that of the refusal, or 4 where the
 /// sink failed, or 5 where there was no memory for the text.

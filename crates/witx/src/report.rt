@@ -1,96 +1,58 @@
-ghost use Rattle.std.specs.Prelude.{◌≡◌, ◌++◌, IfOk, Ok, OnOk, Some, map, slice_get, string_bytes};
+ghost use Rattle.std.specs.Prelude.{◌≡◌, ◌++◌, IfOk, OnOk, map, slice_get, string_bytes};
 ghost use Rattle.witx_ast.specs.Definitions.{definition_tree};
 ghost use Rattle.witx_ast.specs.Functions.{func_tree, param_field};
-ghost use Rattle.witx.specs.Adapting.{Parses};
-ghost use Rattle.witx.specs.Reports.{IsAdaptReport, counts_text, definition_name, field_at, field_name, function_text, name_at, named_text, owner_text, part_name, part_text, part_word, refused_text, size_report, tag_report, unlowerable_report};
+ghost use Rattle.witx.specs.Reports.{IsDocumentReport, IsUnadaptedReport, counts_text, definition_name, field_at, field_name, function_text, name_at, named_text, owner_text, part_name, part_text, part_word, refused_text, size_report, tag_report, unlowerable_report};
 
-use crate::error::AdaptError;
-use crate::parsing::{parsed_bundle, text_report};
+use crate::error::Unadapted;
+use crate::parsing::text_report;
 use std::alloc::{AllocError, Global};
 use std::fmt::Write;
+use witx_adapt::DocumentError;
 use witx_ast::{Definition, Document, InterfaceFunc, InterfaceFuncParam};
-use witx_base::{Id, OutOfMemory, Text, WitxPath};
+use witx_base::{Id, OutOfMemory, Text};
 use witx_files::MockFs;
 use witx_layout::TagTooNarrow;
 use witx_machine::Place;
 
-/// What a user reads of a refusal of `adapt` over the files of a bundle. Names are those of the
-/// document that the same files mean, which are read once more. There is none of want of memory.
-#[tactic(auto, using(crate::proofs::Refusing::report_rules))]
+/// What a user reads of the files of a bundle that can't be adapted. There is none of want of memory.
+#[tactic(auto, unfolding(crate::specs::Reports::IsUnadaptedReport))]
 pub fn adapt_report(
     alloc: Global,
-    paths: &[WitxPath],
     files: &mut MockFs,
-    error: &AdaptError,
+    unadapted: &Unadapted,
 ) -> Result<Text, OutOfMemory>
-    ensures { IfOk result (λ report. IsAdaptReport files.old paths.now error.now report) }
+    ensures { IfOk result (λ report. IsUnadaptedReport files.old unadapted.now report) }
 {
-    match error {
-        AdaptError::Refused(refused) => text_report(alloc, files, refused),
-        AdaptError::TagTooNarrow(tag) => told_tag(alloc, paths, files, tag),
-        AdaptError::TooLarge { definition } => told_size(alloc, paths, files, *definition),
-        AdaptError::Unlowerable {
-            module,
-            function,
-            place,
-        } => told_part(alloc, paths, files, module, function, *place),
-        AdaptError::OutOfMemory => Err(OutOfMemory),
+    match unadapted {
+        Unadapted::Texts(error) => text_report(alloc, files, error),
+        Unadapted::Document(refused) => document_report(alloc, &refused.document, &refused.error),
     }
 }
 
-#[tactic(auto, using(crate::proofs::Refusing::report_rules))]
-fn told_tag(
+/// The report of a document that is refused, with the names that it has there.
+fn document_report(
     alloc: Global,
-    paths: &[WitxPath],
-    files: &mut MockFs,
-    tag: &TagTooNarrow,
+    document: &Document,
+    error: &DocumentError,
 ) -> Result<Text, OutOfMemory>
-    ensures { IfOk result (λ report. IsAdaptReport files.old paths.now (AdaptError.TagTooNarrow tag.now) report) }
+    ensures { IfOk result (λ report. IsDocumentReport (map definition_tree document.now.definitions) error.now report) }
 {
-    let document = document_again(alloc, paths, files)?;
-    tag_report(alloc, name_at(&document, tag.definition), tag)
-}
-
-#[tactic(auto, using(crate::proofs::Refusing::report_rules))]
-fn told_size(
-    alloc: Global,
-    paths: &[WitxPath],
-    files: &mut MockFs,
-    definition: usize,
-) -> Result<Text, OutOfMemory>
-    ensures { IfOk result (λ report. IsAdaptReport files.old paths.now (AdaptError.TooLarge definition) report) }
-{
-    let document = document_again(alloc, paths, files)?;
-    size_report(alloc, name_at(&document, definition))
-}
-
-#[tactic(auto, using(crate::proofs::Refusing::report_rules))]
-fn told_part(
-    alloc: Global,
-    paths: &[WitxPath],
-    files: &mut MockFs,
-    owner: &Id,
-    function: &Id,
-    place: Place,
-) -> Result<Text, OutOfMemory>
-    ensures { IfOk result (λ report. IsAdaptReport files.old paths.now (AdaptError.Unlowerable owner.now function.now place) report) }
-{
-    let document = document_again(alloc, paths, files)?;
-    let part = part_name(&document, owner, function, place);
-    unlowerable_report(alloc, owner, function, place, part)
-}
-
-/// The document that the files mean, of which it is known that they mean one.
-fn document_again(
-    alloc: Global,
-    paths: &[WitxPath],
-    files: &mut MockFs,
-) -> Result<Document, OutOfMemory>
-    ensures { IfOk result (λ document. Parses files.old paths.now (Ok (map definition_tree document.definitions))) }
-{
-    match parsed_bundle(alloc, paths, files) {
-        Ok(document) => Ok(document),
-        Err(_) => Err(OutOfMemory),
+    match error {
+        DocumentError::TagTooNarrow(tag) => {
+            tag_report(alloc, name_at(document, tag.definition), tag)
+        }
+        DocumentError::TooLarge { definition } => {
+            size_report(alloc, name_at(document, *definition))
+        }
+        DocumentError::Unlowerable {
+            module,
+            function,
+            place,
+        } => {
+            let part = part_name(document, module, function, *place);
+            unlowerable_report(alloc, module, function, *place, part)
+        }
+        DocumentError::OutOfMemory => Err(OutOfMemory),
     }
 }
 

@@ -10,7 +10,10 @@ use Rattle.witx_adapt.specs.declared.error.DocumentError.TheVariants as document
 use Rattle.witx_adapt.specs.declared.adapted.AdaptedFunc.{AdaptedFunc}
 use Rattle.witx_ast.specs.Closed.{IsClosed}
 use Rattle.witx_adapt.specs.Entries.{IsFaithful, all_functions, entry_for, entry_of}
-use Rattle.witx_adapt.specs.Adaptable.{IsAdaptable, Refuses, TooLargeAt, UnlowerableAt, first_large, first_unlowered}
+use Rattle.witx_layout.specs.Layouts.{TooLargeAt, first_large}
+use Rattle.witx_layout.specs.declared.table.LayoutsError.{LayoutsError}
+use Rattle.witx_layout.specs.declared.table.LayoutsError.TheVariants as layouts_error
+use Rattle.witx_adapt.specs.Adaptable.{IsAdaptable, Refuses, UnlowerableAt, first_unlowered, layouts_refusal}
 use Rattle.witx_adapt.proofs.Fitting.{all-faithful}
 
 no-misfit : (m : Option Misfit) (u : Unit {0}) → Ok u ≡ tag_refusal m → m ≡ None
@@ -23,11 +26,10 @@ adaptable ds u t l f = record { fits = no-misfit (first_misfit ds) u t; sizes = 
 pub narrow-refused : (ds : List DefinitionTree) (t : TagTooNarrow) (e : DocumentError) → Err t ≡ tag_refusal (first_misfit ds) → e ≡ document_error.TagTooNarrow t → Refuses ds e
 narrow-refused ds t e h q = subst (Refuses ds) (sym q) (sym h)
 
-pub large-refused : (ds : List DefinitionTree) (u : Unit {0}) (e : DocumentError) → Ok u ≡ tag_refusal (first_misfit ds) → TooLargeAt (first_large ds) e → Refuses ds e
-large-refused ds u (document_error.TagTooNarrow t) m h = absurd h
-large-refused ds u (document_error.TooLarge n) m h = (no-misfit (first_misfit ds) u m, h)
-large-refused ds u (document_error.Unlowerable o f p) m h = absurd h
-large-refused ds u document_error.OutOfMemory m h = tt
+pub large-refused : (ds : List DefinitionTree) (u : Unit {0}) (r : LayoutsError) (e : DocumentError) → Ok u ≡ tag_refusal (first_misfit ds) → TooLargeAt (first_large ds) r → e ≡ layouts_refusal r
+    → Refuses ds e
+large-refused ds u (layouts_error.TooLarge n) e m h q = subst (Refuses ds) (sym q) (no-misfit (first_misfit ds) u m, h)
+large-refused ds u layouts_error.OutOfMemory e m h q = subst (Refuses ds) (sym q) tt
 
 pub lower-refused : (ds : List DefinitionTree) (u : Unit {0}) (e : DocumentError) → Ok u ≡ tag_refusal (first_misfit ds) → first_large ds ≡ None
     → UnlowerableAt (first_unlowered (all_functions ds)) e → Refuses ds e

@@ -8,11 +8,10 @@ use Rattle.witx_ast.specs.declared.module.ModuleDefinition.{ModuleDefinition}
 use Rattle.witx_ast.specs.declared.definition.Definition.{Definition}
 use Rattle.witx_ast.specs.Items.{item_tree}
 use Rattle.witx_ast.specs.Definitions.{definition_tree, ModuleTree}
-use Rattle.witx_layout.specs.declared.layout.SizeAlign.{SizeAlign}
 use Rattle.witx_adapt.specs.declared.error.DocumentError.{DocumentError}
 use Rattle.witx_adapt.specs.declared.error.DocumentError.TheVariants as document_error
-use Rattle.witx_adapt.specs.Entries.{Entry, Owned, all_functions, all_layouts, entry_for, layouts_in, owned_functions, owned_item}
-use Rattle.witx_adapt.specs.Adaptable.{TooLargeAt, UnlowerableAt, Unlowered, first_large_from, first_unlowered, large_at, unlowered}
+use Rattle.witx_adapt.specs.Entries.{Entry, Owned, all_functions, entry_for, owned_functions, owned_item}
+use Rattle.witx_adapt.specs.Adaptable.{UnlowerableAt, Unlowered, first_unlowered, unlowered}
 
 -- what the elements from one on give: what it gives, and what those behind it do
 rest-drop : {X T P : Type 0} (f : X → T) (part : T → List P) (xs : List X) (i : ℕ) (x : X) → i < length xs → x ≡ get_or xs i x
@@ -21,47 +20,6 @@ rest-drop f part xs i x l p = ap (λ ys. flat_map part (map f ys)) (drop_more xs
 
 joined : {P : Type 0} (done now one more total : List P) → now ≡ done ++ one → done ++ (one ++ more) ≡ total → now ++ more ≡ total
 joined done now one more total p e = ap (λ s. s ++ more) p ∙ append_assoc done one more ∙ e
-
--- layouts
-abbrev pub left_layouts : List Definition → ℕ → List SizeAlign
-left_layouts xs i = all_layouts (map definition_tree (drop i xs))
-
-abbrev pub left_large : List Definition → ℕ → Option ℕ
-left_large xs i = first_large_from i (map definition_tree (drop i xs))
-
-pub layouts-more : (xs : List Definition) (i : ℕ) (d : Definition) (done now all : List SizeAlign) → i < length xs → d ≡ get_or xs i d
-    → now ≡ done ++ layouts_in (definition_tree d) → done ++ left_layouts xs i ≡ all → now ++ left_layouts xs (i + 1) ≡ all
-layouts-more xs i d done now all l p w e =
-    joined done now (layouts_in (definition_tree d)) (left_layouts xs (i + 1)) all w
-    (ap (λ ys. done ++ ys) (sym (rest-drop definition_tree layouts_in xs i d l p)) ∙ e)
-
-pub layouts-end : (xs : List Definition) (i : ℕ) (done all : List SizeAlign) → length xs ≤ i → done ++ left_layouts xs i ≡ all → done ≡ all
-layouts-end xs i done all l e = sym (append-nil done) ∙ ap (λ ys. done ++ all_layouts (map definition_tree ys)) (sym (drop_all i xs l)) ∙ e
-
-large-drop : (xs : List Definition) (i : ℕ) (d : Definition) → i < length xs → d ≡ get_or xs i d
-    → left_large xs i ≡ option_or (large_at i (definition_tree d)) (left_large xs (i + 1))
-large-drop xs i d l p = ap (λ ys. first_large_from i (map definition_tree ys)) (drop_more xs i d l ∙ ap (λ y. y ∷ drop (i + 1) xs) (sym p))
-
-pub sizes-more : (xs : List Definition) (i : ℕ) (d : Definition) (all : Option ℕ) → i < length xs → d ≡ get_or xs i d
-    → large_at i (definition_tree d) ≡ None → left_large xs i ≡ all → left_large xs (i + 1) ≡ all
-sizes-more xs i d all l p h e = sym (large-drop xs i d l p ∙ ap (λ o. option_or o (left_large xs (i + 1))) h) ∙ e
-
-pub sizes-end : (xs : List Definition) (i : ℕ) (all : Option ℕ) → length xs ≤ i → left_large xs i ≡ all → all ≡ None
-sizes-end xs i all l e = sym e ∙ ap (λ ys. first_large_from i (map definition_tree ys)) (drop_all i xs l)
-
-large-told : (o rest : Option ℕ) (e : DocumentError) → TooLargeAt o e → TooLargeAt (option_or o rest) e
-large-told (Some n) rest e h = h
-large-told None rest (document_error.TagTooNarrow t) h = h
-large-told None rest (document_error.TooLarge n) h = cc
-large-told None rest (document_error.Unlowerable m f p) h = h
-large-told None rest document_error.OutOfMemory h = tt
-
-pub too-large : (xs : List Definition) (i : ℕ) (d : Definition) (all : Option ℕ) (e : DocumentError) → i < length xs → d ≡ get_or xs i d
-    → TooLargeAt (large_at i (definition_tree d)) e → left_large xs i ≡ all → TooLargeAt all e
-too-large xs i d all e l p h q =
-    subst (λ o. TooLargeAt o e) (sym (large-drop xs i d l p) ∙ q) (large-told (large_at i (definition_tree d)) (left_large xs (i + 1)) e h)
-
-pub ruleset layout_rules = (layouts-more, layouts-end, sizes-more, sizes-end, too-large)
 
 -- functions
 or-assoc : {T : Type 0} (a b c : Option T) → option_or a (option_or b c) ≡ option_or (option_or a b) c

@@ -40,12 +40,12 @@ import-step xs i x r fs done now total l p q w e =
     (ap (λ ts. done ++ item_lines ts (map lowered fs)) (sym (trees-drop item_tree xs i x l p ∙ ap (λ y. item_tree y ∷ map item_tree (drop (i + 1) xs)) q)) ∙ e)
 
 pub func-step : (xs : List item.ModuleDefinition) (i : ℕ) (x : item.ModuleDefinition) (r : Rc InterfaceFunc Global) (fs gs : List AdaptedFunc) (done now total : List ℕ)
-    → i < length xs → x ≡ get_or xs i x → x ≡ item_variant.Func r → now ≡ done ++ next_func_lines r.value.name (map lowered fs) → gs ≡ drop 1 fs
+    → i < length xs → x ≡ get_or xs i x → x ≡ item_variant.Func r → now ≡ done ++ next_func_lines r.value.name r.value.abi (map lowered fs) → gs ≡ drop 1 fs
     → done ++ item_lines (map item_tree (drop i xs)) (map lowered fs) ≡ total
     → now ++ item_lines (map item_tree (drop (i + 1) xs)) (map lowered gs) ≡ total
 func-step xs i x r fs gs done now total l p q w d e =
-    joined done now (next_func_lines r.value.name (map lowered fs)) (item_lines (map item_tree (drop (i + 1) xs)) (map lowered gs)) total w
-    (ap (λ hs. done ++ (next_func_lines r.value.name (map lowered fs) ++ item_lines (map item_tree (drop (i + 1) xs)) hs)) (ap (map lowered) d ∙ map-drop lowered 1 fs)
+    joined done now (next_func_lines r.value.name r.value.abi (map lowered fs)) (item_lines (map item_tree (drop (i + 1) xs)) (map lowered gs)) total w
+    (ap (λ hs. done ++ (next_func_lines r.value.name r.value.abi (map lowered fs) ++ item_lines (map item_tree (drop (i + 1) xs)) hs)) (ap (map lowered) d ∙ map-drop lowered 1 fs)
     ∙ ap (λ ts. done ++ item_lines ts (map lowered fs)) (sym (trees-drop item_tree xs i x l p ∙ ap (λ y. item_tree y ∷ map item_tree (drop (i + 1) xs)) q)) ∙ e)
 
 pub items-end : (xs : List item.ModuleDefinition) (i : ℕ) (fs : List Lowered) (done total : List ℕ) → length xs ≤ i → done ++ item_lines (map item_tree (drop i xs)) fs ≡ total → done ≡ total

@@ -1,32 +1,19 @@
 -- When a document can be adapted: each type fits its tag, each typename's size is a number of the machine, and each
 -- function can be lowered. Where one of these fails, the first that fails is told, in this order, at the first place.
-use Rattle.std.specs.Prelude.{◌≡◌, ℕ, ◌+◌, ◌^◌, List, [], ◌∷◌, Option, Some, None, Err, option_map, nat_le, if◌then◌else◌}
+use Rattle.std.specs.Prelude.{◌≡◌, ℕ, List, [], ◌∷◌, Option, Some, None, Err, option_map}
 use Rattle.std.specs.Option.{option_or}
-use Rattle.witx_ast.specs.Plain.{plain}
 use Rattle.witx_ast.specs.Misfits.{first_misfit}
-use Rattle.witx_ast.specs.Definitions.{DefinitionTree, typename_of, module_of, constant_of}
+use Rattle.witx_ast.specs.Definitions.{DefinitionTree}
 use Rattle.witx_machine.specs.declared.surface.Place.{Place}
 use Rattle.witx_machine.specs.Functions.{function_of}
 use Rattle.witx_machine.specs.Lowerable.{unlowerable}
-use Rattle.witx_layout.specs.Numbers.{size_of}
+use Rattle.witx_layout.specs.Layouts.{first_large}
 use Rattle.witx_layout.specs.Refusals.{tag_refusal}
+use Rattle.witx_layout.specs.declared.table.LayoutsError.{LayoutsError}
+use Rattle.witx_layout.specs.declared.table.LayoutsError.TheVariants as layouts_error
 use Rattle.witx_adapt.specs.Entries.{Owned, all_functions}
 use Rattle.witx_adapt.specs.declared.error.DocumentError.{DocumentError}
 use Rattle.witx_adapt.specs.declared.error.DocumentError.TheVariants as document_error
-
--- a definition is a typename that is too large; its number
-abbrev pub large_at : ℕ → DefinitionTree → Option ℕ
-large_at n (typename_of name t docs) = if nat_le (2 ^ 64) (size_of (plain t)) then Some n else None
-large_at n (module_of m) = None
-large_at n (constant_of c) = None
-
--- the first typename that is too large, of definitions that are counted from n
-abbrev pub first_large_from : ℕ → List DefinitionTree → Option ℕ
-first_large_from n [] = None
-first_large_from n (d ∷ ds) = option_or (large_at n d) (first_large_from (n + 1) ds)
-
-abbrev pub first_large : List DefinitionTree → Option ℕ
-first_large = first_large_from 0
 
 -- a function that can't be lowered: its names and the place
 pub record Unlowered : Type 0 where
@@ -57,12 +44,12 @@ Refuses ds (document_error.Unlowerable owner function place) =
     × (first_unlowered (all_functions ds) ≡ Some (record { owner = owner; function = function; place = place }))
 Refuses ds document_error.OutOfMemory = Unit {0}
 
--- the same of parts of the document
-abbrev pub TooLargeAt : Option ℕ → DocumentError → Type 0
-TooLargeAt large (document_error.TooLarge definition) = large ≡ Some definition
-TooLargeAt large document_error.OutOfMemory = Unit {0}
-TooLargeAt large _ = ⊥
+-- what a refusal of the layouts becomes
+abbrev pub layouts_refusal : LayoutsError → DocumentError
+layouts_refusal (layouts_error.TooLarge definition) = document_error.TooLarge definition
+layouts_refusal layouts_error.OutOfMemory = document_error.OutOfMemory
 
+-- what a refusal says of some functions of the document
 abbrev pub UnlowerableAt : Option Unlowered → DocumentError → Type 0
 UnlowerableAt u (document_error.Unlowerable owner function place) = u ≡ Some (record { owner = owner; function = function; place = place })
 UnlowerableAt u document_error.OutOfMemory = Unit {0}

@@ -1,8 +1,7 @@
--- What an adapted document has besides the document: the exact numbers of each typename, and for each function of each
--- module, in document order, its signature and the events of its caller and its callee.
+-- What an adapted document has for each function of each module, in document order: its signature, and the events of its
+-- caller and its callee.
 use Rattle.std.specs.Prelude.{List, [], ◌∷◌, map}
 use Rattle.std.specs.List.{flat_map}
-use Rattle.witx_ast.specs.Plain.{plain}
 use Rattle.witx_ast.specs.Functions.{FunctionTree, func_tree}
 use Rattle.witx_ast.specs.Items.{ItemTree, import_of, func_of}
 use Rattle.witx_ast.specs.Definitions.{DefinitionTree, typename_of, module_of, constant_of, ModuleTree, module_tree}
@@ -12,8 +11,6 @@ use Rattle.witx_machine.specs.Functions.{function_of}
 use Rattle.witx_machine.specs.Signature.{signature_params, signature_results}
 use Rattle.witx_machine.specs.Traces.{caller_events, callee_events}
 use Rattle.witx_machine.specs.Faithful.{Faithful}
-use Rattle.witx_layout.specs.declared.layout.SizeAlign.{SizeAlign}
-use Rattle.witx_layout.specs.Numbers.{size_of, align_of}
 use Rattle.witx_abi.specs.Reads.{event_of, called}
 use Rattle.witx_adapt.specs.declared.adapted.AdaptedFunc.{AdaptedFunc}
 
@@ -64,15 +61,6 @@ owned_functions (constant_of c) = []
 
 abbrev pub all_functions : List DefinitionTree → List Owned
 all_functions = flat_map owned_functions
-
--- the numbers of a typename
-abbrev pub layouts_in : DefinitionTree → List SizeAlign
-layouts_in (typename_of name t docs) = record { size = size_of (plain t); align = align_of (plain t) } ∷ []
-layouts_in (module_of m) = []
-layouts_in (constant_of c) = []
-
-abbrev pub all_layouts : List DefinitionTree → List SizeAlign
-all_layouts = flat_map layouts_in
 
 -- the two traces of an entry are faithful to its function
 abbrev pub IsFaithful : AdaptedFunc → Type 0

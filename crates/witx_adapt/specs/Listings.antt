@@ -1,20 +1,20 @@
 -- The listing of an adapted document: the lines of each definition, in document order.
 -- A typename has its size and alignment, a constant its value, a module its imports and its functions, and a function
--- its signature and the events of both sides. Layouts and functions are taken from their lists in order.
+-- its signature, with a mark where it stores its whole result, and the events of both sides. Layouts and functions are
+-- taken from their lists in order.
 use Rattle.std.specs.Prelude.{ℕ, ◌+◌, List, [], ◌∷◌, ◌++◌, map, drop, codes}
 use Rattle.std.specs.Fmt.{decimal}
 use Rattle.witx_ast.specs.declared.definition.Constant.{Constant}
+use Rattle.witx_ast.specs.declared.function.Abi.{Abi}
 use Rattle.witx_ast.specs.Items.{ItemTree, import_of, func_of}
 use Rattle.witx_ast.specs.Definitions.{DefinitionTree, typename_of, module_of, constant_of, definition_tree}
 use Rattle.witx_machine.specs.Events.{Event}
 use Rattle.witx_layout.specs.declared.layout.SizeAlign.{SizeAlign}
+use Rattle.witx_layout.specs.LayoutsText.{typename_line}
 use Rattle.witx_adapt.specs.declared.adapted.Adapted.{Adapted}
 use Rattle.witx_adapt.specs.Entries.{Lowered, lowered}
 use Rattle.witx_adapt.specs.Names.{quoted, signature}
 use Rattle.witx_adapt.specs.Lines.{event_lines}
-
-abbrev pub typename_line : List ℕ → SizeAlign → List ℕ
-typename_line name l = codes "typename " ++ name ++ codes " size " ++ decimal l.size ++ codes " align " ++ decimal l.align ++ codes "\n"
 
 abbrev pub constant_line : Constant → List ℕ
 constant_line c = codes "const " ++ c.ty ++ codes " " ++ c.name ++ codes " " ++ decimal c.value ++ codes "\n"
@@ -25,31 +25,36 @@ module_line name = codes "module " ++ name ++ codes "\n"
 abbrev pub import_line : List ℕ → List ℕ
 import_line name = codes "import " ++ quoted name ++ codes " memory" ++ codes "\n"
 
-abbrev pub func_line : List ℕ → Lowered → List ℕ
-func_line name f = codes "func " ++ quoted name ++ codes " " ++ signature f.params f.results ++ codes "\n"
+-- behind the signature of a function that stores its whole result
+abbrev pub stored_mark : Abi → List ℕ
+stored_mark Abi.Preview1 = []
+stored_mark Abi.Stored = codes " stored"
+
+abbrev pub func_line : List ℕ → Abi → Lowered → List ℕ
+func_line name abi f = codes "func " ++ quoted name ++ codes " " ++ signature f.params f.results ++ stored_mark abi ++ codes "\n"
 
 -- the events of one side, under its name
 abbrev pub side_lines : List ℕ → List Event → List ℕ
 side_lines side events = side ++ codes "\n" ++ event_lines events
 
-abbrev pub func_lines : List ℕ → Lowered → List ℕ
-func_lines name f = func_line name f ++ side_lines (codes "caller") f.caller ++ side_lines (codes "callee") f.callee
+abbrev pub func_lines : List ℕ → Abi → Lowered → List ℕ
+func_lines name abi f = func_line name abi f ++ side_lines (codes "caller") f.caller ++ side_lines (codes "callee") f.callee
 
 -- with the first of the layouts, where there is one
 abbrev pub typename_lines : List ℕ → List SizeAlign → List ℕ
 typename_lines name [] = []
-typename_lines name (l ∷ ls) = typename_line name l
+typename_lines name (l ∷ ls) = typename_line name l.size l.align
 
 -- with the first of the functions, where there is one
-abbrev pub next_func_lines : List ℕ → List Lowered → List ℕ
-next_func_lines name [] = []
-next_func_lines name (f ∷ fs) = func_lines name f
+abbrev pub next_func_lines : List ℕ → Abi → List Lowered → List ℕ
+next_func_lines name abi [] = []
+next_func_lines name abi (f ∷ fs) = func_lines name abi f
 
 -- the lines of a module's imports and functions
 abbrev pub item_lines : List ItemTree → List Lowered → List ℕ
 item_lines [] fs = []
 item_lines (import_of i ∷ items) fs = import_line i.name ++ item_lines items fs
-item_lines (func_of f ∷ items) fs = next_func_lines f.name fs ++ item_lines items (drop 1 fs)
+item_lines (func_of f ∷ items) fs = next_func_lines f.name f.abi fs ++ item_lines items (drop 1 fs)
 
 -- how many functions a module has
 abbrev pub func_count : List ItemTree → ℕ

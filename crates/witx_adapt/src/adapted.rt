@@ -2,13 +2,10 @@ use std::rc::Rc;
 use witx_abi::{Trace, WasmTypes};
 use witx_ast::{Document, InterfaceFunc, Module};
 use witx_base::Items;
-use witx_layout::SizeAlign;
-
-/// Layouts of typenames, in document order.
-pub type SizeAligns = Items<SizeAlign>;
+use witx_layout::SizeAligns;
 
 /// A function with what lowering makes of it: its signature, and the events of its caller and callee.
-#[derive(Debug, Drop)]
+#[derive(Drop)]
 pub struct AdaptedFunc {
     pub module: Rc<Module>,
     pub func: Rc<InterfaceFunc>,
@@ -23,7 +20,7 @@ pub type AdaptedFuncs = Items<AdaptedFunc>;
 
 /// A checked document with all that is made of it: one entry for each function of its modules, and
 /// one layout for each typename. The document is let go last.
-#[derive(Debug, Drop)]
+#[derive(Drop)]
 pub struct Adapted {
     pub functions: AdaptedFuncs,
     pub layouts: SizeAligns,

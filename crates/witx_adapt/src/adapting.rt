@@ -3,46 +3,69 @@ ghost use Rattle.std.specs.List.{flat_map};
 ghost use Rattle.witx_ast.specs.Functions.{func_tree};
 ghost use Rattle.witx_ast.specs.Items.{item_tree};
 ghost use Rattle.witx_ast.specs.Definitions.{definition_tree, module_tree};
-ghost use Rattle.witx_machine.specs.Signature.{signature_params, signature_results};
 ghost use Rattle.witx_machine.specs.Lowerable.{unlowerable};
-ghost use Rattle.witx_machine.specs.Traces.{caller_events, callee_events};
-ghost use Rattle.witx_abi.specs.Reads.{called, event_of};
+ghost use Rattle.witx_abi.specs.Reads.{called};
 ghost use Rattle.witx_ast.specs.Closed.{IsClosed};
-ghost use Rattle.witx_adapt.specs.Entries.{IsFaithful, all_functions, all_layouts, entry_for, entry_of, owned_functions, owned_item};
+ghost use Rattle.witx_ast.specs.Ordered.{IsOrdered};
+ghost use Rattle.witx_layout.specs.Layouts.{all_layouts};
+ghost use Rattle.witx_adapt.specs.Entries.{IsFaithful, all_functions, entry_for, entry_of, owned_functions, owned_item};
 ghost use Rattle.witx_adapt.specs.Adaptable.{IsAdaptable, Refuses, UnlowerableAt, first_unlowered, unlowered};
 
 use crate::adapted::{Adapted, AdaptedFunc, AdaptedFuncs};
-use crate::error::DocumentError;
-use crate::layouts::typename_layouts;
+use crate::error::{DocumentError, RefusedDocument};
 use std::alloc::Global;
 use std::rc::Rc;
-use witx_abi::{AbiError, AbiFunc, Place, SignatureError, Trace, WasmTypes, lowerable};
+use witx_abi::{Place, callee_trace, caller_trace, lowerable, words_back, words_in};
 use witx_ast::{Definition, Document, InterfaceFunc, Module, ModuleDefinition};
-use witx_base::{Duplicate, Items};
-use witx_layout::fits_tags;
+use witx_base::{Duplicate, Items, OutOfMemory};
+use witx_layout::{SizeAligns, fits_tags, uncounted_layouts};
 
-/// The document with the layouts of its typenames, and with the signature and the events of both
-/// sides of each function.
+/// What is made of a document.
+#[derive(Drop)]
+struct Parts {
+    functions: AdaptedFuncs,
+    layouts: SizeAligns,
+}
+
+/// An ordered document with the layouts of its typenames, and with the signature and the events of
+/// both sides of each function.
 ///
 /// Refused for the first type that doesn't fit its tag, else for the first typename that is too
 /// large, else for the first function that can't be lowered.
-#[tactic(auto, using(crate::proofs::Answered::answer_rules))]
-pub fn adapt_document(alloc: Global, document: Document) -> Result<Adapted, DocumentError>
+pub fn adapt_document(alloc: Global, document: Document) -> Result<Adapted, RefusedDocument>
+    requires ordered { IsOrdered (map definition_tree document.definitions) }
     ensures document { IfOk result (λ adapted. adapted.document ≡ document) }
     ensures layouts { IfOk result (λ adapted. adapted.layouts ≡ all_layouts (map definition_tree document.definitions)) }
     ensures functions { IfOk result (λ adapted. map entry_of adapted.functions ≡ map entry_for (all_functions (map definition_tree document.definitions))) }
     ensures faithful { IfOk result (λ adapted. IsClosed (map definition_tree document.definitions) → All IsFaithful adapted.functions) }
     ensures adaptable { OnOk result (IsAdaptable (map definition_tree document.definitions)) }
-    ensures refused { IfErr result (Refuses (map definition_tree document.definitions)) }
+    ensures refused { IfErr result (λ e. Refuses (map definition_tree document.definitions) e.error) }
+    ensures handed_back { IfErr result (λ e. e.document ≡ document) }
 {
-    fits_tags(&document)?;
-    let layouts = typename_layouts(alloc, document.definitions().as_slice())?;
+    match document_parts(alloc, &document) {
+        Ok(parts) => Ok(Adapted {
+            functions: parts.functions,
+            layouts: parts.layouts,
+            document,
+        }),
+        Err(error) => Err(RefusedDocument { error, document }),
+    }
+}
+
+/// The layouts and the functions of an ordered document.
+#[tactic(auto, using(crate::proofs::Answered::answer_rules))]
+fn document_parts(alloc: Global, document: &Document) -> Result<Parts, DocumentError>
+    requires ordered { IsOrdered (map definition_tree document.now.definitions) }
+    ensures layouts { IfOk result (λ parts. parts.layouts ≡ all_layouts (map definition_tree document.now.definitions)) }
+    ensures functions { IfOk result (λ parts. map entry_of parts.functions ≡ map entry_for (all_functions (map definition_tree document.now.definitions))) }
+    ensures faithful { IfOk result (λ parts. IsClosed (map definition_tree document.now.definitions) → All IsFaithful parts.functions) }
+    ensures adaptable { OnOk result (IsAdaptable (map definition_tree document.now.definitions)) }
+    ensures refused { IfErr result (Refuses (map definition_tree document.now.definitions)) }
+{
+    fits_tags(document)?;
+    let layouts = uncounted_layouts(alloc, document)?;
     let functions = document_functions(alloc, document.definitions().as_slice())?;
-    Ok(Adapted {
-        functions,
-        layouts,
-        document,
-    })
+    Ok(Parts { functions, layouts })
 }
 
 /// An entry for each function of each module, in order; refused for the first that can't be lowered.
@@ -124,58 +147,32 @@ fn adapt_func(
     if let Err(place) = lowerable(func) {
         return Err(refusal(owner, func, place));
     }
-    let (params, results) = signature(alloc, func)?;
+    Ok(lowered(alloc, owner, func)?)
+}
+
+/// The same of a function that can be lowered.
+fn lowered(
+    alloc: Global,
+    owner: &Rc<Module>,
+    func: &Rc<InterfaceFunc>,
+) -> Result<AdaptedFunc, OutOfMemory>
+    requires { unlowerable (called func.now.value) ≡ None }
+    ensures { IfOk result (λ entry. entry_of entry ≡ entry_for (record { owner = module_tree owner.now.value; func = func_tree func.now.value })) }
+{
+    let name = &owner.name;
+    let function: &InterfaceFunc = func;
+    let params = words_in(alloc, function)?;
+    let results = words_back(alloc, function)?;
+    let caller = caller_trace(alloc, name, function, &params, &results)?;
+    let callee = callee_trace(alloc, name, function)?;
     Ok(AdaptedFunc {
         module: owner.clone()?,
         func: func.clone()?,
         params,
         results,
-        caller: caller_trace(alloc, owner, func)?,
-        callee: callee_trace(alloc, owner, func)?,
+        caller,
+        callee,
     })
-}
-
-/// The types of the words of a function that can be lowered.
-#[tactic(auto, using(crate::proofs::Lowering::signature_rules))]
-fn signature(alloc: Global, func: &InterfaceFunc) -> Result<(WasmTypes, WasmTypes), DocumentError>
-    requires { unlowerable (called func.now) ≡ None }
-    ensures params { IfOk result (λ words. words.0 ≡ signature_params (called func.now)) }
-    ensures results { IfOk result (λ words. words.1 ≡ signature_results (called func.now)) }
-    ensures no_memory { IfErr result (λ e. e ≡ DocumentError.OutOfMemory) }
-{
-    match func.wasm_signature(alloc) {
-        Ok(words) => Ok(words),
-        Err(SignatureError::OutOfMemory) => Err(DocumentError::OutOfMemory),
-        Err(SignatureError::Unlowerable(_)) => unreachable!(),
-    }
-}
-
-/// The events of the side that calls a function that can be lowered.
-fn caller_trace(alloc: Global, owner: &Module, func: &InterfaceFunc) -> Result<Trace, DocumentError>
-    requires { unlowerable (called func.now) ≡ None }
-    ensures events { IfOk result (λ trace. map event_of trace.events ≡ caller_events owner.now.name (called func.now)) }
-    ensures no_memory { IfErr result (λ e. e ≡ DocumentError.OutOfMemory) }
-{
-    let mut trace = Trace::new(alloc);
-    match func.call_wasm(alloc, &owner.name, &mut trace) {
-        Ok(()) => Ok(trace),
-        Err(AbiError::OutOfMemory) => Err(DocumentError::OutOfMemory),
-        Err(AbiError::Unlowerable(_) | AbiError::BindgenFailed) => unreachable!(),
-    }
-}
-
-/// The events of the side that is called.
-fn callee_trace(alloc: Global, owner: &Module, func: &InterfaceFunc) -> Result<Trace, DocumentError>
-    requires { unlowerable (called func.now) ≡ None }
-    ensures events { IfOk result (λ trace. map event_of trace.events ≡ callee_events owner.now.name (called func.now)) }
-    ensures no_memory { IfErr result (λ e. e ≡ DocumentError.OutOfMemory) }
-{
-    let mut trace = Trace::new(alloc);
-    match func.call_interface(alloc, &owner.name, &mut trace) {
-        Ok(()) => Ok(trace),
-        Err(AbiError::OutOfMemory) => Err(DocumentError::OutOfMemory),
-        Err(AbiError::Unlowerable(_) | AbiError::BindgenFailed) => unreachable!(),
-    }
 }
 
 /// The refusal of a function at a place, with the names of its module and its own.

@@ -1,12 +1,13 @@
 ghost use Rattle.std.specs.Prelude.{◌≡◌};
 
 use std::alloc::AllocError;
+use witx_ast::Document;
 use witx_base::{Id, OutOfMemory};
-use witx_layout::TagTooNarrow;
+use witx_layout::{LayoutsError, TagTooNarrow};
 use witx_machine::Place;
 
 /// Why a document can't be adapted.
-#[derive(PartialEq, Eq, Debug, Drop)]
+#[derive(PartialEq, Eq, Drop)]
 pub enum DocumentError {
     /// This type doesn't fit its tag; it is the first in document order.
     TagTooNarrow(TagTooNarrow),
@@ -22,6 +23,13 @@ pub enum DocumentError {
         place: Place,
     },
     OutOfMemory,
+}
+
+/// A document that can't be adapted, handed back, and why.
+#[derive(PartialEq, Eq, Drop)]
+pub struct RefusedDocument {
+    pub error: DocumentError,
+    pub document: Document,
 }
 
 impl From<OutOfMemory> for DocumentError {
@@ -51,5 +59,18 @@ impl From<TagTooNarrow> for DocumentError {
 
     fn from(refused: TagTooNarrow) -> DocumentError {
         DocumentError::TagTooNarrow(refused)
+    }
+}
+
+impl From<LayoutsError> for DocumentError {
+    ghost use Rattle.witx_adapt.specs.Adaptable.{layouts_refusal};
+
+    ghost from_gives = { λ refused e. e ≡ layouts_refusal refused };
+
+    fn from(refused: LayoutsError) -> DocumentError {
+        match refused {
+            LayoutsError::TooLarge { definition } => DocumentError::TooLarge { definition },
+            LayoutsError::OutOfMemory => DocumentError::OutOfMemory,
+        }
     }
 }

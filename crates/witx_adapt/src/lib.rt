@@ -5,11 +5,11 @@ mod adapted;
 mod adapting;
 mod error;
 mod event_lines;
-mod layouts;
 mod listings;
 mod names;
 
-pub use adapted::{Adapted, AdaptedFunc, AdaptedFuncs, SizeAligns};
+pub use adapted::{Adapted, AdaptedFunc, AdaptedFuncs};
 pub use adapting::adapt_document;
-pub use error::DocumentError;
+pub use error::{DocumentError, RefusedDocument};
 pub use listings::listing;
+pub use witx_layout::SizeAligns;

@@ -3,7 +3,7 @@ ghost use Rattle.witx_ast.specs.Items.{item_tree};
 ghost use Rattle.witx_ast.specs.Definitions.{definition_tree, module_tree};
 ghost use Rattle.witx_abi.specs.Reads.{event_of};
 ghost use Rattle.witx_adapt.specs.Entries.{lowered};
-ghost use Rattle.witx_adapt.specs.Listings.{constant_line, definition_lines, func_count, func_line, func_lines, import_line, item_lines, listing_text, module_line, next_func_lines, side_lines, typename_lines};
+ghost use Rattle.witx_adapt.specs.Listings.{constant_line, definition_lines, func_count, func_line, func_lines, import_line, item_lines, listing_text, module_line, next_func_lines, side_lines, stored_mark, typename_lines};
 
 use crate::adapted::{Adapted, AdaptedFunc};
 use crate::event_lines::put_events;
@@ -11,7 +11,7 @@ use crate::names::{put_quoted, put_signature};
 use std::alloc::{AllocError, Global};
 use std::fmt::Write;
 use witx_abi::Event;
-use witx_ast::{Constant, Definition, InterfaceFunc, Module, ModuleDefinition};
+use witx_ast::{Abi, Constant, Definition, InterfaceFunc, Module, ModuleDefinition};
 use witx_base::{OutOfMemory, Text};
 use witx_layout::SizeAlign;
 
@@ -153,37 +153,52 @@ fn put_next_func<'a>(
     func: &InterfaceFunc,
     functions: &'a [AdaptedFunc],
 ) -> Result<&'a [AdaptedFunc], OutOfMemory>
-    ensures lines { IfOk result (λ rest. string_bytes text.new ≡ string_bytes text.old ++ next_func_lines func.now.name (map lowered functions.now)) }
+    ensures lines { IfOk result (λ rest. string_bytes text.new ≡ string_bytes text.old ++ next_func_lines func.now.name func.now.abi (map lowered functions.now)) }
     ensures rest { IfOk result (λ rest. rest.now ≡ drop 1 functions.now) }
 {
     if functions.is_empty() {
         return Ok(functions);
     }
-    put_func(alloc, text, func.name.as_str(), &functions[0])?;
+    put_func(alloc, text, func, &functions[0])?;
     Ok(&functions[1..])
 }
 
 fn put_func(
     alloc: Global,
     text: &mut String,
-    name: &str,
-    func: &AdaptedFunc,
+    func: &InterfaceFunc,
+    adapted: &AdaptedFunc,
 ) -> Result<(), OutOfMemory>
-    ensures { OnOk result (string_bytes text.new ≡ string_bytes text.old ++ func_lines name.now (lowered func.now)) }
+    ensures { OnOk result (string_bytes text.new ≡ string_bytes text.old ++ func_lines func.now.name func.now.abi (lowered adapted.now)) }
 {
-    put_func_line(text, name, func)?;
-    put_side(alloc, text, "caller", func.caller.events().as_slice())?;
-    put_side(alloc, text, "callee", func.callee.events().as_slice())
+    put_func_line(text, func, adapted)?;
+    put_side(alloc, text, "caller", adapted.caller.events().as_slice())?;
+    put_side(alloc, text, "callee", adapted.callee.events().as_slice())
 }
 
-fn put_func_line(text: &mut String, name: &str, func: &AdaptedFunc) -> Result<(), AllocError>
-    ensures { OnOk result (string_bytes text.new ≡ string_bytes text.old ++ func_line name.now (lowered func.now)) }
+fn put_func_line(
+    text: &mut String,
+    func: &InterfaceFunc,
+    adapted: &AdaptedFunc,
+) -> Result<(), AllocError>
+    ensures { OnOk result (string_bytes text.new ≡ string_bytes text.old ++ func_line func.now.name func.now.abi (lowered adapted.now)) }
 {
     text.push_str("func ")?;
-    put_quoted(text, name)?;
+    put_quoted(text, func.name.as_str())?;
     text.push_str(" ")?;
-    put_signature(text, func.params.as_slice(), func.results.as_slice())?;
+    put_signature(text, adapted.params.as_slice(), adapted.results.as_slice())?;
+    text.push_str(stored_mark(func.abi))?;
     text.push_str("\n")
+}
+
+/// What marks a function that stores its whole result.
+fn stored_mark(abi: Abi) -> &'static str
+    ensures { result.now ≡ stored_mark abi }
+{
+    match abi {
+        Abi::Preview1 => "",
+        Abi::Stored => " stored",
+    }
 }
 
 fn put_side(

@@ -1,14 +1,12 @@
 //! The program `witx`: it hands the words of the command line and the standard streams to `run`.
 #![tactic(auto)]
 
-mod streams;
-
 use std::alloc::Global;
 use std::env;
+use std::io::ErrorKind;
 use std::process::ExitCode;
-use streams::{Reading, Writing};
 use witx::run;
-use witx_base::{Items, OutOfMemory, Text};
+use witx_base::{Items, OutOfMemory, Reading, Text, Writing};
 
 /// The status of a run that found no memory for its words.
 const NO_MEMORY: u8 = 5;
@@ -25,18 +23,22 @@ fn main(rt: HostRuntime) -> ExitCode {
     ExitCode::from(ran.status)
 }
 
-/// The words of the command line after the program's name. Where they are no texts there are none, so
-/// that the program answers as to words without a form.
+/// The words of the command line after the program's name. Where one isn't UTF-8 there are none, so
+/// that the program answers as to words without a form; for anything else that keeps them from being
+/// read, there is no memory.
 fn words(rt: &HostRuntime, alloc: Global) -> Result<Items<Text>, OutOfMemory> {
     let mut words = Items::new(alloc);
-    if let Ok(arguments) = env::args(rt) {
-        let mut is_name = true;
-        for argument in arguments {
-            if !is_name {
-                words.push(Text::from_string(argument))?;
-            }
-            is_name = false;
+    let arguments = match env::args(rt) {
+        Ok(arguments) => arguments,
+        Err(error) if error.kind() == ErrorKind::InvalidData => return Ok(words),
+        Err(_) => return Err(OutOfMemory),
+    };
+    let mut is_name = true;
+    for argument in arguments {
+        if !is_name {
+            words.push(Text::from_string(argument))?;
         }
+        is_name = false;
     }
     Ok(words)
 }

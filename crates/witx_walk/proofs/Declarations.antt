@@ -18,7 +18,7 @@ use Rattle.witx_order.specs.Items.{Declared}
 use Rattle.witx_order.specs.Walks.{declared_in}
 use Rattle.witx_walk.specs.Meaning.{form_of, form_fault, form_definitions, form_accepted, past_with, definitions_with, past_from, definitions_from, past_of, definitions_of, fault_behind}
 use Rattle.witx_walk.specs.Steps.{Holding, IsDeclared}
-use Rattle.witx_walk.specs.declared.walk.Walking.{Walking}
+use Rattle.witx_walk.specs.declared.walking.Walking.{Walking}
 
 pub past-more : (past : Past) (ds : List Declared) (δ : Declared) → past_from past (ds ++ δ ∷ []) ≡ past_with (past_from past ds) δ
 past-more past [] δ = refl

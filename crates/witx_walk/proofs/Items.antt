@@ -18,7 +18,7 @@ use Rattle.witx_walk.specs.Answers.{Refuses}
 use Rattle.witx_walk.specs.Steps.{Outcome, Reaches, Tracks, HasPaths, IsDeclared}
 use Rattle.witx_walk.specs.declared.error.WitxError.{WitxError}
 use Rattle.witx_walk.specs.declared.error.WitxError.TheVariants.{Io, Parse, Validation, BadPath, TooManyFiles, OutOfMemory}
-use Rattle.witx_walk.specs.declared.walk.Walking.{Walking}
+use Rattle.witx_walk.specs.declared.walking.Walking.{Walking}
 use Rattle.witx_walk.proofs.Reached.{outcome-after, refuses-after}
 
 decl-at : (n : NotedItem) (d : DeclSyntax) → item_at n (declaration_view d) ≡ declaration n

@@ -3,7 +3,8 @@ use Rattle.std.proofs.Common.{◌≡◌, ℕ, ◌≤◌, List, [], ◌∷◌, �
 use Rattle.std.specs.Cmp.Lexicographic.{lists_equiv, nat_list_eq_equiv}
 use Rattle.witx_base.specs.Causes.{Rose}
 use Rattle.witx_base.specs.Paths.{Path, path_of, file_name}
-use Rattle.witx_files.specs.Files.{Files, same_path, held}
+use Rattle.witx_base.specs.PathOrder.{same_path}
+use Rattle.witx_files.specs.Files.{Files, held}
 use Rattle.witx_files.specs.declared.fault.IoFault.TheVariants.{NotFound, LineNotFound, Failed}
 use Rattle.witx_files.proofs.SamePaths.{same-test}
 use Rattle.witx_ast.specs.Entries.{Held}

@@ -2,12 +2,12 @@
 use Rattle.std.proofs.Common.{◌≡◌, ◌+◌, List, [], ◌∷◌, ◌++◌, Bool, true, false, refl, sym, ap, ◌∙◌, subst, length-append, cond, not, if◌then◌else◌}
 use Rattle.std.specs.BTreeSet.{BTreeSet, btree_set_len}
 use Rattle.witx_base.specs.Paths.{Path}
-use Rattle.witx_files.specs.Files.{same_path}
+use Rattle.witx_base.specs.PathOrder.{same_path}
 use Rattle.witx_order.specs.Walks.{is_taken}
 use Rattle.witx_order.specs.Items.{Declared}
 use Rattle.witx_walk.specs.Steps.{has_path, HasPaths, Tracks}
 use Rattle.witx_walk.specs.declared.taken.TakenPaths.{TakenPaths}
-use Rattle.witx_walk.specs.declared.walk.Walking.{Walking}
+use Rattle.witx_walk.specs.declared.walking.Walking.{Walking}
 
 exchange : (a b c : Bool) → cond a true (cond b true c) ≡ cond b true (cond a true c)
 exchange true true c = refl

@@ -18,7 +18,7 @@ use Rattle.witx_walk.specs.Answers.{Refuses, Breaks, IsCalledFor, told_fault}
 use Rattle.witx_walk.specs.Steps.{Outcome, Reaches, Tracks, IsReached, IsGot}
 use Rattle.witx_walk.specs.declared.error.WitxError.{WitxError}
 use Rattle.witx_walk.specs.declared.error.WitxError.TheVariants.{Io, Parse, Validation, BadPath, TooManyFiles, OutOfMemory}
-use Rattle.witx_walk.specs.declared.walk.Walking.{Walking}
+use Rattle.witx_walk.specs.declared.walking.Walking.{Walking}
 
 pub stands : (told : Option Aliases) (links : Aliases) (j p : Path) → told ≡ Some links → StandsFor told j p → p ≡ canonical links j
 stands told links j p e h = let P : Option Aliases → Type 0 = λ x. StandsFor x j p in subst P e h

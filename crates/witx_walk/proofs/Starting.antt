@@ -9,7 +9,7 @@ use Rattle.witx_check.specs.Declarations.{nothing_before}
 use Rattle.witx_check.specs.Kept.{Kept, Keeps}
 use Rattle.witx_check.specs.Validators.{kept_by, nothing_kept}
 use Rattle.witx_walk.specs.Steps.{HasPaths, Tracks}
-use Rattle.witx_walk.specs.declared.walk.Walking.{Walking}
+use Rattle.witx_walk.specs.declared.walking.Walking.{Walking}
 
 nothing-keeps : Keeps nothing_kept nothing_before
 nothing-keeps = record { introduced = record { places = λ n. refl; senses = λ n. refl }; constants = λ type_name n. refl }

@@ -16,7 +16,7 @@ use Rattle.witx_walk.specs.Answers.{Answer, Answers, AgreesWith, Refuses, told_b
 use Rattle.witx_walk.specs.Steps.{Reaches}
 use Rattle.witx_walk.specs.declared.error.WitxError.{WitxError}
 use Rattle.witx_walk.specs.declared.error.WitxError.TheVariants.{Io, Parse, Validation, BadPath, TooManyFiles, OutOfMemory}
-use Rattle.witx_walk.specs.declared.walk.Walking.{Walking}
+use Rattle.witx_walk.specs.declared.walking.Walking.{Walking}
 
 some-same : {A : Type 0} {a x : A} → Some a ≡ Some x → a ≡ x
 some-same e = cc

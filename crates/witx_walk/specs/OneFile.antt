@@ -1,7 +1,7 @@
 -- One text as the only file, at the path `-`: no path stands for another, and no call fails.
 use Rattle.std.specs.Prelude.{ℕ, List, [], ◌∷◌, Option, None, Some, codes, if◌then◌else◌}
 use Rattle.witx_base.specs.Paths.{Path}
-use Rattle.witx_files.specs.Files.{same_path}
+use Rattle.witx_base.specs.PathOrder.{same_path}
 use Rattle.witx_files.specs.declared.fault.IoFault.TheVariants.{NotFound, LineNotFound, Failed}
 use Rattle.witx_check.specs.Faults.{Fault}
 use Rattle.witx_order.specs.Walks.{World}

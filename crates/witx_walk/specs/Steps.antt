@@ -22,7 +22,7 @@ use Rattle.witx_walk.specs.Meaning.{past_of, definitions_of}
 use Rattle.witx_walk.specs.Answers.{Refuses}
 use Rattle.witx_walk.specs.declared.error.WitxError.{WitxError}
 use Rattle.witx_walk.specs.declared.error.WitxError.TheVariants.{Io, Parse, Validation, BadPath, TooManyFiles, OutOfMemory}
-use Rattle.witx_walk.specs.declared.walk.Walking.{Walking}
+use Rattle.witx_walk.specs.declared.walking.Walking.{Walking}
 
 -- whether a set of paths has a path
 abbrev pub has_path : BTreeSet Path → Path → Bool

@@ -8,6 +8,7 @@ mod source;
 mod steps;
 mod taken;
 mod walk;
+mod walking;
 
 pub use error::WitxError;
 pub use laws::{one_answer, one_final_front, one_reading};

@@ -12,7 +12,7 @@ ghost use Rattle.witx_walk.specs.Readings.{syntax_fault};
 ghost use Rattle.witx_walk.specs.Steps.{Holding, IsDeclared, IsGot, IsReached, IsWell, Never};
 
 use crate::error::WitxError;
-use crate::walk::Walking;
+use crate::walking::Walking;
 use std::alloc::Global;
 use std::rc::Rc;
 use witx_base::{Duplicate, Text, WitxPath};
@@ -21,26 +21,25 @@ use witx_files::{IoError, WitxIo};
 use witx_syntax::{ParseError, ParseFault};
 use witx_tree::{CommentSyntax, DeclSyntax};
 
-/// The path that `joined` stands for. The path of the error is made before the call, so that a
-/// failed call is never answered by want of memory.
+/// The path that `joined` stands for. The fault of a call has `joined` itself, so that a failed call is
+/// never answered by want of memory.
 pub fn canonical_path<I: WitxIo>(
     alloc: Global,
-    joined: &WitxPath,
+    joined: WitxPath,
     io: &mut I,
 ) -> Result<WitxPath, WitxError>
     ensures files { I.files io.new ≡ I.files io.old }
     ensures aliases { I.aliases io.new ≡ I.aliases io.old }
-    ensures answer { IsReached (I.aliases io.old) joined.now (I.faults io.old) (I.faults io.new) result }
+    ensures answer { IsReached (I.aliases io.old) joined (I.faults io.old) (I.faults io.new) result }
 {
-    let asked = joined.copy()?;
-    match io.canonicalize(alloc, joined) {
+    match io.canonicalize(alloc, &joined) {
         Ok(path) => Ok(path),
-        Err(IoError::Fault(fault)) => Err(WitxError::Io(asked, fault)),
+        Err(IoError::Fault(fault)) => Err(WitxError::Io(joined, fault)),
         Err(IoError::OutOfMemory) => Err(WitxError::OutOfMemory),
     }
 }
 
-/// The text at a canonical path.
+/// The text at a canonical path. The path of the error is made before the call, for the same reason.
 pub fn text_at<I: WitxIo>(alloc: Global, path: &WitxPath, io: &mut I) -> Result<Text, WitxError>
     ensures files { I.files io.new ≡ I.files io.old }
     ensures aliases { I.aliases io.new ≡ I.aliases io.old }

@@ -1,7 +1,7 @@
 ghost use Rattle.std.specs.Prelude.{◌≡◌, ◌+◌, [], cond, true, false, OnOk};
 ghost use Rattle.std.specs.BTreeSet.{btree_set_len};
 ghost use Rattle.witx_base.specs.Paths.{Path};
-ghost use Rattle.witx_files.specs.Files.{same_path};
+ghost use Rattle.witx_base.specs.PathOrder.{same_path};
 ghost use Rattle.witx_walk.specs.Steps.{has_path, HasPaths};
 
 use std::alloc::Global;

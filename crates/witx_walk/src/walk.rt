@@ -16,6 +16,7 @@ ghost use Rattle.witx_walk.specs.Steps.{IsWell, Never, Outcome, Tracks};
 use crate::error::WitxError;
 use crate::steps::{canonical_path, declare, folder_of, shared_path, text_at, unread};
 use crate::taken::TakenPaths;
+use crate::walking::Walking;
 use std::alloc::Global;
 use witx_ast::{Definitions, Document};
 use witx_base::{Duplicate, WitxPath};
@@ -24,23 +25,15 @@ use witx_files::WitxIo;
 use witx_syntax::{SyntaxError, parse_document};
 use witx_tree::{Documented, TopLevelSyntax};
 
-/// So many files may be taken in.
+/// The most files that are taken in.
 const MOST_FILES: usize = 1024;
-
-/// What has been read so far: the checker, the definitions that passed, and the files taken in.
-#[derive(Drop)]
-pub struct Walking {
-    pub validation: DocValidation,
-    pub definitions: Definitions,
-    pub taken: TakenPaths,
-}
 
 /// Follows a path that is reached: it is skipped, or its file is read and its items are taken in.
 #[cycle(walk)]
 fn take_in<I: WitxIo>(
     alloc: Global,
     walk: &mut Walking,
-    joined: &WitxPath,
+    joined: WitxPath,
     directory: &WitxPath,
     io: &mut I,
 ) -> Result<(), WitxError>
@@ -52,7 +45,7 @@ fn take_in<I: WitxIo>(
     ensures told { Told (I.files io.old) (I.aliases io.old) (λ w.
         (at : Place) (open_files : List OpenFile) (handed taken : List Path) (declared : List Declared)
         → Tracks walk.old taken declared
-        → wish at ≡ reach (place open_files handed taken declared) joined.now directory.now
+        → wish at ≡ reach (place open_files handed taken declared) joined directory.now
         → Outcome w at (place open_files handed) walk.new (I.faults io.old) (I.faults io.new) result) }
 {
     let path = canonical_path(alloc, joined, io)?;
@@ -143,7 +136,7 @@ fn take_item<I: WitxIo>(
         TopLevelSyntax::Decl(declaration) => declare(walk, path, lines, declaration, comments),
         TopLevelSyntax::Use(used) => {
             let joined = folder.join(&WitxPath::new(alloc, used.as_str())?)?;
-            take_in(alloc, walk, &joined, folder, io)
+            take_in(alloc, walk, joined, folder, io)
         }
     }
 }
@@ -169,7 +162,7 @@ fn take_handed<I: WitxIo>(
     match path.file_name() {
         None => Err(WitxError::BadPath(copy)),
         Some(_) => match path.parent()? {
-            Some(directory) => take_in(alloc, walk, path, &directory, io),
+            Some(directory) => take_in(alloc, walk, copy, &directory, io),
             None => Err(WitxError::BadPath(copy)),
         },
     }

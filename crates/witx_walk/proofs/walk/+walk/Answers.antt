@@ -23,20 +23,20 @@ take_in-returns-in_err-path-clause-told g t c = λ fs links reading ef el er at 
 
 pub take_in-returns-then-contains-clause-told : goal.take_in-returns-then-contains-clause-told
 take_in-returns-then-contains-clause-told g t c = λ fs links reading ef el er at o h taken ds k e.
-    let s : c.in_ok-path.path ≡ canonical links c.args.joined.now = stands _ links _ _ el c.in_ok-path.ensures.answer.0 in
+    let s : c.in_ok-path.path ≡ canonical links c.args.joined = stands _ links _ _ el c.in_ok-path.ensures.answer.0 in
     let b : is_taken taken c.in_ok-path.path ≡ true = is-taken _ taken k.paths _ _ _ c.contains.ensures c.if-contains.true in
     path-skipped (world fs links reading) at o h taken ds _ _ e _ s c.args.walk.now _ _ k c.in_ok-path.ensures.answer.1 b
 
 pub take_in-returns-then-len-ge-MOST_FILES-clause-told : goal.take_in-returns-then-len-ge-MOST_FILES-clause-told
 take_in-returns-then-len-ge-MOST_FILES-clause-told g t c = λ fs links reading ef el er at o h taken ds k e.
-    let s : c.in_ok-path.path ≡ canonical links c.args.joined.now = stands _ links _ _ el c.in_ok-path.ensures.answer.0 in
+    let s : c.in_ok-path.path ≡ canonical links c.args.joined = stands _ links _ _ el c.in_ok-path.ensures.answer.0 in
     let b : is_taken taken c.in_ok-path.path ≡ false = is-taken _ taken k.paths _ _ _ c.contains.ensures c.if-contains.false in
     let l : 1024 ≤ length taken = omega (arith, k.paths.count) in
     too-many (world fs links reading) at o h taken ds _ _ e _ s b _ _ c.in_ok-path.ensures.answer.1 l
 
 pub take_in-returns-in_err-text-clause-told : goal.take_in-returns-in_err-text-clause-told
 take_in-returns-in_err-text-clause-told g t c = λ fs links reading ef el er at o h taken ds k e.
-    let s : c.in_ok-path.path ≡ canonical links c.args.joined.now = stands _ links _ _ el c.in_ok-path.ensures.answer.0 in
+    let s : c.in_ok-path.path ≡ canonical links c.args.joined = stands _ links _ _ el c.in_ok-path.ensures.answer.0 in
     let b : is_taken taken c.in_ok-path.path ≡ false = is-taken _ taken k.paths _ _ _ c.contains.ensures c.if-contains.false in
     let l : length taken < 1024 = omega (arith, k.paths.count) in
     let p = err_from_is_err_and c.from_residual-in_err-text.result c.from_residual-in_err-text.ensures.1 in
@@ -45,7 +45,7 @@ take_in-returns-in_err-text-clause-told g t c = λ fs links reading ef el er at 
 
 pub take_in-returns-in_ok-shared-in-Ok-clause-told : goal.take_in-returns-in_ok-shared-in-Ok-clause-told
 take_in-returns-in_ok-shared-in-Ok-clause-told g t c = λ fs links reading ef el er at o h taken ds k e.
-    let s : c.in_ok-path.path ≡ canonical links c.args.joined.now = stands _ links _ _ el c.in_ok-path.ensures.answer.0 in
+    let s : c.in_ok-path.path ≡ canonical links c.args.joined = stands _ links _ _ el c.in_ok-path.ensures.answer.0 in
     let n : has_path c.args.walk.now.taken.paths c.in_ok-path.path ≡ false = sym c.contains.ensures ∙ c.if-contains.false in
     let b : is_taken taken c.in_ok-path.path ≡ false = is-taken _ taken k.paths _ _ _ c.contains.ensures c.if-contains.false in
     let l : length taken < 1024 = omega (arith, k.paths.count) in
@@ -60,7 +60,7 @@ take_in-returns-in_ok-shared-in-Ok-clause-told g t c = λ fs links reading ef el
 
 pub take_in-returns-in-Err-Parse-clause-told : goal.take_in-returns-in-Err-Parse-clause-told
 take_in-returns-in-Err-Parse-clause-told g t c = λ fs links reading ef el er at o h taken ds k e.
-    let s : c.in_ok-path.path ≡ canonical links c.args.joined.now = stands _ links _ _ el c.in_ok-path.ensures.answer.0 in
+    let s : c.in_ok-path.path ≡ canonical links c.args.joined = stands _ links _ _ el c.in_ok-path.ensures.answer.0 in
     let b : is_taken taken c.in_ok-path.path ≡ false = is-taken _ taken k.paths _ _ _ c.contains.ensures c.if-contains.false in
     let l : length taken < 1024 = omega (arith, k.paths.count) in
     parse-refused (world fs links reading) at o h taken ds _ _ e _ s b l c.in_ok-text.text (holds _ fs _ _ (c.in_ok-path.ensures.files ∙ ef) c.in_ok-text.ensures.answer.0)
