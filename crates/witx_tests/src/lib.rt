@@ -1,0 +1,54 @@
+//! All tests of the repository: rows that were worked out by hand, printed text, devices and readers
+//! that fail, and each public call once where there is memory.
+//!
+//! They stand in one crate at the top, since a crate with tests is proved twice. A test function has no
+//! `?` and one assertion: a `const` table, a `bool` helper for one row and a `bool` helper that goes
+//! through the rows are the cheapest form to prove.
+#![tactic(auto)]
+
+#[cfg(test)]
+mod abi;
+#[cfg(test)]
+mod adapt;
+#[cfg(test)]
+mod ast;
+#[cfg(test)]
+mod base;
+#[cfg(test)]
+mod bundle;
+#[cfg(test)]
+mod check;
+#[cfg(test)]
+mod comments;
+#[cfg(test)]
+mod declarations;
+#[cfg(test)]
+mod declared;
+#[cfg(test)]
+mod devices;
+#[cfg(test)]
+mod docs;
+#[cfg(test)]
+mod files;
+#[cfg(test)]
+mod fixtures;
+#[cfg(test)]
+mod grammar;
+#[cfg(test)]
+mod layout;
+#[cfg(test)]
+mod lex;
+#[cfg(test)]
+mod limits;
+#[cfg(test)]
+mod run;
+#[cfg(test)]
+mod stored;
+#[cfg(test)]
+mod streams;
+#[cfg(test)]
+mod syntax;
+#[cfg(test)]
+mod tree;
+#[cfg(test)]
+mod walk;
