@@ -49,6 +49,13 @@ impl<T> Items<T> {
         Items { items }
     }
 
+    /// The list as a `Vec`; takes no memory.
+    pub fn into_vec(self) -> Vec<T>
+        ensures { result.items ≡ self }
+    {
+        self.items
+    }
+
     /// Where the list takes its memory from.
     pub fn allocator(&self) -> Global {
         *self.items.allocator()
@@ -96,6 +103,14 @@ impl<T: Drop> Items<T> {
         ensures { self.new ≡ (if is_ok result then self.old ++ item ∷ [] else self.old) }
     {
         self.items.push(item)?;
+        Ok(())
+    }
+
+    /// Takes memory for so many items more, at once; the items stay.
+    pub fn reserve(&mut self, additional: usize) -> Result<(), OutOfMemory>
+        ensures { self.new ≡ self.old }
+    {
+        self.items.reserve(additional)?;
         Ok(())
     }
 
