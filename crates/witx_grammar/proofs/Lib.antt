@@ -1,7 +1,14 @@
 pub mod Steps
 pub mod Predicts
+pub mod Lookahead
+pub mod Tables
+pub mod Grounded
 pub mod Progress
-pub mod Fronts
+pub mod Firsts
+pub mod Parts
 pub mod Verdicts
+pub mod Opened
 pub mod Reading
+pub mod Derive
+pub mod Makes
 mod Examples

@@ -1,155 +1,125 @@
 -- How far a derivation has come.
-use Rattle.std.proofs.Common.{◌≡◌, ◌≢◌, ℕ, zero, suc, ◌+◌, ◌-◌, ◌*◌, ◌<◌, ◌≤◌, true, ◌&&◌, List, [], ◌∷◌, ◌++◌, length, get_or, take, drop, map, reverse, Some, None, refl, sym, ap, ◌∙◌, subst, arith, append_assoc}
+use Rattle.std.proofs.Common.{◌≡◌, ◌≢◌, ℕ, ◌+◌, ◌-◌, ◌*◌, ◌<◌, ◌≤◌, Bool, List, [], ◌∷◌, ◌++◌, length, get_or, take, drop, reverse, Some, None, refl, sym, ap, ◌∙◌, subst, arith, append_assoc}
 use Rattle.std.proofs.lemmas.List.{drop_more, drop_all, append-nil, length-drop, reverse-append, take_rest}
-use Rattle.std.proofs.lemmas.Bool.{and_parts}
 use Rattle.witx_grammar.specs.declared.table.Symbol.{Symbol}
-use Rattle.witx_grammar.specs.declared.table.Symbol.TheVariants.{Token, Form}
-use Rattle.witx_grammar.specs.declared.table.Move.{Move}
-use Rattle.witx_grammar.specs.declared.table.Move.TheVariants.{Leaf, Node}
-use Rattle.witx_grammar.specs.declared.table.Row.{Row}
-use Rattle.witx_grammar.specs.Grammar.{Production, Wants, production, row_view, Derives}
-use Rattle.witx_grammar.specs.Prediction.{Hint, choose, all_lead, all_ranked, are_low, is_fine}
-use Rattle.witx_grammar.proofs.Predicts.{taken_is_chosen}
-use Rattle.witx_grammar.proofs.Steps.{more_is_wanted}
+use Rattle.witx_grammar.specs.declared.table.Symbol.TheVariants.{Terminal, Nonterminal}
+use Rattle.witx_grammar.specs.declared.table.Step.{Step}
+use Rattle.witx_grammar.specs.declared.table.Step.TheVariants.{Leaf, Node}
+use Rattle.witx_grammar.specs.Grammar.{In, Rewrite, Wants, Derives}
+use Rattle.witx_grammar.specs.Prediction.{choose}
+use Rattle.witx_grammar.proofs.Predicts.{Takes, some_is}
+use Rattle.witx_grammar.proofs.Steps.{not_nothing}
 
--- After these moves w is wanted from the place on: every derivation goes on so.
-pub record Sofar (g : List Production) (start : Wants) (ts : List ℕ) (w : Wants) (moves : List Move) (at : ℕ) : Type 0 where
+-- After these steps w is wanted from the place on: every derivation goes on so.
+pub record Sofar {T N P : Type 0} (g : List (Rewrite T N P)) (start : Wants T N) (ts : List T) (w : Wants T N) (steps : List (Step P)) (at : ℕ) : Type 0 where
   pub within : at ≤ length ts
-  pub sound : (ns : List Move) → Derives g ns w (drop at ts) → Derives g (moves ++ ns) start ts
-  pub complete : (ms : List Move) → Derives g ms start ts → (ns : List Move) × (ms ≡ moves ++ ns) × Derives g ns w (drop at ts)
+  pub sound : (ns : List (Step P)) → Derives g ns w (drop at ts) → Derives g (steps ++ ns) start ts
+  pub complete : (ms : List (Step P)) → Derives g ms start ts → (ns : List (Step P)) × (ms ≡ steps ++ ns) × Derives g ns w (drop at ts)
 
-pub sofar_start : (g : List Production) (start : Wants) (ts : List ℕ) → Sofar g start ts start [] 0
-sofar_start g start ts = record { within = (omega arith); sound = (λ ns d. d); complete = (λ ms d. (ms, refl, d)) }
+none_is : {X : Type 0} (x : X) → None ≡ Some x → ⊥
+none_is x e = cc
 
-nothing_from_empty : (t : ℕ) (g : List Production) (w : Wants) (ns : List Move) → Derives g ns (Token t ∷ w) [] → ⊥
-nothing_from_empty t g w [] d = more_is_wanted (Token t) w d.1
-nothing_from_empty t g w (Leaf ∷ ns) d = d
-nothing_from_empty t g w (Node i ∷ ns) d = d
+module _ {T N P : Type 0} (g : List (Rewrite T N P)) (start : Wants T N) (ts : List T) where
+  pub sofar_start : Sofar g start ts start [] 0
+  sofar_start = record { within = (omega arith); sound = (λ ns d. d); complete = (λ ms d. (ms, refl, d)) }
 
-leaf_first : (g : List Production) (t s : ℕ) (w : Wants) (ts : List ℕ) (ns : List Move) → Derives g ns (Token t ∷ w) (s ∷ ts) → (t ≡ s) × (ms : List Move) × (ns ≡ Leaf ∷ ms) × Derives g ms w ts
-leaf_first g t s w ts [] d = absurd (more_is_wanted (Token t) w d.1)
-leaf_first g t s w ts (Leaf ∷ ns) d = (d.0, ns, refl, d.1)
-leaf_first g t s w ts (Node i ∷ ns) d = absurd d
+  nothing_from_empty : (t : T) (w : Wants T N) (ns : List (Step P)) → Derives g ns (Terminal t ∷ w) [] → ⊥
+  nothing_from_empty t w [] d = not_nothing (Terminal t) w d.1
+  nothing_from_empty t w (Leaf ∷ ns) d = d
+  nothing_from_empty t w (Node p ∷ ns) d = d
 
-node_first : (g : List Production) (f : ℕ) (w : Wants) (ts : List ℕ) (ns : List Move) → Derives g ns (Form f ∷ w) ts
-    → (i : ℕ) × (ms : List Move) × (ns ≡ Node i ∷ ms) × (i < length g) × ((production g i).form ≡ f) × Derives g ms ((production g i).symbols ++ w) ts
-node_first g f w ts [] d = absurd (more_is_wanted (Form f) w d.1)
-node_first g f w ts (Leaf ∷ ns) d = absurd d
-node_first g f w ts (Node i ∷ ns) d = (i, ns, refl, d.0, d.1, d.2)
+  token_first : (t s : T) (w : Wants T N) (us : List T) (ns : List (Step P)) → Derives g ns (Terminal t ∷ w) (s ∷ us) → (t ≡ s) × (ms : List (Step P)) × (ns ≡ Leaf ∷ ms) × Derives g ms w us
+  token_first t s w us [] d = absurd (not_nothing (Terminal t) w d.1)
+  token_first t s w us (Leaf ∷ ns) d = (d.0, ns, refl, d.1)
+  token_first t s w us (Node p ∷ ns) d = absurd d
 
-pub sofar_token : (g : List Production) (start : Wants) (ts : List ℕ) (t : ℕ) (w : Wants) (moves : List Move) (at : ℕ) → Sofar g start ts (Token t ∷ w) moves at
-    → at < length ts → get_or ts at 0 ≡ t → Sofar g start ts w (moves ++ Leaf ∷ []) (at + 1)
-sofar_token g start ts t w moves at s lt e =
-    let split : drop at ts ≡ get_or ts at 0 ∷ drop (at + 1) ts = drop_more ts at 0 lt in
-    record {
-      within = (omega arith);
-      sound = (λ ns d. subst (λ (ms : List Move). Derives g ms start ts) (sym (append_assoc moves (Leaf ∷ []) ns))
-          (s.sound (Leaf ∷ ns) (subst (λ (xs : List ℕ). Derives g (Leaf ∷ ns) (Token t ∷ w) xs) (sym split) (sym e, d))));
-      complete = (λ ms d.
-          let q = s.complete ms d in
-          let l = leaf_first g t (get_or ts at 0) w (drop (at + 1) ts) q.0 (subst (λ (xs : List ℕ). Derives g q.0 (Token t ∷ w) xs) split q.2) in
-          (l.1, q.1 ∙ ap (λ (x : List Move). moves ++ x) l.2 ∙ sym (append_assoc moves (Leaf ∷ []) l.1), l.3));
-    }
+  production_first : (f : N) (w : Wants T N) (us : List T) (ns : List (Step P)) → Derives g ns (Nonterminal f ∷ w) us
+      → (x : Rewrite T N P) × (ms : List (Step P)) × (ns ≡ Node x.name ∷ ms) × In x g × (x.nonterminal ≡ f) × Derives g ms (x.symbols ++ w) us
+  production_first f w us [] d = absurd (not_nothing (Nonterminal f) w d.1)
+  production_first f w us (Leaf ∷ ns) d = absurd d
+  production_first f w us (Node p ∷ ns) d = (d.0, ns, ap (λ (n : P). Node n ∷ ns) (sym d.3), d.1, d.2, d.4)
 
-pub no_token : (g : List Production) (start : Wants) (ts : List ℕ) (t : ℕ) (w : Wants) (moves : List Move) (at : ℕ) → Sofar g start ts (Token t ∷ w) moves at
-    → at < length ts → get_or ts at 0 ≢ t → (ms : List Move) → Derives g ms start ts → ⊥
-no_token g start ts t w moves at s lt ne ms d =
-    let q = s.complete ms d in
-    let l = leaf_first g t (get_or ts at 0) w (drop (at + 1) ts) q.0 (subst (λ (xs : List ℕ). Derives g q.0 (Token t ∷ w) xs) (drop_more ts at 0 lt) q.2) in
-    ne (sym l.0)
+  pub sofar_token : (t d : T) (w : Wants T N) (steps : List (Step P)) (at : ℕ) → Sofar g start ts (Terminal t ∷ w) steps at
+      → at < length ts → get_or ts at d ≡ t → Sofar g start ts w (steps ++ Leaf ∷ []) (at + 1)
+  sofar_token t d w steps at s lt e =
+      let split : drop at ts ≡ get_or ts at d ∷ drop (at + 1) ts = drop_more ts at d lt in
+      record {
+        within = (omega arith);
+        sound = (λ ns h. subst (λ (ms : List (Step P)). Derives g ms start ts) (sym (append_assoc steps (Leaf ∷ []) ns))
+            (s.sound (Leaf ∷ ns) (subst (λ (xs : List T). Derives g (Leaf ∷ ns) (Terminal t ∷ w) xs) (sym split) (sym e, h))));
+        complete = (λ ms h.
+            let r = s.complete ms h in
+            let l = token_first t (get_or ts at d) w (drop (at + 1) ts) r.0 (subst (λ (xs : List T). Derives g r.0 (Terminal t ∷ w) xs) split r.2) in
+            (l.1, r.1 ∙ ap (λ (x : List (Step P)). steps ++ x) l.2 ∙ sym (append_assoc steps (Leaf ∷ []) l.1), l.3));
+      }
 
-pub no_more_tokens : (g : List Production) (start : Wants) (ts : List ℕ) (t : ℕ) (w : Wants) (moves : List Move) (at : ℕ) → Sofar g start ts (Token t ∷ w) moves at
-    → length ts ≤ at → (ms : List Move) → Derives g ms start ts → ⊥
-no_more_tokens g start ts t w moves at s past ms d =
-    let q = s.complete ms d in
-    nothing_from_empty t g w q.0 (subst (λ (xs : List ℕ). Derives g q.0 (Token t ∷ w) xs) (drop_all at ts past) q.2)
+  pub no_token : (t d : T) (w : Wants T N) (steps : List (Step P)) (at : ℕ) → Sofar g start ts (Terminal t ∷ w) steps at
+      → at < length ts → get_or ts at d ≢ t → (ms : List (Step P)) → Derives g ms start ts → ⊥
+  no_token t d w steps at s lt ne ms h =
+      let r = s.complete ms h in
+      let l = token_first t (get_or ts at d) w (drop (at + 1) ts) r.0 (subst (λ (xs : List T). Derives g r.0 (Terminal t ∷ w) xs) (drop_more ts at d lt) r.2) in
+      ne (sym l.0)
 
-some_is : (a b : ℕ) → Some a ≡ Some b → a ≡ b
-some_is a b e = cc
+  pub no_more_tokens : (t : T) (w : Wants T N) (steps : List (Step P)) (at : ℕ) → Sofar g start ts (Terminal t ∷ w) steps at
+      → length ts ≤ at → (ms : List (Step P)) → Derives g ms start ts → ⊥
+  no_more_tokens t w steps at s past ms h =
+      let r = s.complete ms h in
+      nothing_from_empty t w r.0 (subst (λ (xs : List T). Derives g r.0 (Terminal t ∷ w) xs) (drop_all at ts past) r.2)
 
-none_is : (a : ℕ) → None ≡ Some a → ⊥
-none_is a e = cc
+  pub sofar_production : (e : T → T → Bool) (q : N → N → Bool) → Takes e q g → (f : N) (w : Wants T N) (steps : List (Step P)) (at : ℕ) (x : Rewrite T N P)
+      → Sofar g start ts (Nonterminal f ∷ w) steps at → choose e q g f (drop at ts) ≡ Some x → In x g → x.nonterminal ≡ f
+      → Sofar g start ts (x.symbols ++ w) (steps ++ Node x.name ∷ []) at
+  sofar_production e q takes f w steps at x s shown i is =
+      record {
+        within = s.within;
+        sound = (λ ns d. subst (λ (ms : List (Step P)). Derives g ms start ts) (sym (append_assoc steps (Node x.name ∷ []) ns)) (s.sound (Node x.name ∷ ns) (x, i, is, refl, d)));
+        complete = (λ ms d.
+            let r = s.complete ms d in
+            let l = production_first f w (drop at ts) r.0 r.2 in
+            let taken : choose e q g f (drop at ts) ≡ Some l.0 = subst (λ (n : N). choose e q g n (drop at ts) ≡ Some l.0) l.4 (takes l.0 w l.1 (drop at ts) l.3 l.5) in
+            let same : l.0 ≡ x = some_is l.0 x (sym taken ∙ shown) in (
+              l.1,
+              r.1 ∙ ap (λ (y : List (Step P)). steps ++ y) l.2 ∙ ap (λ (y : Rewrite T N P). steps ++ Node y.name ∷ l.1) same ∙ sym (append_assoc steps (Node x.name ∷ []) l.1),
+              subst (λ (y : Rewrite T N P). Derives g l.1 (y.symbols ++ w) (drop at ts)) same l.5,
+            ));
+      }
 
-pub sofar_form : (g : List Production) (hs : List Hint) (start : Wants) (ts : List ℕ) (f : ℕ) (w : Wants) (moves : List Move) (at i : ℕ) → all_lead g hs 0 g ≡ true
-    → Sofar g start ts (Form f ∷ w) moves at → choose hs f (drop at ts) ≡ Some i → i < length g → (production g i).form ≡ f
-    → Sofar g start ts ((production g i).symbols ++ w) (moves ++ Node i ∷ []) at
-sofar_form g hs start ts f w moves at i fine s e lt is =
-    record {
-      within = s.within;
-      sound = (λ ns d. subst (λ (ms : List Move). Derives g ms start ts) (sym (append_assoc moves (Node i ∷ []) ns)) (s.sound (Node i ∷ ns) (lt, is, d)));
-      complete = (λ ms d.
-          let q = s.complete ms d in
-          let l = node_first g f w (drop at ts) q.0 q.2 in
-          let same : l.0 ≡ i = some_is l.0 i (sym (taken_is_chosen g hs f l.0 w l.1 (drop at ts) fine l.3 l.4 l.5) ∙ e) in (
-            l.1,
-            q.1 ∙ ap (λ (x : List Move). moves ++ x) l.2 ∙ ap (λ (x : ℕ). moves ++ Node x ∷ l.1) same ∙ sym (append_assoc moves (Node i ∷ []) l.1),
-            subst (λ (x : ℕ). Derives g l.1 ((production g x).symbols ++ w) (drop at ts)) same l.5,
-          ));
-    }
+  -- where no production is shown there is no derivation
+  pub no_choice : (e : T → T → Bool) (q : N → N → Bool) → Takes e q g → (f : N) (w : Wants T N) (steps : List (Step P)) (at : ℕ)
+      → Sofar g start ts (Nonterminal f ∷ w) steps at → choose e q g f (drop at ts) ≡ None → (ms : List (Step P)) → Derives g ms start ts → ⊥
+  no_choice e q takes f w steps at s shown ms d =
+      let r = s.complete ms d in
+      let l = production_first f w (drop at ts) r.0 r.2 in
+      let taken : choose e q g f (drop at ts) ≡ Some l.0 = subst (λ (n : N). choose e q g n (drop at ts) ≡ Some l.0) l.4 (takes l.0 w l.1 (drop at ts) l.3 l.5) in
+      none_is l.0 (sym shown ∙ taken)
 
--- where no row is chosen, or one that the form doesn't have, there is no derivation
-pub no_choice : (g : List Production) (hs : List Hint) (start : Wants) (ts : List ℕ) (f : ℕ) (w : Wants) (moves : List Move) (at : ℕ) → all_lead g hs 0 g ≡ true
-    → Sofar g start ts (Form f ∷ w) moves at → choose hs f (drop at ts) ≡ None → (ms : List Move) → Derives g ms start ts → ⊥
-no_choice g hs start ts f w moves at fine s e ms d =
-    let q = s.complete ms d in
-    let l = node_first g f w (drop at ts) q.0 q.2 in
-    none_is l.0 (sym e ∙ taken_is_chosen g hs f l.0 w l.1 (drop at ts) fine l.3 l.4 l.5)
+  pub sofar_done : (steps : List (Step P)) (at : ℕ) → Sofar g start ts [] steps at → at ≡ length ts → Derives g steps start ts
+  sofar_done steps at s e =
+      let past : length ts ≤ at = omega arith in
+      subst (λ (ms : List (Step P)). Derives g ms start ts) (append-nil steps) (s.sound [] ((drop_all at ts past), refl))
 
-pub wrong_choice : (g : List Production) (hs : List Hint) (start : Wants) (ts : List ℕ) (f : ℕ) (w : Wants) (moves : List Move) (at i : ℕ) → all_lead g hs 0 g ≡ true
-    → Sofar g start ts (Form f ∷ w) moves at → choose hs f (drop at ts) ≡ Some i → (i < length g → (production g i).form ≡ f → ⊥) → (ms : List Move) → Derives g ms start ts → ⊥
-wrong_choice g hs start ts f w moves at i fine s e wrong ms d =
-    let q = s.complete ms d in
-    let l = node_first g f w (drop at ts) q.0 q.2 in
-    let same : l.0 ≡ i = some_is l.0 i (sym (taken_is_chosen g hs f l.0 w l.1 (drop at ts) fine l.3 l.4 l.5) ∙ e) in
-    wrong (subst (λ (x : ℕ). x < length g) same l.3) (subst (λ (x : ℕ). (production g x).form ≡ f) same l.4)
+  nothing_more : (ns : List (Step P)) (us : List T) → Derives g ns [] us → us ≡ []
+  nothing_more [] us d = d.0
+  nothing_more (n ∷ ns) us d = absurd d
 
-pub sofar_done : (g : List Production) (start : Wants) (ts : List ℕ) (moves : List Move) (at : ℕ) → Sofar g start ts [] moves at → at ≡ length ts → Derives g moves start ts
-sofar_done g start ts moves at s e =
-    let past : length ts ≤ at = omega arith in
-    subst (λ (ms : List Move). Derives g ms start ts) (append-nil moves) (s.sound [] ((drop_all at ts past), refl))
+  pub too_many : (steps : List (Step P)) (at : ℕ) → Sofar g start ts [] steps at → at ≢ length ts → (ms : List (Step P)) → Derives g ms start ts → ⊥
+  too_many steps at s ne ms d =
+      let r = s.complete ms d in
+      let e : drop at ts ≡ [] = nothing_more r.0 (drop at ts) r.2 in
+      let within : at ≤ length ts = s.within in
+      let none : length (drop at ts) ≡ 0 = ap (λ (x : List T). length x) e in
+      ne (omega (arith, length-drop at ts))
 
-nothing_more : (g : List Production) (ns : List Move) (ts : List ℕ) → Derives g ns [] ts → ts ≡ []
-nothing_more g [] ts d = d.0
-nothing_more g (n ∷ ns) ts d = absurd d
+  pub sofar_pop : (old new : List (Symbol T N)) (x y : Symbol T N) (steps : List (Step P)) (at : ℕ)
+      → Sofar g start ts (reverse old) steps at → old ≡ new ++ x ∷ [] → x ≡ y → Sofar g start ts (y ∷ reverse new) steps at
+  sofar_pop old new x y steps at s e is =
+      subst (λ (w : Wants T N). Sofar g start ts w steps at) (ap (λ (v : List (Symbol T N)). reverse v) e ∙ reverse-append new (x ∷ []) ∙ ap (λ (z : Symbol T N). z ∷ reverse new) is) s
 
-pub too_many : (g : List Production) (start : Wants) (ts : List ℕ) (moves : List Move) (at : ℕ) → Sofar g start ts [] moves at → at ≢ length ts → (ms : List Move) → Derives g ms start ts → ⊥
-too_many g start ts moves at s ne ms d =
-    let q = s.complete ms d in
-    let e : drop at ts ≡ [] = nothing_more g q.0 (drop at ts) q.2 in
-    let within : at ≤ length ts = s.within in
-    let none : length (drop at ts) ≡ 0 = ap (λ (x : List ℕ). length x) e in
-    ne (omega (arith, length-drop at ts))
-
-pub sofar_pop : (g : List Production) (start : Wants) (ts : List ℕ) (old new : List Symbol) (x y : Symbol) (moves : List Move) (at : ℕ)
-    → Sofar g start ts (reverse old) moves at → old ≡ new ++ x ∷ [] → x ≡ y → Sofar g start ts (y ∷ reverse new) moves at
-sofar_pop g start ts old new x y moves at s e is =
-    subst (λ (w : Wants). Sofar g start ts w moves at) (ap (λ (v : List Symbol). reverse v) e ∙ reverse-append new (x ∷ []) ∙ ap (λ (z : Symbol). z ∷ reverse new) is) s
-
-pub popped : (old new : List Symbol) (x y : Symbol) → old ≡ new ++ x ∷ [] → x ≡ y → reverse old ≡ y ∷ reverse new
-popped old new x y e is = ap (λ (v : List Symbol). reverse v) e ∙ reverse-append new (x ∷ []) ∙ ap (λ (z : Symbol). z ∷ reverse new) is
-
--- the row with a number, in the code's table
-pub production_is : (rows : List Row) (i : ℕ) (d : Row) → i < length rows → production (map row_view rows) i ≡ row_view (get_or rows i d)
-production_is [] i d lt = absurd (omega arith)
-production_is (r ∷ rows) zero d lt = refl
-production_is (r ∷ rows) (suc i) d lt = production_is rows i d (omega arith)
-
-pub productions_count : (rows : List Row) → length (map row_view rows) ≡ length rows
-productions_count [] = refl
-productions_count (r ∷ rows) = ap suc (productions_count rows)
-
--- the parts of a fine table
-pub fine_leads : (g : List Production) (hs : List Hint) (ks : List ℕ) → is_fine g hs ks ≡ true → all_lead g hs 0 g ≡ true
-fine_leads g hs ks e = (and_parts (all_lead g hs 0 g) (all_ranked ks g) (and_parts (all_lead g hs 0 g && all_ranked ks g) (are_low ks) e).0).0
-
-pub fine_ranked : (g : List Production) (hs : List Hint) (ks : List ℕ) → is_fine g hs ks ≡ true → all_ranked ks g ≡ true
-fine_ranked g hs ks e = (and_parts (all_lead g hs 0 g) (all_ranked ks g) (and_parts (all_lead g hs 0 g && all_ranked ks g) (are_low ks) e).0).1
-
-pub fine_low : (g : List Production) (hs : List Hint) (ks : List ℕ) → is_fine g hs ks ≡ true → are_low ks ≡ true
-fine_low g hs ks e = (and_parts (all_lead g hs 0 g && all_ranked ks g) (are_low ks) e).1
+pub popped : {X : Type 0} (old new : List X) (x y : X) → old ≡ new ++ x ∷ [] → x ≡ y → reverse old ≡ y ∷ reverse new
+popped {X} old new x y e is = ap (λ (v : List X). reverse v) e ∙ reverse-append new (x ∷ []) ∙ ap (λ (z : X). z ∷ reverse new) is
 
 pub small_step : (n m a b r : ℕ) → a < r → b ≡ r → n * m + a < n * m + b
 small_step n m a b r lt e = omega arith
 
-pub rest_is : (ts : List ℕ) (at : ℕ) → take (length ts - at) (drop at ts) ≡ drop at ts
+pub rest_is : {X : Type 0} (ts : List X) (at : ℕ) → take (length ts - at) (drop at ts) ≡ drop at ts
 rest_is ts at = take_rest ts at

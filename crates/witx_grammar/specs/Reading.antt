@@ -1,18 +1,18 @@
--- What a derivation stands for: the values of its tokens, put together node by node.
-use Rattle.std.specs.Prelude.{ℕ, suc, ◌+◌, List, [], ◌∷◌, ◌++◌}
-use Rattle.witx_grammar.specs.declared.table.Move.{Move}
-use Rattle.witx_grammar.specs.declared.table.Move.TheVariants.{Leaf, Node}
+-- What a derivation stands for: the values of its tokens, put together production by production.
+use Rattle.std.specs.Prelude.{ℕ, suc, List, [], ◌∷◌, ◌++◌}
+use Rattle.witx_grammar.specs.declared.table.Step.{Step}
+use Rattle.witx_grammar.specs.declared.table.Step.TheVariants.{Leaf, Node}
 
--- The values of moves, of which the first takes the token at the place. A leaf has the values of its token, a node makes a value of those of what it is written by,
--- which stand first.
-abbrev pub values : {V : Type 0} → (ℕ → ℕ → List V) → (ℕ → ℕ → List V → List V) → ℕ → List Move → List ℕ → List V
-values leaf act at [] ts = []
-values leaf act at (Leaf ∷ ms) [] = []
-values leaf act at (Leaf ∷ ms) (s ∷ ts) = leaf s at ++ values leaf act (at + 1) ms ts
-values leaf act at (Node r ∷ ms) ts = act r at (values leaf act at ms ts)
+-- The values of steps that read the tokens of the list. A token stands for the values that leaf says, and for none behind the end of the list;
+-- a production makes a value of those of what it is written by, which stand first, and sees the tokens from its own first one on.
+abbrev pub values : {L P V : Type 0} → (L → List V) → (P → List L → List V → List V) → List (Step P) → List L → List V
+values leaf act [] ls = []
+values leaf act (Leaf ∷ ms) [] = values leaf act ms []
+values leaf act (Leaf ∷ ms) (l ∷ ls) = leaf l ++ values leaf act ms ls
+values leaf act (Node p ∷ ms) ls = act p ls (values leaf act ms ls)
 
--- how many tokens moves take
-abbrev pub leaves : List Move → ℕ
+-- how many tokens steps read
+abbrev pub leaves : {P : Type 0} → List (Step P) → ℕ
 leaves [] = 0
 leaves (Leaf ∷ ms) = suc (leaves ms)
-leaves (Node r ∷ ms) = leaves ms
+leaves (Node p ∷ ms) = leaves ms

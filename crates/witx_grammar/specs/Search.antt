@@ -1,64 +1,65 @@
 -- The fault of a list of tokens, computed: all that can be wanted is followed from token to token.
--- A bound limits how many forms are opened at one place; a law says that it changes nothing.
-use Rattle.std.specs.Prelude.{ℕ, zero, suc, ◌+◌, Bool, true, false, ◌==◌, if◌then◌else◌, List, [], ◌∷◌, ◌++◌, map, Option, Some, None}
+-- A bound limits how many nonterminals are opened at one place; a law says that it changes nothing.
+-- e compares kinds of tokens, q nonterminals.
+use Rattle.std.specs.Prelude.{ℕ, zero, suc, ◌+◌, Bool, true, false, if◌then◌else◌, List, [], ◌∷◌, ◌++◌, map, Option, Some, None}
 use Rattle.std.specs.List.{flat_map, list_any}
 use Rattle.std.specs.Global.{Vec}
 use Rattle.witx_grammar.specs.declared.table.Symbol.{Symbol}
-use Rattle.witx_grammar.specs.declared.table.Symbol.TheVariants.{Token, Form}
+use Rattle.witx_grammar.specs.declared.table.Symbol.TheVariants.{Terminal, Nonterminal}
 use Rattle.witx_grammar.specs.declared.fault.Fault.{Fault}
-use Rattle.witx_grammar.specs.Grammar.{Production, Wants, rows_of}
+use Rattle.witx_grammar.specs.Grammar.{Rewrite, Wants, rewrites_of}
 use Rattle.witx_grammar.specs.Faults.{HasDerivation, IsFault}
 
--- what can be wanted after a token of the sort t, where a list of symbols is wanted before it
-abbrev pub ways : List Production → ℕ → ℕ → Wants → List Wants
-ways g k t [] = []
-ways g k t (Token u ∷ w) = if u == t then w ∷ [] else []
-ways g zero t (Form f ∷ w) = []
-ways g (suc k) t (Form f ∷ w) = flat_map (λ row. ways g k t (row ++ w)) (rows_of g f)
+-- what can be wanted after a token of the kind t, where a list of symbols is wanted before it
+abbrev pub ways : {T N P : Type 0} → (T → T → Bool) → (N → N → Bool) → List (Rewrite T N P) → ℕ → T → Wants T N → List (Wants T N)
+ways e q g k t [] = []
+ways e q g k t (Terminal u ∷ w) = if e u t then w ∷ [] else []
+ways e q g zero t (Nonterminal f ∷ w) = []
+ways e q g (suc k) t (Nonterminal f ∷ w) = flat_map (λ x. ways e q g k t (x.symbols ++ w)) (rewrites_of q g f)
 
 -- the same of several
-abbrev pub all_ways : List Production → ℕ → ℕ → List Wants → List Wants
-all_ways g k t ws = flat_map (ways g k t) ws
+abbrev pub all_ways : {T N P : Type 0} → (T → T → Bool) → (N → N → Bool) → List (Rewrite T N P) → ℕ → T → List (Wants T N) → List (Wants T N)
+all_ways e q g k t ws = flat_map (ways e q g k t) ws
 
--- the sorts of tokens that can come first
-abbrev pub firsts : List Production → ℕ → Wants → List ℕ
-firsts g k [] = []
-firsts g k (Token u ∷ w) = u ∷ []
-firsts g zero (Form f ∷ w) = []
-firsts g (suc k) (Form f ∷ w) = flat_map (λ row. firsts g k (row ++ w)) (rows_of g f)
+-- the kinds of tokens that can come first
+abbrev pub firsts : {T N P : Type 0} → (N → N → Bool) → List (Rewrite T N P) → ℕ → Wants T N → List T
+firsts q g k [] = []
+firsts q g k (Terminal u ∷ w) = u ∷ []
+firsts q g zero (Nonterminal f ∷ w) = []
+firsts q g (suc k) (Nonterminal f ∷ w) = flat_map (λ x. firsts q g k (x.symbols ++ w)) (rewrites_of q g f)
 
-abbrev pub all_firsts : List Production → ℕ → List Wants → List ℕ
-all_firsts g k ws = flat_map (firsts g k) ws
+abbrev pub all_firsts : {T N P : Type 0} → (N → N → Bool) → List (Rewrite T N P) → ℕ → List (Wants T N) → List T
+all_firsts q g k ws = flat_map (firsts q g k) ws
 
 -- nothing more is wanted
-abbrev pub is_nothing : Wants → Bool
+abbrev pub is_nothing : {T N : Type 0} → Wants T N → Bool
 is_nothing [] = true
 is_nothing (x ∷ w) = false
 
 -- none is left
-abbrev pub is_stuck : List Wants → Bool
+abbrev pub is_stuck : {T N : Type 0} → List (Wants T N) → Bool
 is_stuck [] = true
 is_stuck (w ∷ ws) = false
 
--- a place, and the sorts that can come there
-pub record Found : Type 0 where
+-- a place, and the kinds that can come there
+pub record Found (T : Type 0) : Type 0 where
   pub at : ℕ
-  pub next : List ℕ
+  pub expected : List T
 
 -- The fault of the tokens, of which the first has the number at, where one of several lists is wanted.
-abbrev pub search_fault : List Production → ℕ → List Wants → ℕ → List ℕ → Option Found
-search_fault g k ws at [] = if list_any is_nothing ws then None else Some (record { at = at; next = all_firsts g k ws })
-search_fault g k ws at (t ∷ ts) =
-    if is_stuck (all_ways g k t ws) then Some (record { at = at; next = all_firsts g k ws }) else search_fault g k (all_ways g k t ws) (at + 1) ts
+abbrev pub search_fault : {T N P : Type 0} → (T → T → Bool) → (N → N → Bool) → List (Rewrite T N P) → ℕ → List (Wants T N) → ℕ → List T → Option (Found T)
+search_fault e q g k ws at [] = if list_any is_nothing ws then None else Some (record { at = at; expected = all_firsts q g k ws })
+search_fault e q g k ws at (t ∷ ts) =
+    if is_stuck (all_ways e q g k t ws) then Some (record { at = at; expected = all_firsts q g k ws }) else search_fault e q g k (all_ways e q g k t ws) (at + 1) ts
 
 -- what the search says: without a fault there is a derivation
-abbrev pub IsVerdict : List Production → ℕ → List ℕ → Option Found → Type 0
+abbrev pub IsVerdict : {T N P : Type 0} → List (Rewrite T N P) → N → List T → Option (Found T) → Type 0
 IsVerdict g f ts None = HasDerivation g f ts
-IsVerdict g f ts (Some x) = IsFault g f ts x.at x.next
+IsVerdict g f ts (Some x) = IsFault g f ts x.at x.expected
 
 -- the lists that the code holds
-abbrev pub all_wants : List (Vec Symbol) → List Wants
+abbrev pub all_wants : {T N : Type 0} → List (Vec (Symbol T N)) → List (Wants T N)
 all_wants vs = map (λ v. v.items) vs
 
-abbrev pub fault_view : Fault → Found
-fault_view f = record { at = f.at; next = f.next.items }
+abbrev pub fault_view : {T : Type 0} → Fault T → Found T
+fault_view f = record { at = f.at; expected = f.expected.items }

@@ -1,40 +1,72 @@
 //! The derivation of a list of tokens.
 
-ghost use Rattle.std.specs.Prelude.{◌≡◌, List, [], ◌∷◌, ◌++◌, reverse, map, IfOk, MatchOption};
-ghost use Rattle.witx_grammar.specs.Grammar.{Derives, grammar};
-ghost use Rattle.witx_grammar.specs.Prediction.{IsFine, begins, choose as choose_of, sign_view};
-ghost use Rattle.witx_grammar.specs.declared.table.Symbol.TheVariants.{Form};
-ghost use Rattle.witx_grammar.specs.declared.table.Move.{Move};
+ghost use Rattle.std.specs.Prelude.{◌≡◌, List, [], ◌∷◌, ◌++◌, reverse, map, option_map, IfOk, MatchOption};
+ghost use Rattle.std.specs.List.{flat_map};
+ghost use Rattle.witx_grammar.specs.Grammar.{Derives, grammar, rewrite_view, rewrites_of, rule_view};
+ghost use Rattle.witx_grammar.specs.Prediction.{HasOneRuleEach, IsPredictive, begins, choose as choose_of, lookahead};
+ghost use Rattle.witx_grammar.specs.declared.table.Symbol.TheVariants.{Nonterminal};
+ghost use Rattle.witx_grammar.specs.declared.table.Step.{Step};
 
-use crate::table::{Move, Sign, Symbol, Table};
+use crate::kind::Kind;
+use crate::table::{Production, Rule, Step, Symbol, Table};
 use std::alloc::{AllocError, Global};
 
-/// Whether the sorts begin with those of `front`.
-fn fits(front: &[u8], sorts: &[u8]) -> bool
-    ensures { result ≡ begins front.now sorts.now }
+/// Whether the tokens begin with the lookahead of the symbols.
+fn fits<T: Kind, N: Kind>(symbols: &[Symbol<T, N>], tokens: &[T]) -> bool
+    ensures { result ≡ begins T.eq (lookahead symbols.now) tokens.now }
 {
-    for (i, sort) in front.iter().enumerate() {
-        if i >= sorts.len() || *sort != sorts[i] {
-            return false;
+    for (i, symbol) in symbols.iter().enumerate() {
+        match symbol {
+            Symbol::Nonterminal(_nonterminal) => return true,
+            Symbol::Terminal(kind) => {
+                if i >= tokens.len() || *kind != tokens[i] {
+                    return false;
+                }
+            }
         }
     }
     true
 }
 
-/// The row that the signs show for the form.
-fn choose(signs: &[Sign], form: u8, sorts: &[u8]) -> Option<u8>
-    ensures { result ≡ choose_of (map sign_view signs.now) form sorts.now }
+/// The productions of a nonterminal.
+pub fn productions_of<'a, T: Kind, N: Kind, P: Kind>(
+    rules: &'a [Rule<'a, T, N, P>],
+    nonterminal: N,
+) -> &'a [Production<'a, T, N, P>]
+    requires { HasOneRuleEach N.eq rules.now }
+    ensures { map (rewrite_view nonterminal) result.now ≡ rewrites_of N.eq (flat_map rule_view rules.now) nonterminal }
 {
-    for sign in signs {
-        if sign.form == form && fits(sign.sorts, sorts) {
-            return Some(sign.row);
+    for rule in rules {
+        if rule.nonterminal == nonterminal {
+            return rule.productions;
+        }
+    }
+    &[]
+}
+
+/// The first production of the nonterminal that fits.
+fn choose<'a, T: Kind, N: Kind, P: Kind>(
+    table: &Table<'a, T, N, P>,
+    nonterminal: N,
+    tokens: &[T],
+) -> Option<&'a Production<'a, T, N, P>>
+    requires { HasOneRuleEach N.eq table.now.rules.now }
+    ensures { option_map (λ p. rewrite_view nonterminal p.now) result ≡ choose_of T.eq N.eq (grammar table.now) nonterminal tokens.now }
+{
+    let productions = productions_of(table.rules, nonterminal);
+    for production in productions {
+        if fits(production.symbols, tokens) {
+            return Some(production);
         }
     }
     None
 }
 
 /// Puts the symbols on the stack, the first of them on top.
-fn push_all(stack: &mut Vec<Symbol>, symbols: &[Symbol]) -> Result<(), AllocError>
+fn push_all<T: Kind, N: Kind>(
+    stack: &mut Vec<Symbol<T, N>>,
+    symbols: &[Symbol<T, N>],
+) -> Result<(), AllocError>
     ensures { IfOk result (λ _. reverse stack.new.items ≡ symbols.now ++ reverse stack.old.items) }
 {
     let mut left = symbols.len();
@@ -45,54 +77,46 @@ fn push_all(stack: &mut Vec<Symbol>, symbols: &[Symbol]) -> Result<(), AllocErro
     Ok(())
 }
 
-/// The derivation of the sorts from the form, or `None` where there is none.
+/// The derivation of the tokens from the nonterminal, or `None` where there is none.
 ///
 /// What is still wanted stands on a stack of its own, so neither nesting nor length costs the
 /// program's stack.
-pub fn derive(
+pub fn derive<T: Kind, N: Kind, P: Kind>(
     alloc: Global,
-    table: &Table,
-    form: u8,
-    sorts: &[u8],
-) -> Result<Option<Vec<Move>>, AllocError>
-    requires { IsFine table.now }
+    table: &Table<T, N, P>,
+    start: N,
+    tokens: &[T],
+) -> Result<Option<Vec<Step<P>>>, AllocError>
+    requires { IsPredictive T.eq N.eq P.eq table.now }
     ensures { IfOk result (λ o. MatchOption o
-        ((ms : List Move) → Derives (grammar table.now) ms (Form form ∷ []) sorts.now → ⊥)
-        (λ ms. Derives (grammar table.now) ms.items (Form form ∷ []) sorts.now)) }
+        ((ms : List (Step P)) → Derives (grammar table.now) ms (Nonterminal start ∷ []) tokens.now → ⊥)
+        (λ ms. Derives (grammar table.now) ms.items (Nonterminal start ∷ []) tokens.now)) }
 {
     let mut stack = Vec::new(alloc);
-    stack.push(Symbol::Form(form))?;
-    let mut moves = Vec::new(alloc);
+    stack.push(Symbol::Nonterminal(start))?;
+    let mut steps = Vec::new(alloc);
     let mut at = 0;
     'each: while let Some(symbol) = stack.pop() {
         match symbol {
-            Symbol::Token(sort) => {
-                if at >= sorts.len() || sorts[at] != sort {
+            Symbol::Terminal(kind) => {
+                if at >= tokens.len() || tokens[at] != kind {
                     return Ok(None);
                 }
-                moves.push(Move::Leaf)?;
+                steps.push(Step::Leaf)?;
                 at += 1;
             }
-            Symbol::Form(wanted) => {
-                let row = match choose(table.signs, wanted, &sorts[at..]) {
-                    Some(row) => row,
+            Symbol::Nonterminal(wanted) => {
+                let production = match choose(table, wanted, &tokens[at..]) {
+                    Some(production) => production,
                     None => return Ok(None),
                 };
-                let number = row as usize;
-                if number >= table.rows.len() {
-                    return Ok(None);
-                }
-                let line = table.rows[number];
-                if line.form != wanted {
-                    return Ok(None);
-                }
-                push_all(&mut stack, line.symbols)?;
-                moves.push(Move::Node(row))?;
+                push_all(&mut stack, production.symbols)?;
+                steps.push(Step::Node(production.name))?;
             }
         }
     }
-    if at == sorts.len() {
-        Ok(Some(moves))
+    if at == tokens.len() {
+        Ok(Some(steps))
     } else {
         Ok(None)
     }

@@ -1,47 +1,44 @@
 //! Grammars as tables.
 
-/// Ranks of forms are below this bound: so many forms at most are opened at one place.
+/// So many nonterminals at most are opened at one place.
 pub const DEPTH: u8 = 8;
 
-/// What a row wants: a token of a sort, or a whole form.
+/// What a production wants: a token of a kind, or whatever a nonterminal stands for.
 #[derive(Clone, Copy)]
-pub enum Symbol {
-    Token(u8),
-    Form(u8),
+pub enum Symbol<T, N> {
+    Terminal(T),
+    Nonterminal(N),
 }
 
-/// One way to write a form. A row is never empty: a repetition is a form of its own that ends with
-/// its closing token, an optional part is two rows.
-#[derive(Clone, Copy)]
-pub struct Row<'a> {
-    pub form: u8,
-    pub symbols: &'a [Symbol],
-}
-
-/// Sorts of tokens at which a row of the form is taken, unless an earlier sign of the form fits.
-#[derive(Clone, Copy)]
-pub struct Sign<'a> {
-    pub form: u8,
-    pub sorts: &'a [u8],
-    pub row: u8,
-}
-
-/// A grammar: its rows, and what helps the parser to use them.
+/// One way to write a nonterminal. It is never empty: a repetition is a nonterminal of its own that
+/// ends with its closing token, an optional part is two productions.
 ///
-/// Only the rows have a meaning. The signs say which row of a form is taken at which tokens, and
-/// the rank of a form is above the rank of each form that begins one of its rows. A table whose
-/// signs or ranks are wrong is refused: it is not `IsFine`.
-#[derive(Clone, Copy)]
-pub struct Table<'a> {
-    pub rows: &'a [Row<'a>],
-    pub signs: &'a [Sign<'a>],
-    pub ranks: &'a [u8],
+/// Its leading tokens, up to its first nonterminal, are its lookahead: it is taken where they all come
+/// next, unless an earlier production of the nonterminal is.
+pub struct Production<'a, T, N, P> {
+    pub name: P,
+    pub symbols: &'a [Symbol<T, N>],
 }
 
-/// A step of a derivation: the next token is read, or the next form is written by the row with the
-/// number.
+/// A nonterminal with its productions.
+pub struct Rule<'a, T, N, P> {
+    pub nonterminal: N,
+    pub productions: &'a [Production<'a, T, N, P>],
+}
+
+/// A grammar, with a rule for each nonterminal.
+///
+/// The order of the productions has no meaning, it only says which of them is tried first. A table in
+/// which that could be the wrong one is refused: it is not `IsPredictive`.
+#[derive(Drop)]
+pub struct Table<'a, T, N, P> {
+    pub rules: &'a [Rule<'a, T, N, P>],
+}
+
+/// A step of a leftmost derivation: the next token is read, or the next nonterminal is written by the
+/// production.
 #[derive(Clone, Copy, PartialEq, Eq)]
-pub enum Move {
+pub enum Step<P> {
     Leaf,
-    Node(u8),
+    Node(P),
 }

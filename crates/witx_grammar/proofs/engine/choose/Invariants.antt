@@ -1,6 +1,9 @@
-use Rattle.std.proofs.Common.{◌≡◌, drop, map}
-use Rattle.witx_grammar.specs.Prediction.{choose as choose_of, sign_view}
+use Rattle.std.proofs.Common.{◌≡◌, map, drop}
+use Rattle.witx_grammar.specs.Grammar.{rewrite_view}
+use Rattle.witx_grammar.specs.Prediction.{candidate, pick}
 use Rattle.witx_grammar.proofs.engine.choose.Given as goal
 
-abbrev pub invariant-loop-sign : goal.invariant-loop-sign
-invariant-loop-sign l = choose_of (map sign_view (drop l.sign-index l.signs)) l.form l.sorts ≡ choose_of (map sign_view l.signs) l.form l.sorts
+abbrev pub invariant-loop-production : goal.invariant-loop-production
+invariant-loop-production g l =
+    pick g.T.PartialEq.eq (map candidate (map (rewrite_view l.fn.nonterminal) (drop l.production-index l.productions))) l.tokens
+    ≡ pick g.T.PartialEq.eq (map candidate (map (rewrite_view l.fn.nonterminal) l.productions)) l.tokens

@@ -1,9 +1,15 @@
-use Rattle.std.proofs.Common.{arith}
-use Rattle.std.proofs.lemmas.Grind.{common_steps}
+use Rattle.std.proofs.Common.{◌++◌, ap, ◌∙◌}
+use Rattle.std.specs.Global.{Vec}
+use Rattle.witx_grammar.specs.declared.table.Symbol.{Symbol}
+use Rattle.witx_grammar.specs.declared.table.TheConstants.{DEPTH}
+use Rattle.witx_grammar.specs.Grammar.{Wants, grammar}
+use Rattle.witx_grammar.specs.Search.{all_wants, ways}
+use Rattle.witx_grammar.proofs.Opened.{loop_more}
 use Rattle.witx_grammar.proofs.fault.all_after.Goals as goal
 
 pub loop-want-preserved : goal.loop-want-preserved
-loop-want-preserved c = grind (arith, common_steps)
-
-pub returns : goal.returns
-returns c = grind (arith, common_steps)
+loop-want-preserved g c =
+    loop_more (ways g.T.PartialEq.eq g.N.PartialEq.eq (grammar c.args.table.now) DEPTH c.args.kind) (λ (v : Vec (Symbol g.row.T.Denot g.row.N.Denot)). v.items) c.args.wants.now c.loop-want.want-index c.want-item.result _ _ _
+    c.loop-want-test.true c.want-item.is
+    (c.in_ok-push_ways.ensures ∙ ap (λ (w : Wants g.row.T.Denot g.row.N.Denot). all_wants c.loop-want.out.items ++ ways g.T.PartialEq.eq g.N.PartialEq.eq (grammar c.args.table.now) DEPTH c.args.kind w) c.as_slice.ensures.value)
+    c.loop-want.invariant
