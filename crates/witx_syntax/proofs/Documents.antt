@@ -1,45 +1,39 @@
--- Tokens are at most one document, and those of a document have no fault.
-use Rattle.std.proofs.Common.{◌≡◌, ℕ, List, [], ◌∷◌, true, ap, ◌∙◌, subst}
+-- Tokens with one derivation are one document; and what the parser found, for the tokens of a text.
+use Rattle.std.proofs.Common.{◌≡◌, List, [], ◌∷◌, ap, ◌∙◌, subst}
 use Rattle.std.specs.Global.{Vec}
-use Rattle.witx_grammar.specs.Grammar.{Production, Derives, grammar}
+use Rattle.witx_grammar.specs.Grammar.{Rewrite, Derives}
 use Rattle.witx_grammar.specs.Faults.{IsFault, IsParsed}
-use Rattle.witx_grammar.specs.declared.fault.Fault.{Fault}
+use Rattle.witx_grammar.specs.declared.fault.Fault as engine
 use Rattle.witx_grammar.specs.declared.parser.Parsed.{Parsed}
-use Rattle.witx_grammar.specs.declared.parser.Parsed.TheVariants.{Derivation, Bad}
-use Rattle.witx_grammar.specs.Prediction.{hints, IsFine, all_lead}
-use Rattle.witx_grammar.specs.declared.table.Symbol.TheVariants.{Form}
-use Rattle.witx_grammar.specs.declared.table.Move.{Move}
-use Rattle.witx_grammar.specs.declared.table.Table.{Table}
-use Rattle.witx_grammar.proofs.Predicts.{unique}
-use Rattle.witx_grammar.proofs.Progress.{fine_leads}
+use Rattle.witx_grammar.specs.declared.parser.Parsed.TheVariants.{Derivation, Fault}
+use Rattle.witx_grammar.specs.declared.table.Symbol.TheVariants.{Nonterminal as wanted}
+use Rattle.witx_grammar.specs.declared.table.Step.{Step}
 use Rattle.witx_lex.specs.Tokens.{Lexed}
-use Rattle.witx_syntax.specs.declared.form.TheConstants.{TEXT}
+use Rattle.witx_syntax.specs.declared.nonterminal.Nonterminal.{Nonterminal}
+use Rattle.witx_syntax.specs.declared.nonterminal.Nonterminal.TheVariants.{Text}
+use Rattle.witx_syntax.specs.declared.production.ProductionName.{ProductionName}
+use Rattle.witx_syntax.specs.declared.token_kind.TokenKind.{TokenKind}
+use Rattle.witx_syntax.specs.Grammar.{the_grammar}
 use Rattle.witx_syntax.specs.Reads.{IsDocument, stands_for}
-use Rattle.witx_syntax.specs.Rows.{the_rows}
-use Rattle.witx_syntax.specs.Sorts.{sorts_of}
-use Rattle.witx_tree.specs.Trees.{Document}
+use Rattle.witx_syntax.specs.TokenKinds.{token_kinds}
 use Rattle.witx_syntax.specs.Values.{Val, some_items}
+use Rattle.witx_syntax_tree.specs.Trees.{Document}
+
+abbrev pub Grammar : Type 0
+Grammar = List (Rewrite TokenKind Nonterminal ProductionName)
 
 same_items : (d e : Document) (vs : List Val) → vs ≡ some_items d ∷ [] → vs ≡ some_items e ∷ [] → d ≡ e
 same_items d e vs a b = cc
 
-leads_of : (t : Table) → IsFine t → grammar t ≡ the_rows → all_lead the_rows (hints t) 0 the_rows ≡ true
-leads_of t fine rows = subst (λ (g : List Production). all_lead g (hints t) 0 g ≡ true) rows (fine_leads (grammar t) (hints t) t.ranks.now fine)
+pub one_document : (ts : List Lexed) (d e : Document) (a : IsDocument ts d) (b : IsDocument ts e) → a.steps ≡ b.steps → d ≡ e
+one_document ts d e a b same = same_items d e (stands_for ts a.steps) a.meaning (ap (λ (ms : List (Step ProductionName)). stands_for ts ms) same ∙ b.meaning)
 
-pub one_document : (t : Table) (ts : List Lexed) (d e : Document) → IsFine t → grammar t ≡ the_rows → IsDocument ts d → IsDocument ts e → d ≡ e
-one_document t ts d e fine rows a b =
-    let same : a.steps ≡ b.steps = unique the_rows (hints t) (leads_of t fine rows) a.steps b.steps (Form TEXT ∷ []) (sorts_of ts) a.derives b.derives in
-    same_items d e (stands_for ts a.steps) a.meaning (ap (λ (ms : List Move). stands_for ts ms) same ∙ b.meaning)
+module _ (g : Grammar) (xs : List TokenKind) (ts : List Lexed) (p : Parsed TokenKind ProductionName) (h : IsParsed g Text xs p) (rows : g ≡ the_grammar) (kinds : xs ≡ token_kinds ts) where
+  parsed : IsParsed the_grammar Text (token_kinds ts) p
+  parsed = subst (λ (l : List TokenKind). IsParsed the_grammar Text l p) kinds (subst (λ (x : Grammar). IsParsed x Text xs p) rows h)
 
--- what the parser found for the sorts of the tokens
-pub derived : (g : List Production) (xs : List ℕ) (ts : List Lexed) (p : Parsed) (ms : Vec Move) → IsParsed g TEXT xs p → p ≡ Derivation ms → g ≡ the_rows → xs ≡ sorts_of ts
-    → Derives the_rows ms.items (Form TEXT ∷ []) (sorts_of ts)
-derived g xs ts p ms h e rows sorts =
-    subst (λ (l : List ℕ). IsParsed the_rows TEXT l (Derivation ms)) sorts
-    (subst (λ (x : List Production). IsParsed x TEXT xs (Derivation ms)) rows (subst (λ (x : Parsed). IsParsed g TEXT xs x) e h))
+  pub derived : (ms : Vec (Step ProductionName)) (us : List (Step ProductionName)) → p ≡ Derivation ms → us ≡ ms.items → Derives the_grammar us (wanted Text ∷ []) (token_kinds ts)
+  derived ms us e is = rw is (subst (λ (x : Parsed TokenKind ProductionName). IsParsed the_grammar Text (token_kinds ts) x) e parsed)
 
-pub faulty : (g : List Production) (xs : List ℕ) (ts : List Lexed) (p : Parsed) (f : Fault) → IsParsed g TEXT xs p → p ≡ Bad f → g ≡ the_rows → xs ≡ sorts_of ts
-    → IsFault the_rows TEXT (sorts_of ts) f.at f.next.items
-faulty g xs ts p f h e rows sorts =
-    subst (λ (l : List ℕ). IsParsed the_rows TEXT l (Bad f)) sorts
-    (subst (λ (x : List Production). IsParsed x TEXT xs (Bad f)) rows (subst (λ (x : Parsed). IsParsed g TEXT xs x) e h))
+  pub faulty : (f : engine.Fault TokenKind) → p ≡ Fault f → IsFault the_grammar Text (token_kinds ts) f.at f.expected.items
+  faulty f e = subst (λ (x : Parsed TokenKind ProductionName). IsParsed the_grammar Text (token_kinds ts) x) e parsed

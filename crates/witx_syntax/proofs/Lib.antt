@@ -1,4 +1,5 @@
 pub mod Apart
+pub mod Before
 pub mod Digits
 pub mod Documents
 mod Examples

@@ -1,75 +1,91 @@
 -- Steps of the loop that builds a tree: what lies on the stack is what the steps from here on stand for.
-use Rattle.std.proofs.Common.{◌≡◌, ℕ, ◌+◌, ◌-◌, ◌<◌, ◌≤◌, true, false, ◌==◌, List, [], ◌∷◌, ◌++◌, length, get_or, refl, sym, ap, ◌∙◌, subst, arith}
-use Rattle.std.proofs.lemmas.Bool.{and_parts}
+use Rattle.std.proofs.Common.{◌≡◌, ℕ, ◌+◌, ◌-◌, ◌<◌, ◌≤◌, List, [], ◌∷◌, ◌++◌, length, get_or, drop, refl, sym, ap, ◌∙◌, subst, inl, inr, arith}
+use Rattle.std.proofs.lemmas.Bool.{cases_lt}
 use Rattle.std.proofs.lemmas.List.Concat.{flat_map-append}
-use Rattle.witx_grammar.specs.Grammar.{production, Derives}
-use Rattle.witx_grammar.specs.declared.table.Symbol.TheVariants.{Token, Form}
-use Rattle.witx_grammar.specs.declared.table.Move.{Move}
-use Rattle.witx_grammar.specs.declared.table.Move.TheVariants.{Leaf, Node}
-use Rattle.witx_grammar.proofs.Reading.{Back, back_before, back_leaf, back_row, back_node, back_end}
+use Rattle.witx_grammar.specs.Grammar.{Derives, Wants, Rewrite}
+use Rattle.witx_grammar.specs.declared.table.Symbol.TheVariants.{Terminal, Nonterminal}
+use Rattle.witx_grammar.specs.declared.table.Step.{Step}
+use Rattle.witx_grammar.specs.declared.table.Step.TheVariants.{Leaf, Node}
+use Rattle.witx_grammar.proofs.Reading.{Back, back_start, back_before, back_token, back_past, back_wanted, back_production, back_end}
 use Rattle.witx_lex.specs.Tokens.{Lexed}
-use Rattle.witx_syntax.specs.declared.form.TheConstants.{TEXT}
+use Rattle.witx_syntax.specs.declared.nonterminal.Nonterminal.{Nonterminal as Form}
+use Rattle.witx_syntax.specs.declared.nonterminal.Nonterminal.TheVariants.{Text}
+use Rattle.witx_syntax.specs.declared.production.ProductionName.{ProductionName}
+use Rattle.witx_syntax.specs.declared.token_kind.TokenKind.{TokenKind}
+use Rattle.witx_syntax.specs.declared.token_kind.TokenKind.TheVariants.{End}
+use Rattle.witx_syntax.specs.Actions.{act}
+use Rattle.witx_syntax.specs.Grammar.{written, production, the_names, the_grammar}
+use Rattle.witx_syntax.specs.Kinds as k
+use Rattle.witx_syntax.specs.Kinds.{Kind, Are, Holds, parts_of, nonterminal_kind, terminal_kinds, symbol_kinds, wants_kinds}
 use Rattle.witx_syntax.specs.Reads.{stands_for}
-use Rattle.witx_syntax.specs.Rows.{the_rows, act}
-use Rattle.witx_syntax.specs.Sorts.{sorts_of}
-use Rattle.witx_syntax.specs.Values.{Val, leaf, leaf_of}
-use Rattle.witx_syntax.specs.Kinds.{kind, has_kinds, kinds_are, row_kinds, row_kind, symbol_kinds, wants_kinds, items_kind, Fits}
-use Rattle.witx_syntax.proofs.Leaves.{leaf_fits}
+use Rattle.witx_syntax.specs.TokenKinds.{token_kinds}
+use Rattle.witx_syntax.specs.Values.{Val, no_lexed, token_at, leaf}
+use Rattle.witx_syntax.proofs.Leaves.{leaf_fits, past_kind, past_token, kinds_count}
+use Rattle.witx_syntax.proofs.Shapes.{other_kinds}
+use Rattle.witx_syntax.proofs.Sound.{named, production_fits, none_left}
 
-not_both : true ≡ false → ⊥
-not_both e = cc
+abbrev Fits : Wants TokenKind Form → List Val → Type 0
+Fits w vs = Are (wants_kinds w) vs
 
-all_and_more : (ks ls : List ℕ) (vs : List Val) → kinds_are (ks ++ ls) vs ≡ true → has_kinds ks vs ≡ true
-all_and_more [] ls vs e = refl
-all_and_more (k ∷ ks) ls [] e = absurd (not_both (sym e))
-all_and_more (k ∷ ks) ls (v ∷ vs) e =
-    let p = and_parts (kind v == k) (kinds_are (ks ++ ls) vs) e in
-    rw (p.0, all_and_more ks ls vs p.1) refl
+abbrev pub Here : List (Step ProductionName) → List Lexed → ℕ → ℕ → List Val → Type 0
+Here ms ts n at vs = Back the_grammar (Nonterminal Text ∷ []) ms (token_kinds ts) ts leaf act Fits n at vs
 
-abbrev pub Here : List Move → List Lexed → ℕ → ℕ → List Val → Type 0
-Here ms ts n at vs = Back the_rows (Form TEXT ∷ []) ms (sorts_of ts) (leaf_of ts) (act ts) Fits n at vs
+module _ (ms : List (Step ProductionName)) (ts : List Lexed) (d : Derives the_grammar ms (Nonterminal Text ∷ []) (token_kinds ts)) where
+  pub at_start : Here ms ts (length ms) (length ts + 1) []
+  at_start = subst (λ (n : ℕ). Here ms ts (length ms) n []) (kinds_count ts)
+      (back_start the_grammar (Nonterminal Text ∷ []) ms (token_kinds ts) ts leaf act Fits d refl)
 
-module _ (ms : List Move) (ts : List Lexed) (d : Derives the_rows ms (Form TEXT ∷ []) (sorts_of ts)) where
   shift : (n at : ℕ) (vs : List Val) → 0 < n → Here ms ts n at vs → Here ms ts (n - 1 + 1) at vs
-  shift n at vs lt h = subst (λ (x : ℕ). Here ms ts x at vs) (omega arith) h
+  shift n at vs lt h = subst (λ (x : ℕ). Here ms ts x at vs) (omega (arith, lt)) h
 
-  pub before_leaf : (n at : ℕ) (vs : List Val) → 0 < n → Here ms ts n at vs → get_or ms (n - 1) Leaf ≡ Leaf → (1 ≤ at) × (at - 1 < length (sorts_of ts))
+  -- a token is there, or the end
+  pub before_leaf : (n at : ℕ) (vs : List Val) → 0 < n → Here ms ts n at vs → get_or ms (n - 1) Leaf ≡ Leaf → 1 ≤ at
   before_leaf n at vs lt h e =
-      let q = back_before the_rows (Form TEXT ∷ []) ms (sorts_of ts) (leaf_of ts) (act ts) Fits d (n - 1) at vs (shift n at vs lt h) e in
-      ((omega (arith, q.0)), (omega (arith, q.0, q.1)))
+      let q = back_before the_grammar (Nonterminal Text ∷ []) ms (token_kinds ts) ts leaf act Fits d (n - 1) at vs (shift n at vs lt h) e in
+      omega (arith, q.0)
 
-  pub after_leaf : (n at : ℕ) (vs us : List Val) → 0 < n → Here ms ts n at vs → get_or ms (n - 1) Leaf ≡ Leaf → us ≡ leaf ts (at - 1) ++ vs → Here ms ts (n - 1) (at - 1) us
+  behind : (n at : ℕ) (vs : List Val) → 0 < n → Here ms ts n at vs → get_or ms (n - 1) Leaf ≡ Leaf → Here ms ts (n - 1 + 1) (at - 1 + 1) vs
+  behind n at vs lt h e = subst (λ (x : ℕ). Here ms ts (n - 1 + 1) x vs) (omega (arith, before_leaf n at vs lt h e)) (shift n at vs lt h)
+
+  token_there : (n at : ℕ) (vs us : List Val) → 0 < n → Here ms ts n at vs → get_or ms (n - 1) Leaf ≡ Leaf → at - 1 < length ts → us ≡ leaf (token_at ts (at - 1)) ++ vs → Here ms ts (n - 1) (at - 1) us
+  token_there n at vs us lt h e inside is =
+      back_token the_grammar (Nonterminal Text ∷ []) ms (token_kinds ts) ts leaf act Fits d (n - 1) (at - 1) End no_lexed vs us (behind n at vs lt h e) e inside is
+      (λ w f. subst (λ (x : List Val). Fits (Terminal (get_or (token_kinds ts) (at - 1) End) ∷ w) x) (sym is) (leaf_fits ts (at - 1) (wants_kinds w) vs inside f))
+
+  end_there : (n at : ℕ) (vs us : List Val) → 0 < n → Here ms ts n at vs → get_or ms (n - 1) Leaf ≡ Leaf → length ts ≤ at - 1 → us ≡ leaf (token_at ts (at - 1)) ++ vs → Here ms ts (n - 1) (at - 1) us
+  end_there n at vs us lt h e past is =
+      let same : us ≡ vs = is ∙ ap (λ (l : Lexed). leaf l ++ vs) (past_token ts (at - 1) past) in
+      subst (λ (x : List Val). Here ms ts (n - 1) (at - 1) x) (sym same)
+      (back_past the_grammar (Nonterminal Text ∷ []) ms (token_kinds ts) ts leaf act Fits d (n - 1) (at - 1) End vs (behind n at vs lt h e) e past
+      (λ w f. subst (λ (x : TokenKind). Fits (Terminal x ∷ w) vs) (sym (past_kind ts (at - 1) past)) f))
+
+  pub after_leaf : (n at : ℕ) (vs us : List Val) → 0 < n → Here ms ts n at vs → get_or ms (n - 1) Leaf ≡ Leaf → us ≡ leaf (token_at ts (at - 1)) ++ vs → Here ms ts (n - 1) (at - 1) us
   after_leaf n at vs us lt h e is =
-      let q = before_leaf n at vs lt h e in
-      let s = get_or (sorts_of ts) (at - 1) 0 in
-      back_leaf the_rows (Form TEXT ∷ []) ms (sorts_of ts) (leaf_of ts) (act ts) Fits d (n - 1) (at - 1) vs us (subst (λ (x : ℕ). Here ms ts (n - 1 + 1) x vs) (omega (arith, q.0)) (shift n at vs lt h)) e is
-      (λ w f. subst (λ (x : List Val). kinds_are (symbol_kinds (Token s) ++ wants_kinds w) x ≡ true) (sym is) (leaf_fits ts (at - 1) (wants_kinds w) vs q.1 f))
+      elim (cases_lt (at - 1) (length ts)) [
+        | inl inside ↦ token_there n at vs us lt h e inside is
+        | inr past ↦ end_there n at vs us lt h e past is
+      ]
 
-  pub before_node : (n at r : ℕ) (vs : List Val) → 0 < n → Here ms ts n at vs → get_or ms (n - 1) Leaf ≡ Node r → (r < 69) × (has_kinds (row_kinds r) vs ≡ true)
-  before_node n at r vs lt h e =
-      let q = back_row the_rows (Form TEXT ∷ []) ms (sorts_of ts) (leaf_of ts) (act ts) Fits d (n - 1) at r vs (shift n at vs lt h) e in
-      (q.1, all_and_more (row_kinds r) (wants_kinds q.0) vs (subst (λ (x : List ℕ). kinds_are x vs ≡ true) (flat_map-append symbol_kinds (production the_rows r).symbols q.0) q.2))
+  pub before_node : (n at : ℕ) (p : ProductionName) (vs : List Val) → 0 < n → Here ms ts n at vs → get_or ms (n - 1) Leaf ≡ Node p → Holds (parts_of p) vs
+  before_node n at p vs lt h e =
+      let q = back_wanted the_grammar (Nonterminal Text ∷ []) ms (token_kinds ts) ts leaf act Fits d (n - 1) at p vs (shift n at vs lt h) e in
+      let same : q.0 ≡ production p = named the_names q.0 q.2 ∙ ap production q.3 in
+      let there : Fits ((written p).symbols ++ q.1) vs = subst (λ (x : Rewrite TokenKind Form ProductionName). Fits (x.symbols ++ q.1) vs) same q.4 in
+      (wants_kinds q.1, subst (λ (x : List Kind). Are x vs) (flat_map-append symbol_kinds (written p).symbols q.1) there)
 
-  pub after_node : (n at r : ℕ) (vs us : List Val) → 0 < n → Here ms ts n at vs → get_or ms (n - 1) Leaf ≡ Node r → us ≡ act ts r at vs
-      → ((ks : List ℕ) → kinds_are (row_kinds r ++ ks) vs ≡ true → kinds_are (row_kind r ∷ ks) us ≡ true) → Here ms ts (n - 1) at us
-  after_node n at r vs us lt h e is typed =
-      back_node the_rows (Form TEXT ∷ []) ms (sorts_of ts) (leaf_of ts) (act ts) Fits d (n - 1) at r vs us (shift n at vs lt h) e is
-      (λ w f. typed (wants_kinds w) (subst (λ (x : List ℕ). kinds_are x vs ≡ true) (flat_map-append symbol_kinds (production the_rows r).symbols w) f))
+  pub after_node : (n at : ℕ) (p : ProductionName) (vs us : List Val) → 0 < n → Here ms ts n at vs → get_or ms (n - 1) Leaf ≡ Node p → us ≡ act p (drop at ts) vs → Here ms ts (n - 1) at us
+  after_node n at p vs us lt h e is =
+      back_production the_grammar (Nonterminal Text ∷ []) ms (token_kinds ts) ts leaf act Fits d (n - 1) at p vs us (shift n at vs lt h) e is
+      (λ x w i s f.
+      let same : x ≡ production p = named the_names x i ∙ ap production s in
+      let made = production_fits (λ m. Unit {0}) (λ t. Unit {0}) p (drop at ts) w vs (subst (λ (y : Rewrite TokenKind Form ProductionName). Fits (y.symbols ++ w) vs) same f) in
+      subst (λ (y : Rewrite TokenKind Form ProductionName). Fits (Nonterminal y.nonterminal ∷ w) us) (sym same)
+      (subst (λ (y : List Val). Are (nonterminal_kind (written p).nonterminal ∷ wants_kinds w) y) (sym is) made.0))
 
   -- at the end of the loop the items stand alone
-  pub at_end : (n at : ℕ) (vs : List Val) → n ≡ 0 → Here ms ts n at vs → (kinds_are (items_kind ∷ []) vs ≡ true) × (vs ≡ stands_for ts ms)
-  at_end n at vs e h =
-      let q = back_end the_rows (Form TEXT ∷ []) ms (sorts_of ts) (leaf_of ts) (act ts) Fits d at vs (subst (λ (x : ℕ). Here ms ts x at vs) e h) in
-      (q.1, q.0)
+  pub at_end : (n at : ℕ) (vs : List Val) → n ≡ 0 → Here ms ts n at vs → (vs ≡ stands_for ts ms) × Are (k.items ∷ []) vs
+  at_end n at vs e h = back_end the_grammar (Nonterminal Text ∷ []) ms (token_kinds ts) ts leaf act Fits d at vs (subst (λ (x : ℕ). Here ms ts x at vs) e h)
 
-alone : (v : Val) (vs : List Val) → kinds_are (items_kind ∷ []) (v ∷ vs) ≡ true → vs ≡ []
-alone v [] e = refl
-alone v (u ∷ vs) e = absurd (not_both (sym (and_parts (kind v == items_kind) false e).1))
-
-pub only_items : (ms : List Move) (ts : List Lexed) (vs new : List Val) (v : Val) → (kinds_are (items_kind ∷ []) vs ≡ true) × (vs ≡ stands_for ts ms) → vs ≡ v ∷ new → stands_for ts ms ≡ v ∷ []
-only_items ms ts vs new v h e =
-    let none : new ≡ [] = alone v new (subst (λ (x : List Val). kinds_are (items_kind ∷ []) x ≡ true) e h.0) in
-    sym h.1 ∙ e ∙ ap (λ (x : List Val). v ∷ x) none
-
-pub items_there : (vs : List Val) → kinds_are (items_kind ∷ []) vs ≡ true → has_kinds (items_kind ∷ []) vs ≡ true
-items_there vs e = all_and_more (items_kind ∷ []) [] vs e
+pub only_items : (meant vs new : List Val) (v : Val) → (vs ≡ meant) × Are (k.items ∷ []) vs → vs ≡ v ∷ new → meant ≡ v ∷ []
+only_items meant vs new v h e =
+    sym h.0 ∙ e ∙ ap (λ (x : List Val). v ∷ x) (none_left new (other_kinds _ k.items _ [] (subst (λ (x : List Val). Are (k.items ∷ []) x) e h.1)))

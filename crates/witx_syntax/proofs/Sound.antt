@@ -1,289 +1,279 @@
--- What a derivation of the tokens of a text stands for is one document, and each of its identifiers is one of the tokens.
-use Rattle.std.proofs.Common.{◌≡◌, ℕ, zero, suc, ◌+◌, ◌<◌, ◌≤◌, Bool, true, false, cond, List, [], ◌∷◌, ◌++◌, length, get_or, drop, map, refl, sym, ap, ◌∙◌, subst, inl, inr, arith}
-use Rattle.std.specs.Prelude.{All, slice_index_or, slice_range}
-use Rattle.std.proofs.lemmas.Bool.{cases_lt}
-use Rattle.std.proofs.lemmas.List.{drop_more, length-drop}
+-- What a derivation of the tokens of a text stands for is one document, and what holds of its identifiers and quoted texts holds of all of the document's.
+use Rattle.std.proofs.Common.{◌≡◌, ℕ, zero, suc, Bool, true, false, cond, List, [], ◌∷◌, ◌++◌, map, refl, sym, ap, ◌∙◌, subst, inl, inr, arith}
+use Rattle.std.specs.Prelude.{All, slice_range}
 use Rattle.std.proofs.lemmas.List.Concat.{flat_map-append}
-use Rattle.witx_grammar.specs.Grammar.{Wants, Production, production, Derives}
+use Rattle.witx_grammar.specs.Grammar.{Wants, In, Rewrite, Derives}
 use Rattle.witx_grammar.specs.Reading.{values}
-use Rattle.witx_grammar.specs.declared.table.Symbol.TheVariants.{Token, Form}
-use Rattle.witx_grammar.specs.declared.table.Move.{Move}
-use Rattle.witx_grammar.specs.declared.table.Move.TheVariants.{Leaf, Node}
+use Rattle.witx_grammar.specs.declared.table.Symbol.TheVariants.{Terminal, Nonterminal}
+use Rattle.witx_grammar.specs.declared.table.Step.{Step}
+use Rattle.witx_grammar.specs.declared.table.Step.TheVariants.{Leaf, Node}
 use Rattle.witx_lex.specs.Slices.{Spells, StandsAt}
-use Rattle.witx_lex.specs.Tokens.{Token as LexToken, left, right, id, word, annot, int, quoted, Lexed}
-use Rattle.witx_tree.specs.Trees.{Name, Fields, Document}
-use Rattle.witx_syntax.specs.declared.form.TheConstants.{TEXT}
+use Rattle.witx_lex.specs.Tokens.{Token, left, right, id, word, annot, int, quoted, Lexed}
+use Rattle.witx_syntax_tree.specs.Trees.{Name, Fields, Document}
+use Rattle.witx_syntax.specs.declared.nonterminal.Nonterminal.{Nonterminal as Form}
+use Rattle.witx_syntax.specs.declared.nonterminal.Nonterminal.TheVariants.{Text}
+use Rattle.witx_syntax.specs.declared.production.ProductionName.{ProductionName}
+use Rattle.witx_syntax.specs.declared.production.ProductionName.TheVariants as p
+use Rattle.witx_syntax.specs.declared.token_kind.TokenKind.{TokenKind}
+use Rattle.witx_syntax.specs.declared.token_kind.TokenKind.TheVariants.{End}
+use Rattle.witx_syntax.specs.Actions.{act, with_entry}
+use Rattle.witx_syntax.specs.Grammar.{written, production, the_names, the_grammar}
 use Rattle.witx_syntax.specs.Integers.{is_small, int_value}
-use Rattle.witx_syntax.specs.Kinds.{kinds_are, form_kind, sort_kinds, symbol_kinds, wants_kinds, items_kind, entries_kind}
+use Rattle.witx_syntax.specs.Kinds as k
+use Rattle.witx_syntax.specs.Kinds.{Kind, kind_of, Are, parts_of, nonterminal_kind, terminal_kinds, symbol_kinds, wants_kinds}
 use Rattle.witx_syntax.specs.Names.{StandsInText, NamesOfMembers, NamesOfType, NamesOfMaybe, NamesOfTypes, NamesOfFields, NamesOfUnionFields, NamesOfCases, NamesOfDecl, NamesOfDecls, NamesOfItem, AllNames}
 use Rattle.witx_syntax.specs.Reads.{stands_for}
-use Rattle.witx_syntax.specs.Rows.{Rule, the_rules, the_rows, production_of, no_rule, act, row_more_entries}
-use Rattle.witx_syntax.specs.Sorts.{sorts_of}
-use Rattle.witx_syntax.specs.Values.{EntryTree, param, result_of, noreturn, stored, Val, a_name, a_text, an_integer, a_builtin, a_type, some_types, an_error, a_member, some_members, a_field, some_fields, a_union_field, some_union_fields, a_case, some_cases, an_entry, some_entries, a_decl, some_decls, an_item, some_items, no_lexed, token_values, leaf_of, leaf}
-use Rattle.witx_syntax.proofs.Leaves.{leaf_fits}
-use Rattle.witx_syntax.proofs.Shapes.{OfKinds, by_kinds}
+use Rattle.witx_syntax.specs.TokenKinds.{token_kind, token_kinds}
+use Rattle.witx_syntax.specs.Values.{EntryTree, param, result_of, noreturn, stored, Val, a_name, a_text, an_integer, a_builtin, a_type, some_types, an_error, a_member, some_members, a_field, some_fields, a_union_field, some_union_fields, a_case, some_cases, an_entry, some_entries, a_decl, some_decls, an_item, some_items, token_values, leaf}
+use Rattle.witx_syntax.proofs.Leaves.{token_fits}
+use Rattle.witx_syntax.proofs.Shapes.{OfKinds, by_kinds, no_kinds}
 
-not_both : true ≡ false → ⊥
-not_both e = cc
+-- ---- the identifiers and quoted texts of values
 
--- ---- the identifiers of values
+abbrev NamesOfEntry : (Name → Type 0) → (List ℕ → Type 0) → EntryTree → Type 0
+NamesOfEntry P Q (param cs n t) = P n × NamesOfType P Q t
+NamesOfEntry P Q (result_of cs n t) = P n × NamesOfType P Q t
+NamesOfEntry P Q noreturn = Unit {0}
+NamesOfEntry P Q stored = Unit {0}
 
-abbrev NamesOfEntry : (Name → Type 0) → EntryTree → Type 0
-NamesOfEntry P (param cs n t) = P n × NamesOfType P t
-NamesOfEntry P (result_of cs n t) = P n × NamesOfType P t
-NamesOfEntry P noreturn = Unit {0}
-NamesOfEntry P stored = Unit {0}
+abbrev NamesOfValue : (Name → Type 0) → (List ℕ → Type 0) → Val → Type 0
+NamesOfValue P Q (a_name n) = P n
+NamesOfValue P Q (a_text q) = Q q.text
+NamesOfValue P Q (an_integer n) = Unit {0}
+NamesOfValue P Q (a_builtin b) = Unit {0}
+NamesOfValue P Q (a_type t) = NamesOfType P Q t
+NamesOfValue P Q (some_types ts) = NamesOfTypes P Q ts
+NamesOfValue P Q (an_error e) = NamesOfMaybe P Q e
+NamesOfValue P Q (a_member m) = P m.name
+NamesOfValue P Q (some_members ms) = NamesOfMembers P Q ms
+NamesOfValue P Q (a_field cs n t) = P n × NamesOfType P Q t
+NamesOfValue P Q (some_fields fs) = NamesOfFields P Q fs
+NamesOfValue P Q (a_union_field cs t) = NamesOfType P Q t
+NamesOfValue P Q (some_union_fields fs) = NamesOfUnionFields P Q fs
+NamesOfValue P Q (a_case cs n t) = P n × NamesOfMaybe P Q t
+NamesOfValue P Q (some_cases cs) = NamesOfCases P Q cs
+NamesOfValue P Q (an_entry e) = NamesOfEntry P Q e
+NamesOfValue P Q (some_entries ps rs n s) = NamesOfFields P Q ps × NamesOfFields P Q rs
+NamesOfValue P Q (a_decl d) = NamesOfDecl P Q d.decl
+NamesOfValue P Q (some_decls ds) = NamesOfDecls P Q ds
+NamesOfValue P Q (an_item i) = NamesOfItem P Q i
+NamesOfValue P Q (some_items is) = AllNames P Q is
 
-abbrev NamesOfValue : (Name → Type 0) → Val → Type 0
-NamesOfValue P (a_name n) = P n
-NamesOfValue P (a_text q) = Unit {0}
-NamesOfValue P (an_integer n) = Unit {0}
-NamesOfValue P (a_builtin b) = Unit {0}
-NamesOfValue P (a_type t) = NamesOfType P t
-NamesOfValue P (some_types ts) = NamesOfTypes P ts
-NamesOfValue P (an_error e) = NamesOfMaybe P e
-NamesOfValue P (a_member m) = P m.name
-NamesOfValue P (some_members ms) = NamesOfMembers P ms
-NamesOfValue P (a_field cs n t) = P n × NamesOfType P t
-NamesOfValue P (some_fields fs) = NamesOfFields P fs
-NamesOfValue P (a_union_field cs t) = NamesOfType P t
-NamesOfValue P (some_union_fields fs) = NamesOfUnionFields P fs
-NamesOfValue P (a_case cs n t) = P n × NamesOfMaybe P t
-NamesOfValue P (some_cases cs) = NamesOfCases P cs
-NamesOfValue P (an_entry e) = NamesOfEntry P e
-NamesOfValue P (some_entries ps rs n s) = NamesOfFields P ps × NamesOfFields P rs
-NamesOfValue P (a_decl d) = NamesOfDecl P d.decl
-NamesOfValue P (some_decls ds) = NamesOfDecls P ds
-NamesOfValue P (an_item i) = NamesOfItem P i
-NamesOfValue P (some_items is) = AllNames P is
+abbrev pub NamesOfValues : (Name → Type 0) → (List ℕ → Type 0) → List Val → Type 0
+NamesOfValues P Q [] = Unit {0}
+NamesOfValues P Q (v ∷ vs) = NamesOfValue P Q v × NamesOfValues P Q vs
 
-abbrev pub NamesOfValues : (Name → Type 0) → List Val → Type 0
-NamesOfValues P [] = Unit {0}
-NamesOfValues P (v ∷ vs) = NamesOfValue P v × NamesOfValues P vs
+append_names : (P : Name → Type 0) (Q : List ℕ → Type 0) (us vs : List Val) → NamesOfValues P Q us → NamesOfValues P Q vs → NamesOfValues P Q (us ++ vs)
+append_names P Q [] vs h k = k
+append_names P Q (u ∷ us) vs h k = (h.0, append_names P Q us vs h.1 k)
 
-append_names : (P : Name → Type 0) (us vs : List Val) → NamesOfValues P us → NamesOfValues P vs → NamesOfValues P (us ++ vs)
-append_names P [] vs h k = k
-append_names P (u ∷ us) vs h k = (h.0, append_names P us vs h.1 k)
+-- the claims hold of each token
+abbrev pub NamesOfTokens : (Name → Type 0) → (List ℕ → Type 0) → List Lexed → Type 0
+NamesOfTokens P Q [] = Unit {0}
+NamesOfTokens P Q (l ∷ ls) = NamesOfValues P Q (leaf l) × NamesOfTokens P Q ls
 
--- ---- rows
+-- ---- productions
 
--- from values of the kinds that its row wants an action makes one of the kind of its form, of the same identifiers
-abbrev Makes : (Name → Type 0) → List ℕ → ℕ → List Val → List Val → Type 0
-Makes P ls form vs us = (kinds_are (form_kind form ∷ ls) us ≡ true) × (NamesOfValues P vs → NamesOfValues P us)
+-- from values of the kinds that the production is made of its action makes one of the kind of its nonterminal, of the same identifiers and texts
+abbrev Makes : (Name → Type 0) → (List ℕ → Type 0) → List Kind → Kind → List Val → List Val → Type 0
+Makes P Q ls k vs us = Are (k ∷ ls) us × (NamesOfValues P Q vs → NamesOfValues P Q us)
 
-abbrev IsSound : (Name → Type 0) → Rule → Type 0
-IsSound P u = (ts : List Lexed) (at : ℕ) (ls : List ℕ) → OfKinds (wants_kinds u.symbols) ls (λ vs. Makes P ls u.form vs (u.action ts at vs))
+abbrev IsSound : (Name → Type 0) → (List ℕ → Type 0) → ProductionName → Type 0
+IsSound P Q x = (ts : List Lexed) (ls : List Kind) → OfKinds (parts_of x) ls (λ vs. Makes P Q ls (nonterminal_kind (written x).nonterminal) vs (act x ts vs))
 
--- each rule of the list is sound
-infixr 20 ◌▸◌
-data AreSound (P : Name → Type 0) : List Rule → Type 0 where
-  all_done : AreSound P []
-  ◌▸◌ : {u : Rule} {us : List Rule} → IsSound P u → AreSound P us → AreSound P (u ∷ us)
+one : {k : Kind} {ks ls : List Kind} → ks ≡ ls → k ∷ ks ≡ k ∷ ls
+one {k} {ks} {ls} e = ap (λ (x : List Kind). k ∷ x) e
 
-more_entries : (P : Name → Type 0) (ts : List Lexed) (at : ℕ) (ls : List ℕ) (x : EntryTree) (ps rs : Fields) (n s : Bool) (vs : List Val) → kinds_are ls vs ≡ true
-    → (kinds_are (entries_kind ∷ ls) (row_more_entries (an_entry x ∷ some_entries ps rs n s ∷ vs)) ≡ true)
-    × (NamesOfValues P (an_entry x ∷ some_entries ps rs n s ∷ vs) → NamesOfValues P (row_more_entries (an_entry x ∷ some_entries ps rs n s ∷ vs)))
-more_entries P ts at ls (param cs x t) ps rs n s vs e = (e, λ h. (((h.0, h.1.0.0), h.1.0.1), h.1.1))
-more_entries P ts at ls (result_of cs x t) ps rs n s vs e = (e, λ h. ((h.1.0.0, (h.0, h.1.0.1)), h.1.1))
-more_entries P ts at ls noreturn ps rs n s vs e = (e, λ h. h.1)
-more_entries P ts at ls stored ps rs n s vs e = (e, λ h. h.1)
+more_entries : (P : Name → Type 0) (Q : List ℕ → Type 0) (ls : List Kind) (x : EntryTree) (ps rs : Fields) (n s : Bool) (vs : List Val) → Are ls vs
+    → Makes P Q ls k.entries (an_entry x ∷ some_entries ps rs n s ∷ vs) (with_entry x ps rs n s ∷ vs)
+more_entries P Q ls (param cs x t) ps rs n s vs e = (one e, λ h. (((h.0, h.1.0.0), h.1.0.1), h.1.1))
+more_entries P Q ls (result_of cs x t) ps rs n s vs e = (one e, λ h. ((h.1.0.0, (h.0, h.1.0.1)), h.1.1))
+more_entries P Q ls noreturn ps rs n s vs e = (one e, λ h. h.1)
+more_entries P Q ls stored ps rs n s vs e = (one e, λ h. h.1)
 
--- row by row, in their order
-all_sound : (P : Name → Type 0) → AreSound P the_rules
-all_sound P =
-    (λ ts at ls vs e. (e, λ h. (tt, h)))
-    ▸ (λ ts at ls i is vs e. (e, λ h. ((h.0, h.1.0), h.1.1)))
-    ▸ (λ ts at ls q vs e. (e, λ h. (tt, h.1)))
-    ▸ (λ ts at ls n t vs e. (e, λ h. ((h.0, h.1.0), h.1.1)))
-    ▸ (λ ts at ls n ds vs e. (e, λ h. ((h.0, h.1.0), h.1.1)))
-    ▸ (λ ts at ls n n2 v vs e. (e, λ h. ((h.0, h.1.0), h.1.1.1)))
-    ▸ (λ ts at ls vs e. (e, λ h. (tt, h)))
-    ▸ (λ ts at ls vs e. (e, λ h. (tt, h)))
-    ▸ (λ ts at ls vs e. (e, λ h. (tt, h)))
-    ▸ (λ ts at ls vs e. (e, λ h. (tt, h)))
-    ▸ (λ ts at ls vs e. (e, λ h. (tt, h)))
-    ▸ (λ ts at ls vs e. (e, λ h. (tt, h)))
-    ▸ (λ ts at ls vs e. (e, λ h. (tt, h)))
-    ▸ (λ ts at ls vs e. (e, λ h. (tt, h)))
-    ▸ (λ ts at ls vs e. (e, λ h. (tt, h)))
-    ▸ (λ ts at ls vs e. (e, λ h. (tt, h)))
-    ▸ (λ ts at ls vs e. (e, λ h. (tt, h)))
-    ▸ (λ ts at ls t vs e. (e, λ h. h))
-    ▸ (λ ts at ls t vs e. (e, λ h. h))
-    ▸ (λ ts at ls vs e. (e, λ h. (tt, h)))
-    ▸ (λ ts at ls vs e. (e, λ h. (tt, h)))
-    ▸ (λ ts at ls t vs e. (e, λ h. h))
-    ▸ (λ ts at ls n vs e. (e, λ h. h))
-    ▸ (λ ts at ls vs e. (e, λ h. (tt, h)))
-    ▸ (λ ts at ls vs e. (e, λ h. (tt, h)))
-    ▸ (λ ts at ls b m ms vs e. (e, λ h. ((h.1.0, h.1.1.0), h.1.1.1)))
-    ▸ (λ ts at ls m ms vs e. (e, λ h. ((h.0, h.1.0), h.1.1)))
-    ▸ (λ ts at ls b ms vs e. (e, λ h. h.1))
-    ▸ (λ ts at ls ms vs e. (e, λ h. h))
-    ▸ (λ ts at ls cs n t fs vs e. (e, λ h. ((h.0, h.1.0), h.1.1)))
-    ▸ (λ ts at ls tys vs e. (e, λ h. h))
-    ▸ (λ ts at ls t vs e. (e, λ h. h))
-    ▸ (λ ts at ls vs e. (e, λ h. (tt, h)))
-    ▸ (λ ts at ls x vs e. (e, λ h. ((tt, h.0), h.1)))
-    ▸ (λ ts at ls t x vs e. (e, λ h. ((h.0, h.1.0), h.1.1)))
-    ▸ (λ ts at ls t us vs e. (e, λ h. ((h.0, h.1.0), h.1.1)))
-    ▸ (λ ts at ls vs e. (e, λ h. ((tt, tt), h)))
-    ▸ (λ ts at ls cs t us vs e. (e, λ h. ((tt, (h.0, h.1.0)), h.1.1)))
-    ▸ (λ ts at ls t cs vs e. (e, λ h. ((h.0, h.1.0), h.1.1)))
-    ▸ (λ ts at ls cs vs e. (e, λ h. ((tt, h.0), h.1)))
-    ▸ (λ ts at ls b vs e. (e, λ h. h))
-    ▸ (λ ts at ls n vs e. (e, λ h. h))
-    ▸ (λ ts at ls vs e. (e, λ h. (tt, h)))
-    ▸ (λ ts at ls m ms vs e. (e, λ h. ((h.0, h.1.0), h.1.1)))
-    ▸ (λ ts at ls vs e. (e, λ h. (tt, h)))
-    ▸ (λ ts at ls t tys vs e. (e, λ h. ((h.0, h.1.0), h.1.1)))
-    ▸ (λ ts at ls t vs e. (e, λ h. h))
-    ▸ (λ ts at ls t vs e. (e, λ h. h))
-    ▸ (λ ts at ls vs e. (e, λ h. (tt, h)))
-    ▸ (λ ts at ls cs t us vs e. (e, λ h. ((h.0, h.1.0), h.1.1)))
-    ▸ (λ ts at ls n t vs e. (e, λ h. ((h.0, h.1.0), h.1.1)))
-    ▸ (λ ts at ls vs e. (e, λ h. (tt, h)))
-    ▸ (λ ts at ls cs n t fs vs e. (e, λ h. ((h.0, h.1.0), h.1.1)))
-    ▸ (λ ts at ls vs e. (e, λ h. (tt, h)))
-    ▸ (λ ts at ls t vs e. (e, λ h. h))
-    ▸ (λ ts at ls n vs e. (e, λ h. ((h.0, tt), h.1)))
-    ▸ (λ ts at ls n t vs e. (e, λ h. ((h.0, h.1.0), h.1.1)))
-    ▸ (λ ts at ls vs e. (e, λ h. (tt, h)))
-    ▸ (λ ts at ls cs n t cs2 vs e. (e, λ h. ((h.0, h.1.0), h.1.1)))
-    ▸ (λ ts at ls q vs e. (e, λ h. h))
-    ▸ (λ ts at ls q ps rs n s vs e. (e, λ h. h.1))
-    ▸ (λ ts at ls vs e. (e, λ h. (tt, h)))
-    ▸ (λ ts at ls d ds vs e. (e, λ h. ((h.0, h.1.0), h.1.1)))
-    ▸ (λ ts at ls n t vs e. (e, λ h. ((h.0, h.1.0), h.1.1)))
-    ▸ (λ ts at ls n t vs e. (e, λ h. ((h.0, h.1.0), h.1.1)))
-    ▸ (λ ts at ls vs e. (e, λ h. (tt, h)))
-    ▸ (λ ts at ls vs e. (e, λ h. (tt, h)))
-    ▸ (λ ts at ls vs e. (e, λ h. ((tt, tt), h)))
-    ▸ more_entries P
-    ▸ all_done
+all_sound : (P : Name → Type 0) (Q : List ℕ → Type 0) (x : ProductionName) → IsSound P Q x
+all_sound P Q p.NoItems = λ ts ls vs e. (one e, λ h. (tt, h))
+all_sound P Q p.MoreItems = λ ts ls i is vs e. (one e, λ h. ((h.0, h.1.0), h.1.1))
+all_sound P Q p.Use = λ ts ls q vs e. (one e, λ h. h)
+all_sound P Q p.Typename = λ ts ls n t vs e. (one e, λ h. ((h.0, h.1.0), h.1.1))
+all_sound P Q p.Module = λ ts ls n ds vs e. (one e, λ h. ((h.0, h.1.0), h.1.1))
+all_sound P Q p.Const = λ ts ls t n i vs e. (one e, λ h. ((h.0, h.1.0), h.1.1.1))
+all_sound P Q p.Char = λ ts ls vs e. (one e, λ h. (tt, h))
+all_sound P Q p.U8 = λ ts ls vs e. (one e, λ h. (tt, h))
+all_sound P Q p.U16 = λ ts ls vs e. (one e, λ h. (tt, h))
+all_sound P Q p.U32 = λ ts ls vs e. (one e, λ h. (tt, h))
+all_sound P Q p.U64 = λ ts ls vs e. (one e, λ h. (tt, h))
+all_sound P Q p.S8 = λ ts ls vs e. (one e, λ h. (tt, h))
+all_sound P Q p.S16 = λ ts ls vs e. (one e, λ h. (tt, h))
+all_sound P Q p.S32 = λ ts ls vs e. (one e, λ h. (tt, h))
+all_sound P Q p.S64 = λ ts ls vs e. (one e, λ h. (tt, h))
+all_sound P Q p.F32 = λ ts ls vs e. (one e, λ h. (tt, h))
+all_sound P Q p.F64 = λ ts ls vs e. (one e, λ h. (tt, h))
+all_sound P Q p.Pointer = λ ts ls t vs e. (one e, λ h. h)
+all_sound P Q p.ConstPointer = λ ts ls t vs e. (one e, λ h. h)
+all_sound P Q p.Usize = λ ts ls vs e. (one e, λ h. (tt, h))
+all_sound P Q p.Char8 = λ ts ls vs e. (one e, λ h. (tt, h))
+all_sound P Q p.PlainType = λ ts ls t vs e. (one e, λ h. h)
+all_sound P Q p.Ident = λ ts ls n vs e. (one e, λ h. h)
+all_sound P Q p.String = λ ts ls vs e. (one e, λ h. (tt, h))
+all_sound P Q p.Bool = λ ts ls vs e. (one e, λ h. (tt, h))
+all_sound P Q p.TaggedEnum = λ ts ls b m ms vs e. (one e, λ h. ((h.1.0, h.1.1.0), h.1.1.1))
+all_sound P Q p.Enum = λ ts ls m ms vs e. (one e, λ h. ((h.0, h.1.0), h.1.1))
+all_sound P Q p.TaggedFlags = λ ts ls b ms vs e. (one e, λ h. h.1)
+all_sound P Q p.Flags = λ ts ls ms vs e. (one e, λ h. h)
+all_sound P Q p.Record = λ ts ls cs n t fs vs e. (one e, λ h. ((tt, (h.0, h.1.0)), h.1.1))
+all_sound P Q p.Tuple = λ ts ls us vs e. (one e, λ h. h)
+all_sound P Q p.List = λ ts ls t vs e. (one e, λ h. h)
+all_sound P Q p.Handle = λ ts ls vs e. (one e, λ h. (tt, h))
+all_sound P Q p.Expected = λ ts ls x vs e. (one e, λ h. ((tt, h.0), h.1))
+all_sound P Q p.ExpectedType = λ ts ls t x vs e. (one e, λ h. ((h.0, h.1.0), h.1.1))
+all_sound P Q p.TaggedUnion = λ ts ls t fs vs e. (one e, λ h. ((h.0, h.1.0), h.1.1))
+all_sound P Q p.EmptyUnion = λ ts ls vs e. (one e, λ h. ((tt, tt), h))
+all_sound P Q p.Union = λ ts ls cs t fs vs e. (one e, λ h. ((tt, (h.0, h.1.0)), h.1.1))
+all_sound P Q p.TaggedVariant = λ ts ls t cs vs e. (one e, λ h. ((h.0, h.1.0), h.1.1))
+all_sound P Q p.Variant = λ ts ls cs vs e. (one e, λ h. ((tt, h.0), h.1))
+all_sound P Q p.BuiltinType = λ ts ls b vs e. (one e, λ h. h)
+all_sound P Q p.Name = λ ts ls n vs e. (one e, λ h. h)
+all_sound P Q p.NoNames = λ ts ls vs e. (one e, λ h. (tt, h))
+all_sound P Q p.MoreNames = λ ts ls m ms vs e. (one e, λ h. ((h.0, h.1.0), h.1.1))
+all_sound P Q p.NoTypes = λ ts ls vs e. (one e, λ h. (tt, h))
+all_sound P Q p.MoreTypes = λ ts ls t us vs e. (one e, λ h. ((h.0, h.1.0), h.1.1))
+all_sound P Q p.UnionField = λ ts ls t vs e. (one e, λ h. h)
+all_sound P Q p.FirstUnionField = λ ts ls t vs e. (one e, λ h. h)
+all_sound P Q p.NoUnionFields = λ ts ls vs e. (one e, λ h. (tt, h))
+all_sound P Q p.MoreUnionFields = λ ts ls cs t fs vs e. (one e, λ h. ((h.0, h.1.0), h.1.1))
+all_sound P Q p.Field = λ ts ls n t vs e. (one e, λ h. ((h.0, h.1.0), h.1.1))
+all_sound P Q p.NoFields = λ ts ls vs e. (one e, λ h. (tt, h))
+all_sound P Q p.MoreFields = λ ts ls cs n t fs vs e. (one e, λ h. ((h.0, h.1.0), h.1.1))
+all_sound P Q p.BareError = λ ts ls vs e. (one e, λ h. (tt, h))
+all_sound P Q p.Error = λ ts ls t vs e. (one e, λ h. h)
+all_sound P Q p.BareCase = λ ts ls n vs e. (one e, λ h. ((h.0, tt), h.1))
+all_sound P Q p.Case = λ ts ls n t vs e. (one e, λ h. ((h.0, h.1.0), h.1.1))
+all_sound P Q p.NoCases = λ ts ls vs e. (one e, λ h. (tt, h))
+all_sound P Q p.MoreCases = λ ts ls ds n t cs vs e. (one e, λ h. ((h.0, h.1.0), h.1.1))
+all_sound P Q p.Import = λ ts ls q vs e. (one e, λ h. h)
+all_sound P Q p.Func = λ ts ls q ps rs b s vs e. (one e, λ h. ((h.0, h.1.0), h.1.1))
+all_sound P Q p.NoDecls = λ ts ls vs e. (one e, λ h. (tt, h))
+all_sound P Q p.MoreDecls = λ ts ls d ds vs e. (one e, λ h. ((h.0, h.1.0), h.1.1))
+all_sound P Q p.Param = λ ts ls n t vs e. (one e, λ h. ((h.0, h.1.0), h.1.1))
+all_sound P Q p.Result = λ ts ls n t vs e. (one e, λ h. ((h.0, h.1.0), h.1.1))
+all_sound P Q p.Noreturn = λ ts ls vs e. (one e, λ h. (tt, h))
+all_sound P Q p.Stored = λ ts ls vs e. (one e, λ h. (tt, h))
+all_sound P Q p.NoEntries = λ ts ls vs e. (one e, λ h. ((tt, tt), h))
+all_sound P Q p.MoreEntries = λ ts ls x ps rs b s vs e. more_entries P Q ls x ps rs b s vs e
 
-rule_with : (P : Name → Type 0) (us : List Rule) (r : ℕ) → r < length us → AreSound P us
-    → IsSound P (slice_index_or us r no_rule) × (production (map production_of us) r ≡ production_of (slice_index_or us r no_rule))
-rule_with P [] r lt h = absurd (omega arith)
-rule_with P (u ∷ us) zero lt (h ▸ hs) = (h, refl)
-rule_with P (u ∷ us) (suc r) lt (h ▸ hs) = rule_with P us r (omega arith) hs
+-- a production of the grammar is the one of its name
+pub named : (xs : List ProductionName) (x : Rewrite TokenKind Form ProductionName) → In x (map production xs) → x ≡ production x.name
+named [] x i = absurd i
+named (y ∷ ys) x (inl e) = e ∙ ap production (sym (ap (λ (z : Rewrite TokenKind Form ProductionName). z.name) e))
+named (y ∷ ys) x (inr i) = named ys x i
 
 -- ---- derivations
 
-same_head : (x y : ℕ) (xs ys : List ℕ) → x ∷ xs ≡ y ∷ ys → x ≡ y
-same_head x y xs ys e = cc
+-- no value stands for tokens of these kinds
+abbrev AreMute : List TokenKind → Type 0
+AreMute [] = Unit {0}
+AreMute (t ∷ ts) = (terminal_kinds t ≡ []) × AreMute ts
 
-same_tail : (x y : ℕ) (xs ys : List ℕ) → x ∷ xs ≡ y ∷ ys → xs ≡ ys
-same_tail x y xs ys e = cc
+module _ (P : Name → Type 0) (Q : List ℕ → Type 0) where
+  abbrev Fit : List (Step ProductionName) → Wants TokenKind Form → List Lexed → Type 0
+  Fit ms w ls = Are (wants_kinds w) (values leaf act ms ls) × NamesOfValues P Q (values leaf act ms ls)
 
-head_of : (xs : List ℕ) (at x : ℕ) (ys : List ℕ) → drop at xs ≡ x ∷ ys → (at < length xs) × (get_or xs at 0 ≡ x) × (drop (at + 1) xs ≡ ys)
-head_of xs at x ys e =
-    let long : length (drop at xs) ≡ length (x ∷ ys) = ap (λ (l : List ℕ). length l) e in
-    let lt : at < length xs = omega (arith, long, length-drop at xs) in
-    let both : get_or xs at 0 ∷ drop (at + 1) xs ≡ x ∷ ys = sym (drop_more xs at 0 lt) ∙ e in
-    (lt, same_head (get_or xs at 0) x (drop (at + 1) xs) ys both, same_tail (get_or xs at 0) x (drop (at + 1) xs) ys both)
+  pub production_fits : (x : ProductionName) (ls : List Lexed) (v : Wants TokenKind Form) (vs : List Val) → Are (wants_kinds ((written x).symbols ++ v)) vs
+      → Makes P Q (wants_kinds v) (nonterminal_kind (written x).nonterminal) vs (act x ls vs)
+  production_fits x ls v vs e =
+      by_kinds (parts_of x) (wants_kinds v) (λ us. Makes P Q (wants_kinds v) (nonterminal_kind (written x).nonterminal) us (act x ls us))
+      (all_sound P Q x ls (wants_kinds v)) vs (subst (λ (ks : List Kind). Are ks vs) (flat_map-append symbol_kinds (written x).symbols v) e)
 
-module _ (P : Name → Type 0) (ts : List Lexed) (leaves : (at : ℕ) → NamesOfValues P (leaf ts at)) where
-  abbrev Meant : ℕ → List Move → List ℕ → List Val
-  Meant at ms ss = values (leaf_of ts) (act ts) at ms ss
+  step_fits : (x : Rewrite TokenKind Form ProductionName) (n : ProductionName) (f : Form) (ms : List (Step ProductionName)) (v : Wants TokenKind Form) (ls : List Lexed) → In x the_grammar → x.nonterminal ≡ f → x.name ≡ n
+      → Fit ms (x.symbols ++ v) ls → Fit (Node n ∷ ms) (Nonterminal f ∷ v) ls
+  step_fits x n f ms v ls i ef en h =
+      let same : x ≡ production n = named the_names x i ∙ ap production en in
+      let form : (written n).nonterminal ≡ f = sym (ap (λ (z : Rewrite TokenKind Form ProductionName). z.nonterminal) same) ∙ ef in
+      let made = production_fits n ls v (values leaf act ms ls) (subst (λ (z : Rewrite TokenKind Form ProductionName). Are (wants_kinds (z.symbols ++ v)) (values leaf act ms ls)) same h.0) in
+      (subst (λ (z : Form). Are (nonterminal_kind z ∷ wants_kinds v) (values leaf act (Node n ∷ ms) ls)) form made.0, made.1 h.1)
 
-  abbrev Fit : ℕ → List Move → Wants → List ℕ → Type 0
-  Fit at ms w ss = (kinds_are (wants_kinds w) (Meant at ms ss) ≡ true) × NamesOfValues P (Meant at ms ss)
-
-  node_fits : (at r : ℕ) (ms : List Move) (v : Wants) (ss : List ℕ) → r < length the_rules → Fit at ms ((production the_rows r).symbols ++ v) ss
-      → Fit at (Node r ∷ ms) (Form (production the_rows r).form ∷ v) ss
-  node_fits at r ms v ss lt h =
-      let q = rule_with P the_rules r lt (all_sound P) in
-      let split : kinds_are (wants_kinds (production the_rows r).symbols ++ wants_kinds v) (Meant at ms ss) ≡ true
-      = subst (λ (x : List ℕ). kinds_are x (Meant at ms ss) ≡ true) (flat_map-append symbol_kinds (production the_rows r).symbols v) h.0 in
-      let there : kinds_are (wants_kinds (slice_index_or the_rules r no_rule).symbols ++ wants_kinds v) (Meant at ms ss) ≡ true
-      = subst (λ (x : Production). kinds_are (wants_kinds x.symbols ++ wants_kinds v) (Meant at ms ss) ≡ true) q.1 split in
-      let made = by_kinds (wants_kinds (slice_index_or the_rules r no_rule).symbols) (wants_kinds v)
-      (λ vs. Makes P (wants_kinds v) (slice_index_or the_rules r no_rule).form vs ((slice_index_or the_rules r no_rule).action ts at vs))
-      (q.0 ts at (wants_kinds v)) (Meant at ms ss) there in
-      (subst (λ (x : Production). kinds_are (form_kind x.form ∷ wants_kinds v) (Meant at (Node r ∷ ms) ss) ≡ true) (sym q.1) made.0, made.1 h.1)
-
-  all_fit : (at : ℕ) (ms : List Move) (w : Wants) (ss : List ℕ) → drop at (sorts_of ts) ≡ ss → Derives the_rows ms w ss → Fit at ms w ss
-  all_fit at [] w ss e d = (subst (λ (x : Wants). kinds_are (wants_kinds x) [] ≡ true) (sym d.1) refl, tt)
-  all_fit at (Leaf ∷ ms) [] ss e d = absurd d
-  all_fit at (Leaf ∷ ms) (Token t ∷ v) [] e d = absurd d
-  all_fit at (Leaf ∷ ms) (Token t ∷ v) (s ∷ ss) e d =
-      let q = head_of (sorts_of ts) at s ss e in
-      let more = all_fit (at + 1) ms v ss q.2 d.1 in (
-        subst (λ (n : ℕ). kinds_are (sort_kinds n ++ wants_kinds v) (leaf ts at ++ Meant (at + 1) ms ss) ≡ true) (q.1 ∙ sym d.0) (leaf_fits ts at (wants_kinds v) (Meant (at + 1) ms ss) q.0 more.0),
-        append_names P (leaf ts at) (Meant (at + 1) ms ss) (leaves at) more.1,
+  all_fit : (ms : List (Step ProductionName)) (w : Wants TokenKind Form) (ls : List Lexed) (ends : List TokenKind) → AreMute ends → NamesOfTokens P Q ls
+      → Derives the_grammar ms w (map (λ l. token_kind l.token) ls ++ ends) → Fit ms w ls
+  all_fit [] w ls ends m h d = (subst (λ (x : Wants TokenKind Form). Are (wants_kinds x) []) (sym d.1) refl, tt)
+  all_fit (Leaf ∷ ms) [] ls ends m h d = absurd d
+  all_fit (Leaf ∷ ms) (Terminal t ∷ v) [] [] m h d = absurd d
+  all_fit (Leaf ∷ ms) (Terminal t ∷ v) [] (s ∷ ss) m h d =
+      let more = all_fit ms v [] ss m.1 h d.1 in
+      (subst (λ (ks : List Kind). Are (ks ++ wants_kinds v) (values leaf act ms [])) (sym (ap terminal_kinds d.0 ∙ m.0)) more.0, more.1)
+  all_fit (Leaf ∷ ms) (Terminal t ∷ v) (l ∷ ls) ends m h d =
+      let more = all_fit ms v ls ends m h.1 d.1 in (
+        subst (λ (s : TokenKind). Are (terminal_kinds s ++ wants_kinds v) (leaf l ++ values leaf act ms ls)) (sym d.0) (token_fits l.token l.start l.end (wants_kinds v) (values leaf act ms ls) more.0),
+        append_names P Q (leaf l) (values leaf act ms ls) h.0 more.1,
       )
-  all_fit at (Leaf ∷ ms) (Form f ∷ v) ss e d = absurd d
-  all_fit at (Node r ∷ ms) [] ss e d = absurd d
-  all_fit at (Node r ∷ ms) (Token t ∷ v) ss e d = absurd d
-  all_fit at (Node r ∷ ms) (Form f ∷ v) ss e d =
-      let made = node_fits at r ms v ss d.0 (all_fit at ms ((production the_rows r).symbols ++ v) ss e d.2) in
-      (subst (λ (x : ℕ). kinds_are (form_kind x ∷ wants_kinds v) (Meant at (Node r ∷ ms) ss) ≡ true) d.1 made.0, made.1)
+  all_fit (Leaf ∷ ms) (Nonterminal f ∷ v) ls ends m h d = absurd d
+  all_fit (Node n ∷ ms) [] ls ends m h d = absurd d
+  all_fit (Node n ∷ ms) (Terminal t ∷ v) ls ends m h d = absurd d
+  all_fit (Node n ∷ ms) (Nonterminal f ∷ v) ls ends m h d = step_fits d.0 n f ms v ls d.1 d.2 d.3 (all_fit ms (d.0.symbols ++ v) ls ends m h d.4)
 
-  pub text_fits : (ms : List Move) → Derives the_rows ms (Form TEXT ∷ []) (sorts_of ts) → (kinds_are (items_kind ∷ []) (stands_for ts ms) ≡ true) × NamesOfValues P (stands_for ts ms)
-  text_fits ms d = all_fit 0 ms (Form TEXT ∷ []) (sorts_of ts) refl d
+  text_fits : (ts : List Lexed) (ms : List (Step ProductionName)) → NamesOfTokens P Q ts → Derives the_grammar ms (Nonterminal Text ∷ []) (token_kinds ts) → Are (k.items ∷ []) (stands_for ts ms) × NamesOfValues P Q (stands_for ts ms)
+  text_fits ts ms h d = all_fit ms (Nonterminal Text ∷ []) ts (End ∷ []) (refl, tt) h d
 
--- ---- a derivation stands for a document
+  -- what holds of the identifiers and of the quoted texts of the tokens holds of those of their document
+  pub document_names : (ts : List Lexed) (ms : List (Step ProductionName)) (d : Document) → NamesOfTokens P Q ts → Derives the_grammar ms (Nonterminal Text ∷ []) (token_kinds ts) → stands_for ts ms ≡ some_items d ∷ []
+      → AllNames P Q d
+  document_names ts ms d h derives e = (subst (λ (vs : List Val). NamesOfValues P Q vs) e (text_fits ts ms h derives).1).0
 
-none_left : (vs : List Val) → kinds_are [] vs ≡ true → vs ≡ []
+-- ---- the identifiers and quoted texts of tokens
+
+int_names : (P : Name → Type 0) (Q : List ℕ → Type 0) (b : Bool) (n : ℕ) → NamesOfValues P Q (cond b (an_integer n ∷ []) [])
+int_names P Q true n = (tt, tt)
+int_names P Q false n = tt
+
+pub token_names : (P : Name → Type 0) (Q : List ℕ → Type 0) (t : Token) (start end : ℕ) → ((x : List ℕ) → t ≡ id x → P (record { name = x; start = start; end = end })) → ((x : List ℕ) → t ≡ quoted x → Q x)
+    → NamesOfValues P Q (token_values t start end)
+token_names P Q left start end h q = tt
+token_names P Q right start end h q = tt
+token_names P Q (id x) start end h q = (h x refl, tt)
+token_names P Q (quoted x) start end h q = (q x refl, tt)
+token_names P Q (int x) start end h q = int_names P Q (is_small x) (int_value x)
+token_names P Q (word x) start end h q = tt
+token_names P Q (annot x) start end h q = tt
+
+-- ---- texts
+
+abbrev any_name : Name → Type 0
+any_name n = Unit {0}
+
+abbrev any_text : List ℕ → Type 0
+any_text t = Unit {0}
+
+all_named : (ts : List Lexed) → NamesOfTokens any_name any_text ts
+all_named [] = tt
+all_named (t ∷ ts) = (token_names any_name any_text t.token t.start t.end (λ x e. tt) (λ x e. tt), all_named ts)
+
+pub none_left : (vs : List Val) → Are [] vs → vs ≡ []
 none_left [] e = refl
-none_left (v ∷ vs) e = absurd (not_both (sym e))
+none_left (v ∷ vs) e = absurd (no_kinds (kind_of v) (map kind_of vs) (sym e))
 
 abbrev IsOne : List Val → Type 0
 IsOne vs = (d : Document) × (vs ≡ some_items d ∷ [])
 
-pub one_document : (vs : List Val) → kinds_are (items_kind ∷ []) vs ≡ true → IsOne vs
-one_document vs e = by_kinds (items_kind ∷ []) [] IsOne (λ is us n. (is, ap (λ (xs : List Val). some_items is ∷ xs) (none_left us n))) vs e
-
--- ---- the identifiers of tokens
-
-int_names : (P : Name → Type 0) (b : Bool) (n : ℕ) → NamesOfValues P (cond b (an_integer n ∷ []) [])
-int_names P true n = (tt, tt)
-int_names P false n = tt
-
-token_names : (P : Name → Type 0) (t : LexToken) (start end : ℕ) → ((x : List ℕ) → t ≡ id x → P (record { name = x; start = start; end = end })) → NamesOfValues P (token_values t start end)
-token_names P left start end h = tt
-token_names P right start end h = tt
-token_names P (id x) start end h = (h x refl, tt)
-token_names P (quoted x) start end h = (tt, tt)
-token_names P (int x) start end h = int_names P (is_small x) (int_value x)
-token_names P (word x) start end h = tt
-token_names P (annot x) start end h = tt
-
-past_end : (ts : List Lexed) (at : ℕ) → length ts ≤ at → slice_index_or ts at no_lexed ≡ no_lexed
-past_end [] at le = refl
-past_end (t ∷ ts) zero le = absurd (omega arith)
-past_end (t ∷ ts) (suc at) le = past_end ts at (omega arith)
-
-not_right : (x : List ℕ) → right ≡ id x → ⊥
-not_right x e = cc
-
-not_an_identifier : (l : Lexed) (x : List ℕ) → l ≡ no_lexed → l.token ≡ id x → ⊥
-not_an_identifier l x e f = not_right x (sym (ap (λ (k : Lexed). k.token) e) ∙ f)
+-- a derivation stands for a document
+pub reads_as : (ts : List Lexed) (ms : List (Step ProductionName)) → Derives the_grammar ms (Nonterminal Text ∷ []) (token_kinds ts) → IsOne (stands_for ts ms)
+reads_as ts ms d =
+    by_kinds (k.items ∷ []) [] IsOne (λ is us n. (is, ap (λ (xs : List Val). some_items is ∷ xs) (none_left us n))) (stands_for ts ms)
+    (text_fits any_name any_text ts ms (all_named ts) d).0
 
 identifier_stands : (text x : List ℕ) (l : Lexed) → StandsAt text l → l.token ≡ id x → StandsInText text (record { name = x; start = l.start; end = l.end })
 identifier_stands text x l s e = record {
   ordered = s.ordered;
   inside = s.inside;
-  spelled = subst (λ (t : LexToken). Spells (slice_range text l.start l.end) t) e s.spelled;
+  spelled = subst (λ (t : Token). Spells (slice_range text l.start l.end) t) e s.spelled;
 }
 
-leaf_stands : (text : List ℕ) (ts : List Lexed) → All (StandsAt text) ts → (at : ℕ) → NamesOfValues (StandsInText text) (leaf ts at)
-leaf_stands text ts all at =
-    let l = slice_index_or ts at no_lexed in
-    token_names (StandsInText text) l.token l.start l.end (λ x e. elim (cases_lt at (length ts)) [
-      | inl lt ↦ identifier_stands text x l (all at no_lexed lt) e
-      | inr past ↦ absurd (not_an_identifier l x (past_end ts at past) e)
-    ])
+all_stand : (text : List ℕ) (ts : List Lexed) → All (StandsAt text) ts → NamesOfTokens (StandsInText text) any_text ts
+all_stand text [] all = tt
+all_stand text (t ∷ ts) all = (
+  token_names (StandsInText text) any_text t.token t.start t.end (λ x e. identifier_stands text x t (all zero t (omega arith)) e) (λ x e. tt),
+  all_stand text ts (λ i d lt. all (suc i) d (omega (arith, lt))),
+)
 
--- ---- texts
-
-pub reads_as : (ts : List Lexed) (ms : List Move) → Derives the_rows ms (Form TEXT ∷ []) (sorts_of ts) → IsOne (stands_for ts ms)
-reads_as ts ms d =
-    let P : Name → Type 0 = λ n. Unit {0} in
-    one_document (stands_for ts ms) (text_fits P ts (λ at. token_names P (slice_index_or ts at no_lexed).token (slice_index_or ts at no_lexed).start (slice_index_or ts at no_lexed).end (λ x e. tt)) ms d).0
-
-pub names_stand : (text : List ℕ) (ts : List Lexed) (ms : List Move) (d : Document) → All (StandsAt text) ts → Derives the_rows ms (Form TEXT ∷ []) (sorts_of ts) → stands_for ts ms ≡ some_items d ∷ []
-    → AllNames (StandsInText text) d
-names_stand text ts ms d all derives e =
-    (subst (λ (vs : List Val). NamesOfValues (StandsInText text) vs) e (text_fits (StandsInText text) ts (leaf_stands text ts all) ms derives).1).0
+pub names_stand : (text : List ℕ) (ts : List Lexed) (ms : List (Step ProductionName)) (d : Document) → All (StandsAt text) ts → Derives the_grammar ms (Nonterminal Text ∷ []) (token_kinds ts) → stands_for ts ms ≡ some_items d ∷ []
+    → AllNames (StandsInText text) any_text d
+names_stand text ts ms d all derives e = document_names (StandsInText text) any_text ts ms d (all_stand text ts all) derives e

@@ -1,11 +1,13 @@
--- The message of a fault depends only on which sorts can stand at its place, not on their order.
-use Rattle.std.proofs.Common.{◌≡◌, ℕ, Bool, true, false, cond, ◌&&◌, ◌||◌, ◌==◌, List, [], ◌∷◌, Option, Some, None, codes, refl, sym, ap, ◌∙◌, subst, arith, eqb-true}
-use Rattle.std.specs.List.{list_all}
+-- The message of a fault depends on which kinds can stand, and not on their order.
+use Rattle.std.proofs.Common.{◌≡◌, Bool, true, false, cond, ◌&&◌, ◌||◌, List, [], ◌∷◌, Option, Some, None, codes, refl, inl, inr, sym, ap, ◌∙◌, subst}
+use Rattle.std.specs.List.{list_all, list_any}
 use Rattle.std.proofs.lemmas.Bool.{and_parts}
-use Rattle.std.proofs.lemmas.Bool.Decides.{nat_tests}
-use Rattle.witx_grammar.specs.Faults.{is_in}
-use Rattle.witx_syntax.specs.declared.sort.TheConstants.{INTEGER, BIG_INTEGER, END}
-use Rattle.witx_syntax.specs.Messages.{first_sort, alone, only_sort, message_of_only, message_of}
+use Rattle.witx_grammar.specs.Grammar.{In}
+use Rattle.witx_syntax.specs.declared.token_kind.TokenKind.{TokenKind}
+use Rattle.witx_syntax.specs.declared.token_kind.TokenKind.TheVariants.{Integer, BigInteger, End}
+use Rattle.witx_syntax.specs.Messages.{first_kind, alone, only_kind, message_of_only, message_of}
+use Rattle.witx_syntax.specs.TokenKinds.{is_kind}
+use Rattle.witx_syntax.proofs.Apart.{is_exact, same_tests}
 
 not_both : true ≡ false → ⊥
 not_both e = cc
@@ -22,114 +24,98 @@ or_first : (a b : Bool) → b ≡ false → (a || b) ≡ true → a ≡ true
 or_first true b f e = refl
 or_first false b f e = absurd (not_both (sym e ∙ f))
 
-or_second : (a b : Bool) → a ≡ false → (a || b) ≡ true → b ≡ true
-or_second true b f e = absurd (not_both f)
-or_second false b f e = e
-
-same_number : (n : ℕ) → (n == n) ≡ true
-same_number n = grind (arith, nat_tests)
-
--- the sort alone, or the end, can stand
-abbrev pub alone_with : ℕ → ℕ → Bool
-alone_with s u = u == s || u == END
-
-abbrev Passes : (ℕ → Bool) → List ℕ → Type 0
-Passes p ss = (u : ℕ) → is_in u ss ≡ true → p u ≡ true
-
--- the head of the list decides, by whether it is the one that is looked for
-passes_head : (p : ℕ → Bool) (s u : ℕ) (b c : Bool) → (s == u) ≡ b → p s ≡ true → (c ≡ true → p u ≡ true) → (b || c) ≡ true → p u ≡ true
-passes_head p s u true c e first more i = subst (λ (x : ℕ). p x ≡ true) (eqb-true s u e) first
-passes_head p s u false c e first more i = more i
-
-passes_all : (p : ℕ → Bool) (ss : List ℕ) → list_all p ss ≡ true → Passes p ss
-passes_all p [] all u i = absurd (not_both (sym i))
-passes_all p (s ∷ ss) all u i =
-    let h = and_parts (p s) (list_all p ss) all in
-    passes_head p s u (s == u) (is_in u ss) refl h.0 (λ e. passes_all p ss h.1 u e) i
-
 both_true : (a b : Bool) → a ≡ true → b ≡ true → (a && b) ≡ true
 both_true true b e f = f
 both_true false b e f = absurd (not_both (sym e))
 
-all_pass : (p : ℕ → Bool) (ss : List ℕ) → Passes p ss → list_all p ss ≡ true
-all_pass p [] h = refl
-all_pass p (s ∷ ss) h =
-    both_true (p s) (list_all p ss) (h s (or_left (s == s) (is_in s ss) (same_number s))) (all_pass p ss (λ u i. h u (or_right (s == u) (is_in u ss) i)))
+some_is : (k t : TokenKind) → Some k ≡ Some t → k ≡ t
+some_is k t e = cc
 
--- the first sort that isn't the end
-record First (ss : List ℕ) (s : ℕ) : Type 0 where
-  there : is_in s ss ≡ true
-  other : (s == END) ≡ false
+none_is : (k : TokenKind) → None ≡ Some k → ⊥
+none_is k e = cc
 
-some_is : (s t : ℕ) → Some s ≡ Some t → s ≡ t
-some_is s t e = cc
+-- ---- tests over lists
 
-none_is : (s : ℕ) → None ≡ Some s → ⊥
-none_is s e = cc
+pass_of_all : (p : TokenKind → Bool) (ks : List TokenKind) → list_all p ks ≡ true → (u : TokenKind) → In u ks → p u ≡ true
+pass_of_all p [] all u i = absurd i
+pass_of_all p (k ∷ ks) all u (inl e) = subst (λ (x : TokenKind). p x ≡ true) (sym e) (and_parts (p k) (list_all p ks) all).0
+pass_of_all p (k ∷ ks) all u (inr i) = pass_of_all p ks (and_parts (p k) (list_all p ks) all).1 u i
 
-first_step : (t : ℕ) (ss : List ℕ) (s : ℕ) (b : Bool) → (t == END) ≡ b → (first_sort ss ≡ Some s → First ss s) → cond b (first_sort ss) (Some t) ≡ Some s → First (t ∷ ss) s
-first_step t ss s true d more e = let h = more e in record { there = or_right (t == s) (is_in s ss) h.there; other = h.other }
-first_step t ss s false d more e =
-    let same : t ≡ s = some_is t s e in
-    record {
-      there = or_left (t == s) (is_in s ss) (subst (λ (x : ℕ). (t == x) ≡ true) same (same_number t));
-      other = subst (λ (x : ℕ). (x == END) ≡ false) same d;
-    }
+all_of_passes : (p : TokenKind → Bool) (ks : List TokenKind) → ((u : TokenKind) → In u ks → p u ≡ true) → list_all p ks ≡ true
+all_of_passes p [] h = refl
+all_of_passes p (k ∷ ks) h = both_true (p k) (list_all p ks) (h k (inl refl)) (all_of_passes p ks (λ u i. h u (inr i)))
 
-first_there : (ss : List ℕ) (s : ℕ) → first_sort ss ≡ Some s → First ss s
-first_there [] s e = absurd (none_is s e)
-first_there (t ∷ ss) s e = first_step t ss s (t == END) refl (λ h. first_there ss s h) e
+any_of_one : (p : TokenKind → Bool) (ks : List TokenKind) (u : TokenKind) → In u ks → p u ≡ true → list_any p ks ≡ true
+any_of_one p [] u i e = absurd i
+any_of_one p (k ∷ ks) u (inl same) e = or_left (p k) (list_any p ks) (subst (λ (x : TokenKind). p x ≡ true) same e)
+any_of_one p (k ∷ ks) u (inr i) e = or_right (p k) (list_any p ks) (any_of_one p ks u i e)
 
-end_other : (t s : ℕ) → (t == END) ≡ true → (s == END) ≡ false → (t == s) ≡ false
-end_other t s e f = grind (arith, nat_tests)
+any_step : (p : TokenKind → Bool) (k : TokenKind) (ks ls : List TokenKind) (b : Bool) → p k ≡ b → ((u : TokenKind) → In u (k ∷ ks) → In u ls) → (list_any p ks ≡ true → list_any p ls ≡ true)
+    → (b || list_any p ks) ≡ true → list_any p ls ≡ true
+any_step p k ks ls true e among more h = any_of_one p ls k (among k (inl refl)) e
+any_step p k ks ls false e among more h = more h
 
--- where the sort stands, and only the end besides, it is the first
-there_step : (t : ℕ) (ss : List ℕ) (s : ℕ) (b : Bool) → (t == END) ≡ b → (s == END) ≡ false → alone_with s t ≡ true → is_in s (t ∷ ss) ≡ true → (is_in s ss ≡ true → first_sort ss ≡ Some s) → cond b (first_sort ss) (Some t) ≡ Some s
-there_step t ss s true d other here i more = more (or_second (t == s) (is_in s ss) (end_other t s d other) i)
-there_step t ss s false d other here i more = ap (λ (x : ℕ). Some x) (eqb-true t s (or_first (t == s) (t == END) d here))
+any_moves : (p : TokenKind → Bool) (ks ls : List TokenKind) → ((u : TokenKind) → In u ks → In u ls) → list_any p ks ≡ true → list_any p ls ≡ true
+any_moves p [] ls among e = absurd (not_both (sym e))
+any_moves p (k ∷ ks) ls among e = any_step p k ks ls (p k) refl among (λ h. any_moves p ks ls (λ u i. among u (inr i)) h) e
 
-there_first : (ss : List ℕ) (s : ℕ) → is_in s ss ≡ true → (s == END) ≡ false → list_all (alone_with s) ss ≡ true → first_sort ss ≡ Some s
-there_first [] s i other all = absurd (not_both (sym i))
-there_first (t ∷ ss) s i other all =
-    let h = and_parts (alone_with s t) (list_all (alone_with s) ss) all in
-    there_step t ss s (t == END) refl other h.0 i (λ j. there_first ss s j other h.1)
+-- ---- the only kind
 
-alone_some : (b : Bool) (t s : ℕ) → cond b (Some t) None ≡ Some s → (b ≡ true) × (t ≡ s)
-alone_some true t s e = (refl, some_is t s e)
-alone_some false t s e = absurd (none_is s e)
+-- the kind alone, or the end, can stand
+abbrev alone_with : TokenKind → TokenKind → Bool
+alone_with k u = is_kind u k || is_kind u End
 
-only_parts : (ss : List ℕ) (o : Option ℕ) (s : ℕ) → alone ss o ≡ Some s → (o ≡ Some s) × (list_all (alone_with s) ss ≡ true)
-only_parts ss None s e = absurd (none_is s e)
-only_parts ss (Some t) s e =
-    let h = alone_some (list_all (alone_with t) ss) t s e in
-    (ap (λ (x : ℕ). Some x) h.1, subst (λ (x : ℕ). list_all (alone_with x) ss ≡ true) h.1 h.0)
+first_step : (t : TokenKind) (ks : List TokenKind) (k : TokenKind) (b : Bool) → is_kind t End ≡ b → (first_kind ks ≡ Some k → In k ks × (is_kind k End ≡ false))
+    → cond b (first_kind ks) (Some t) ≡ Some k → In k (t ∷ ks) × (is_kind k End ≡ false)
+first_step t ks k true d more e = let h = more e in (inr h.0, h.1)
+first_step t ks k false d more e = (inl (sym (some_is t k e)), subst (λ (x : TokenKind). is_kind x End ≡ false) (some_is t k e) d)
 
-only_of_parts : (ss : List ℕ) (s : ℕ) → first_sort ss ≡ Some s → list_all (alone_with s) ss ≡ true → only_sort ss ≡ Some s
-only_of_parts ss s e all = ap (alone ss) e ∙ ap (λ (b : Bool). cond b (Some s) None) all
+first_there : (ks : List TokenKind) (k : TokenKind) → first_kind ks ≡ Some k → In k ks × (is_kind k End ≡ false)
+first_there [] k e = absurd (none_is k e)
+first_there (t ∷ ks) k e = first_step t ks k (is_kind t End) refl (λ h. first_there ks k h) e
 
-pub only_is : (ss : List ℕ) (s : ℕ) (b : Bool) → Some s ≡ first_sort ss → b ≡ list_all (alone_with s) ss → cond b (Some s) None ≡ only_sort ss
-only_is ss s b e all = ap (λ (t : Bool). cond t (Some s) None) all ∙ ap (alone ss) e
+there_step : (t : TokenKind) (ks : List TokenKind) (k : TokenKind) (b : Bool) → is_kind t End ≡ b → is_kind k End ≡ false → alone_with k t ≡ true → In k (t ∷ ks)
+    → (In k ks → first_kind ks ≡ Some k) → cond b (first_kind ks) (Some t) ≡ Some k
+there_step t ks k true d other here (inl e) more = absurd (not_both (sym d ∙ ap (λ (x : TokenKind). is_kind x End) (sym e) ∙ other))
+there_step t ks k true d other here (inr i) more = more i
+there_step t ks k false d other here i more = ap (λ (x : TokenKind). Some x) ((is_exact t k).0 (or_first (is_kind t k) (is_kind t End) d here))
 
-abbrev Same : List ℕ → List ℕ → Type 0
-Same next sorts = (t : ℕ) → is_in t next ≡ is_in t sorts
+-- where the kind stands, and only the end besides, it is the first
+there_first : (ks : List TokenKind) (k : TokenKind) → In k ks → is_kind k End ≡ false → list_all (alone_with k) ks ≡ true → first_kind ks ≡ Some k
+there_first [] k i other all = absurd i
+there_first (t ∷ ks) k i other all =
+    let h = and_parts (alone_with k t) (list_all (alone_with k) ks) all in
+    there_step t ks k (is_kind t End) refl other h.0 i (λ j. there_first ks k j other h.1)
 
-only_moves : (next sorts : List ℕ) (s : ℕ) → Same next sorts → only_sort next ≡ Some s → only_sort sorts ≡ Some s
-only_moves next sorts s same e =
-    let h = only_parts next (first_sort next) s e in
-    let first = first_there next s h.0 in
-    let all : list_all (alone_with s) sorts ≡ true = all_pass (alone_with s) sorts (λ u i. passes_all (alone_with s) next h.1 u (same u ∙ i)) in
-    only_of_parts sorts s (there_first sorts s (sym (same s) ∙ first.there) first.other all) all
+alone_some : (b : Bool) (t k : TokenKind) → cond b (Some t) None ≡ Some k → (b ≡ true) × (t ≡ k)
+alone_some true t k e = (refl, some_is t k e)
+alone_some false t k e = absurd (none_is k e)
 
-same_options : (a b : Option ℕ) → ((s : ℕ) → a ≡ Some s → b ≡ Some s) → ((s : ℕ) → b ≡ Some s → a ≡ Some s) → a ≡ b
+only_parts : (ks : List TokenKind) (o : Option TokenKind) (k : TokenKind) → alone ks o ≡ Some k → (o ≡ Some k) × (list_all (alone_with k) ks ≡ true)
+only_parts ks None k e = absurd (none_is k e)
+only_parts ks (Some t) k e =
+    let h = alone_some (list_all (alone_with t) ks) t k e in
+    (ap (λ (x : TokenKind). Some x) h.1, subst (λ (x : TokenKind). list_all (alone_with x) ks ≡ true) h.1 h.0)
+
+pub only_is : (ks : List TokenKind) (k : TokenKind) (b : Bool) → Some k ≡ first_kind ks → b ≡ list_all (alone_with k) ks → cond b (Some k) None ≡ only_kind ks
+only_is ks k b e all = ap (λ (t : Bool). cond t (Some k) None) all ∙ ap (alone ks) e
+
+only_moves : (ks ls : List TokenKind) (k : TokenKind) → ((u : TokenKind) → In u ks → In u ls) → ((u : TokenKind) → In u ls → In u ks) → only_kind ks ≡ Some k → only_kind ls ≡ Some k
+only_moves ks ls k there back e =
+    let h = only_parts ks (first_kind ks) k e in
+    let first = first_there ks k h.0 in
+    let all : list_all (alone_with k) ls ≡ true = all_of_passes (alone_with k) ls (λ u i. pass_of_all (alone_with k) ks h.1 u (back u i)) in
+    sym (only_is ls k true (sym (there_first ls k (there k first.0) first.1 all)) (sym all))
+
+same_options : (a b : Option TokenKind) → ((k : TokenKind) → a ≡ Some k → b ≡ Some k) → ((k : TokenKind) → b ≡ Some k → a ≡ Some k) → a ≡ b
 same_options None None f g = refl
-same_options None (Some s) f g = g s refl
-same_options (Some s) b f g = sym (f s refl)
+same_options None (Some k) f g = g k refl
+same_options (Some k) b f g = sym (f k refl)
 
-same_only : (next sorts : List ℕ) → Same next sorts → only_sort next ≡ only_sort sorts
-same_only next sorts same =
-    same_options (only_sort next) (only_sort sorts) (λ s e. only_moves next sorts s same e) (λ s e. only_moves sorts next s (λ t. sym (same t)) e)
-
-pub same_message : (next sorts : List ℕ) (here : ℕ) → Same next sorts → message_of next here ≡ message_of sorts here
-same_message next sorts here same =
-    ap (λ (b : Bool). cond (here == BIG_INTEGER && b) (codes "integer out of range") (message_of_only (only_sort next))) (same INTEGER)
-    ∙ ap (λ (o : Option ℕ). cond (here == BIG_INTEGER && is_in INTEGER sorts) (codes "integer out of range") (message_of_only o)) (same_only next sorts same)
+pub same_message : (ks ls : List TokenKind) (here : TokenKind) → ((u : TokenKind) → In u ks → In u ls) → ((u : TokenKind) → In u ls → In u ks) → message_of ks here ≡ message_of ls here
+same_message ks ls here there back =
+    let is_integer : TokenKind → Bool = λ u. is_kind u Integer in
+    ap (λ (b : Bool). cond (is_kind here BigInteger && b) (codes "integer out of range") (message_of_only (only_kind ks)))
+    (same_tests (list_any is_integer ks) (list_any is_integer ls) (any_moves is_integer ks ls there) (any_moves is_integer ls ks back))
+    ∙ ap (λ (o : Option TokenKind). cond (is_kind here BigInteger && list_any is_integer ls) (codes "integer out of range") (message_of_only o))
+    (same_options (only_kind ks) (only_kind ls) (λ k e. only_moves ks ls k there back e) (λ k e. only_moves ls ks k back there e))

@@ -1,9 +1,10 @@
+pub mod Actions
+pub mod Grammar
 pub mod Integers
 pub mod Kinds
 pub mod Messages
 pub mod Names
 pub mod Reads
-pub mod Rows
-pub mod Sorts
 pub mod Stack
+pub mod TokenKinds
 pub mod Values

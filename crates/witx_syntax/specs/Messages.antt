@@ -1,71 +1,71 @@
--- The message of a syntax fault, from the sorts of tokens that can stand at its place and the one that does.
-use Rattle.std.specs.Prelude.{ℕ, ◌&&◌, ◌||◌, ◌==◌, if◌then◌else◌, List, [], ◌∷◌, ◌++◌, map, codes, Option, Some, None, unwrap_or}
-use Rattle.std.specs.List.{list_all}
-use Rattle.witx_grammar.specs.Faults.{is_in}
+-- The message of a syntax fault, from the kinds of tokens that can stand at its place and the one that does.
+use Rattle.std.specs.Prelude.{ℕ, ◌&&◌, ◌||◌, if◌then◌else◌, List, [], ◌∷◌, ◌++◌, map, codes, Option, Some, None, unwrap_or}
+use Rattle.std.specs.List.{list_all, list_any}
 use Rattle.witx_lex.specs.declared.error.LexKind.{LexKind}
 use Rattle.witx_lex.specs.declared.error.LexKind.TheVariants.{UnexpectedCharacter, UnterminatedComment, UnterminatedString, BadEscape, BadCharacter, NotUtf8, EmptyId, TooDeep}
-use Rattle.witx_syntax.specs.declared.sort.TheConstants.{LEFT, RIGHT, ID, QUOTED, INTEGER, BIG_INTEGER, END}
-use Rattle.witx_syntax.specs.declared.spelling.Spelling as code
-use Rattle.witx_syntax.specs.Sorts.{Spelling, spelled, the_words, the_annotations}
+use Rattle.witx_syntax.specs.declared.token_kind.TokenKind.{TokenKind}
+use Rattle.witx_syntax.specs.declared.token_kind.TokenKind.TheVariants.{Left, Right, Id, Quoted, Integer, BigInteger, End}
+use Rattle.witx_syntax.specs.declared.words.Word as code
+use Rattle.witx_syntax.specs.TokenKinds.{Spelling, spelled, is_kind, the_words, the_annotations}
 
-abbrev pub spelling_view : code.Spelling → Spelling
-spelling_view s = spelled s.sort s.text.now
+abbrev pub spelling_view : code.Word → Spelling
+spelling_view w = spelled w.kind w.text.now
 
 abbrev pub quoted_in_message : List ℕ → List ℕ
 quoted_in_message t = codes "expected `" ++ (t ++ codes "`")
 
--- a sort of tokens, and the message where they alone can stand
+-- a kind of tokens, and the message where they alone can stand
 pub record Expected : Type 0 where
-  pub sort : ℕ
+  pub kind : TokenKind
   pub message : List ℕ
 
-abbrev pub expected_view : code.Spelling → Expected
-expected_view s = record { sort = s.sort; message = s.expected.now }
+abbrev pub expected_view : code.Word → Expected
+expected_view w = record { kind = w.kind; message = w.expected.now }
 
 abbrev pub expected_word : Spelling → Expected
-expected_word s = record { sort = s.sort; message = quoted_in_message s.text }
+expected_word s = record { kind = s.kind; message = quoted_in_message s.text }
 
 abbrev pub expected_annotation : Spelling → Expected
-expected_annotation s = record { sort = s.sort; message = quoted_in_message (codes "@" ++ s.text) }
+expected_annotation s = record { kind = s.kind; message = quoted_in_message (codes "@" ++ s.text) }
 
 abbrev pub unexpected : List ℕ
 unexpected = codes "unexpected token"
 
--- the message for the sort, if it is one of these
-abbrev pub message_in : List Expected → ℕ → Option (List ℕ)
-message_in [] s = None
-message_in (e ∷ es) s = if e.sort == s then Some e.message else message_in es s
+-- the message for the kind, if it is one of these
+abbrev pub message_in : List Expected → TokenKind → Option (List ℕ)
+message_in [] k = None
+message_in (e ∷ es) k = if is_kind e.kind k then Some e.message else message_in es k
 
--- where tokens of one sort alone can stand
-abbrev pub expected_message : ℕ → List ℕ
-expected_message s =
-    if s == ID then codes "expected an identifier"
-    else if s == QUOTED then codes "expected a string"
-    else if s == INTEGER then codes "expected an integer"
-    else if s == LEFT then quoted_in_message (codes "(")
-    else if s == RIGHT then quoted_in_message (codes ")")
-    else unwrap_or (message_in (map expected_word the_words) s) (unwrap_or (message_in (map expected_annotation the_annotations) s) unexpected)
+-- where tokens of one kind alone can stand
+abbrev pub expected_message : TokenKind → List ℕ
+expected_message k =
+    if is_kind k Id then codes "expected an identifier"
+    else if is_kind k Quoted then codes "expected a string"
+    else if is_kind k Integer then codes "expected an integer"
+    else if is_kind k Left then quoted_in_message (codes "(")
+    else if is_kind k Right then quoted_in_message (codes ")")
+    else unwrap_or (message_in (map expected_word the_words) k) (unwrap_or (message_in (map expected_annotation the_annotations) k) unexpected)
 
--- the first sort that isn't the end of the text, which is no token
-abbrev pub first_sort : List ℕ → Option ℕ
-first_sort [] = None
-first_sort (s ∷ ss) = if s == END then first_sort ss else Some s
+-- the first kind that isn't the end of the text, which is no token
+abbrev pub first_kind : List TokenKind → Option TokenKind
+first_kind [] = None
+first_kind (k ∷ ks) = if is_kind k End then first_kind ks else Some k
 
--- the sort, if there is no other
-abbrev pub alone : List ℕ → Option ℕ → Option ℕ
-alone ss None = None
-alone ss (Some s) = if list_all (λ u. u == s || u == END) ss then Some s else None
+-- the kind, if there is no other
+abbrev pub alone : List TokenKind → Option TokenKind → Option TokenKind
+alone ks None = None
+alone ks (Some k) = if list_all (λ u. is_kind u k || is_kind u End) ks then Some k else None
 
-abbrev pub only_sort : List ℕ → Option ℕ
-only_sort ss = alone ss (first_sort ss)
+abbrev pub only_kind : List TokenKind → Option TokenKind
+only_kind ks = alone ks (first_kind ks)
 
-abbrev pub message_of_only : Option ℕ → List ℕ
+abbrev pub message_of_only : Option TokenKind → List ℕ
 message_of_only None = unexpected
-message_of_only (Some s) = expected_message s
+message_of_only (Some k) = expected_message k
 
--- the message where tokens of these sorts can stand and one of the sort here stands
-abbrev pub message_of : List ℕ → ℕ → List ℕ
-message_of next here = if here == BIG_INTEGER && is_in INTEGER next then codes "integer out of range" else message_of_only (only_sort next)
+-- the message where tokens of these kinds can stand and one of the kind here stands
+abbrev pub message_of : List TokenKind → TokenKind → List ℕ
+message_of expected here = if is_kind here BigInteger && list_any (λ u. is_kind u Integer) expected then codes "integer out of range" else message_of_only (only_kind expected)
 
 -- the message of a lexical fault
 abbrev pub lexical_message : LexKind → List ℕ

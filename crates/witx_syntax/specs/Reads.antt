@@ -4,32 +4,35 @@ use Rattle.std.specs.Prelude.{◌≡◌, ◌⊎◌, ℕ, nat_lt, if◌then◌els
 use Rattle.witx_grammar.specs.Grammar.{Derives}
 use Rattle.witx_grammar.specs.Faults.{IsFault}
 use Rattle.witx_grammar.specs.Reading.{values}
-use Rattle.witx_grammar.specs.declared.table.Symbol.TheVariants.{Form}
-use Rattle.witx_grammar.specs.declared.table.Move.{Move}
+use Rattle.witx_grammar.specs.declared.table.Symbol.TheVariants.{Nonterminal}
+use Rattle.witx_grammar.specs.declared.table.Step.{Step}
 use Rattle.witx_lex.specs.Tokens.{Lexed}
 use Rattle.witx_lex.specs.Meaning.{HasTokens}
 use Rattle.witx_lex.specs.Faults.{HasFault}
 use Rattle.witx_lex.specs.Places.{line_at, column_at}
 use Rattle.witx_lex.specs.declared.error.LexFault.{LexFault}
-use Rattle.witx_syntax.specs.declared.form.TheConstants.{TEXT}
-use Rattle.witx_syntax.specs.declared.sort.TheConstants.{END}
+use Rattle.witx_syntax.specs.declared.nonterminal.Nonterminal.TheVariants.{Text}
+use Rattle.witx_syntax.specs.declared.production.ProductionName.{ProductionName}
+use Rattle.witx_syntax.specs.declared.token_kind.TokenKind.{TokenKind}
+use Rattle.witx_syntax.specs.declared.token_kind.TokenKind.TheVariants.{End}
 use Rattle.witx_syntax.specs.declared.error.ParseFault.{ParseFault}
 use Rattle.witx_syntax.specs.declared.error.SyntaxError.{SyntaxError}
 use Rattle.witx_syntax.specs.declared.error.SyntaxError.TheVariants.{Parse, OutOfMemory}
+use Rattle.witx_syntax.specs.Actions.{act}
+use Rattle.witx_syntax.specs.Grammar.{the_grammar}
 use Rattle.witx_syntax.specs.Messages.{message_of, lexical_message}
-use Rattle.witx_syntax.specs.Rows.{the_rows, act}
-use Rattle.witx_syntax.specs.Sorts.{sorts_of}
-use Rattle.witx_tree.specs.Trees.{Document}
-use Rattle.witx_syntax.specs.Values.{Val, leaf_of, token_at, some_items}
+use Rattle.witx_syntax.specs.TokenKinds.{token_kinds}
+use Rattle.witx_syntax.specs.Values.{Val, leaf, token_at, some_items}
+use Rattle.witx_syntax_tree.specs.Trees.{Document}
 
 -- what the steps of a derivation of the tokens stand for
-abbrev pub stands_for : List Lexed → List Move → List Val
-stands_for ts ms = values (leaf_of ts) (act ts) 0 ms (sorts_of ts)
+abbrev pub stands_for : List Lexed → List (Step ProductionName) → List Val
+stands_for ts ms = values leaf act ms ts
 
 -- the tokens are derived from the form of a text, and the document is what the derivation stands for
 pub record IsDocument (ts : List Lexed) (d : Document) : Type 0 where
-  pub steps : List Move
-  pub derives : Derives the_rows steps (Form TEXT ∷ []) (sorts_of ts)
+  pub steps : List (Step ProductionName)
+  pub derives : Derives the_grammar steps (Nonterminal Text ∷ []) (token_kinds ts)
   pub meaning : stands_for ts steps ≡ some_items d ∷ []
 
 -- the text is this document
@@ -66,9 +69,9 @@ pub record IsSyntactic (text : List ℕ) (f : Told) : Type 0 where
   pub tokens : List Lexed
   pub lexed : HasTokens text tokens
   pub at : ℕ
-  pub next : List ℕ
-  pub has_fault : IsFault the_rows TEXT (sorts_of tokens) at next
-  pub told : f ≡ told_at text (message_of next (slice_index_or (sorts_of tokens) at END)) (start_of text tokens at)
+  pub expected : List TokenKind
+  pub has_fault : IsFault the_grammar Text (token_kinds tokens) at expected
+  pub told : f ≡ told_at text (message_of expected (slice_index_or (token_kinds tokens) at End)) (start_of text tokens at)
 
 -- this is the fault of the text: its lexical fault, or else that of its tokens
 abbrev pub IsFaultOf : List ℕ → Told → Type 0

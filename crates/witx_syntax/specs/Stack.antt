@@ -1,17 +1,21 @@
 -- What the values on the stack of the code stand for.
-use Rattle.std.specs.Prelude.{List, map, reverse}
-use Rattle.witx_tree.specs.declared.comment.Documented.{Documented}
-use Rattle.witx_tree.specs.declared.tree.FieldSyntax.{FieldSyntax}
-use Rattle.witx_tree.specs.declared.tree.CaseSyntax.{CaseSyntax}
+use Rattle.std.specs.Prelude.{◌≡◌, List, ◌∷◌, map, reverse}
+use Rattle.witx_syntax_tree.specs.declared.comment.Documented.{Documented}
+use Rattle.witx_syntax_tree.specs.declared.tree.FieldSyntax.{FieldSyntax}
+use Rattle.witx_syntax_tree.specs.declared.tree.CaseSyntax.{CaseSyntax}
 use Rattle.witx_syntax.specs.declared.value.Quoted.{Quoted}
 use Rattle.witx_syntax.specs.declared.value.Entry.{Entry}
 use Rattle.witx_syntax.specs.declared.value.Entry.TheVariants as entry
 use Rattle.witx_syntax.specs.declared.value.Entries.{Entries}
 use Rattle.witx_syntax.specs.declared.value.Value.{Value}
 use Rattle.witx_syntax.specs.declared.value.Value.TheVariants as value
-use Rattle.witx_tree.specs.Trees.{QuotedText}
+use Rattle.witx_lex.specs.Tokens.{Lexed}
+use Rattle.witx_syntax.specs.declared.production.ProductionName.{ProductionName}
+use Rattle.witx_syntax.specs.Actions.{act}
+use Rattle.witx_syntax.specs.Kinds.{Holds, parts_of}
+use Rattle.witx_syntax_tree.specs.Trees.{QuotedText}
 use Rattle.witx_syntax.specs.Values.{EntryTree, param, result_of, noreturn, stored, Val, a_name, a_text, an_integer, a_builtin, a_type, some_types, an_error, a_member, some_members, a_field, some_fields, a_union_field, some_union_fields, a_case, some_cases, an_entry, some_entries, a_decl, some_decls, an_item, some_items}
-use Rattle.witx_tree.specs.Views.{comments_view, name_view, member_view, type_view, field_view, case_view, boxed_view, types_view, fields_view, union_fields_view, cases_view, noted_decl, item_view, noted_item}
+use Rattle.witx_syntax_tree.specs.Views.{comments_view, name_view, member_view, type_view, field_view, case_view, boxed_view, types_view, fields_view, union_fields_view, cases_view, noted_decl, item_view, noted_item}
 
 abbrev pub quoted_view : Quoted → QuotedText
 quoted_view q = record { text = q.text; start = q.span.start; end = q.span.end }
@@ -57,3 +61,19 @@ value_view (value.Items ds) = some_items (map noted_item (reverse ds.items))
 -- the values on a stack, the top one first
 abbrev pub stack_view : List Value → List Val
 stack_view vs = map value_view (reverse vs)
+
+-- what the production is made of lies on top
+abbrev pub Ready : ProductionName → List Value → Type 0
+Ready p stack = Holds (parts_of p) (stack_view stack)
+
+-- the production's value lies in place of that, where the tokens from its first one on are ts
+abbrev pub Made : ProductionName → List Lexed → List Value → List Value → Type 0
+Made p ts old new = stack_view new ≡ act p ts (stack_view old)
+
+-- in place of an item and the list behind it there is the list of both
+pub record AddsItem {A : Type 0} (seen : A → Val) (list_seen : List A → Val) (old new : List Val) : Type 0 where
+  pub first : A
+  pub others : List A
+  pub below : List Val
+  pub before : old ≡ seen first ∷ list_seen others ∷ below
+  pub after : new ≡ list_seen (first ∷ others) ∷ below

@@ -1,9 +1,9 @@
--- What tokens and forms stand for while a text is read.
+-- What tokens and nonterminals stand for while a text is read.
 use Rattle.std.specs.Prelude.{ℕ, Bool, List, [], ◌∷◌, if◌then◌else◌, slice_index_or}
 use Rattle.witx_lex.specs.Tokens.{Token, left, right, id, word, annot, int, quoted, Lexed}
-use Rattle.witx_tree.specs.declared.tree.BuiltinSyntax.{BuiltinSyntax}
+use Rattle.witx_syntax_tree.specs.declared.tree.BuiltinSyntax.{BuiltinSyntax}
 use Rattle.witx_syntax.specs.Integers.{is_small, int_value}
-use Rattle.witx_tree.specs.Trees.{Comments, Name, QuotedText, Member, TypeTree, Maybe, Types, Fields, UnionFields, Cases, NotedDecl, ItemTree, NotedItem}
+use Rattle.witx_syntax_tree.specs.Trees.{Comments, Name, QuotedText, Member, TypeTree, Maybe, Types, Fields, UnionFields, Cases, NotedDecl, ItemTree, NotedItem}
 
 -- an entry of a function: a parameter, a result, that it doesn't return, or that its result is stored
 pub data EntryTree : Type 0 where
@@ -42,9 +42,15 @@ no_lexed = record { token = right; start = 0; end = 0; comments = [] }
 abbrev pub token_at : List Lexed → ℕ → Lexed
 token_at ts at = slice_index_or ts at no_lexed
 
--- the comments before the token at a place
-abbrev pub comments_of : List Lexed → ℕ → Comments
-comments_of ts at = (token_at ts at).comments
+-- the comments before the first of the tokens
+abbrev pub comments_of : List Lexed → Comments
+comments_of [] = []
+comments_of (t ∷ ts) = t.comments
+
+-- the comments before the second of them
+abbrev pub second_comments : List Lexed → Comments
+second_comments [] = []
+second_comments (t ∷ ts) = comments_of ts
 
 -- An identifier stands for itself with its place, a string for its text with its place, an integer for its number; other tokens for nothing.
 abbrev pub token_values : Token → ℕ → ℕ → List Val
@@ -56,10 +62,6 @@ token_values (int t) start end = if is_small t then an_integer (int_value t) ∷
 token_values (word t) start end = []
 token_values (annot t) start end = []
 
--- what the token at a place stands for
-abbrev pub leaf : List Lexed → ℕ → List Val
-leaf ts at = token_values (token_at ts at).token (token_at ts at).start (token_at ts at).end
-
--- the same where the token's sort is told too
-abbrev pub leaf_of : List Lexed → ℕ → ℕ → List Val
-leaf_of ts sort at = leaf ts at
+-- what a token of the text stands for
+abbrev pub leaf : Lexed → List Val
+leaf l = token_values l.token l.start l.end

@@ -1,18 +1,18 @@
 //! Types, fields and cases from their parts. The last item of a list stands first.
+#![tactic(auto, unfolding(witx_syntax_tree::specs::Views::type_view, witx_syntax_tree::specs::Views::field_view, witx_syntax_tree::specs::Views::case_view))]
 
 ghost use Rattle.std.specs.Prelude.{◌≡◌, reverse, map};
-ghost use Rattle.witx_tree.specs.Trees as tree;
-ghost use Rattle.witx_tree.specs.Views.{boxed_view, case_view, cases_view, field_view, fields_view, member_view, name_view, optional_view, type_view, types_view, union_fields_view};
+ghost use Rattle.witx_syntax_tree.specs.Trees as tree;
+ghost use Rattle.witx_syntax_tree.specs.Views.{boxed_view, case_view, cases_view, field_view, fields_view, member_view, name_view, optional_view, type_view, types_view, union_fields_view};
 
-use crate::noted::turned;
+use crate::comments::reversed;
 use witx_base::Items;
-use witx_tree::{
+use witx_syntax_tree::{
     BuiltinSyntax, CaseSyntax, Documented, EnumSyntax, ExpectedSyntax, FieldSyntax, FlagsSyntax,
     HandleSyntax, IdSyntax, RecordSyntax, TupleSyntax, TypedefSyntax, UnionSyntax, VariantSyntax,
 };
 
 /// A type by its name.
-#[tactic(auto, unfolding(witx_tree::specs::Views::type_view, witx_tree::specs::Views::field_view, witx_tree::specs::Views::case_view))]
 pub fn ident<'a>(name: IdSyntax<'a>) -> TypedefSyntax<'a>
     ensures { type_view result ≡ tree.ident (name_view name.entry) }
 {
@@ -20,7 +20,6 @@ pub fn ident<'a>(name: IdSyntax<'a>) -> TypedefSyntax<'a>
 }
 
 /// A builtin type.
-#[tactic(auto, unfolding(witx_tree::specs::Views::type_view, witx_tree::specs::Views::field_view, witx_tree::specs::Views::case_view))]
 pub fn builtin<'a>(builtin: BuiltinSyntax) -> TypedefSyntax<'a>
     ensures { type_view result ≡ tree.builtin builtin }
 {
@@ -28,7 +27,6 @@ pub fn builtin<'a>(builtin: BuiltinSyntax) -> TypedefSyntax<'a>
 }
 
 /// `string`.
-#[tactic(auto, unfolding(witx_tree::specs::Views::type_view, witx_tree::specs::Views::field_view, witx_tree::specs::Views::case_view))]
 pub fn string<'a>() -> TypedefSyntax<'a>
     ensures { type_view result ≡ tree.string }
 {
@@ -36,7 +34,6 @@ pub fn string<'a>() -> TypedefSyntax<'a>
 }
 
 /// `bool`.
-#[tactic(auto, unfolding(witx_tree::specs::Views::type_view, witx_tree::specs::Views::field_view, witx_tree::specs::Views::case_view))]
 pub fn boolean<'a>() -> TypedefSyntax<'a>
     ensures { type_view result ≡ tree.boolean }
 {
@@ -44,7 +41,6 @@ pub fn boolean<'a>() -> TypedefSyntax<'a>
 }
 
 /// A handle.
-#[tactic(auto, unfolding(witx_tree::specs::Views::type_view, witx_tree::specs::Views::field_view, witx_tree::specs::Views::case_view))]
 pub fn handle<'a>() -> TypedefSyntax<'a>
     ensures { type_view result ≡ tree.handle }
 {
@@ -52,7 +48,6 @@ pub fn handle<'a>() -> TypedefSyntax<'a>
 }
 
 /// A list.
-#[tactic(auto, unfolding(witx_tree::specs::Views::type_view, witx_tree::specs::Views::field_view, witx_tree::specs::Views::case_view))]
 pub fn list<'a>(target: Box<TypedefSyntax<'a>>) -> TypedefSyntax<'a>
     ensures { type_view result ≡ tree.list_of (type_view target.entry.value) }
 {
@@ -60,7 +55,6 @@ pub fn list<'a>(target: Box<TypedefSyntax<'a>>) -> TypedefSyntax<'a>
 }
 
 /// A pointer.
-#[tactic(auto, unfolding(witx_tree::specs::Views::type_view, witx_tree::specs::Views::field_view, witx_tree::specs::Views::case_view))]
 pub fn pointer<'a>(target: Box<TypedefSyntax<'a>>) -> TypedefSyntax<'a>
     ensures { type_view result ≡ tree.pointer_to (type_view target.entry.value) }
 {
@@ -68,7 +62,6 @@ pub fn pointer<'a>(target: Box<TypedefSyntax<'a>>) -> TypedefSyntax<'a>
 }
 
 /// A pointer to what is only read.
-#[tactic(auto, unfolding(witx_tree::specs::Views::type_view, witx_tree::specs::Views::field_view, witx_tree::specs::Views::case_view))]
 pub fn const_pointer<'a>(target: Box<TypedefSyntax<'a>>) -> TypedefSyntax<'a>
     ensures { type_view result ≡ tree.const_pointer_to (type_view target.entry.value) }
 {
@@ -76,17 +69,15 @@ pub fn const_pointer<'a>(target: Box<TypedefSyntax<'a>>) -> TypedefSyntax<'a>
 }
 
 /// A tuple.
-#[tactic(auto, unfolding(witx_tree::specs::Views::type_view, witx_tree::specs::Views::field_view, witx_tree::specs::Views::case_view))]
 pub fn tuple<'a>(types: Vec<TypedefSyntax<'a>>) -> TypedefSyntax<'a>
     ensures { type_view result ≡ tree.tuple_of (types_view (reverse types.entry.items)) }
 {
     TypedefSyntax::Tuple(TupleSyntax {
-        types: Items::from_vec(turned(types)),
+        types: Items::from_vec(reversed(types)),
     })
 }
 
 /// An enum.
-#[tactic(auto, unfolding(witx_tree::specs::Views::type_view, witx_tree::specs::Views::field_view, witx_tree::specs::Views::case_view))]
 pub fn enumeration<'a>(
     repr: Option<BuiltinSyntax>,
     members: Vec<Documented<'a, IdSyntax<'a>>>,
@@ -95,12 +86,11 @@ pub fn enumeration<'a>(
 {
     TypedefSyntax::Enum(EnumSyntax {
         repr,
-        members: Items::from_vec(turned(members)),
+        members: Items::from_vec(reversed(members)),
     })
 }
 
 /// Flags.
-#[tactic(auto, unfolding(witx_tree::specs::Views::type_view, witx_tree::specs::Views::field_view, witx_tree::specs::Views::case_view))]
 pub fn flags<'a>(
     repr: Option<BuiltinSyntax>,
     flags: Vec<Documented<'a, IdSyntax<'a>>>,
@@ -109,22 +99,20 @@ pub fn flags<'a>(
 {
     TypedefSyntax::Flags(FlagsSyntax {
         repr,
-        flags: Items::from_vec(turned(flags)),
+        flags: Items::from_vec(reversed(flags)),
     })
 }
 
 /// A record.
-#[tactic(auto, unfolding(witx_tree::specs::Views::type_view, witx_tree::specs::Views::field_view, witx_tree::specs::Views::case_view))]
 pub fn record<'a>(fields: Vec<Documented<'a, FieldSyntax<'a>>>) -> TypedefSyntax<'a>
     ensures { type_view result ≡ tree.record_of (fields_view (reverse fields.entry.items)) }
 {
     TypedefSyntax::Record(RecordSyntax {
-        fields: Items::from_vec(turned(fields)),
+        fields: Items::from_vec(reversed(fields)),
     })
 }
 
 /// A union.
-#[tactic(auto, unfolding(witx_tree::specs::Views::type_view, witx_tree::specs::Views::field_view, witx_tree::specs::Views::case_view))]
 pub fn union_of<'a>(
     tag: Option<Box<TypedefSyntax<'a>>>,
     fields: Vec<Documented<'a, TypedefSyntax<'a>>>,
@@ -133,12 +121,11 @@ pub fn union_of<'a>(
 {
     TypedefSyntax::Union(UnionSyntax {
         tag,
-        fields: Items::from_vec(turned(fields)),
+        fields: Items::from_vec(reversed(fields)),
     })
 }
 
 /// A variant.
-#[tactic(auto, unfolding(witx_tree::specs::Views::type_view, witx_tree::specs::Views::field_view, witx_tree::specs::Views::case_view))]
 pub fn variant<'a>(
     tag: Option<Box<TypedefSyntax<'a>>>,
     cases: Vec<Documented<'a, CaseSyntax<'a>>>,
@@ -147,12 +134,11 @@ pub fn variant<'a>(
 {
     TypedefSyntax::Variant(VariantSyntax {
         tag,
-        cases: Items::from_vec(turned(cases)),
+        cases: Items::from_vec(reversed(cases)),
     })
 }
 
 /// An expected type.
-#[tactic(auto, unfolding(witx_tree::specs::Views::type_view, witx_tree::specs::Views::field_view, witx_tree::specs::Views::case_view))]
 pub fn expected<'a>(
     ok: Option<Box<TypedefSyntax<'a>>>,
     err: Option<Box<TypedefSyntax<'a>>>,
@@ -163,7 +149,6 @@ pub fn expected<'a>(
 }
 
 /// A field, a parameter or a result.
-#[tactic(auto, unfolding(witx_tree::specs::Views::type_view, witx_tree::specs::Views::field_view, witx_tree::specs::Views::case_view))]
 pub fn field<'a>(name: IdSyntax<'a>, type_: TypedefSyntax<'a>) -> FieldSyntax<'a>
     ensures { field_view result ≡ record { name = name_view name.entry; type_ = type_view type_.entry } }
 {
@@ -171,7 +156,6 @@ pub fn field<'a>(name: IdSyntax<'a>, type_: TypedefSyntax<'a>) -> FieldSyntax<'a
 }
 
 /// A case.
-#[tactic(auto, unfolding(witx_tree::specs::Views::type_view, witx_tree::specs::Views::field_view, witx_tree::specs::Views::case_view))]
 pub fn case<'a>(name: IdSyntax<'a>, ty: Option<TypedefSyntax<'a>>) -> CaseSyntax<'a>
     ensures { case_view result ≡ record { name = name_view name.entry; ty = optional_view ty.entry } }
 {

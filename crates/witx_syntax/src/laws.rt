@@ -4,20 +4,25 @@ ghost use Rattle.std.specs.Prelude.{◌≡◌, ◌≢◌, ◌⊎◌, ℕ, List};
 ghost use Rattle.std.specs.List.{AllPairs};
 ghost use Rattle.witx_syntax.specs.Names.{AllNames, StandsInText};
 ghost use Rattle.witx_syntax.specs.Reads.{IsFaultOf, Reads, Told};
-ghost use Rattle.witx_syntax.specs.Sorts.{all_sorts};
-ghost use Rattle.witx_tree.specs.Trees.{Document};
+ghost use Rattle.witx_syntax.specs.TokenKinds.{all_kinds};
+ghost use Rattle.witx_syntax_tree.specs.Trees.{Document};
 
-use crate::table::the_table;
-use witx_grammar::{at_most_one_fault, derivation_or_fault};
+use crate::grammar::the_table;
+use crate::nonterminal::Nonterminal;
+use crate::production::ProductionName;
+use crate::token_kind::TokenKind;
+use witx_grammar::{
+    at_most_one_derivation, at_most_one_fault, derivation_or_fault, no_fault_where_derived,
+};
 use witx_lex::{
     a_fault_is_unique, a_text_has_pieces_or_a_fault, pieces_exclude_a_fault, tokens_are_slices,
     tokens_are_unique,
 };
 
-/// No two sorts of tokens are one: each word and each annotation of the grammar is told from each
+/// No two kinds of tokens are one: each word and each annotation of the grammar is told from each
 /// other, and from all other tokens.
-pub fn sorts_are_distinct()
-    ensures { AllPairs (λ sort other. sort ≢ other) all_sorts }
+pub fn token_kinds_are_distinct()
+    ensures { AllPairs (λ kind other. kind ≢ other) all_kinds }
 {}
 
 /// A text is at most one document.
@@ -25,6 +30,7 @@ pub fn at_most_one_document()
     ensures { (text : List ℕ) (d e : Document) → Reads text d → Reads text e → d ≡ e }
 {
     tokens_are_unique();
+    at_most_one_derivation::<TokenKind, Nonterminal, ProductionName>();
     let _table = the_table();
 }
 
@@ -34,6 +40,7 @@ pub fn no_fault_where_read()
 {
     tokens_are_unique();
     pieces_exclude_a_fault();
+    no_fault_where_derived::<TokenKind, Nonterminal, ProductionName>();
 }
 
 /// A text is a document or has a fault.
@@ -41,7 +48,7 @@ pub fn a_document_or_a_fault()
     ensures { (text : List ℕ) → ((d : Document) × Reads text d) ⊎ ((f : Told) × IsFaultOf text f) }
 {
     a_text_has_pieces_or_a_fault();
-    derivation_or_fault();
+    derivation_or_fault::<TokenKind, Nonterminal, ProductionName>();
     let _table = the_table();
 }
 
@@ -52,12 +59,12 @@ pub fn at_most_one_parse_fault()
     a_fault_is_unique();
     pieces_exclude_a_fault();
     tokens_are_unique();
-    at_most_one_fault();
+    at_most_one_fault::<TokenKind, Nonterminal, ProductionName>();
 }
 
 /// Each identifier of a document is the bytes of the text at its place, behind their `$`.
 pub fn identifiers_stand_in_the_text()
-    ensures { (text : List ℕ) (d : Document) → Reads text d → AllNames (StandsInText text) d }
+    ensures { (text : List ℕ) (d : Document) → Reads text d → AllNames (StandsInText text) (λ _. Unit {0}) d }
 {
     tokens_are_slices();
 }

@@ -1,68 +1,42 @@
-//! The messages of faults.
+//! Messages of faults.
 
-ghost use Rattle.std.specs.Prelude.{◌≡◌, ◌==◌, ◌&&◌, ◌||◌};
-ghost use Rattle.std.specs.List.{list_all};
-ghost use Rattle.witx_grammar.specs.Faults.{is_in};
-ghost use Rattle.witx_syntax.specs.declared.sort.TheConstants.{BIG_INTEGER, END, INTEGER};
-ghost use Rattle.witx_syntax.specs.Messages.{expected_message, first_sort as first_sort_of, only_sort as only_sort_of, message_of as message_of_sorts, message_of_only, lexical_message as message_of_kind};
+ghost use Rattle.std.specs.Prelude.{◌≡◌, ◌||◌, ◌&&◌};
+ghost use Rattle.std.specs.List.{list_all, list_any};
+ghost use Rattle.witx_syntax.specs.declared.token_kind.TokenKind.TheVariants.{End, Integer, BigInteger};
+ghost use Rattle.witx_syntax.specs.Messages.{first_kind as first_kind_of, only_kind as only_kind_of, message_of as message_of_kinds, message_of_only, lexical_message as message_of_kind};
+ghost use Rattle.witx_syntax.specs.TokenKinds.{is_kind};
 
-use crate::sort;
-use crate::spelling::{annotations, message_among, words};
+use crate::token_kind::TokenKind;
+use crate::words::expected as expected_message;
 use witx_lex::LexKind;
 
-/// The message where tokens of the sort alone can stand.
-fn expected(sort: u8) -> &'static str
-    ensures { result.now ≡ expected_message sort }
+/// The first kind that isn't that of the end.
+fn first_kind(kinds: &[TokenKind]) -> Option<TokenKind>
+    ensures { result ≡ first_kind_of kinds.now }
 {
-    if sort == sort::ID {
-        return "expected an identifier";
-    }
-    if sort == sort::QUOTED {
-        return "expected a string";
-    }
-    if sort == sort::INTEGER {
-        return "expected an integer";
-    }
-    if sort == sort::LEFT {
-        return "expected `(`";
-    }
-    if sort == sort::RIGHT {
-        return "expected `)`";
-    }
-    if let Some(message) = message_among(words(), sort) {
-        return message;
-    }
-    match message_among(annotations(), sort) {
-        Some(message) => message,
-        None => "unexpected token",
-    }
-}
-
-/// The first sort that isn't that of the end.
-fn first_sort(sorts: &[u8]) -> Option<u8>
-    ensures { result ≡ first_sort_of sorts.now }
-{
-    for sort in sorts {
-        if *sort != sort::END {
-            return Some(*sort);
+    for kind in kinds {
+        if *kind != TokenKind::End {
+            return Some(*kind);
         }
     }
     None
 }
 
-/// Whether tokens of the sort alone can stand. The end of the text is no token.
-fn is_alone(sorts: &[u8], only: u8) -> bool
-    ensures { result ≡ list_all (λ u. u == only || u == END) sorts.now }
+/// Whether tokens of the kind alone can stand. The end of the text is no token.
+fn is_alone(kinds: &[TokenKind], only: TokenKind) -> bool
+    ensures { result ≡ list_all (λ u. is_kind u only || is_kind u End) kinds.now }
 {
-    sorts.iter().all(|sort| *sort == only || *sort == sort::END)
+    kinds
+        .iter()
+        .all(|kind| *kind == only || *kind == TokenKind::End)
 }
 
-/// The sort of tokens that can stand, if it is one alone.
-fn only_sort(sorts: &[u8]) -> Option<u8>
-    ensures { result ≡ only_sort_of sorts.now }
+/// The kind of tokens that can stand, if it is one alone.
+fn only_kind(kinds: &[TokenKind]) -> Option<TokenKind>
+    ensures { result ≡ only_kind_of kinds.now }
 {
-    let first = first_sort(sorts)?;
-    if is_alone(sorts, first) {
+    let first = first_kind(kinds)?;
+    if is_alone(kinds, first) {
         Some(first)
     } else {
         None
@@ -70,37 +44,37 @@ fn only_sort(sorts: &[u8]) -> Option<u8>
 }
 
 /// Whether an integer can stand.
-fn is_integer_next(next: &[u8]) -> bool
-    ensures { result ≡ is_in INTEGER next.now }
+fn is_integer_expected(expected: &[TokenKind]) -> bool
+    ensures { result ≡ list_any (λ u. is_kind u Integer) expected.now }
 {
-    next.iter().any(|sort| *sort == sort::INTEGER)
+    expected.iter().any(|kind| *kind == TokenKind::Integer)
 }
 
 /// Whether an integer that is too large stands where one can stand.
-fn is_out_of_range(next: &[u8], here: u8) -> bool
-    ensures { result ≡ (here == BIG_INTEGER && is_in INTEGER next.now) }
+fn is_out_of_range(expected: &[TokenKind], here: TokenKind) -> bool
+    ensures { result ≡ (is_kind here BigInteger && list_any (λ u. is_kind u Integer) expected.now) }
 {
-    here == sort::BIG_INTEGER && is_integer_next(next)
+    here == TokenKind::BigInteger && is_integer_expected(expected)
 }
 
-/// The message where tokens of these sorts can stand.
-fn message_of_next(next: &[u8]) -> &'static str
-    ensures { result.now ≡ message_of_only (only_sort_of next.now) }
+/// The message where tokens of these kinds can stand.
+fn message_of_expected(expected: &[TokenKind]) -> &'static str
+    ensures { result.now ≡ message_of_only (only_kind_of expected.now) }
 {
-    match only_sort(next) {
-        Some(sort) => expected(sort),
+    match only_kind(expected) {
+        Some(kind) => expected_message(kind),
         None => "unexpected token",
     }
 }
 
-/// The message where tokens of these sorts can stand and one of the sort `here` stands.
-pub fn message_of(next: &[u8], here: u8) -> &'static str
-    ensures { result.now ≡ message_of_sorts next.now here }
+/// The message where tokens of these kinds can stand and one of the kind `here` stands.
+pub fn message_of(expected: &[TokenKind], here: TokenKind) -> &'static str
+    ensures { result.now ≡ message_of_kinds expected.now here }
 {
-    if is_out_of_range(next, here) {
+    if is_out_of_range(expected, here) {
         "integer out of range"
     } else {
-        message_of_next(next)
+        message_of_expected(expected)
     }
 }
 

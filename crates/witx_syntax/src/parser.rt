@@ -3,21 +3,22 @@
 ghost use Rattle.std.specs.Prelude.{◌≡◌, IfOk, IfErr, slice_index_or};
 ghost use Rattle.witx_lex.specs.Meaning.{HasTokens};
 ghost use Rattle.witx_lex.specs.Views.{tokens_view};
-ghost use Rattle.witx_syntax.specs.declared.sort.TheConstants.{END};
-ghost use Rattle.witx_syntax.specs.Messages.{message_of as message_of_sorts};
+ghost use Rattle.witx_syntax.specs.declared.token_kind.TokenKind.TheVariants.{End};
+ghost use Rattle.witx_syntax.specs.Messages.{message_of as message_of_kinds};
 ghost use Rattle.witx_syntax.specs.Reads.{IfParse, IsParseFault, Reads, fault_view, start_of, told_at};
-ghost use Rattle.witx_tree.specs.Views.{document_view};
+ghost use Rattle.witx_syntax_tree.specs.Views.{document_view};
 
 use crate::builder::build;
 use crate::error::{ParseFault, SyntaxError};
+use crate::grammar::the_table;
 use crate::messages::{lexical_message, message_of};
-use crate::table::the_table;
-use crate::token_sort::sorts_of;
-use crate::{form, sort};
+use crate::nonterminal::Nonterminal;
+use crate::token_kind::TokenKind;
+use crate::words::token_kinds;
 use std::alloc::Global;
 use witx_grammar::{Parsed, parse};
 use witx_lex::{LexError, Lexed, lex, line_column};
-use witx_tree::TopLevelDocument;
+use witx_syntax_tree::TopLevelDocument;
 
 /// The fault with a message at an offset.
 fn fault_at(text: &str, message: &'static str, offset: usize) -> ParseFault
@@ -42,16 +43,23 @@ fn start_of_token(text: &str, tokens: &[Lexed], at: usize) -> usize
 }
 
 /// The fault of tokens that are no document.
-fn token_fault(text: &str, tokens: &[Lexed], sorts: &[u8], at: usize, next: &[u8]) -> ParseFault
-    ensures { fault_view result ≡ told_at text.now (message_of_sorts next.now (slice_index_or sorts.now at END)) (start_of text.now (tokens_view tokens.now) at) }
+fn token_fault(
+    text: &str,
+    tokens: &[Lexed],
+    kinds: &[TokenKind],
+    at: usize,
+    expected: &[TokenKind],
+) -> ParseFault
+    ensures { fault_view result
+        ≡ told_at text.now (message_of_kinds expected.now (slice_index_or kinds.now at End)) (start_of text.now (tokens_view tokens.now) at) }
 {
-    let here = match sorts.get(at) {
-        Some(sort) => *sort,
-        None => sort::END,
+    let here = match kinds.get(at) {
+        Some(kind) => *kind,
+        None => TokenKind::End,
     };
     fault_at(
         text,
-        message_of(next, here),
+        message_of(expected, here),
         start_of_token(text, tokens, at),
     )
 }
@@ -66,20 +74,20 @@ fn parse_tokens<'a>(
     ensures document { IfOk result (λ d. Reads text.now (document_view d)) }
     ensures fault { IfErr result (λ e. IfParse e (λ f. IsParseFault text.now f)) }
 {
-    let sorts = sorts_of(alloc, tokens)?;
+    let kinds = token_kinds(alloc, tokens)?;
     let table = the_table();
-    match parse(alloc, &table, form::TEXT, sorts.as_slice())? {
-        Parsed::Derivation(moves) => {
-            let items = build(alloc, moves.as_slice(), tokens)?;
+    match parse(alloc, &table, Nonterminal::Text, kinds.as_slice())? {
+        Parsed::Derivation(steps) => {
+            let items = build(alloc, steps.as_slice(), tokens)?;
             Ok(TopLevelDocument { items })
         }
-        Parsed::Bad(fault) => {
+        Parsed::Fault(fault) => {
             let fault = token_fault(
                 text,
                 tokens,
-                sorts.as_slice(),
+                kinds.as_slice(),
                 fault.at,
-                fault.next.as_slice(),
+                fault.expected.as_slice(),
             );
             Err(SyntaxError::Parse(fault))
         }

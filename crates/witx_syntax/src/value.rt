@@ -2,7 +2,7 @@
 
 use witx_base::Text;
 use witx_lex::Span;
-use witx_tree::{
+use witx_syntax_tree::{
     BuiltinSyntax, CaseSyntax, Documented, FieldSyntax, IdSyntax, ModuleDeclSyntax, TopLevelSyntax,
     TypedefSyntax,
 };

@@ -4,7 +4,7 @@ use Rattle.witx_syntax.proofs.Loop.{Here}
 use Rattle.witx_syntax.proofs.builder.build.Given as goal
 
 abbrev pub invariant-each : goal.invariant-each
-invariant-each l = Here l.moves (tokens_view l.tokens) l.number l.at (stack_view l.stack.items)
+invariant-each l = Here l.steps (tokens_view l.tokens) l.number l.at (stack_view l.stack.items)
 
 abbrev pub decreases-each : goal.decreases-each
 decreases-each l = l.number

@@ -3,29 +3,30 @@ use Rattle.std.specs.Prelude.{slice_index_or}
 use Rattle.witx_grammar.specs.Faults.{IsFault, IsSameFault}
 use Rattle.witx_lex.specs.Tokens.{Lexed}
 use Rattle.witx_lex.specs.declared.error.LexKind.{LexKind}
-use Rattle.witx_syntax.specs.declared.form.TheConstants.{TEXT}
-use Rattle.witx_syntax.specs.declared.sort.TheConstants.{END}
+use Rattle.witx_syntax.specs.declared.nonterminal.Nonterminal.TheVariants.{Text}
+use Rattle.witx_syntax.specs.declared.token_kind.TokenKind.{TokenKind}
+use Rattle.witx_syntax.specs.declared.token_kind.TokenKind.TheVariants.{End}
+use Rattle.witx_syntax.specs.Grammar.{the_grammar}
 use Rattle.witx_syntax.specs.Messages.{message_of, lexical_message}
 use Rattle.witx_syntax.specs.Reads.{IsLexical, IsSyntactic, Told, told_at, start_of}
-use Rattle.witx_syntax.specs.Rows.{the_rows}
-use Rattle.witx_syntax.specs.Sorts.{sorts_of}
+use Rattle.witx_syntax.specs.TokenKinds.{token_kinds}
 use Rattle.witx_syntax.proofs.Wording.{same_message}
 use Rattle.witx_syntax.proofs.laws.at_most_one_parse_fault.Goals as goal
 
--- the fault of tokens at a place where these sorts can stand
-abbrev token_fault : List ℕ → List Lexed → ℕ → List ℕ → Told
-token_fault text ts at next = told_at text (message_of next (slice_index_or (sorts_of ts) at END)) (start_of text ts at)
+-- the fault of tokens at a place where these kinds can stand
+abbrev token_fault : List ℕ → List Lexed → ℕ → List TokenKind → Told
+token_fault text ts at expected = told_at text (message_of expected (slice_index_or (token_kinds ts) at End)) (start_of text ts at)
 
 one_lexical : (text : List ℕ) (f g : Told) (a : IsLexical text f) (b : IsLexical text g) → a.fault.kind ≡ b.fault.kind → a.fault.at ≡ b.fault.at → f ≡ g
 one_lexical text f g a b kinds places =
     a.told ∙ ap (λ (k : LexKind). told_at text (lexical_message k) a.fault.at) kinds ∙ ap (λ (n : ℕ). told_at text (lexical_message b.fault.kind) n) places ∙ sym b.told
 
-one_syntactic : (text : List ℕ) (f g : Told) (a : IsSyntactic text f) (b : IsSyntactic text g) → a.tokens ≡ b.tokens → IsSameFault a.at a.next b.at b.next → f ≡ g
+one_syntactic : (text : List ℕ) (f g : Told) (a : IsSyntactic text f) (b : IsSyntactic text g) → a.tokens ≡ b.tokens → IsSameFault a.at a.expected b.at b.expected → f ≡ g
 one_syntactic text f g a b tokens same =
     a.told
-    ∙ ap (λ (ts : List Lexed). token_fault text ts a.at a.next) tokens
-    ∙ ap (λ (n : ℕ). token_fault text b.tokens n a.next) same.one_place
-    ∙ ap (λ (m : List ℕ). told_at text m (start_of text b.tokens b.at)) (same_message a.next b.next (slice_index_or (sorts_of b.tokens) b.at END) same.same_sorts)
+    ∙ ap (λ (ts : List Lexed). token_fault text ts a.at a.expected) tokens
+    ∙ ap (λ (n : ℕ). token_fault text b.tokens n a.expected) same.one_place
+    ∙ ap (λ (m : List ℕ). told_at text m (start_of text b.tokens b.at)) (same_message a.expected b.expected (slice_index_or (token_kinds b.tokens) b.at End) same.first_kinds same.second_kinds)
     ∙ sym b.told
 
 pub returns : goal.returns
@@ -42,7 +43,7 @@ returns c text f g x y =
         | inr b ↦
             let tokens : a.tokens ≡ b.tokens = c.tokens_are_unique.ensures text a.tokens b.tokens a.lexed b.lexed in
             one_syntactic text f g a b tokens
-            (c.at_most_one_fault.ensures the_rows TEXT a.at b.at a.next b.next (sorts_of b.tokens)
-            (subst (λ (ts : List Lexed). IsFault the_rows TEXT (sorts_of ts) a.at a.next) tokens a.has_fault) b.has_fault)
+            (c.at_most_one_fault.ensures the_grammar Text a.at b.at a.expected b.expected (token_kinds b.tokens)
+            (subst (λ (ts : List Lexed). IsFault the_grammar Text (token_kinds ts) a.at a.expected) tokens a.has_fault) b.has_fault)
       ]
     ]

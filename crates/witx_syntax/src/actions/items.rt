@@ -1,0 +1,208 @@
+//! The values of top-level forms and of declarations of modules.
+
+ghost use Rattle.std.specs.Prelude.{◌≡◌, [], drop, reverse, IfOk};
+ghost use Rattle.witx_lex.specs.Views.{tokens_view};
+ghost use Rattle.witx_syntax.specs.declared.production.ProductionName.TheVariants as production;
+ghost use Rattle.witx_syntax.specs.Actions.{with_entry};
+ghost use Rattle.witx_syntax.specs.Stack.{Made, Ready, entries_value, entry_view};
+ghost use Rattle.witx_syntax_tree.specs.Views.{fields_view};
+
+use crate::comments::{appended, comments_at, comments_behind, reversed};
+use crate::constructors::field;
+use crate::stack::{push, take, take_three, take_two};
+use crate::value::{Entries, Entry, Named, Number, Quoted, Value};
+use std::alloc::Global;
+use witx_base::{Items, OutOfMemory};
+use witx_lex::Lexed;
+use witx_syntax_tree::{
+    ConstSyntax, DeclSyntax, Documented, ImportTypeSyntax, InterfaceFuncSyntax, ModuleDeclSyntax,
+    ModuleImportSyntax, ModuleSyntax, TopLevelSyntax, TypedefSyntax, TypenameSyntax,
+};
+
+pub fn more_items<'a>(
+    alloc: Global,
+    tokens: &[Lexed<'a>],
+    at: usize,
+    stack: &mut Vec<Value<'a>>,
+) -> Result<(), OutOfMemory>
+    requires { Ready production.MoreItems stack.old.items }
+    ensures { IfOk result (λ _. Made production.MoreItems (drop at (tokens_view tokens.now)) stack.old.items stack.new.items) }
+{
+    let comments = comments_at(alloc, tokens, at)?;
+    let (item, items): (TopLevelSyntax<'a>, Vec<Documented<'a, TopLevelSyntax<'a>>>) = take_two(
+        stack,
+    );
+    let items = appended(items, Documented { comments, item })?;
+    push(stack, Value::Items(items))
+}
+
+pub fn use_of<'a>(stack: &mut Vec<Value<'a>>) -> Result<(), OutOfMemory>
+    requires { Ready production.Use stack.old.items }
+    ensures { IfOk result (λ _. Made production.Use [] stack.old.items stack.new.items) }
+{
+    let Quoted { text, span: _ } = take(stack);
+    push(stack, Value::Item(TopLevelSyntax::Use(text)))
+}
+
+pub fn typename<'a>(stack: &mut Vec<Value<'a>>) -> Result<(), OutOfMemory>
+    requires { Ready production.Typename stack.old.items }
+    ensures { IfOk result (λ _. Made production.Typename [] stack.old.items stack.new.items) }
+{
+    let (name, def): (Named<'a>, TypedefSyntax<'a>) = take_two(stack);
+    let typename = TypenameSyntax {
+        ident: name.id,
+        def,
+    };
+    push(
+        stack,
+        Value::Item(TopLevelSyntax::Decl(DeclSyntax::Typename(typename))),
+    )
+}
+
+pub fn module<'a>(stack: &mut Vec<Value<'a>>) -> Result<(), OutOfMemory>
+    requires { Ready production.Module stack.old.items }
+    ensures { IfOk result (λ _. Made production.Module [] stack.old.items stack.new.items) }
+{
+    let (name, decls): (Named<'a>, Vec<Documented<'a, ModuleDeclSyntax<'a>>>) = take_two(stack);
+    let module = ModuleSyntax {
+        name: name.id,
+        decls: Items::from_vec(reversed(decls)),
+    };
+    push(
+        stack,
+        Value::Item(TopLevelSyntax::Decl(DeclSyntax::Module(module))),
+    )
+}
+
+pub fn constant<'a>(
+    alloc: Global,
+    tokens: &[Lexed<'a>],
+    at: usize,
+    stack: &mut Vec<Value<'a>>,
+) -> Result<(), OutOfMemory>
+    requires { Ready production.Const stack.old.items }
+    ensures { IfOk result (λ _. Made production.Const (drop at (tokens_view tokens.now)) stack.old.items stack.new.items) }
+{
+    let comments = comments_behind(alloc, tokens, at)?;
+    let (ty, name, number): (Named<'a>, Named<'a>, Number) = take_three(stack);
+    let item = ConstSyntax {
+        ty: ty.id,
+        name: name.id,
+        value: number.value,
+    };
+    push(
+        stack,
+        Value::Item(TopLevelSyntax::Decl(DeclSyntax::Const(Documented { comments, item }))),
+    )
+}
+
+pub fn import<'a>(
+    alloc: Global,
+    tokens: &[Lexed<'a>],
+    at: usize,
+    stack: &mut Vec<Value<'a>>,
+) -> Result<(), OutOfMemory>
+    requires { Ready production.Import stack.old.items }
+    ensures { IfOk result (λ _. Made production.Import (drop at (tokens_view tokens.now)) stack.old.items stack.new.items) }
+{
+    let comments = comments_at(alloc, tokens, at)?;
+    let Quoted { text, span } = take(stack);
+    let item = ModuleDeclSyntax::Import(ModuleImportSyntax {
+        name: text,
+        name_loc: span,
+        type_: ImportTypeSyntax::Memory,
+    });
+    push(stack, Value::Decl(Documented { comments, item }))
+}
+
+pub fn func<'a>(
+    alloc: Global,
+    tokens: &[Lexed<'a>],
+    at: usize,
+    stack: &mut Vec<Value<'a>>,
+) -> Result<(), OutOfMemory>
+    requires { Ready production.Func stack.old.items }
+    ensures { IfOk result (λ _. Made production.Func (drop at (tokens_view tokens.now)) stack.old.items stack.new.items) }
+{
+    let comments = comments_at(alloc, tokens, at)?;
+    let (name, entries): (Quoted, Entries<'a>) = take_two(stack);
+    let item = ModuleDeclSyntax::Func(InterfaceFuncSyntax {
+        export: name.text,
+        export_loc: name.span,
+        params: Items::from_vec(reversed(entries.params)),
+        results: Items::from_vec(reversed(entries.results)),
+        noreturn: entries.noreturn,
+        stored: entries.stored,
+    });
+    push(stack, Value::Decl(Documented { comments, item }))
+}
+
+pub fn param<'a>(
+    alloc: Global,
+    tokens: &[Lexed<'a>],
+    at: usize,
+    stack: &mut Vec<Value<'a>>,
+) -> Result<(), OutOfMemory>
+    requires { Ready production.Param stack.old.items }
+    ensures { IfOk result (λ _. Made production.Param (drop at (tokens_view tokens.now)) stack.old.items stack.new.items) }
+{
+    let comments = comments_at(alloc, tokens, at)?;
+    let (name, type_): (Named<'a>, TypedefSyntax<'a>) = take_two(stack);
+    let item = field(name.id, type_);
+    push(
+        stack,
+        Value::Entry(Entry::Param(Documented { comments, item })),
+    )
+}
+
+pub fn result_of<'a>(
+    alloc: Global,
+    tokens: &[Lexed<'a>],
+    at: usize,
+    stack: &mut Vec<Value<'a>>,
+) -> Result<(), OutOfMemory>
+    requires { Ready production.Result stack.old.items }
+    ensures { IfOk result (λ _. Made production.Result (drop at (tokens_view tokens.now)) stack.old.items stack.new.items) }
+{
+    let comments = comments_at(alloc, tokens, at)?;
+    let (name, type_): (Named<'a>, TypedefSyntax<'a>) = take_two(stack);
+    let item = field(name.id, type_);
+    push(
+        stack,
+        Value::Entry(Entry::Result(Documented { comments, item })),
+    )
+}
+
+/// Puts an entry to those of its kind.
+fn add_entry<'a>(entries: &mut Entries<'a>, entry: Entry<'a>) -> Result<(), OutOfMemory>
+    ensures { IfOk result (λ _. entries_value entries.new
+        ≡ with_entry (entry_view entry.entry) (fields_view (reverse entries.old.params.items)) (fields_view (reverse entries.old.results.items)) entries.old.noreturn entries.old.stored) }
+{
+    match entry {
+        Entry::Param(field) => {
+            entries.params.push(field)?;
+            Ok(())
+        }
+        Entry::Result(field) => {
+            entries.results.push(field)?;
+            Ok(())
+        }
+        Entry::NoReturn => {
+            entries.noreturn = true;
+            Ok(())
+        }
+        Entry::Stored => {
+            entries.stored = true;
+            Ok(())
+        }
+    }
+}
+
+pub fn more_entries<'a>(stack: &mut Vec<Value<'a>>) -> Result<(), OutOfMemory>
+    requires { Ready production.MoreEntries stack.old.items }
+    ensures { IfOk result (λ _. Made production.MoreEntries [] stack.old.items stack.new.items) }
+{
+    let (first, mut entries): (Entry<'a>, Entries<'a>) = take_two(stack);
+    add_entry(&mut entries, first)?;
+    push(stack, Value::Entries(entries))
+}

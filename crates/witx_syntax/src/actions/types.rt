@@ -1,0 +1,172 @@
+//! The values of types.
+
+ghost use Rattle.std.specs.Prelude.{[], IfOk};
+ghost use Rattle.witx_syntax.specs.declared.production.ProductionName.TheVariants as production;
+ghost use Rattle.witx_syntax.specs.Stack.{Made, Ready};
+
+use crate::comments::appended;
+use crate::constructors;
+use crate::constructors::{enumeration, flags, union_of, variant};
+use crate::stack::{push, take, take_three, take_two};
+use crate::value::{BuiltinWord, Named, Value};
+use std::alloc::Global;
+use witx_base::OutOfMemory;
+use witx_syntax_tree::{Documented, FieldSyntax, IdSyntax, TypedefSyntax};
+
+type Member<'a> = Documented<'a, IdSyntax<'a>>;
+
+type Field<'a> = Documented<'a, FieldSyntax<'a>>;
+
+type UnionField<'a> = Documented<'a, TypedefSyntax<'a>>;
+
+pub fn pointer<'a>(alloc: Global, stack: &mut Vec<Value<'a>>) -> Result<(), OutOfMemory>
+    requires { Ready production.Pointer stack.old.items }
+    ensures { IfOk result (λ _. Made production.Pointer [] stack.old.items stack.new.items) }
+{
+    let target = take(stack);
+    push(
+        stack,
+        Value::Type(constructors::pointer(Box::new(alloc, target)?)),
+    )
+}
+
+pub fn const_pointer<'a>(alloc: Global, stack: &mut Vec<Value<'a>>) -> Result<(), OutOfMemory>
+    requires { Ready production.ConstPointer stack.old.items }
+    ensures { IfOk result (λ _. Made production.ConstPointer [] stack.old.items stack.new.items) }
+{
+    let target = take(stack);
+    push(
+        stack,
+        Value::Type(constructors::const_pointer(Box::new(alloc, target)?)),
+    )
+}
+
+pub fn list<'a>(alloc: Global, stack: &mut Vec<Value<'a>>) -> Result<(), OutOfMemory>
+    requires { Ready production.List stack.old.items }
+    ensures { IfOk result (λ _. Made production.List [] stack.old.items stack.new.items) }
+{
+    let element = take(stack);
+    push(
+        stack,
+        Value::Type(constructors::list(Box::new(alloc, element)?)),
+    )
+}
+
+pub fn ident<'a>(stack: &mut Vec<Value<'a>>) -> Result<(), OutOfMemory>
+    requires { Ready production.Ident stack.old.items }
+    ensures { IfOk result (λ _. Made production.Ident [] stack.old.items stack.new.items) }
+{
+    let Named { id } = take(stack);
+    push(stack, Value::Type(constructors::ident(id)))
+}
+
+pub fn builtin_type<'a>(stack: &mut Vec<Value<'a>>) -> Result<(), OutOfMemory>
+    requires { Ready production.BuiltinType stack.old.items }
+    ensures { IfOk result (λ _. Made production.BuiltinType [] stack.old.items stack.new.items) }
+{
+    let BuiltinWord { builtin } = take(stack);
+    push(stack, Value::Type(constructors::builtin(builtin)))
+}
+
+pub fn tagged_enum<'a>(stack: &mut Vec<Value<'a>>) -> Result<(), OutOfMemory>
+    requires { Ready production.TaggedEnum stack.old.items }
+    ensures { IfOk result (λ _. Made production.TaggedEnum [] stack.old.items stack.new.items) }
+{
+    let (word, first, members): (BuiltinWord, Member<'a>, Vec<Member<'a>>) = take_three(stack);
+    let members = appended(members, first)?;
+    push(stack, Value::Type(enumeration(Some(word.builtin), members)))
+}
+
+pub fn plain_enum<'a>(stack: &mut Vec<Value<'a>>) -> Result<(), OutOfMemory>
+    requires { Ready production.Enum stack.old.items }
+    ensures { IfOk result (λ _. Made production.Enum [] stack.old.items stack.new.items) }
+{
+    let (first, members): (Member<'a>, Vec<Member<'a>>) = take_two(stack);
+    let members = appended(members, first)?;
+    push(stack, Value::Type(enumeration(None, members)))
+}
+
+pub fn tagged_flags<'a>(stack: &mut Vec<Value<'a>>) -> Result<(), OutOfMemory>
+    requires { Ready production.TaggedFlags stack.old.items }
+    ensures { IfOk result (λ _. Made production.TaggedFlags [] stack.old.items stack.new.items) }
+{
+    let (word, names): (BuiltinWord, Vec<Member<'a>>) = take_two(stack);
+    push(stack, Value::Type(flags(Some(word.builtin), names)))
+}
+
+pub fn plain_flags<'a>(stack: &mut Vec<Value<'a>>) -> Result<(), OutOfMemory>
+    requires { Ready production.Flags stack.old.items }
+    ensures { IfOk result (λ _. Made production.Flags [] stack.old.items stack.new.items) }
+{
+    let names = take(stack);
+    push(stack, Value::Type(flags(None, names)))
+}
+
+pub fn record<'a>(stack: &mut Vec<Value<'a>>) -> Result<(), OutOfMemory>
+    requires { Ready production.Record stack.old.items }
+    ensures { IfOk result (λ _. Made production.Record [] stack.old.items stack.new.items) }
+{
+    let (first, fields): (Field<'a>, Vec<Field<'a>>) = take_two(stack);
+    let fields = appended(fields, first)?;
+    push(stack, Value::Type(constructors::record(fields)))
+}
+
+pub fn tuple<'a>(stack: &mut Vec<Value<'a>>) -> Result<(), OutOfMemory>
+    requires { Ready production.Tuple stack.old.items }
+    ensures { IfOk result (λ _. Made production.Tuple [] stack.old.items stack.new.items) }
+{
+    let types = take(stack);
+    push(stack, Value::Type(constructors::tuple(types)))
+}
+
+pub fn expected<'a>(stack: &mut Vec<Value<'a>>) -> Result<(), OutOfMemory>
+    requires { Ready production.Expected stack.old.items }
+    ensures { IfOk result (λ _. Made production.Expected [] stack.old.items stack.new.items) }
+{
+    let err = take(stack);
+    push(stack, Value::Type(constructors::expected(None, err)))
+}
+
+pub fn expected_type<'a>(alloc: Global, stack: &mut Vec<Value<'a>>) -> Result<(), OutOfMemory>
+    requires { Ready production.ExpectedType stack.old.items }
+    ensures { IfOk result (λ _. Made production.ExpectedType [] stack.old.items stack.new.items) }
+{
+    let (ok, err) = take_two(stack);
+    let ok = Some(Box::new(alloc, ok)?);
+    push(stack, Value::Type(constructors::expected(ok, err)))
+}
+
+pub fn tagged_union<'a>(alloc: Global, stack: &mut Vec<Value<'a>>) -> Result<(), OutOfMemory>
+    requires { Ready production.TaggedUnion stack.old.items }
+    ensures { IfOk result (λ _. Made production.TaggedUnion [] stack.old.items stack.new.items) }
+{
+    let (tag, fields) = take_two(stack);
+    let tag = Some(Box::new(alloc, tag)?);
+    push(stack, Value::Type(union_of(tag, fields)))
+}
+
+pub fn plain_union<'a>(stack: &mut Vec<Value<'a>>) -> Result<(), OutOfMemory>
+    requires { Ready production.Union stack.old.items }
+    ensures { IfOk result (λ _. Made production.Union [] stack.old.items stack.new.items) }
+{
+    let (first, fields): (UnionField<'a>, Vec<UnionField<'a>>) = take_two(stack);
+    let fields = appended(fields, first)?;
+    push(stack, Value::Type(union_of(None, fields)))
+}
+
+pub fn tagged_variant<'a>(alloc: Global, stack: &mut Vec<Value<'a>>) -> Result<(), OutOfMemory>
+    requires { Ready production.TaggedVariant stack.old.items }
+    ensures { IfOk result (λ _. Made production.TaggedVariant [] stack.old.items stack.new.items) }
+{
+    let (tag, cases) = take_two(stack);
+    let tag = Some(Box::new(alloc, tag)?);
+    push(stack, Value::Type(variant(tag, cases)))
+}
+
+pub fn plain_variant<'a>(stack: &mut Vec<Value<'a>>) -> Result<(), OutOfMemory>
+    requires { Ready production.Variant stack.old.items }
+    ensures { IfOk result (λ _. Made production.Variant [] stack.old.items stack.new.items) }
+{
+    let cases = take(stack);
+    push(stack, Value::Type(variant(None, cases)))
+}

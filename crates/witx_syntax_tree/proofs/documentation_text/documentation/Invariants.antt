@@ -1,0 +1,9 @@
+use Rattle.std.proofs.Common.{map, drop}
+use Rattle.std.specs.String.{string_bytes}
+use Rattle.witx_syntax_tree.specs.Documentation.{lines_of}
+use Rattle.witx_syntax_tree.proofs.Lines.{IsAt}
+use Rattle.witx_syntax_tree.proofs.documentation_text.documentation.Given as goal
+
+abbrev pub invariant-loop-comment : goal.invariant-loop-comment
+invariant-loop-comment l =
+    IsAt l.margin (string_bytes l.text) (lines_of (map (λ comment. comment.now) l.comments)) (lines_of (map (λ comment. comment.now) (drop l.comment-index l.comments)))

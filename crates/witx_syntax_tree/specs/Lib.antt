@@ -1,0 +1,7 @@
+pub mod Documentation
+pub mod Trees
+pub mod Views
+pub mod Unplaced
+pub mod Same
+pub mod SameLaws
+pub mod Copies

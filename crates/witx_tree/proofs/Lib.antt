@@ -1,5 +1,0 @@
-pub mod TypeViews
-pub mod Unlike
-pub mod Equal
-pub mod Copied
-pub mod Decided

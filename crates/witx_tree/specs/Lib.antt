@@ -1,6 +1,0 @@
-pub mod Trees
-pub mod Views
-pub mod Unplaced
-pub mod Same
-pub mod SameLaws
-pub mod Copies
