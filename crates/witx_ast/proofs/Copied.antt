@@ -2,7 +2,7 @@
 use Rattle.std.specs.Prelude.{◌≡◌, List, [], ◌∷◌, map}
 use Rattle.std.proofs.Common.{refl}
 use Rattle.std.specs.List.{AllZip}
-use Rattle.witx_ast.specs.Reads.{member_field, case_arm}
+use Rattle.witx_ast.specs.Views.{member_field, case_arm}
 use Rattle.witx_ast.specs.Functions.{param_field}
 use Rattle.witx_ast.specs.declared.function.InterfaceFuncParam.{InterfaceFuncParam}
 use Rattle.witx_ast.specs.declared.types.RecordMember.{RecordMember}

@@ -21,7 +21,7 @@ use Rattle.std.specs.HashSet.{HashSet, IsEmpty, Updates}
 use Rattle.witx_ast.specs.Seen.{Tells, taken, all_taken}
 use Rattle.witx_ast.specs.declared.types.Variant.{Variant, out-Variant}
 use Rattle.witx_ast.specs.Tree.{Tree, behind}
-use Rattle.witx_ast.specs.Reads.{tree_of, variant_tree, case_arm}
+use Rattle.witx_ast.specs.Views.{tree_of, variant_tree, case_arm}
 use Rattle.witx_ast.specs.Functions.{param_field, func_tree}
 use Rattle.witx_ast.specs.Items.{item_tree}
 use Rattle.witx_ast.specs.Definitions.{DefinitionTree, definition_tree}

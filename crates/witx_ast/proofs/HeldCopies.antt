@@ -11,7 +11,7 @@ use Rattle.witx_ast.proofs.Copied.{copied}
 use Rattle.witx_ast.specs.Copies.{HoldSameItem, HoldSameItemEntry, HoldSame, HoldSameEntry}
 use Rattle.witx_ast.specs.Same.{same_bytes}
 use Rattle.witx_ast.specs.SameLaws.{bytes-self}
-use Rattle.witx_ast.specs.Reads.{tree_of}
+use Rattle.witx_ast.specs.Views.{tree_of}
 use Rattle.witx_ast.specs.Functions.{func_tree}
 use Rattle.witx_ast.specs.Items.{import_of, func_of, item_tree, entry_item, ItemsFit}
 use Rattle.witx_ast.specs.Definitions.{typename_of, module_of, constant_of, module_tree, definition_tree, entry_tree, DefinitionsFit}
@@ -101,8 +101,6 @@ pub definitions-fit : (ds made : List Definition) (es cs : List (List ℕ × Ent
     → IsCopyOfEntries HoldSameEntry es cs → DefinitionsFit made cs
 definitions-fit ds made es cs fits copy entries =
     fits-copied _ entry_tree (map definition_tree ds) (map definition_tree made) es cs fits (definitions-read ds made copy) (entries-read HoldSameEntry entry_tree entry-reads es cs entries)
-
-pub ruleset held_rules = (items-fit, definitions-fit)
 
 -- what holds the same is equal
 pub definition-equal : (d c : Definition) → HoldSame d c → definitions.ghosts.eq c d ≡ true

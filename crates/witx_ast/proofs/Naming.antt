@@ -3,7 +3,7 @@ use Rattle.std.specs.Prelude.{◌≡◌, ℕ, ◌+◌, ◌≤◌, ◌<◌, List,
 use Rattle.std.proofs.Common.{get_or, refl, ap, sym, subst, ◌∙◌, append_assoc, append-nil}
 use Rattle.std.proofs.lemmas.List.{drop_more, drop_all}
 use Rattle.witx_ast.specs.Tree.{Tree, Arms, arm, fields_of, arms_of}
-use Rattle.witx_ast.specs.Reads.{tree_of, variant_tree, member_field, case_arm}
+use Rattle.witx_ast.specs.Views.{tree_of, variant_tree, member_field, case_arm}
 use Rattle.witx_ast.specs.TypeNames.{type_text, comma_joined, member_texts, payload_texts, payload_text}
 use Rattle.witx_ast.specs.Words.{is_expected, is_bool_arms}
 use Rattle.witx_ast.proofs.ResultLaws.{arms-listed}

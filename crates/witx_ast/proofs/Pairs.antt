@@ -3,7 +3,7 @@ use Rattle.std.specs.Prelude.{◌≡◌, ℕ, ◌+◌, ◌<◌, List, [], ◌∷
 use Rattle.std.proofs.Common.{arith, get_or, drop, refl, not, is_some, is_none}
 use Rattle.std.proofs.lemmas.List.{drop_more}
 use Rattle.witx_base.specs.Texts.{same_text}
-use Rattle.witx_ast.specs.Reads.{tree_of, case_arm}
+use Rattle.witx_ast.specs.Views.{tree_of, case_arm}
 use Rattle.witx_ast.specs.Words.{expected_payloads, is_bool_arms, is_bare, all_arms_bare}
 use Rattle.witx_ast.proofs.Trees.{tree_rules, tree-Case}
 use Rattle.witx_ast.specs.declared.types.Case.{Case}

@@ -3,7 +3,7 @@ use Rattle.std.specs.Prelude.{◌≡◌, ℕ, ◌+◌, ◌≤◌, ◌<◌, List,
 use Rattle.std.proofs.Common.{get_or, refl, add-one, ◌∙◌, map}
 use Rattle.std.proofs.lemmas.List.{drop_more, drop_all}
 use Rattle.witx_ast.specs.Plain.{Plain, plain, plain_arms, Fields, Arms, field_count, arm_count}
-use Rattle.witx_ast.specs.Reads.{tree_of, record_tree, variant_tree, case_arm, members_plain, cases_plain}
+use Rattle.witx_ast.specs.Views.{tree_of, record_tree, variant_tree, case_arm, members_plain, cases_plain}
 use Rattle.witx_ast.proofs.Trees.{tree-RecordMember, tree-Case, tree-RecordDatatype, tree-VariantDatatype}
 use Rattle.witx_ast.specs.declared.types.RecordMember.{RecordMember}
 use Rattle.witx_ast.specs.declared.types.Case.{Case}

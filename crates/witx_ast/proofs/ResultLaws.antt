@@ -9,7 +9,7 @@ use Rattle.witx_ast.specs.declared.types.RecordDatatype.{RecordDatatype, out-Rec
 use Rattle.witx_ast.specs.declared.types.RecordKind.{RecordKind}
 use Rattle.witx_ast.specs.declared.types.Variant.{Variant, out-Variant}
 use Rattle.witx_ast.specs.Tree.{Tree, Arm, Arms, arm, arms_of, arm_list, fields_of}
-use Rattle.witx_ast.specs.Reads.{tree_of, record_tree, variant_tree, member_field, case_arm}
+use Rattle.witx_ast.specs.Views.{tree_of, record_tree, variant_tree, member_field, case_arm}
 use Rattle.witx_ast.specs.Functions.{param_field}
 use Rattle.witx_ast.specs.Words.{is_named, expected_payloads}
 use Rattle.witx_ast.specs.Results.{more_than_one, invalid_return, all_named, members_named, payloads_reason, type_reason, result_reason, results_reason}

@@ -3,7 +3,7 @@ use Rattle.std.specs.Prelude.{◌≡◌, false}
 use Rattle.std.proofs.Common.{arith, refl}
 use Rattle.witx_ast.specs.Tree.{Tree, behind}
 use Rattle.witx_ast.specs.Plain.{plain}
-use Rattle.witx_ast.specs.Reads.{datatype_tree}
+use Rattle.witx_ast.specs.Views.{datatype_tree}
 use Rattle.witx_ast.specs.Words.{is_named}
 use Rattle.witx_ast.proofs.Trees.{tree_rules}
 use Rattle.witx_ast.specs.declared.types.Datatype.{Datatype, Record, Variant, Handle, List, Pointer, ConstPointer, Builtin}

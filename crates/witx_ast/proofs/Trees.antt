@@ -4,7 +4,7 @@ use Rattle.std.proofs.Common.{rules}
 use Rattle.std.specs.declared.alloc.Global.{Global}
 use Rattle.std.specs.declared.rc.Rc.{Rc}
 use Rattle.witx_ast.specs.Tree.{named, builtin, handle, list_of, pointer_to, const_pointer_to, record_of, variant_of, fields_of, arms_of}
-use Rattle.witx_ast.specs.Reads.{tree_of, datatype_tree, named_tree, record_tree, variant_tree, member_field, case_arm}
+use Rattle.witx_ast.specs.Views.{tree_of, datatype_tree, named_tree, record_tree, variant_tree, member_field, case_arm}
 use Rattle.witx_ast.specs.declared.types.Datatype.{Datatype, the_lemmas}
 use Rattle.witx_ast.specs.declared.types.Datatype.TheVariants as datatype
 use Rattle.witx_ast.specs.declared.types.TypeRef.{TypeRef}

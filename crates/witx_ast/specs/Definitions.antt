@@ -1,10 +1,9 @@
 -- What a document defines: typenames, modules and constants, each type read as its tree; and which of them stands under a name.
 use Rattle.std.specs.Prelude.{ℕ, List, map, Option, Some, None}
 use Rattle.std.specs.Option.{option_and_then}
-use Rattle.std.specs.List.{filter_map}
 use Rattle.witx_base.specs.Found.{found}
 use Rattle.witx_ast.specs.Tree.{Tree, named}
-use Rattle.witx_ast.specs.Reads.{tree_of}
+use Rattle.witx_ast.specs.Views.{tree_of}
 use Rattle.witx_ast.specs.Items.{ItemTree, item_tree}
 use Rattle.witx_ast.specs.Entries.{by_name, Fits}
 use Rattle.witx_ast.specs.declared.module.Module.{Module}
@@ -54,27 +53,12 @@ as_module (typename_of name t docs) = None
 as_module (module_of m) = Some m
 as_module (constant_of c) = None
 
-abbrev pub as_constant : DefinitionTree → Option Constant
-as_constant (typename_of name t docs) = None
-as_constant (module_of m) = None
-as_constant (constant_of c) = Some c
-
 -- the typename, and the module, of a name
 abbrev pub typename_called : List DefinitionTree → List ℕ → Option Tree
 typename_called ds n = option_and_then as_typename (found (by_name introduced ds) n)
 
 abbrev pub module_called : List DefinitionTree → List ℕ → Option ModuleTree
 module_called ds n = option_and_then as_module (found (by_name introduced ds) n)
-
--- all typenames, modules and constants, in order
-abbrev pub typenames_of : List DefinitionTree → List Tree
-typenames_of = filter_map as_typename
-
-abbrev pub modules_of : List DefinitionTree → List ModuleTree
-modules_of = filter_map as_module
-
-abbrev pub constants_of : List DefinitionTree → List Constant
-constants_of = filter_map as_constant
 
 -- a map of entries fits a list of definitions
 abbrev pub DefinitionsFit : List definition.Definition → List (List ℕ × entry.Entry) → Type 0

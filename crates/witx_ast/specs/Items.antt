@@ -43,10 +43,7 @@ import_called items n = option_and_then as_import (found (by_name item_name item
 abbrev pub func_called : List ItemTree → List ℕ → Option FunctionTree
 func_called items n = option_and_then as_func (found (by_name item_name items) n)
 
--- all imports, and all functions, in order
-abbrev pub imports_of : List ItemTree → List ModuleImport
-imports_of = filter_map as_import
-
+-- all functions, in order
 abbrev pub funcs_of : List ItemTree → List FunctionTree
 funcs_of = filter_map as_func
 

@@ -1,6 +1,6 @@
 pub mod Tree
 pub mod Plain
-pub mod Reads
+pub mod Views
 pub mod Words
 pub mod Same
 pub mod SameLaws

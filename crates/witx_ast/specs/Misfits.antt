@@ -1,4 +1,5 @@
--- The types of a document that don't fit their tags, in document order: definition by definition, a function's parameters before its results, a type before its parts.
+-- The types of a document that don't fit their tags, in document order: definition by definition,
+-- a function's parameters before its results, a type before its parts.
 -- Types are taken as they are written: a name isn't looked through, and the targets of lists and pointers are entered.
 use Rattle.std.specs.List.{AllByRecursion}
 use Rattle.std.specs.Prelude.{ℕ, ◌+◌, ◌^◌, List, [], ◌∷◌, ◌++◌, min, Option, Some, None, nat_le, if◌then◌else◌}

@@ -28,9 +28,16 @@ comma_joined [] = []
 comma_joined (x ∷ []) = x
 comma_joined (x ∷ y ∷ ys) = x ++ (codes ", " ++ comma_joined (y ∷ ys))
 
+-- a tuple shows the types of its members
+abbrev pub tuple_text : List (List ℕ) → List ℕ
+tuple_text members = codes "(" ++ comma_joined members ++ codes ")"
+
 -- an `ok`/`err` variant shows its payloads
+abbrev pub result_text : List (List ℕ) → List ℕ
+result_text payloads = codes "Result<" ++ comma_joined payloads ++ codes ">"
+
 abbrev pub variant_text : List Arm → List (List ℕ) → List ℕ
-variant_text cs payloads = if is_expected cs then codes "Result<" ++ comma_joined payloads ++ codes ">" else if is_bool_arms cs then codes "bool" else codes "Variant"
+variant_text cs payloads = if is_expected cs then result_text payloads else if is_bool_arms cs then codes "bool" else codes "Variant"
 
 abbrev mutual
   pub type_text : Tree → List ℕ
@@ -40,7 +47,7 @@ abbrev mutual
   type_text (Tree.list_of t) = if is_char (behind t) then codes "string" else codes "List<" ++ type_text t ++ codes ">"
   type_text (Tree.pointer_to t) = codes "Pointer<" ++ type_text t ++ codes ">"
   type_text (Tree.const_pointer_to t) = codes "ConstPointer<" ++ type_text t ++ codes ">"
-  type_text (Tree.record_of RecordKind.Tuple ms) = codes "(" ++ comma_joined (member_texts ms) ++ codes ")"
+  type_text (Tree.record_of RecordKind.Tuple ms) = tuple_text (member_texts ms)
   type_text (Tree.record_of (RecordKind.Bitflags r) ms) = codes "Record"
   type_text (Tree.record_of RecordKind.Other ms) = codes "Record"
   type_text (Tree.variant_of r cs) = variant_text (arm_list cs) (payload_texts cs)
@@ -60,3 +67,7 @@ abbrev mutual
 abbrev pub payload_text : Option Tree → List ℕ
 payload_text None = codes "()"
 payload_text (Some t) = type_text t
+
+-- what stands between two types
+abbrev pub separator : Bool → List ℕ
+separator first = if first then [] else codes ", "

@@ -1,7 +1,7 @@
 ghost use Rattle.std.specs.Prelude.{◌≡◌};
 ghost use Rattle.witx_ast.specs.Functions.{param_field, func_tree};
 ghost use Rattle.witx_ast.specs.Copies.{HoldSameItem, HoldSameItemEntry};
-ghost use Rattle.witx_ast.specs.Reads.{tree_of, datatype_tree, named_tree, record_tree, variant_tree, member_field, case_arm};
+ghost use Rattle.witx_ast.specs.Views.{tree_of, datatype_tree, named_tree, record_tree, variant_tree, member_field, case_arm};
 
 use crate::definition::Constant;
 use crate::function::{InterfaceFunc, InterfaceFuncParam};

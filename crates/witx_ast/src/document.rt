@@ -3,11 +3,12 @@ ghost use Rattle.std.specs.List.{filter_map, IsDistinct};
 ghost use Rattle.std.specs.Map.{keys_of};
 ghost use Rattle.witx_base.specs.Texts.{same_text};
 ghost use Rattle.witx_ast.specs.Entries.{by_name};
-ghost use Rattle.witx_ast.specs.Reads.{named_tree};
+ghost use Rattle.witx_ast.specs.Views.{named_tree};
 ghost use Rattle.witx_ast.specs.Kinds.{typename_kind, module_kind, constant_kind};
 ghost use Rattle.witx_ast.specs.Definitions.{definition_tree, module_tree, introduced, typename_called, module_called, DefinitionsFit};
 
 use crate::definition::{Constants, Definitions, Entries, Entry, Modules, Typenames};
+use crate::held::Held;
 use crate::kinds::OfKind;
 use crate::module::Module;
 use crate::types::NamedType;
@@ -17,12 +18,9 @@ use witx_base::{Duplicate, Id, OutOfMemory};
 
 /// A document: its definitions, in order and by name. Documents are equal where their entries are,
 /// and are hashed by the names of the entries, in order.
-#[derive(Debug)]
-#[derive_where(PartialEq, Eq, Hash)]
+#[derive(PartialEq, Eq, Hash, Debug, Drop)]
 pub struct Document {
-    entries: Entries,
-    #[derive_where(skip(EqHashOrd))]
-    definitions: Definitions,
+    contents: Held<Definitions, Entry>,
 }
 
 impl Model for Document {
@@ -38,23 +36,11 @@ impl Model for Document {
 
     ghost coded = { Prim.hlevel (codes, d.the_row.coded, e.the_row.coded) };
 
-    ghost view = { λ d. record { definitions = d.definitions; entries = d.entries } };
+    ghost view = { λ d. record { definitions = d.contents.definitions; entries = d.contents.entries } };
 
-    ghost inverse = { λ d. record { definitions = d.definitions; entries = d.entries } };
+    ghost inverse = { λ d. record { contents = record { definitions = d.definitions; entries = d.entries } } };
 
-    ghost invariant = { λ d. DefinitionsFit d.definitions d.entries };
-}
-
-// The entries first, so that each definition is let go of by those behind it before its own turn.
-impl Drop for Document {
-    fn drop(self) {
-        let Document {
-            entries,
-            definitions,
-        } = self;
-        drop(entries);
-        drop(definitions);
-    }
+    ghost invariant = { λ d. DefinitionsFit d.contents.definitions d.contents.entries };
 }
 
 impl Document {
@@ -65,8 +51,7 @@ impl Document {
         ensures entries { result.entries ≡ entries }
     {
         Document {
-            entries,
-            definitions,
+            contents: Held::new(definitions, entries),
         }
     }
 
@@ -74,7 +59,7 @@ impl Document {
     pub fn definitions(&self) -> &Definitions
         ensures { result.now ≡ self.now.definitions }
     {
-        &self.definitions
+        self.contents.definitions()
     }
 
     /// The typename of that name; none exactly where the document has none.
@@ -82,7 +67,7 @@ impl Document {
     pub fn typename(&self, name: &Id) -> Option<&Rc<NamedType>>
         ensures { option_map (λ n. named_tree n.now.value) result ≡ typename_called (map definition_tree self.now.definitions) name.now }
     {
-        match self.entries.get(name) {
+        match self.contents.entry(name) {
             Some(Entry::Typename(named)) => Some(named),
             _ => None,
         }
@@ -92,7 +77,7 @@ impl Document {
     pub fn module(&self, name: &Id) -> Option<&Rc<Module>>
         ensures { option_map (λ m. module_tree m.now.value) result ≡ module_called (map definition_tree self.now.definitions) name.now }
     {
-        match self.entries.get(name) {
+        match self.contents.entry(name) {
             Some(Entry::Module(module)) => Some(module),
             _ => None,
         }
@@ -102,21 +87,21 @@ impl Document {
     pub fn typenames(&self) -> Typenames<'_>
         ensures { filter_map typename_kind result.rest.now ≡ filter_map typename_kind self.now.definitions }
     {
-        OfKind::among(self.definitions.as_slice())
+        OfKind::among(self.definitions().as_slice())
     }
 
     /// The modules, in order.
     pub fn modules(&self) -> Modules<'_>
         ensures { filter_map module_kind result.rest.now ≡ filter_map module_kind self.now.definitions }
     {
-        OfKind::among(self.definitions.as_slice())
+        OfKind::among(self.definitions().as_slice())
     }
 
     /// The constants, in order.
     pub fn constants(&self) -> Constants<'_>
         ensures { filter_map constant_kind result.rest.now ≡ filter_map constant_kind self.now.definitions }
     {
-        OfKind::among(self.definitions.as_slice())
+        OfKind::among(self.definitions().as_slice())
     }
 }
 
@@ -124,7 +109,7 @@ impl Document {
 pub fn names_are_distinct(document: &Document)
     ensures { IsDistinct same_text (keys_of (by_name introduced (map definition_tree document.now.definitions))) }
 {
-    let _ = &document.entries;
+    let _ = &document.contents;
 }
 
 impl Duplicate for Document {
@@ -132,11 +117,9 @@ impl Duplicate for Document {
 
     ghost is_copy = { IsCopyOf HoldSame HoldSameEntry };
 
-    #[tactic(auto, using(crate::proofs::HeldCopies::held_rules))]
     fn copy(&self) -> Result<Document, OutOfMemory> {
         Ok(Document {
-            entries: self.entries.copy()?,
-            definitions: self.definitions.copy()?,
+            contents: self.contents.copy()?,
         })
     }
 }

@@ -1,7 +1,7 @@
 ghost use Rattle.std.specs.Prelude.{◌≡◌, map, option_map, OnOk, IfOk};
 ghost use Rattle.std.specs.Option.{option_copied};
 ghost use Rattle.witx_ast.specs.Tree.{behind};
-ghost use Rattle.witx_ast.specs.Reads.{tree_of};
+ghost use Rattle.witx_ast.specs.Views.{tree_of};
 ghost use Rattle.witx_ast.specs.Functions.{func_tree};
 ghost use Rattle.witx_ast.specs.Items.{item_tree};
 ghost use Rattle.witx_ast.specs.Definitions.{definition_tree};

@@ -4,7 +4,7 @@ ghost use Rattle.std.specs.Bool.{Decides};
 ghost use Rattle.std.specs.Hash as fed;
 ghost use Rattle.witx_ast.specs.Tree.{Tree};
 ghost use Rattle.witx_ast.specs.Plain.{Plain, plain};
-ghost use Rattle.witx_ast.specs.Reads.{tree_of};
+ghost use Rattle.witx_ast.specs.Views.{tree_of};
 ghost use Rattle.witx_ast.specs.Alike.{same_plain};
 ghost use Rattle.witx_ast.specs.Values.{Value, IsValue};
 ghost use Rattle.witx_ast.specs.ValueTests.{is_value};

@@ -3,11 +3,13 @@
 
 mod abi;
 mod copies;
+mod copy_laws;
 mod definition;
 mod document;
 mod document_copies;
 mod errors;
 mod function;
+mod held;
 mod kinds;
 mod laws;
 mod module;
@@ -15,6 +17,12 @@ mod names;
 mod reads;
 mod types;
 
+pub use copy_laws::{
+    copied_case_is_equal, copied_constant_is_equal, copied_datatype_is_equal,
+    copied_function_is_equal, copied_import_is_equal, copied_member_is_equal,
+    copied_named_type_is_equal, copied_param_is_equal, copied_record_is_equal,
+    copied_type_is_equal, copied_variant_is_equal,
+};
 pub use definition::{
     Constant, Constants, Definition, Definitions, Entries, Entry, Modules, Typenames,
 };

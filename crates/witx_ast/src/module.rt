@@ -5,6 +5,7 @@ ghost use Rattle.witx_ast.specs.Items.{item_tree, import_called, func_called, It
 ghost use Rattle.witx_ast.specs.Functions.{func_tree};
 
 use crate::function::InterfaceFunc;
+use crate::held::Held;
 use crate::kinds::{Kind, OfKind};
 use std::marker::Model;
 use std::rc::Rc;
@@ -72,14 +73,10 @@ pub type Imports<'a> = OfKind<'a, ModuleDefinition, Rc<ModuleImport>>;
 /// The functions of a module, in order.
 pub type Funcs<'a> = OfKind<'a, ModuleDefinition, Rc<InterfaceFunc>>;
 
-/// What a module defines, in order and by name. Contents are equal where their entries are, and
-/// are hashed by the names of the entries, in order.
-#[derive(Debug)]
-#[derive_where(PartialEq, Eq, Hash)]
+/// What a module defines, in order and by name.
+#[derive(PartialEq, Eq, Hash, Debug, Drop)]
 pub(crate) struct Contents {
-    entries: ModuleEntries,
-    #[derive_where(skip(EqHashOrd))]
-    definitions: ModuleDefinitions,
+    held: Held<ModuleDefinitions, ModuleEntry>,
 }
 
 impl Model for Contents {
@@ -95,22 +92,11 @@ impl Model for Contents {
 
     ghost coded = { Prim.hlevel (codes, d.the_row.coded, e.the_row.coded) };
 
-    ghost view = { λ c. record { definitions = c.definitions; entries = c.entries } };
+    ghost view = { λ c. record { definitions = c.held.definitions; entries = c.held.entries } };
 
-    ghost inverse = { λ c. record { definitions = c.definitions; entries = c.entries } };
+    ghost inverse = { λ c. record { held = record { definitions = c.definitions; entries = c.entries } } };
 
-    ghost invariant = { λ c. ItemsFit c.definitions c.entries };
-}
-
-impl Drop for Contents {
-    fn drop(self) {
-        let Contents {
-            entries,
-            definitions,
-        } = self;
-        drop(entries);
-        drop(definitions);
-    }
+    ghost invariant = { λ c. ItemsFit c.held.definitions c.held.entries };
 }
 
 impl Duplicate for Contents {
@@ -118,11 +104,9 @@ impl Duplicate for Contents {
 
     ghost is_copy = { IsCopyOf HoldSameItem HoldSameItemEntry };
 
-    #[tactic(auto, using(crate::proofs::HeldCopies::held_rules))]
     fn copy(&self) -> Result<Contents, OutOfMemory> {
         Ok(Contents {
-            entries: self.entries.copy()?,
-            definitions: self.definitions.copy()?,
+            held: self.held.copy()?,
         })
     }
 }
@@ -134,21 +118,20 @@ impl Contents {
         ensures entries { result.entries ≡ entries }
     {
         Contents {
-            entries,
-            definitions,
+            held: Held::new(definitions, entries),
         }
     }
 
     fn definitions(&self) -> &ModuleDefinitions
         ensures { result.now ≡ self.now.definitions }
     {
-        &self.definitions
+        self.held.definitions()
     }
 
     fn import(&self, name: &Id) -> Option<&Rc<ModuleImport>>
         ensures { option_map (λ i. i.now.value) result ≡ import_called (map item_tree self.now.definitions) name.now }
     {
-        match self.entries.get(name) {
+        match self.held.entry(name) {
             Some(ModuleEntry::Import(import)) => Some(import),
             _ => None,
         }
@@ -157,7 +140,7 @@ impl Contents {
     fn func(&self, name: &Id) -> Option<&Rc<InterfaceFunc>>
         ensures { option_map (λ f. func_tree f.now.value) result ≡ func_called (map item_tree self.now.definitions) name.now }
     {
-        match self.entries.get(name) {
+        match self.held.entry(name) {
             Some(ModuleEntry::Func(func)) => Some(func),
             _ => None,
         }

@@ -1,8 +1,8 @@
-ghost use Rattle.std.specs.Prelude.{◌≡◌, ◌++◌, [], IfOk, map, option_map, string_bytes, codes, if◌then◌else◌};
+ghost use Rattle.std.specs.Prelude.{◌≡◌, ◌++◌, IfOk, map, option_map, string_bytes, codes};
 ghost use Rattle.witx_ast.specs.Tree.{list_of, fields_of, arms_of, behind};
-ghost use Rattle.witx_ast.specs.Reads.{tree_of, datatype_tree, record_tree, variant_tree, member_field, case_arm};
+ghost use Rattle.witx_ast.specs.Views.{tree_of, datatype_tree, record_tree, variant_tree, member_field, case_arm};
 ghost use Rattle.witx_ast.specs.Words.{repr_builtin};
-ghost use Rattle.witx_ast.specs.TypeNames.{type_text, comma_joined, member_texts, payload_texts, payload_text, builtin_text, is_char};
+ghost use Rattle.witx_ast.specs.TypeNames.{type_text, tuple_text, result_text, separator, comma_joined, member_texts, payload_texts, payload_text, builtin_text, is_char};
 
 use crate::types::{
     BuiltinType, Case, Datatype, IntRepr, RecordDatatype, RecordKind, RecordMember, TypeRef,
@@ -136,7 +136,7 @@ fn put_record(out: &mut String, record_type: &RecordDatatype) -> Result<(), OutO
 #[cycle(naming)]
 #[tactic(auto, using(crate::proofs::Naming::name_rules))]
 fn put_tuple(out: &mut String, members: &[RecordMember]) -> Result<(), OutOfMemory>
-    ensures { IfOk result (λ _. string_bytes out.new ≡ string_bytes out.old ++ (codes "(" ++ comma_joined (member_texts (fields_of (map member_field members.now))) ++ codes ")")) }
+    ensures { IfOk result (λ _. string_bytes out.new ≡ string_bytes out.old ++ tuple_text (member_texts (fields_of (map member_field members.now)))) }
 {
     put(out, "(")?;
     put_members(out, members)?;
@@ -159,7 +159,7 @@ fn put_members(out: &mut String, members: &[RecordMember]) -> Result<(), OutOfMe
 #[cycle(naming)]
 #[tactic(auto, using(crate::proofs::Naming::name_rules))]
 fn put_member(out: &mut String, first: bool, member: &RecordMember) -> Result<(), OutOfMemory>
-    ensures { IfOk result (λ _. string_bytes out.new ≡ string_bytes out.old ++ ((if first then [] else codes ", ") ++ type_text (tree_of member.now.tref))) }
+    ensures { IfOk result (λ _. string_bytes out.new ≡ string_bytes out.old ++ (separator first ++ type_text (tree_of member.now.tref))) }
 {
     if !first {
         put(out, ", ")?;
@@ -184,7 +184,7 @@ fn put_variant(out: &mut String, variant: &Variant) -> Result<(), OutOfMemory>
 #[cycle(naming)]
 #[tactic(auto, using(crate::proofs::Naming::name_rules))]
 fn put_result(out: &mut String, cases: &[Case]) -> Result<(), OutOfMemory>
-    ensures { IfOk result (λ _. string_bytes out.new ≡ string_bytes out.old ++ (codes "Result<" ++ comma_joined (payload_texts (arms_of (map case_arm cases.now))) ++ codes ">")) }
+    ensures { IfOk result (λ _. string_bytes out.new ≡ string_bytes out.old ++ result_text (payload_texts (arms_of (map case_arm cases.now)))) }
 {
     put(out, "Result<")?;
     put_payloads(out, cases)?;
@@ -207,7 +207,7 @@ fn put_payloads(out: &mut String, cases: &[Case]) -> Result<(), OutOfMemory>
 #[cycle(naming)]
 #[tactic(auto, using(crate::proofs::Naming::name_rules))]
 fn put_payload(out: &mut String, first: bool, case: &Case) -> Result<(), OutOfMemory>
-    ensures { IfOk result (λ _. string_bytes out.new ≡ string_bytes out.old ++ ((if first then [] else codes ", ") ++ payload_text (option_map tree_of case.now.tref))) }
+    ensures { IfOk result (λ _. string_bytes out.new ≡ string_bytes out.old ++ (separator first ++ payload_text (option_map tree_of case.now.tref))) }
 {
     if !first {
         put(out, ", ")?;

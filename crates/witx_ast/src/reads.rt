@@ -1,7 +1,7 @@
 ghost use Rattle.std.specs.Prelude.{◌≡◌, true, false, map, option_map};
 ghost use Rattle.std.specs.Option.{option_copied};
 ghost use Rattle.witx_ast.specs.Tree.{behind};
-ghost use Rattle.witx_ast.specs.Reads.{tree_of, datatype_tree, named_tree, case_arm};
+ghost use Rattle.witx_ast.specs.Views.{tree_of, datatype_tree, named_tree, case_arm};
 ghost use Rattle.witx_ast.specs.Words.{is_named, kind_word, is_tuple_kind, flags_repr, all_arms_bare, expected_payloads, is_bool_arms};
 ghost use Rattle.witx_ast.specs.declared.types.RecordDatatype.{out-RecordDatatype};
 ghost use Rattle.witx_ast.specs.declared.types.Variant.{out-Variant};

@@ -54,7 +54,7 @@ pub enum TypeRef {
 // By their trees, so that the derived comparisons of the types below say the same.
 impl PartialEq for TypeRef {
     ghost use Rattle.std.specs.Cmp.{on_per, partial_equiv_from_equiv};
-    ghost use Rattle.witx_ast.specs.Reads.{tree_of};
+    ghost use Rattle.witx_ast.specs.Views.{tree_of};
     ghost use Rattle.witx_ast.specs.Same.{same_tree};
     ghost use Rattle.witx_ast.specs.SameLaws.{tree_equivalence};
 
@@ -75,7 +75,7 @@ impl PartialEq for TypeRef {
 
 impl Eq for TypeRef {
     ghost use Rattle.std.specs.Cmp.{on_equiv};
-    ghost use Rattle.witx_ast.specs.Reads.{tree_of};
+    ghost use Rattle.witx_ast.specs.Views.{tree_of};
     ghost use Rattle.witx_ast.specs.SameLaws.{tree_equivalence};
 
     ghost laws = { on_equiv tree_of tree_equivalence };
@@ -83,7 +83,7 @@ impl Eq for TypeRef {
 
 // By its name, or else by the kind of the type: equal types hash alike.
 impl Hash for TypeRef {
-    ghost use Rattle.witx_ast.specs.Reads.{tree_of};
+    ghost use Rattle.witx_ast.specs.Views.{tree_of};
     ghost use Rattle.witx_ast.specs.Hashes.{shallow_hash, tree-alike};
 
     ghost hash_input = { λ t. shallow_hash (tree_of t) };

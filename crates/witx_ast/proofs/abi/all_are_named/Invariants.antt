@@ -1,6 +1,6 @@
 use Rattle.std.proofs.Common.{◌≡◌, map, drop}
 use Rattle.witx_ast.specs.Tree.{fields_of}
-use Rattle.witx_ast.specs.Reads.{member_field}
+use Rattle.witx_ast.specs.Views.{member_field}
 use Rattle.witx_ast.specs.Results.{all_named}
 use Rattle.witx_ast.proofs.abi.all_are_named.Given as goal
 

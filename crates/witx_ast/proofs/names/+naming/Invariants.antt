@@ -1,6 +1,6 @@
 use Rattle.std.proofs.Common.{◌≡◌, map, drop, ◌++◌, string_bytes}
 use Rattle.witx_ast.specs.Tree.{fields_of, arms_of}
-use Rattle.witx_ast.specs.Reads.{member_field, case_arm}
+use Rattle.witx_ast.specs.Views.{member_field, case_arm}
 use Rattle.witx_ast.specs.TypeNames.{comma_joined, member_texts, payload_texts}
 use Rattle.witx_ast.proofs.Naming.{joined_after}
 use Rattle.witx_ast.proofs.names.+naming.Given as goal

@@ -1,5 +1,5 @@
 use Rattle.std.proofs.Common.{◌≡◌, map, drop}
-use Rattle.witx_ast.specs.Reads.{tree_of}
+use Rattle.witx_ast.specs.Views.{tree_of}
 use Rattle.witx_ast.specs.Items.{item_tree}
 use Rattle.witx_ast.specs.ErrorTypes.{item_errors}
 use Rattle.witx_ast.specs.Seen.{Tells, all_taken}

@@ -1,5 +1,5 @@
 use Rattle.std.proofs.Common.{◌≡◌, map, drop}
-use Rattle.witx_ast.specs.Reads.{case_arm}
+use Rattle.witx_ast.specs.Views.{case_arm}
 use Rattle.witx_ast.specs.Words.{all_arms_bare}
 use Rattle.witx_ast.specs.declared.types.Variant.{out-Variant}
 use Rattle.witx_ast.proofs.types.Variant.is_enum.Given as goal
