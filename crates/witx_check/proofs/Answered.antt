@@ -2,8 +2,8 @@
 use Rattle.std.specs.Prelude.{◌≡◌, ◌⊎◌, ℕ, List, [], ◌∷◌, ◌++◌, ◌&&◌, Some, None, map, cond, Result, Ok, Err, OnOk, OnErr, IfErr}
 use Rattle.std.proofs.Common.{refl, sym, ap, subst, inl, inr, ◌∙◌}
 use Rattle.witx_files.specs.declared.location.Location.{Location}
-use Rattle.witx_comments.specs.Docs.{documentation_of}
-use Rattle.witx_tree.specs.Trees.{TypeTree, Name, NotedDecl}
+use Rattle.witx_syntax_tree.specs.Documentation.{documentation_of}
+use Rattle.witx_syntax_tree.specs.Trees.{TypeTree, Name, NotedDecl}
 use Rattle.witx_ast.specs.Tree.{named}
 use Rattle.witx_ast.specs.Closed.{IsClosed}
 use Rattle.witx_ast.specs.Ordered.{IsOrdered}
@@ -15,21 +15,20 @@ use Rattle.witx_check.specs.declared.error.CheckError.{CheckError}
 use Rattle.witx_check.specs.declared.constants.ConstantName.{ConstantName}
 use Rattle.witx_check.specs.Answers.{IsFault}
 use Rattle.witx_check.specs.Blame.{Blames}
-use Rattle.witx_check.specs.Faults.{Check, first_fault}
+use Rattle.witx_check.specs.Faults.{first_fault}
 use Rattle.witx_check.specs.Names.{Names, Here}
 use Rattle.witx_check.specs.Trees.{tree_meant}
 use Rattle.witx_check.specs.DeclarationForms.{typename_form, module_form, constant_form}
-use Rattle.witx_check.specs.Constants.{constant_place, repeated_constant}
+use Rattle.witx_check.specs.Constants.{constant_place}
 use Rattle.witx_check.specs.Inside.{within, typename_checks, module_checks, module_meant}
 use Rattle.witx_check.specs.Positions.{made_type, made_module, refused, is_name}
 use Rattle.witx_check.specs.Declarations.{Past, decl_checks, decl_tree, accepted}
 use Rattle.witx_check.specs.Kept.{Kept, Keeps, KeepsNames, KeepsConstants}
 use Rattle.witx_check.proofs.ByPosition.{within-by-position}
 use Rattle.witx_check.proofs.Finished.{taken_as}
-use Rattle.witx_check.proofs.Onward.{fault-past, blames-head}
 use Rattle.witx_check.proofs.Orders.{typename-ordered, ordered-last, typename-closed, module-closed, closed-last}
 use Rattle.witx_check.specs.Senses.{kept_sense}
-use Rattle.witx_check.proofs.Validated.{typename-checks-by, module-checks-by, constant-check-by, typename-tree-by, module-tree-by, keeps-constant, fits-constant, ok-by, err-by, on-err-by, blames-by, none-by}
+use Rattle.witx_check.proofs.Validated.{typename-checks-by, module-checks-by, constant_checks_in, constant-checks-by, new-constant, typename-tree-by, module-tree-by, keeps-constant, fits-constant, ok-by, err-by, on-err-by, blames-by, none-by}
 
 abbrev pub kept_as : Names → List (List ℕ × Entry) → List (ConstantName × Location) → Kept
 kept_as names es constants = record { names = names; entries = es; constants = constants }
@@ -103,26 +102,29 @@ module _ {A : Type 0} (r : Result A CheckError) (names names2 : Names) (es es2 :
   name-left-by n h = on-err-by r _ _ (λ f k. either-kept n k.constants (f k.introduced)) h
 
   -- ---- a constant
-  pub constant-ok-by : (ty : List ℕ) (n : Name) (value : ℕ) (own : List (List ℕ))
-      → OnOk r (repeated_constant constants ty n.name (place n.start) ≡ None)
+  pub constant-ok-by : (ty n : Name) (value : ℕ) (own : List (List ℕ))
+      → OnOk r (first_fault (constant_checks_in (kept_as names es constants) place ty n value) ≡ None)
       → OnOk r (Keeps (kept_as names es constants) past → first_fault (decl_checks past place (constant_form ty n value own)) ≡ None)
-  constant-ok-by ty n value own h = ok-by r _ _ (λ e k. fault-past _ [] (sym (constant-check-by constants past.constants ty n.name (place n.start) k.constants) ∙ e)) h
+  constant-ok-by ty n value own h = ok-by r _ _ (λ e k. none-by _ _ (constant-checks-by (kept_as names es constants) past place ty n value own k) e) h
 
-  pub constant-fault-by : (ty : List ℕ) (n : Name) (value : ℕ) (own : List (List ℕ))
-      → IfErr r (λ e. Blames e (repeated_constant constants ty n.name (place n.start)))
+  pub constant-fault-by : (ty n : Name) (value : ℕ) (own : List (List ℕ))
+      → IfErr r (λ e. Blames e (first_fault (constant_checks_in (kept_as names es constants) place ty n value)))
       → IfErr r (λ e. Keeps (kept_as names es constants) past → Blames e (first_fault (decl_checks past place (constant_form ty n value own))))
-  constant-fault-by ty n value own h = err-by r _ _ (λ e b k. blames-head e _ [] (subst (λ (c : Check). Blames e c) (constant-check-by constants past.constants ty n.name (place n.start) k.constants) b)) h
+  constant-fault-by ty n value own h = err-by r _ _ (λ e b k. blames-by e _ _ (constant-checks-by (kept_as names es constants) past place ty n value own k) b) h
 
-  pub constant-accepted-by : (ty : List ℕ) (n : Name) (value : ℕ) (own comments : List (List ℕ))
-      → OnOk r (repeated_constant constants ty n.name (place n.start) ≡ None)
-      → ((t q : List ℕ) → OnOk r (constant_place constants2 t q ≡ cond (is_name t ty && is_name q n.name) (Some (place n.start)) (constant_place constants t q)))
+  pub constant-accepted-by : (ty n : Name) (value : ℕ) (own comments : List (List ℕ))
+      → OnOk r (first_fault (constant_checks_in (kept_as names es constants) place ty n value) ≡ None)
+      → ((t q : List ℕ) → OnOk r (constant_place constants2 t q ≡ cond (is_name t ty.name && is_name q n.name) (Some (place n.start)) (constant_place constants t q)))
       → OnOk r (Keeps (kept_as names es constants) past → Keeps (kept_as names es constants2) (accepted past place comments (constant_form ty n value own)))
   constant-accepted-by ty n value own comments h more = both r h more
     where
-      both : (r : Result A CheckError) → OnOk r (repeated_constant constants ty n.name (place n.start) ≡ None)
-          → ((t q : List ℕ) → OnOk r (constant_place constants2 t q ≡ cond (is_name t ty && is_name q n.name) (Some (place n.start)) (constant_place constants t q)))
+      both : (r : Result A CheckError) → OnOk r (first_fault (constant_checks_in (kept_as names es constants) place ty n value) ≡ None)
+          → ((t q : List ℕ) → OnOk r (constant_place constants2 t q ≡ cond (is_name t ty.name && is_name q n.name) (Some (place n.start)) (constant_place constants t q)))
           → OnOk r (Keeps (kept_as names es constants) past → Keeps (kept_as names es constants2) (accepted past place comments (constant_form ty n value own)))
-      both (Ok a) e m = λ k. record { introduced = k.introduced; constants = keeps-constant constants constants2 past.constants ty n.name (place n.start) e m k.constants }
+      both (Ok a) e m = λ k. record {
+        introduced = k.introduced;
+        constants = keeps-constant constants constants2 past.constants ty.name n.name (place n.start) (new-constant (kept_sense names es ty.name) (constant_place constants ty.name n.name) place ty n value e) m k.constants;
+      }
       both (Err e) h m = tt
 
   same-constants : constants2 ≡ constants → Keeps (kept_as names es constants) past → Keeps (kept_as names es constants2) past
@@ -215,5 +217,3 @@ module _ {A : Type 0} (r : Result A CheckError) (names names2 : Names) (es es2 :
       → OnOk r (map definition_tree new ≡ map definition_tree old ++ constant_of c ∷ []) → OnErr r (new ≡ old)
       → IsClosed (map definition_tree old) → IsClosed (map definition_tree new)
   constant-closed-by old new c h d before = closed-by old new (constant_of c) h d (closed-last [] (map definition_tree old) (constant_of c) before tt) before
-
-pub ruleset answer_rules = (typename-ok-by, typename-fault-by, typename-appended-by, typename-accepted-by, module-ok-by, module-fault-by, module-appended-by, module-accepted-by, name-rejected-by, name-left-by, constant-ok-by, constant-fault-by, constant-accepted-by, constant-left-by, constant-rejected-by, fits-constant, name-fits-by, constant-fits-by, typename-ordered-by, module-ordered-by, constant-ordered-by)

@@ -3,13 +3,13 @@ use Rattle.std.specs.Prelude.{◌≡◌, ℕ, List, [], ◌∷◌, ◌++◌, Opt
 use Rattle.std.proofs.Common.{refl, sym, ap, ◌∙◌}
 use Rattle.witx_base.specs.Found.{found}
 use Rattle.witx_files.specs.declared.location.Location.{Location}
-use Rattle.witx_tree.specs.Trees.{Name}
+use Rattle.witx_syntax_tree.specs.Trees.{Name}
 use Rattle.witx_ast.specs.declared.definition.Entry.{Entry}
 use Rattle.witx_ast.specs.declared.definition.Entry.TheVariants as entry
 use Rattle.witx_check.specs.Names.{Names, Sense, unfinished}
 use Rattle.witx_check.specs.Senses.{kept_sense, sense_at, entry_sense}
 use Rattle.witx_check.specs.Inside.{within}
-use Rattle.witx_check.specs.Positions.{Taken, Outcome, refused, made_type, made_module, introducer, is_name, denotes, sense_after, sense_from, after}
+use Rattle.witx_check.specs.Positions.{Taken, Outcome, refused, made_type, made_module, introducer, is_name, denotes, denotes_before, sense_after, sense_from, after}
 use Rattle.witx_check.specs.Kept.{Keeps, KeepsNames, finished_sense, entry_sense_of, finished}
 use Rattle.witx_check.specs.Declarations.{nothing_before}
 use Rattle.witx_check.specs.Validators.{nothing_kept}
@@ -34,18 +34,28 @@ none-entry None h = refl
 none-entry (Some (entry.Typename n)) h = absurd (cc)
 none-entry (Some (entry.Module m)) h = absurd (cc)
 
+plain-sense : (t : Option Taken) (l : Option Location) (e : Option Entry)
+    → l ≡ taken_place t → entry_sense_of e ≡ finished_sense t → sense_at l e ≡ sense_after t false
+plain-sense None l e a b = rw a refl
+plain-sense (Some t) l e a b = rw a (entry-of t.outcome e b)
+
 one-sense : (t : Option Taken) (own : Bool) (p : Location) (l : Option Location) (e : Option Entry)
     → l ≡ taken_place t → entry_sense_of e ≡ finished_sense t → sense_at (cond own (Some p) l) e ≡ sense_after t own
 one-sense None true p l e a b = none-entry e b
-one-sense None false p l e a b = rw a refl
+one-sense None false p l e a b = plain-sense None l e a b
 one-sense (Some t) true p l e a b = entry-of t.outcome e b
-one-sense (Some t) false p l e a b = rw a (entry-of t.outcome e b)
+one-sense (Some t) false p l e a b = plain-sense (Some t) l e a b
 
 -- inside the next declaration each name denotes what the positions say
 pub names-by-position : (names : Names) (es : List (List ℕ × Entry)) (past : List Taken) (own : List ℕ) (p : Location)
     → KeepsNames names es past → kept_sense ((own, p) ∷ names) es ≡ denotes past own
 names-by-position names es past own p k =
     funext (λ q. one-sense (introducer past q) (is_name q own) p (found names q) (found es q) (k.places q) (k.senses q))
+
+-- and so it does inside one that introduces no name
+pub sense-by-position : (names : Names) (es : List (List ℕ × Entry)) (past : List Taken) (q : List ℕ)
+    → KeepsNames names es past → kept_sense names es q ≡ denotes_before past q
+sense-by-position names es past q k = plain-sense (introducer past q) (found names q) (found es q) (k.places q) (k.senses q)
 
 -- one declaration more
 abbrev first_or : Option Taken → Option Taken → Option Taken

@@ -7,7 +7,7 @@ use Rattle.std.specs.Ordering.{is_eq, nat_cmp}
 use Rattle.std.specs.Cmp.Lexicographic.{slice_cmp}
 use Rattle.witx_base.specs.Found.{found}
 use Rattle.witx_files.specs.declared.location.Location.{Location}
-use Rattle.witx_tree.specs.Trees.{TypeTree, Name}
+use Rattle.witx_syntax_tree.specs.Trees.{TypeTree, Name}
 use Rattle.witx_ast.specs.Tree.{Tree}
 use Rattle.witx_ast.specs.Definitions.{DefinitionTree, definition_tree, entry_tree, introduced, DefinitionsFit}
 use Rattle.witx_ast.specs.Entries.{Fits}
@@ -17,7 +17,7 @@ use Rattle.witx_ast.specs.declared.definition.Entry.TheVariants as entry
 use Rattle.witx_ast.proofs.Trees.{tree_rules}
 use Rattle.witx_check.specs.Faults.{Check, Fault, first_fault, name_already_exists}
 use Rattle.witx_check.specs.Names.{Names, Here, a_type, a_module}
-use Rattle.witx_tree.specs.Trees.{NotedDecl}
+use Rattle.witx_syntax_tree.specs.Trees.{NotedDecl}
 use Rattle.witx_check.specs.Inside.{typename_checks, module_checks}
 use Rattle.witx_check.specs.Positions.{Taken, made_type, made_module, refused, is_name, introducer}
 use Rattle.witx_check.specs.Kept.{KeepsNames, entry_sense_of, finished_sense}

@@ -1,6 +1,7 @@
 pub mod Answered
 pub mod ArmNames
 pub mod ByPosition
+pub mod ConstantChecks
 pub mod ConstantKeys
 pub mod ConstantSteps
 pub mod Examples

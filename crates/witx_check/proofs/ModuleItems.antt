@@ -6,8 +6,8 @@ use Rattle.std.specs.List.{IsDistinct}
 use Rattle.std.specs.Ordering.{is_eq, nat_cmp}
 use Rattle.std.specs.Cmp.Lexicographic.{slice_cmp}
 use Rattle.witx_base.specs.Found.{found}
-use Rattle.witx_tree.specs.declared.comment.Documented.{Documented}
-use Rattle.witx_tree.specs.declared.tree.ModuleDeclSyntax.{ModuleDeclSyntax}
+use Rattle.witx_syntax_tree.specs.declared.comment.Documented.{Documented}
+use Rattle.witx_syntax_tree.specs.declared.tree.ModuleDeclSyntax.{ModuleDeclSyntax}
 use Rattle.witx_ast.specs.Items.{ItemTree, import_of, func_of, item_tree, entry_item, item_name, ItemsFit}
 use Rattle.witx_ast.specs.declared.module.ModuleDefinition.{ModuleDefinition}
 use Rattle.witx_ast.specs.declared.module.ModuleEntry.{ModuleEntry}
@@ -15,8 +15,8 @@ use Rattle.witx_check.specs.declared.error.CheckError.{CheckError}
 use Rattle.witx_check.specs.Blame.{Blames}
 use Rattle.witx_check.specs.Faults.{Fault, Check, first_fault, name_already_exists}
 use Rattle.witx_check.specs.Names.{Here, Marks, new_mark}
-use Rattle.witx_tree.specs.Trees.{DeclTree, memory, function, NotedDecl}
-use Rattle.witx_tree.specs.Views.{noted_decl}
+use Rattle.witx_syntax_tree.specs.Trees.{DeclTree, memory, function, NotedDecl}
+use Rattle.witx_syntax_tree.specs.Views.{noted_decl}
 use Rattle.witx_check.specs.DeclarationForms.{items_in}
 use Rattle.witx_check.specs.Modules.{quoted_name, item_checks, with_name, items_checks, decl_meant, item_meant, item_called}
 use Rattle.witx_check.specs.Positions.{is_name}

@@ -12,7 +12,7 @@ use Rattle.witx_base.specs.Found.{found}
 use Rattle.witx_base.specs.Texts.{same_text}
 use Rattle.witx_ast.specs.declared.types.Case.{Case}
 use Rattle.witx_ast.specs.Tree.{Arm, arms_of}
-use Rattle.witx_ast.specs.Reads.{case_arm}
+use Rattle.witx_ast.specs.Views.{case_arm}
 use Rattle.witx_ast.proofs.Trees.{tree-Case}
 use Rattle.witx_check.specs.Tags.{has_name, arm_names}
 use Rattle.witx_check.specs.Trees.{arm_called}

@@ -9,9 +9,9 @@ use Rattle.std.specs.List.{cons_option}
 use Rattle.witx_base.specs.Found.{found}
 use Rattle.witx_base.specs.Texts.{same_text}
 use Rattle.witx_files.specs.declared.location.Location.{Location}
-use Rattle.witx_tree.specs.Trees as syntax
+use Rattle.witx_syntax_tree.specs.Trees as syntax
 use Rattle.witx_ast.specs.Tree.{Tree, Arms, Field, Arm, arm, arms_of, fields_of}
-use Rattle.witx_ast.specs.Reads.{tree_of}
+use Rattle.witx_ast.specs.Views.{tree_of}
 use Rattle.witx_ast.proofs.Trees.{tree-NamedType}
 use Rattle.witx_ast.specs.Entries.{by_name, Fits}
 use Rattle.witx_ast.specs.Definitions.{DefinitionTree, typename_of, module_of, introduced, entry_tree, as_typename}

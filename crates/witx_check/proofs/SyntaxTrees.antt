@@ -2,22 +2,22 @@
 use Rattle.std.specs.Prelude.{◌≡◌, map, option_map}
 use Rattle.std.proofs.Common.{rules}
 use Rattle.std.specs.Global.{Box}
-use Rattle.witx_tree.specs.Trees.{builtin, ident, string, boolean, handle, list_of, pointer_to, const_pointer_to, tuple_of, expected, enum_of, flags_of, record_of, union_of, variant_of}
-use Rattle.witx_tree.specs.Views.{type_view, field_view, case_view, name_view, member_view, fields_view, types_view, union_fields_view, cases_view, boxed_view, maybe_of}
-use Rattle.witx_tree.specs.declared.tree.BuiltinSyntax.{BuiltinSyntax}
-use Rattle.witx_tree.specs.declared.tree.IdSyntax.{IdSyntax}
-use Rattle.witx_tree.specs.declared.tree.HandleSyntax.{HandleSyntax}
-use Rattle.witx_tree.specs.declared.tree.EnumSyntax.{EnumSyntax}
-use Rattle.witx_tree.specs.declared.tree.FlagsSyntax.{FlagsSyntax}
-use Rattle.witx_tree.specs.declared.tree.TypedefSyntax.{TypedefSyntax, the_lemmas}
-use Rattle.witx_tree.specs.declared.tree.TypedefSyntax.TheVariants as typedef
-use Rattle.witx_tree.specs.declared.tree.ExpectedSyntax.{ExpectedSyntax, out-ExpectedSyntax}
-use Rattle.witx_tree.specs.declared.tree.RecordSyntax.{RecordSyntax, out-RecordSyntax}
-use Rattle.witx_tree.specs.declared.tree.TupleSyntax.{TupleSyntax, out-TupleSyntax}
-use Rattle.witx_tree.specs.declared.tree.UnionSyntax.{UnionSyntax, out-UnionSyntax}
-use Rattle.witx_tree.specs.declared.tree.VariantSyntax.{VariantSyntax, out-VariantSyntax}
-use Rattle.witx_tree.specs.declared.tree.FieldSyntax.{FieldSyntax}
-use Rattle.witx_tree.specs.declared.tree.CaseSyntax.{CaseSyntax}
+use Rattle.witx_syntax_tree.specs.Trees.{builtin, ident, string, boolean, handle, list_of, pointer_to, const_pointer_to, tuple_of, expected, enum_of, flags_of, record_of, union_of, variant_of}
+use Rattle.witx_syntax_tree.specs.Views.{type_view, field_view, case_view, name_view, member_view, fields_view, types_view, union_fields_view, cases_view, boxed_view, maybe_of}
+use Rattle.witx_syntax_tree.specs.declared.tree.BuiltinSyntax.{BuiltinSyntax}
+use Rattle.witx_syntax_tree.specs.declared.tree.IdSyntax.{IdSyntax}
+use Rattle.witx_syntax_tree.specs.declared.tree.HandleSyntax.{HandleSyntax}
+use Rattle.witx_syntax_tree.specs.declared.tree.EnumSyntax.{EnumSyntax}
+use Rattle.witx_syntax_tree.specs.declared.tree.FlagsSyntax.{FlagsSyntax}
+use Rattle.witx_syntax_tree.specs.declared.tree.TypedefSyntax.{TypedefSyntax, the_lemmas}
+use Rattle.witx_syntax_tree.specs.declared.tree.TypedefSyntax.TheVariants as typedef
+use Rattle.witx_syntax_tree.specs.declared.tree.ExpectedSyntax.{ExpectedSyntax, out-ExpectedSyntax}
+use Rattle.witx_syntax_tree.specs.declared.tree.RecordSyntax.{RecordSyntax, out-RecordSyntax}
+use Rattle.witx_syntax_tree.specs.declared.tree.TupleSyntax.{TupleSyntax, out-TupleSyntax}
+use Rattle.witx_syntax_tree.specs.declared.tree.UnionSyntax.{UnionSyntax, out-UnionSyntax}
+use Rattle.witx_syntax_tree.specs.declared.tree.VariantSyntax.{VariantSyntax, out-VariantSyntax}
+use Rattle.witx_syntax_tree.specs.declared.tree.FieldSyntax.{FieldSyntax}
+use Rattle.witx_syntax_tree.specs.declared.tree.CaseSyntax.{CaseSyntax}
 
 pub type-Enum : (e : EnumSyntax) → type_view (typedef.Enum e) ≡ enum_of e.repr (map member_view e.members)
 unfolding type_view case_view field_view

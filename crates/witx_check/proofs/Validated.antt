@@ -8,9 +8,10 @@ use Rattle.std.proofs.lemmas.Map.Lookups.{exact_bytes}
 use Rattle.std.proofs.lemmas.Map.Views.{tells_apart}
 use Rattle.witx_base.specs.Found.{found}
 use Rattle.witx_files.specs.declared.location.Location.{Location}
-use Rattle.witx_comments.specs.Docs.{documentation_of}
-use Rattle.witx_tree.specs.Trees.{TypeTree, Name, NotedDecl}
+use Rattle.witx_syntax_tree.specs.Documentation.{documentation_of}
+use Rattle.witx_syntax_tree.specs.Trees.{TypeTree, Name, NotedDecl}
 use Rattle.witx_ast.specs.Definitions.{DefinitionTree, typename_of, module_of, definition_tree, entry_tree, introduced, DefinitionsFit}
+use Rattle.witx_ast.specs.Tree.{behind}
 use Rattle.witx_ast.specs.Entries.{Fits}
 use Rattle.witx_ast.specs.declared.definition.Definition.{Definition}
 use Rattle.witx_ast.specs.declared.definition.Entry.{Entry}
@@ -18,17 +19,19 @@ use Rattle.witx_check.specs.declared.error.CheckError.{CheckError}
 use Rattle.witx_check.specs.declared.constants.ConstantName.{ConstantName}
 use Rattle.witx_check.specs.Blame.{Blames}
 use Rattle.witx_check.specs.Faults.{Check, first_fault, name_already_exists}
-use Rattle.witx_check.specs.Names.{Names, Here, new_name}
+use Rattle.witx_check.specs.Integers.{constant_checks, integer_check, value_check, greatest_in}
+use Rattle.witx_check.specs.Names.{Names, Here, Sense, use_check, sense_tree}
 use Rattle.witx_check.specs.Trees.{tree_meant}
 use Rattle.witx_check.specs.Checks.{type_checks}
 use Rattle.witx_check.specs.Modules.{items_checks}
-use Rattle.witx_check.specs.DeclarationForms.{typename_form, module_form}
-use Rattle.witx_check.specs.Constants.{constant_place, repeated_constant}
+use Rattle.witx_check.specs.DeclarationForms.{typename_form, module_form, constant_form}
+use Rattle.witx_check.specs.Constants.{constant_place}
 use Rattle.witx_check.specs.Inside.{within, typename_checks, module_checks, module_meant}
-use Rattle.witx_check.specs.Positions.{is_name, after}
+use Rattle.witx_check.specs.Positions.{is_name, after, denotes_before}
 use Rattle.witx_check.specs.Declarations.{Past, TakenConstant, constants_of_type, decl_checks, decl_tree}
-use Rattle.witx_check.specs.Kept.{KeepsNames, KeepsConstants}
-use Rattle.witx_check.proofs.ByPosition.{within-by-position}
+use Rattle.witx_check.specs.Kept.{Kept, Keeps, KeepsNames, KeepsConstants}
+use Rattle.witx_check.specs.Senses.{kept_sense}
+use Rattle.witx_check.proofs.ByPosition.{within-by-position, sense-by-position}
 use Rattle.witx_check.proofs.Finished.{name-by-position}
 use Rattle.witx_check.proofs.Fits.{found-last, first_or, last-step, fits-unnamed}
 use Rattle.witx_check.proofs.Steps.{is_eq-swap}
@@ -47,9 +50,15 @@ module-checks-by names es past place n items k =
     ap (λ (h : Here). module_checks names h n items) (within-by-position names es past.taken place n k)
     ∙ ap (λ (c : Check). c ∷ items_checks (after past.taken place n) [] items) (name-by-position names es past.taken n.name (place n.start) k)
 
-pub constant-check-by : (entries : List (ConstantName × Location)) (taken : List TakenConstant) (ty n : List ℕ) (at : Location) → KeepsConstants entries taken
-    → repeated_constant entries ty n at ≡ new_name (constants_of_type taken ty) n at
-constant-check-by entries taken ty n at k = ap (option_map (λ (l : Location). name_already_exists n at l)) (k ty n)
+-- the checks of a constant, by the tables
+abbrev pub constant_checks_in : Kept → (ℕ → Location) → Name → Name → ℕ → List Check
+constant_checks_in kept place ty n value = constant_checks (kept_sense kept.names kept.entries ty.name) (constant_place kept.constants ty.name n.name) place ty n value
+
+pub constant-checks-by : (kept : Kept) (past : Past) (place : ℕ → Location) (ty n : Name) (value : ℕ) (own : List (List ℕ)) → Keeps kept past
+    → constant_checks_in kept place ty n value ≡ decl_checks past place (constant_form ty n value own)
+constant-checks-by kept past place ty n value own k =
+    ap (λ (s : Sense). constant_checks s (constant_place kept.constants ty.name n.name) place ty n value) (sense-by-position kept.names kept.entries past.taken ty.name k.introduced)
+    ∙ ap (λ (o : Option Location). constant_checks (denotes_before past.taken ty.name) o place ty n value) (k.constants ty.name n.name)
 
 pub typename-tree-by : (names : Names) (es : List (List ℕ × Entry)) (past : Past) (place : ℕ → Location) (n : Name) (form : TypeTree) (comments : List (List ℕ)) → KeepsNames names es past.taken
     → typename_of n.name (tree_meant (within names es place n) form) (documentation_of comments) ≡ decl_tree past place comments (typename_form n form)
@@ -93,15 +102,34 @@ no-place : (o : Option Location) (n : List ℕ) (at : Location) → option_map (
 no-place None n at e = refl
 no-place (Some l) n at e = absurd (cc)
 
+first-none : (c : Check) (cs : List Check) → first_fault (c ∷ cs) ≡ None → (c ≡ None) × (first_fault cs ≡ None)
+first-none None cs e = (refl, e)
+first-none (Some f) cs e = absurd (cc)
+
+third-none : (a b c d : Check) → first_fault (a ∷ b ∷ c ∷ d ∷ []) ≡ None → c ≡ None
+third-none a b c d e =
+    let behind_a = (first-none a (b ∷ c ∷ d ∷ []) e).1 in
+    let behind_b = (first-none b (c ∷ d ∷ []) behind_a).1 in
+    (first-none c (d ∷ []) behind_b).0
+
+-- no constant of the type's name has the name of one without a fault
+pub new-constant : (s : Sense) (earlier : Option Location) (place : ℕ → Location) (ty n : Name) (value : ℕ)
+    → first_fault (constant_checks s earlier place ty n value) ≡ None → earlier ≡ None
+new-constant s earlier place ty n value e =
+    no-place earlier n.name (place n.start)
+    (third-none (use_check ty.name (place ty.start) s) (integer_check ty.name (place ty.start) (behind (sense_tree s)))
+    (option_map (λ (l : Location). name_already_exists n.name (place n.start) l) earlier)
+    (value_check n.name value (place n.start) (greatest_in (behind (sense_tree s)))) e)
+
 -- an accepted constant, whose two names no earlier one has
 pub keeps-constant : (old new : List (ConstantName × Location)) (taken : List TakenConstant) (ty n : List ℕ) (p : Location)
-    → repeated_constant old ty n p ≡ None
+    → constant_place old ty n ≡ None
     → ((t q : List ℕ) → constant_place new t q ≡ cond (is_name t ty && is_name q n) (Some p) (constant_place old t q))
     → KeepsConstants old taken
     → KeepsConstants new (taken ++ record { type_name = ty; name = n; place = p } ∷ [])
 keeps-constant old new taken ty n p free more k t q =
     let c : TakenConstant = record { type_name = ty; name = n; place = p } in
-    let none : found (constants_of_type taken ty) n ≡ None = sym (k ty n) ∙ no-place (constant_place old ty n) n p free in
+    let none : found (constants_of_type taken ty) n ≡ None = sym (k ty n) ∙ free in
     more t q
     ∙ (ap (cond (is_name t ty && is_name q n) (Some p)) (k t q)
     ∙ (ap (λ (b : Bool). cond (b && is_name q n) (Some p) (found (constants_of_type taken t) q)) (is_eq-swap t ty)
@@ -136,4 +164,4 @@ blames-by e xs ys same b = subst (λ l. Blames e (first_fault l)) same b
 pub none-by : (xs ys : List Check) → xs ≡ ys → first_fault xs ≡ None → first_fault ys ≡ None
 none-by xs ys same b = subst (λ l. first_fault l ≡ None) same b
 
-pub ruleset decl_rules = (typename-checks-by, module-checks-by, constant-check-by, typename-tree-by, module-tree-by, keeps-constant, fits-constant)
+pub ruleset decl_rules = (typename-checks-by, module-checks-by, constant-checks-by, typename-tree-by, module-tree-by, keeps-constant, fits-constant)

@@ -4,15 +4,16 @@ use Rattle.std.proofs.Common.{refl, sym, ap, subst, inl, ◌∙◌}
 use Rattle.std.specs.Prelude.{option_map}
 use Rattle.witx_base.specs.Found.{found}
 use Rattle.witx_files.specs.declared.location.Location.{Location}
-use Rattle.witx_comments.specs.Docs.{documentation_of}
-use Rattle.witx_tree.specs.Trees.{TypeTree, Name, NotedDecl}
+use Rattle.witx_syntax_tree.specs.Documentation.{documentation_of}
+use Rattle.witx_syntax_tree.specs.Trees.{TypeTree, Name, NotedDecl}
 use Rattle.witx_ast.specs.Tree.{Tree, named}
-use Rattle.witx_ast.specs.Reads.{tree_of, named_tree}
+use Rattle.witx_ast.specs.Views.{tree_of, named_tree}
 use Rattle.witx_ast.specs.Entries.{Fits}
 use Rattle.witx_ast.specs.declared.types.NamedType.{NamedType}
 use Rattle.witx_ast.specs.declared.module.Module.{Module}
 use Rattle.witx_ast.proofs.Trees.{tree-NamedType}
 use Rattle.witx_ast.specs.Definitions.{DefinitionTree, typename_of, module_of, module_tree, constant_of, definition_tree, entry_tree, introduced, DefinitionsFit}
+use Rattle.witx_ast.specs.declared.definition.Constant.{Constant}
 use Rattle.witx_ast.specs.declared.definition.Definition.{Definition}
 use Rattle.witx_ast.specs.declared.definition.Entry.{Entry}
 use Rattle.witx_check.specs.declared.error.CheckError.{CheckError}
@@ -24,7 +25,7 @@ use Rattle.witx_check.specs.Faults.{first_fault}
 use Rattle.witx_check.specs.Names.{Names, a_type, a_module}
 use Rattle.witx_check.specs.Trees.{tree_meant}
 use Rattle.witx_check.specs.DeclarationForms.{DeclForm, typename_form, module_form, constant_form}
-use Rattle.witx_check.specs.Constants.{constant_place, repeated_constant}
+use Rattle.witx_check.specs.Constants.{constant_place, place_with}
 use Rattle.witx_check.specs.Declarations.{nothing_before}
 use Rattle.witx_check.specs.Inside.{within, typename_checks, module_checks, module_meant, TakesAtMost, Refuses}
 use Rattle.witx_check.specs.Positions.{Taken, made_type, made_module, refused, is_name}
@@ -34,7 +35,7 @@ use Rattle.witx_check.proofs.Finished.{taken_as, keeps-refused, keeps-left}
 use Rattle.witx_check.proofs.Finishing.{absent-typename, absent-module, keeps-typename, keeps-module, keeps-unchanged, no-entry}
 use Rattle.witx_check.proofs.Fits.{fits-more}
 use Rattle.witx_check.proofs.Answered.{kept_as, typename-ok-by, typename-fault-by, typename-appended-by, typename-accepted-by, module-ok-by, module-fault-by, module-appended-by, module-accepted-by, name-rejected-by, name-left-by, constant-ok-by, constant-fault-by, constant-accepted-by, constant-left-by, constant-rejected-by, name-fits-by, constant-fits-by, typename-ordered-by, module-ordered-by, constant-ordered-by, typename-closed-by, module-closed-by, constant-closed-by}
-use Rattle.witx_check.proofs.Validated.{ok-by}
+use Rattle.witx_check.proofs.Validated.{ok-by, constant_checks_in}
 
 -- out of memory before anything was done
 pub nothing-validates : (kept : Kept) (definitions : List Definition) (at : Site) → Validates kept kept definitions definitions at (Err check_error.OutOfMemory)
@@ -102,32 +103,26 @@ module _ (r : Result (Unit {0}) CheckError) (names names2 : Names) (es es2 : Lis
     closed = module-closed-by r names names2 es es2 constants constants nothing_before place old new n items comments appended unchanged;
   }
 
-  pub constant-validates : (constants2 : List (ConstantName × Location)) (ty : List ℕ) (n : Name) (value : ℕ) (own comments : List (List ℕ)) (p : Location)
-      → p ≡ place n.start
-      → OnOk r (repeated_constant constants ty n.name p ≡ None)
-      → OnOk r (map definition_tree new ≡ map definition_tree old ++ constant_of (record { ty = ty; name = n.name; value = value; docs = documentation_of own }) ∷ [])
-      → ((t q : List ℕ) → OnOk r (constant_place constants2 t q ≡ cond (is_name t ty && is_name q n.name) (Some p) (constant_place constants t q)))
-      → IfErr r (λ e. Blames e (repeated_constant constants ty n.name p))
+  pub constant-validates : (constants2 : List (ConstantName × Location)) (ty n : Name) (value : ℕ) (own comments : List (List ℕ))
+      → OnOk r (first_fault (constant_checks_in (kept_as names es constants) place ty n value) ≡ None)
+      → OnOk r (map definition_tree new ≡ map definition_tree old ++ constant_of (record { ty = ty.name; name = n.name; value = value; docs = documentation_of own }) ∷ [])
+      → ((t q : List ℕ) → OnOk r (constant_place constants2 t q ≡ cond (is_name t ty.name && is_name q n.name) (Some (place n.start)) (constant_place constants t q)))
+      → IfErr r (λ e. Blames e (first_fault (constant_checks_in (kept_as names es constants) place ty n value)))
       → OnErr r (new ≡ old)
       → OnErr r (constants2 ≡ constants)
       → Validates (kept_as names es constants) (kept_as names es constants2) old new (record { place = place; comments = comments; form = constant_form ty n value own }) r
-  constant-validates constants2 ty n value own comments p at ok0 appended places0 fault0 unchanged same =
-      let ok : OnOk r (repeated_constant constants ty n.name (place n.start) ≡ None) = subst (λ (l : Location). OnOk r (repeated_constant constants ty n.name l ≡ None)) at ok0 in
-      let places : (t q : List ℕ) → OnOk r (constant_place constants2 t q ≡ cond (is_name t ty && is_name q n.name) (Some (place n.start)) (constant_place constants t q)) =
-      λ t q. subst (λ (l : Location). OnOk r (constant_place constants2 t q ≡ cond (is_name t ty && is_name q n.name) (Some l) (constant_place constants t q))) at (places0 t q) in
-      let fault : IfErr r (λ e. Blames e (repeated_constant constants ty n.name (place n.start))) = subst (λ (l : Location). IfErr r (λ e. Blames e (repeated_constant constants ty n.name l))) at fault0 in
-      record {
-        ok = λ past. constant-ok-by r names names es es constants constants2 past place ty n value own ok;
-        appended = λ past. ok-by r _ _ (λ e k. e) appended;
-        accepted = λ past. constant-accepted-by r names names es es constants constants2 past place ty n value own comments ok places;
-        fault = λ past. constant-fault-by r names names es es constants constants2 past place ty n value own fault;
-        rejected = λ past. constant-rejected-by r names names es es constants constants2 past place same;
-        unchanged = unchanged;
-        out_of_memory = λ past. constant-left-by r names names es es constants constants2 past place same;
-        fits = λ past k. constant-fits-by r names names es es constants constants2 past place old new _ appended unchanged;
-        ordered = λ f. constant-ordered-by r names names es es constants constants2 nothing_before place old new _ appended unchanged;
-        closed = λ f. constant-closed-by r names names es es constants constants2 nothing_before place old new _ appended unchanged;
-      }
+  constant-validates constants2 ty n value own comments ok appended places fault unchanged same = record {
+    ok = λ past. constant-ok-by r names names es es constants constants2 past place ty n value own ok;
+    appended = λ past. ok-by r _ _ (λ e k. e) appended;
+    accepted = λ past. constant-accepted-by r names names es es constants constants2 past place ty n value own comments ok places;
+    fault = λ past. constant-fault-by r names names es es constants constants2 past place ty n value own fault;
+    rejected = λ past. constant-rejected-by r names names es es constants constants2 past place same;
+    unchanged = unchanged;
+    out_of_memory = λ past. constant-left-by r names names es es constants constants2 past place same;
+    fits = λ past k. constant-fits-by r names names es es constants constants2 past place old new _ appended unchanged;
+    ordered = λ f. constant-ordered-by r names names es es constants constants2 nothing_before place old new _ appended unchanged;
+    closed = λ f. constant-closed-by r names names es es constants constants2 nothing_before place old new _ appended unchanged;
+  }
 
 -- the declaration is of this form
 pub of-form : {before after : Kept} {old new : List Definition} {place : ℕ → Location} {comments : List (List ℕ)} {r : Result (Unit {0}) CheckError} {d e : DeclForm} → d ≡ e
@@ -244,3 +239,30 @@ module _ (names names2 : Names) (es es2 : List (List ℕ × Entry)) (constants :
       (λ past k. keeps-module names names2 es es2 past n.name (place n.start) absent kept senses2 k)
       (fits-last made refl absent last trees2)
       tt tt tt (λ past. tt) (λ past. tt)
+
+-- ---- a constant, exit by exit
+
+module _ (names : Names) (es : List (List ℕ × Entry)) (constants : List (ConstantName × Location)) (place : ℕ → Location) (old new : List Definition) (ty n : Name) (value : ℕ) (own comments : List (List ℕ)) where
+  pub constant-refused : (e : CheckError)
+      → Blames e (first_fault (constant_checks_in (kept_as names es constants) place ty n value))
+      → Validates (kept_as names es constants) (kept_as names es constants) old old (record { place = place; comments = comments; form = constant_form ty n value own }) (Err e)
+  constant-refused e fault = constant-validates (Err e) names names es es constants place old old constants ty n value own comments tt tt (λ t q. tt) fault refl refl
+
+  pub constant-late : (constants2 : List (ConstantName × Location)) → new ≡ old → constants2 ≡ constants
+      → Validates (kept_as names es constants) (kept_as names es constants2) old new (record { place = place; comments = comments; form = constant_form ty n value own }) (Err check_error.OutOfMemory)
+  constant-late constants2 unchanged same =
+      constant-validates (Err check_error.OutOfMemory) names names es es constants place old new constants2 ty n value own comments tt tt (λ t q. tt) tt unchanged same
+
+  pub constant-made : (constants2 : List (ConstantName × Location)) (c : Constant) (p : Location)
+      → first_fault (constant_checks_in (kept_as names es constants) place ty n value) ≡ None
+      → c ≡ record { ty = ty.name; name = n.name; value = value; docs = documentation_of own }
+      → p ≡ place n.start
+      → map definition_tree new ≡ map definition_tree old ++ constant_of c ∷ []
+      → ((t q : List ℕ) → constant_place constants2 t q ≡ place_with constants c p t q)
+      → Validates (kept_as names es constants) (kept_as names es constants2) old new (record { place = place; comments = comments; form = constant_form ty n value own }) (Ok tt)
+  constant-made constants2 c p ok is at appended places =
+      constant-validates (Ok tt) names names es es constants place old new constants2 ty n value own comments ok
+      (appended ∙ ap (λ (x : Constant). map definition_tree old ++ constant_of x ∷ []) is)
+      (λ t q. places t q ∙ (ap (λ (x : Constant). place_with constants x p t q) is
+      ∙ ap (λ (l : Location). cond (is_name t ty.name && is_name q n.name) (Some l) (constant_place constants t q)) at))
+      tt tt tt

@@ -4,7 +4,7 @@ use Rattle.std.proofs.Common.{refl, sym, ap, subst, ◌∙◌, inl, inr}
 use Rattle.witx_base.specs.Found.{found}
 use Rattle.witx_base.specs.Paths.{Path}
 use Rattle.witx_files.specs.declared.location.Location.{Location}
-use Rattle.witx_tree.specs.Trees.{TypeTree, Name}
+use Rattle.witx_syntax_tree.specs.Trees.{TypeTree, Name}
 use Rattle.witx_ast.specs.declared.definition.Entry.{Entry}
 use Rattle.witx_ast.proofs.Trees.{tree_rules}
 use Rattle.witx_check.specs.declared.scope.Scope.{Scope}
@@ -13,7 +13,7 @@ use Rattle.witx_check.specs.Faults.{Check, first_fault, name_already_exists}
 use Rattle.witx_check.specs.Names.{Here, Names, Sense, new_name}
 use Rattle.witx_check.specs.Checks.{type_checks}
 use Rattle.witx_check.specs.Modules.{items_checks}
-use Rattle.witx_tree.specs.Trees.{NotedDecl}
+use Rattle.witx_syntax_tree.specs.Trees.{NotedDecl}
 use Rattle.witx_check.specs.Senses.{here_of, kept_sense, sense_at}
 use Rattle.witx_check.specs.Inside.{within, typename_checks, module_checks, Takes, TakesAtMost, Refuses}
 use Rattle.witx_check.specs.declared.error.CheckError.{CheckError}

@@ -2,7 +2,7 @@
 -- A fault is told at the name that it is about, or at the innermost identifier around it.
 use Rattle.std.specs.Prelude.{ℕ, List, [], ◌∷◌, ◌++◌, ◌+◌, Option, Some, None, Bool, true, false}
 use Rattle.witx_files.specs.declared.location.Location.{Location}
-use Rattle.witx_tree.specs.Trees.{TypeTree, builtin, ident, string, boolean, handle, list_of, pointer_to, const_pointer_to, tuple_of, expected, enum_of, flags_of, record_of, union_of, variant_of, Member, Maybe, absent, present, Fields, no_fields, one_field, Types, no_types, one_type, UnionFields, no_union_fields, one_union_field, Cases, no_cases, one_case}
+use Rattle.witx_syntax_tree.specs.Trees.{TypeTree, builtin, ident, string, boolean, handle, list_of, pointer_to, const_pointer_to, tuple_of, expected, enum_of, flags_of, record_of, union_of, variant_of, Member, Maybe, absent, present, Fields, no_fields, one_field, Types, no_types, one_type, UnionFields, no_union_fields, one_union_field, Cases, no_cases, one_case}
 use Rattle.witx_check.specs.Faults.{anonymous_record, Check}
 use Rattle.witx_check.specs.Names.{Here, Marks, new_mark, use_check}
 use Rattle.witx_check.specs.Tags.{repr_check, tag_checks, tag_names, size_check, case_check}
@@ -40,8 +40,17 @@ abbrev mutual
   type_checks h named near (enum_of repr ns) = anonymous named near ∷ repr_check repr near ∷ member_checks h [] ns
   type_checks h named near (flags_of repr ns) = anonymous named near ∷ repr_check repr near ∷ member_checks h [] ns
   type_checks h named near (record_of rs) = anonymous named near ∷ field_checks h [] rs
-  type_checks h named near (union_of tag ps) = anonymous named near ∷ (maybe_checks h near tag ++ (tag_checks (maybe_tree h tag) near ++ (size_check (tag_names (maybe_tree h tag)) (union_fields_count ps) near ∷ union_field_checks h near ps)))
-  type_checks h named near (variant_of tag cs) = maybe_checks h near tag ++ (tag_checks (maybe_tree h tag) near ++ (size_check (tag_names (maybe_tree h tag)) (cases_count cs) near ∷ case_checks h (tag_names (maybe_tree h tag)) [] cs))
+  type_checks h named near (union_of tag ps) =
+      anonymous named near
+      ∷ (maybe_checks h near tag
+      ++ (tag_checks (maybe_tree h tag) near
+      ++ (size_check (tag_names (maybe_tree h tag)) (union_fields_count ps) near
+      ∷ union_field_checks h near ps)))
+  type_checks h named near (variant_of tag cs) =
+      maybe_checks h near tag
+      ++ (tag_checks (maybe_tree h tag) near
+      ++ (size_check (tag_names (maybe_tree h tag)) (cases_count cs) near
+      ∷ case_checks h (tag_names (maybe_tree h tag)) [] cs))
 
   pub maybe_checks : Here → Location → Maybe → List Check
   maybe_checks h near absent = []
@@ -57,8 +66,12 @@ abbrev mutual
 
   pub field_checks : Here → Marks → Fields → List Check
   field_checks h before no_fields = []
-  field_checks h before (one_field docs m t fs) = new_mark h before m.name m.start ∷ (type_checks h false (h.place m.start) t ++ field_checks h ((m.name, m.start) ∷ before) fs)
+  field_checks h before (one_field docs m t fs) =
+      new_mark h before m.name m.start
+      ∷ (type_checks h false (h.place m.start) t ++ field_checks h ((m.name, m.start) ∷ before) fs)
 
   pub case_checks : Here → Option (List (List ℕ)) → List (List ℕ) → Cases → List Check
   case_checks h names before no_cases = []
-  case_checks h names before (one_case docs m t cs) = case_check names before m.name (h.place m.start) ∷ (maybe_checks h (h.place m.start) t ++ case_checks h names (before ++ m.name ∷ []) cs)
+  case_checks h names before (one_case docs m t cs) =
+      case_check names before m.name (h.place m.start)
+      ∷ (maybe_checks h (h.place m.start) t ++ case_checks h names (before ++ m.name ∷ []) cs)

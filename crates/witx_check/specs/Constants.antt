@@ -2,10 +2,10 @@
 use Rattle.std.specs.Prelude.{ℕ, List, Option, Some, option_map, cond, Bool, ◌&&◌}
 use Rattle.std.specs.Map.{lookup}
 use Rattle.witx_files.specs.declared.location.Location.{Location}
-use Rattle.witx_comments.specs.Docs.{documentation_of}
-use Rattle.witx_tree.specs.Views.{comments_view}
-use Rattle.witx_tree.specs.declared.comment.Documented.{Documented}
-use Rattle.witx_tree.specs.declared.tree.ConstSyntax.{ConstSyntax}
+use Rattle.witx_syntax_tree.specs.Documentation.{documentation_of}
+use Rattle.witx_syntax_tree.specs.Views.{comments_view}
+use Rattle.witx_syntax_tree.specs.declared.comment.Documented.{Documented}
+use Rattle.witx_syntax_tree.specs.declared.tree.ConstSyntax.{ConstSyntax}
 use Rattle.witx_ast.specs.declared.definition.Constant.{Constant}
 use Rattle.witx_check.specs.declared.constants.ConstantName.{ConstantName}
 use Rattle.witx_check.specs.Faults.{Check, name_already_exists}
@@ -35,5 +35,6 @@ place_under old key at type_name name =
 abbrev pub place_with : List (ConstantName × Location) → Constant → Location → List ℕ → List ℕ → Option Location
 place_with old c at type_name name = cond (is_name type_name c.ty && is_name name c.name) (Some at) (constant_place old type_name name)
 
-abbrev pub repeated_constant : List (ConstantName × Location) → List ℕ → List ℕ → Location → Check
-repeated_constant entries type_name name at = option_map (λ earlier. name_already_exists name at earlier) (constant_place entries type_name name)
+-- the name of a constant, which stands at a place
+abbrev pub repeated_constant : List (ConstantName × Location) → ConstSyntax → Location → Check
+repeated_constant entries c at = option_map (λ earlier. name_already_exists c.name.name.now at earlier) (constant_place entries c.ty.name.now c.name.name.now)

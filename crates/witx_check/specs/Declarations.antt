@@ -1,18 +1,20 @@
 -- A whole declaration after those before it: its checks as one list, its definition, and what later declarations find.
 -- A refused typename or module still introduces its name; a refused constant leaves nothing.
 use Rattle.std.specs.Prelude.{ℕ, List, [], ◌∷◌, ◌++◌, map, filter, true}
-use Rattle.witx_comments.specs.Docs.{documentation_of}
+use Rattle.witx_base.specs.Found.{found}
+use Rattle.witx_syntax_tree.specs.Documentation.{documentation_of}
 use Rattle.witx_files.specs.declared.location.Location.{Location}
-use Rattle.witx_tree.specs.Trees.{Name}
+use Rattle.witx_syntax_tree.specs.Trees.{Name}
 use Rattle.witx_ast.specs.Tree.{named}
 use Rattle.witx_ast.specs.Definitions.{DefinitionTree, typename_of, module_of, constant_of}
 use Rattle.witx_check.specs.Faults.{Check}
-use Rattle.witx_check.specs.Names.{Names, new_name}
+use Rattle.witx_check.specs.Integers.{constant_checks}
+use Rattle.witx_check.specs.Names.{Names}
 use Rattle.witx_check.specs.Trees.{tree_meant}
 use Rattle.witx_check.specs.Checks.{type_checks}
 use Rattle.witx_check.specs.Modules.{items_checks, item_meant}
 use Rattle.witx_check.specs.DeclarationForms.{DeclForm, typename_form, module_form, constant_form}
-use Rattle.witx_check.specs.Positions.{Taken, Outcome, refused, made_type, made_module, is_name, after, declared_name}
+use Rattle.witx_check.specs.Positions.{Taken, Outcome, refused, made_type, made_module, is_name, after, denotes_before, declared_name}
 
 -- a constant that was accepted: its type's name, and its name with its place
 pub record TakenConstant : Type 0 where
@@ -35,7 +37,8 @@ constants_of_type cs type_name = map (λ c. (c.name, c.place)) (filter (λ c. is
 abbrev pub decl_checks : Past → (ℕ → Location) → DeclForm → List Check
 decl_checks past place (typename_form n t) = declared_name past.taken place n ∷ type_checks (after past.taken place n) true (place n.start) t
 decl_checks past place (module_form n items) = declared_name past.taken place n ∷ items_checks (after past.taken place n) [] items
-decl_checks past place (constant_form ty n value own) = new_name (constants_of_type past.constants ty) n.name (place n.start) ∷ []
+decl_checks past place (constant_form ty n value own) =
+    constant_checks (denotes_before past.taken ty.name) (found (constants_of_type past.constants ty.name) n.name) place ty n value
 
 -- the definition of a declaration with these comments; a constant has its own
 abbrev pub decl_tree : Past → (ℕ → Location) → List (List ℕ) → DeclForm → DefinitionTree
@@ -45,16 +48,19 @@ decl_tree past place comments (module_form n items) = module_of (record {
   comment = documentation_of comments;
   items = map (item_meant (after past.taken place n)) items;
 })
-decl_tree past place comments (constant_form ty n value own) = constant_of (record { ty = ty; name = n.name; value = value; docs = documentation_of own })
+decl_tree past place comments (constant_form ty n value own) = constant_of (record { ty = ty.name; name = n.name; value = value; docs = documentation_of own })
 
 abbrev pub with_taken : Past → (ℕ → Location) → Name → Outcome → Past
 with_taken past place n outcome = record past { taken = past.taken ++ record { name = n.name; place = place n.start; outcome = outcome } ∷ [] }
 
 -- what stands before the next declaration: after one that was accepted,
 abbrev pub accepted : Past → (ℕ → Location) → List (List ℕ) → DeclForm → Past
-accepted past place comments (typename_form n t) = with_taken past place n (made_type (named n.name (tree_meant (after past.taken place n) t) (documentation_of comments)))
+accepted past place comments (typename_form n t) =
+    with_taken past place n (made_type (named n.name (tree_meant (after past.taken place n) t) (documentation_of comments)))
 accepted past place comments (module_form n items) = with_taken past place n made_module
-accepted past place comments (constant_form ty n value own) = record past { constants = past.constants ++ record { type_name = ty; name = n.name; place = place n.start } ∷ [] }
+accepted past place comments (constant_form ty n value own) = record past {
+  constants = past.constants ++ record { type_name = ty.name; name = n.name; place = place n.start } ∷ [];
+}
 
 -- and after one that was refused
 abbrev pub rejected : Past → (ℕ → Location) → DeclForm → Past

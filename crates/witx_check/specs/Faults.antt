@@ -16,6 +16,7 @@ pub data Fault : Type 0 where
   anonymous_record : Location → Fault
   union_size_mismatch : ℕ → ℕ → Location → Fault
   invalid_union_field : List ℕ → List ℕ → Location → Fault
+  constant_too_large : List ℕ → ℕ → ℕ → Location → Fault
 
 -- a check: what it finds wrong, if anything
 abbrev pub Check : Type 0

@@ -1,10 +1,10 @@
 -- The checks of a function: its name, its parameters and results, and what it returns; and what it defines.
 use Rattle.std.specs.Prelude.{ℕ, List, [], ◌∷◌, ◌++◌, Bool, true, false, option_map}
 use Rattle.witx_files.specs.declared.location.Location.{Location}
-use Rattle.witx_tree.specs.Trees.{Fields, no_fields, one_field, QuotedText}
-use Rattle.witx_tree.specs.Views.{fields_view}
-use Rattle.witx_tree.specs.declared.tree.InterfaceFuncSyntax.{InterfaceFuncSyntax}
-use Rattle.witx_comments.specs.Docs.{documentation_of}
+use Rattle.witx_syntax_tree.specs.Trees.{Fields, no_fields, one_field, QuotedText}
+use Rattle.witx_syntax_tree.specs.Views.{fields_view}
+use Rattle.witx_syntax_tree.specs.declared.tree.InterfaceFuncSyntax.{InterfaceFuncSyntax}
+use Rattle.witx_syntax_tree.specs.Documentation.{documentation_of}
 use Rattle.witx_ast.specs.declared.function.Abi.{Abi}
 use Rattle.witx_ast.specs.Functions.{FunctionTree}
 use Rattle.witx_ast.specs.Tree.{Field}
@@ -22,7 +22,8 @@ fields_scope before (one_field docs m t fs) = fields_scope ((m.name, m.start) �
 -- results: the type and then the name
 abbrev pub result_checks : Here → Marks → Fields → List Check
 result_checks h before no_fields = []
-result_checks h before (one_field docs m t fs) = type_checks h false (h.place m.start) t ++ (new_mark h before m.name m.start ∷ result_checks h ((m.name, m.start) ∷ before) fs)
+result_checks h before (one_field docs m t fs) =
+    type_checks h false (h.place m.start) t ++ (new_mark h before m.name m.start ∷ result_checks h ((m.name, m.start) ∷ before) fs)
 
 -- the ABI of a function, by whether its result is stored whole
 abbrev pub abi_of : Bool → Abi

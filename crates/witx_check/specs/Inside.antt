@@ -1,16 +1,16 @@
 -- The inside of a typename or a module, as the tables of a validator tell it, and what a refused one leaves in them.
 use Rattle.std.specs.Prelude.{◌≡◌, ℕ, List, [], ◌∷◌, ◌⊎◌, None, true, map}
 use Rattle.witx_base.specs.Found.{found}
-use Rattle.witx_comments.specs.Docs.{documentation_of}
+use Rattle.witx_syntax_tree.specs.Documentation.{documentation_of}
 use Rattle.witx_files.specs.declared.location.Location.{Location}
-use Rattle.witx_tree.specs.Trees.{TypeTree, Name}
+use Rattle.witx_syntax_tree.specs.Trees.{TypeTree, Name}
 use Rattle.witx_ast.specs.Definitions.{ModuleTree}
 use Rattle.witx_ast.specs.declared.definition.Entry.{Entry}
 use Rattle.witx_check.specs.Faults.{Check}
 use Rattle.witx_check.specs.Names.{Names, Here, new_name}
 use Rattle.witx_check.specs.Checks.{type_checks}
 use Rattle.witx_check.specs.Modules.{items_checks, item_meant}
-use Rattle.witx_tree.specs.Trees.{NotedDecl}
+use Rattle.witx_syntax_tree.specs.Trees.{NotedDecl}
 use Rattle.witx_check.specs.Senses.{kept_sense}
 
 -- inside a declaration that introduces n, after these names and entries

@@ -7,6 +7,7 @@ pub mod Declarations
 pub mod Faults
 pub mod Functions
 pub mod Inside
+pub mod Integers
 pub mod Kept
 pub mod Messages
 pub mod Modules

@@ -4,7 +4,8 @@ use Rattle.std.specs.Fmt.{decimal}
 use Rattle.witx_files.specs.declared.location.Location.{Location}
 use Rattle.witx_ast.specs.declared.types.BuiltinType.{BuiltinType}
 use Rattle.witx_ast.specs.declared.types.BuiltinType.TheVariants as kind
-use Rattle.witx_check.specs.Faults.{Fault, unknown_name, recursive, name_already_exists, wrong_kind_name, invalid_repr, abi, invalid_union_tag, anonymous_record, union_size_mismatch, invalid_union_field}
+use Rattle.witx_check.specs.Faults.{Fault}
+use Rattle.witx_check.specs.Faults as fault
 
 -- the name of a builtin's kind
 abbrev pub repr_word : BuiltinType → List ℕ
@@ -20,26 +21,33 @@ repr_word kind.S64 = codes "S64"
 repr_word kind.F32 = codes "F32"
 repr_word kind.F64 = codes "F64"
 
+-- words, and a name behind them
+abbrev pub quoted : List ℕ → List ℕ → List ℕ
+quoted words n = words ++ (codes " `" ++ (n ++ codes "`"))
+
 abbrev pub message : Fault → List ℕ
-message (unknown_name n at) = codes "Unknown name `" ++ (n ++ codes "`")
-message (recursive n at) = codes "Recursive definition of name `" ++ (n ++ codes "`")
-message (name_already_exists n at earlier) = codes "Redefinition of name `" ++ (n ++ codes "`")
-message (wrong_kind_name n expected got at) = codes "Wrong kind of name `" ++ (n ++ (codes "`: expected " ++ (expected ++ (codes ", got " ++ got))))
-message (invalid_repr r at) = codes "Invalid representation `" ++ (repr_word r ++ codes "`")
-message (abi reason at) = codes "ABI error: " ++ reason
-message (invalid_union_tag reason at) = codes "Invalid union tag: " ++ reason
-message (anonymous_record at) = codes "Anonymous structured types (struct, union, enum, flags, handle) are not permitted"
-message (union_size_mismatch expected found at) = codes "Union expected " ++ (decimal expected ++ (codes " variants, found " ++ decimal found))
-message (invalid_union_field n reason at) = codes "Invalid union field `" ++ (n ++ (codes "`: " ++ reason))
+message (fault.unknown_name n at) = quoted (codes "Unknown name") n
+message (fault.recursive n at) = quoted (codes "Recursive definition of name") n
+message (fault.name_already_exists n at earlier) = quoted (codes "Redefinition of name") n
+message (fault.wrong_kind_name n expected got at) = codes "Wrong kind of name `" ++ (n ++ (codes "`: expected " ++ (expected ++ (codes ", got " ++ got))))
+message (fault.invalid_repr r at) = quoted (codes "Invalid representation") (repr_word r)
+message (fault.abi reason at) = codes "ABI error: " ++ reason
+message (fault.invalid_union_tag reason at) = codes "Invalid union tag: " ++ reason
+message (fault.anonymous_record at) = codes "Anonymous structured types (struct, union, enum, flags, handle) are not permitted"
+message (fault.union_size_mismatch expected found at) = codes "Union expected " ++ (decimal expected ++ (codes " variants, found " ++ decimal found))
+message (fault.invalid_union_field n reason at) = codes "Invalid union field `" ++ (n ++ (codes "`: " ++ reason))
+message (fault.constant_too_large n value largest at) =
+    codes "Constant `" ++ (n ++ (codes "` is " ++ (decimal value ++ (codes ", at most " ++ decimal largest))))
 
 abbrev pub fault_location : Fault → Location
-fault_location (unknown_name n at) = at
-fault_location (recursive n at) = at
-fault_location (name_already_exists n at earlier) = at
-fault_location (wrong_kind_name n expected got at) = at
-fault_location (invalid_repr r at) = at
-fault_location (abi reason at) = at
-fault_location (invalid_union_tag reason at) = at
-fault_location (anonymous_record at) = at
-fault_location (union_size_mismatch expected found at) = at
-fault_location (invalid_union_field n reason at) = at
+fault_location (fault.unknown_name n at) = at
+fault_location (fault.recursive n at) = at
+fault_location (fault.name_already_exists n at earlier) = at
+fault_location (fault.wrong_kind_name n expected got at) = at
+fault_location (fault.invalid_repr r at) = at
+fault_location (fault.abi reason at) = at
+fault_location (fault.invalid_union_tag reason at) = at
+fault_location (fault.anonymous_record at) = at
+fault_location (fault.union_size_mismatch expected found at) = at
+fault_location (fault.invalid_union_field n reason at) = at
+fault_location (fault.constant_too_large n value largest at) = at

@@ -1,12 +1,15 @@
 -- The checks of a module's declarations, as one list, and what they define.
 -- Imports and functions share one scope; a function's parameters and results have one of their own.
-use Rattle.std.specs.Prelude.{ℕ, List, [], ◌∷◌, ◌++◌}
-use Rattle.witx_comments.specs.Docs.{documentation_of}
-use Rattle.witx_tree.specs.Trees.{QuotedText, DeclTree, memory, function, NotedDecl}
+use Rattle.std.specs.Prelude.{ℕ, List, [], ◌∷◌, ◌++◌, Option, Some, option_map, cond}
+use Rattle.witx_base.specs.Found.{found}
+use Rattle.witx_syntax_tree.specs.Documentation.{documentation_of}
+use Rattle.witx_syntax_tree.specs.Trees.{QuotedText, DeclTree, memory, function, NotedDecl}
 use Rattle.witx_ast.specs.declared.module.ModuleImportVariant.TheVariants.{Memory}
+use Rattle.witx_ast.specs.declared.module.ModuleEntry.{ModuleEntry}
 use Rattle.witx_ast.specs.Items as items
 use Rattle.witx_check.specs.Faults.{Check}
 use Rattle.witx_check.specs.Names.{Here, Marks, new_mark}
+use Rattle.witx_check.specs.Positions.{is_name}
 use Rattle.witx_check.specs.Functions.{abi_of, func_checks, func_meant}
 
 -- the quoted name of an import or a function
@@ -35,3 +38,7 @@ item_meant h d = decl_meant h d.comments d.decl
 abbrev pub item_called : items.ItemTree → List ℕ
 item_called (items.import_of i) = i.name
 item_called (items.func_of f) = f.name
+
+-- the items that names go by, with one more
+abbrev pub item_with : List (List ℕ × ModuleEntry) → items.ItemTree → List ℕ → Option items.ItemTree
+item_with entries item q = cond (is_name q (item_called item)) (Some item) (option_map items.entry_item (found entries q))

@@ -4,7 +4,7 @@ use Rattle.std.specs.List.{position_from}
 use Rattle.witx_base.specs.Texts.{same_text}
 use Rattle.witx_ast.specs.declared.types.Case.{Case}
 use Rattle.witx_ast.specs.Tree.{Arm}
-use Rattle.witx_ast.specs.Reads.{case_arm}
+use Rattle.witx_ast.specs.Views.{case_arm}
 use Rattle.witx_check.specs.Trees.{bare_arm}
 
 -- the first place of the name, from 0

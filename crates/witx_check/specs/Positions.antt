@@ -5,7 +5,7 @@ use Rattle.std.specs.Prelude.{ℕ, List, [], ◌∷◌, Option, Some, None, opti
 use Rattle.std.specs.Ordering.{is_eq, nat_cmp}
 use Rattle.std.specs.Cmp.Lexicographic.{slice_cmp}
 use Rattle.witx_files.specs.declared.location.Location.{Location}
-use Rattle.witx_tree.specs.Trees.{Name}
+use Rattle.witx_syntax_tree.specs.Trees.{Name}
 use Rattle.witx_ast.specs.Tree.{Tree}
 use Rattle.witx_check.specs.Faults.{Check, name_already_exists}
 use Rattle.witx_check.specs.Names.{Sense, unknown, unfinished, a_module, a_type, Here}
@@ -47,6 +47,10 @@ sense_after None own = own_sense own
 -- what n denotes inside a declaration that introduces `own`, after the declarations of `past`
 abbrev pub denotes : List Taken → List ℕ → List ℕ → Sense
 denotes past own n = sense_after (introducer past n) (is_name n own)
+
+-- what n denotes inside a declaration that introduces no name
+abbrev pub denotes_before : List Taken → List ℕ → Sense
+denotes_before past n = sense_after (introducer past n) false
 
 -- the inside of a declaration that introduces n, after the declarations of `past`
 abbrev pub after : List Taken → (ℕ → Location) → Name → Here

@@ -5,7 +5,7 @@ use Rattle.witx_files.specs.declared.location.Location.{Location}
 use Rattle.witx_check.specs.Places.{location_in}
 use Rattle.witx_ast.specs.declared.definition.Entry.{Entry}
 use Rattle.witx_ast.specs.declared.definition.Entry.TheVariants as entry
-use Rattle.witx_ast.specs.Reads.{named_tree}
+use Rattle.witx_ast.specs.Views.{named_tree}
 use Rattle.witx_check.specs.Names.{Sense, unknown, unfinished, a_module, a_type, Here, Names}
 use Rattle.witx_check.specs.declared.scope.Scope.{Scope}
 

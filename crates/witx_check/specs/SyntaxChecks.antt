@@ -1,27 +1,40 @@
 -- The checks of a type, and what it means, by the parts of its syntax tree.
-use Rattle.std.specs.Prelude.{◌≡◌, ℕ, Bool, false, not, List, ◌∷◌, [], ◌++◌, Option, Some, None, length, map}
+use Rattle.std.specs.Prelude.{◌≡◌, ℕ, Bool, false, not, List, ◌∷◌, [], ◌++◌, Option, Some, None, option_map, length, map}
 use Rattle.witx_base.specs.Found.{found}
-use Rattle.witx_tree.specs.Trees.{Maybe, Member, TypeTree, handle, enum_of, flags_of, record_of, union_of, variant_of, tuple_of, expected}
-use Rattle.witx_tree.specs.Views.{comments_view, boxed_view, fields_view, types_view, union_fields_view, cases_view, member_view}
-use Rattle.witx_tree.specs.declared.comment.Documented.{Documented}
-use Rattle.witx_tree.specs.declared.tree.IdSyntax.{IdSyntax}
-use Rattle.witx_comments.specs.Docs.{documentation_of}
-use Rattle.witx_tree.specs.declared.comment.CommentSyntax.{CommentSyntax}
-use Rattle.witx_tree.specs.declared.tree.EnumSyntax.{EnumSyntax}
-use Rattle.witx_tree.specs.declared.tree.FlagsSyntax.{FlagsSyntax}
-use Rattle.witx_tree.specs.declared.tree.RecordSyntax.{RecordSyntax, out-RecordSyntax}
-use Rattle.witx_tree.specs.declared.tree.TupleSyntax.{TupleSyntax, out-TupleSyntax}
-use Rattle.witx_tree.specs.declared.tree.ExpectedSyntax.{ExpectedSyntax, out-ExpectedSyntax}
-use Rattle.witx_tree.specs.declared.tree.UnionSyntax.{UnionSyntax, out-UnionSyntax}
-use Rattle.witx_tree.specs.declared.tree.VariantSyntax.{VariantSyntax, out-VariantSyntax}
+use Rattle.witx_syntax_tree.specs.Trees.{Maybe, Member, TypeTree, handle, enum_of, flags_of, record_of, union_of, variant_of, tuple_of, expected}
+use Rattle.witx_syntax_tree.specs.Views.{comments_view, boxed_view, maybe_of, type_view, fields_view, types_view, union_fields_view, cases_view, member_view}
+use Rattle.witx_syntax_tree.specs.declared.comment.Documented.{Documented}
+use Rattle.witx_syntax_tree.specs.declared.tree.IdSyntax.{IdSyntax}
+use Rattle.witx_syntax_tree.specs.Documentation.{documentation_of}
+use Rattle.witx_syntax_tree.specs.declared.comment.CommentSyntax.{CommentSyntax}
+use Rattle.witx_syntax_tree.specs.declared.tree.EnumSyntax.{EnumSyntax}
+use Rattle.witx_syntax_tree.specs.declared.tree.FlagsSyntax.{FlagsSyntax}
+use Rattle.witx_syntax_tree.specs.declared.tree.RecordSyntax.{RecordSyntax, out-RecordSyntax}
+use Rattle.witx_syntax_tree.specs.declared.tree.TypedefSyntax.{TypedefSyntax}
+use Rattle.witx_syntax_tree.specs.declared.tree.TupleSyntax.{TupleSyntax, out-TupleSyntax}
+use Rattle.witx_syntax_tree.specs.declared.tree.ExpectedSyntax.{ExpectedSyntax, out-ExpectedSyntax}
+use Rattle.witx_syntax_tree.specs.declared.tree.UnionSyntax.{UnionSyntax, out-UnionSyntax}
+use Rattle.witx_syntax_tree.specs.declared.tree.VariantSyntax.{VariantSyntax, out-VariantSyntax}
 use Rattle.witx_files.specs.declared.location.Location.{Location}
 use Rattle.witx_ast.specs.Tree.{Tree, Field, Arm}
 use Rattle.witx_check.specs.Faults.{Check}
-use Rattle.witx_check.specs.Names.{Here, Marks}
+use Rattle.witx_check.specs.Integers.{constant_type_checks}
+use Rattle.witx_check.specs.Names.{Here, Marks, use_check, sense_tree}
 use Rattle.witx_check.specs.Tags.{repr_check, tag_checks, size_check, case_check, tag_names}
 use Rattle.witx_check.specs.Trees.{maybe_tree, tree_meant}
-use Rattle.witx_check.specs.Checks.{member_checks, field_checks, each_type_checks, maybe_checks, union_field_checks, case_checks}
+use Rattle.witx_check.specs.Checks.{type_checks, member_checks, field_checks, each_type_checks, maybe_checks, union_field_checks, case_checks}
 use Rattle.std.specs.Map.{keys_of}
+
+-- a name that is used, and what it stands for
+abbrev pub used_check : Here → IdSyntax → Check
+used_check h n = use_check n.name.now (h.place n.span.start) (h.sense n.name.now)
+
+abbrev pub denoted_tree : Here → IdSyntax → Tree
+denoted_tree h n = sense_tree (h.sense n.name.now)
+
+-- the name of a constant's type
+abbrev pub integer_name_checks : Here → IdSyntax → List Check
+integer_name_checks h n = constant_type_checks n.name.now (h.place n.span.start) (h.sense n.name.now)
 
 -- a member, and a case, of these parts
 abbrev pub made_field : List ℕ → Tree → CommentSyntax → Field
@@ -29,6 +42,17 @@ made_field name t comments = record { called = name; tree = t; comment = documen
 
 abbrev pub made_arm : List ℕ → Option Tree → CommentSyntax → Arm
 made_arm name t comments = record { called = name; payload = t; comment = documentation_of (comments_view comments) }
+
+-- the checks of a type, whose nearest identifier stands at an offset
+abbrev pub checks_of : Here → Bool → ℕ → TypedefSyntax → List Check
+checks_of h named near t = type_checks h named (h.place near) (type_view t)
+
+-- the type of a case, if it has one
+abbrev pub payload_view : Option TypedefSyntax → Maybe
+payload_view t = maybe_of (option_map type_view t)
+
+abbrev pub part_checks : Here → ℕ → List (Documented TypedefSyntax) → List Check
+part_checks h near ts = union_field_checks h (h.place near) (union_fields_view ts)
 
 abbrev pub member_views : List (Documented IdSyntax) → List Member
 member_views ns = map member_view ns

@@ -5,13 +5,13 @@ use Rattle.std.specs.Option.{is_some}
 use Rattle.witx_base.specs.Found.{found}
 use Rattle.witx_base.specs.Texts.{same_text}
 use Rattle.witx_files.specs.declared.location.Location.{Location}
-use Rattle.witx_tree.specs.declared.tree.BuiltinSyntax.{BuiltinSyntax}
+use Rattle.witx_syntax_tree.specs.declared.tree.BuiltinSyntax.{BuiltinSyntax}
 use Rattle.witx_ast.specs.declared.types.BuiltinType.{BuiltinType}
 use Rattle.witx_ast.specs.declared.types.IntRepr.{IntRepr}
 use Rattle.witx_ast.specs.Tree.{Tree, behind, Arms, no_arms, bare, carries}
 use Rattle.witx_ast.specs.Words.{kind_word}
 use Rattle.witx_check.specs.Faults.{wrong_kind_name, invalid_repr, invalid_union_tag, union_size_mismatch, invalid_union_field, Check}
-use Rattle.witx_tree.specs.declared.tree.BuiltinSyntax.TheVariants as word
+use Rattle.witx_syntax_tree.specs.declared.tree.BuiltinSyntax.TheVariants as word
 use Rattle.witx_ast.specs.declared.types.BuiltinType.TheVariants as kind
 
 abbrev pub builtin_type : BuiltinSyntax → BuiltinType
@@ -96,4 +96,6 @@ has_name (m ∷ ms) n = same_text n m || has_name ms n
 -- a case under a tag with names: one of them, and new
 abbrev pub case_check : Option (List (List ℕ)) → List (List ℕ) → List ℕ → Location → Check
 case_check None before n at = None
-case_check (Some names) before n at = cond (has_name names n && not (has_name before n)) None (Some (invalid_union_field n (codes "does not correspond to variant in tag `tag`") at))
+case_check (Some names) before n at =
+    cond (has_name names n && not (has_name before n)) None
+    (Some (invalid_union_field n (codes "does not correspond to variant in tag `tag`") at))

@@ -3,9 +3,9 @@
 use Rattle.std.specs.Prelude.{ℕ, List, [], ◌∷◌, ◌+◌, Option, Some, None, map, cond, codes, slice_get}
 use Rattle.std.specs.Fmt.{decimal}
 use Rattle.witx_base.specs.Texts.{same_text}
-use Rattle.witx_tree.specs.declared.tree.BuiltinSyntax.{BuiltinSyntax}
-use Rattle.witx_comments.specs.Docs.{documentation_of}
-use Rattle.witx_tree.specs.Trees.{TypeTree, builtin, ident, string, boolean, handle, list_of, pointer_to, const_pointer_to, tuple_of, expected, enum_of, flags_of, record_of, union_of, variant_of, Member, Maybe, absent, present, Fields, no_fields, one_field, Types, no_types, one_type, UnionFields, no_union_fields, one_union_field, Cases, no_cases, one_case}
+use Rattle.witx_syntax_tree.specs.declared.tree.BuiltinSyntax.{BuiltinSyntax}
+use Rattle.witx_syntax_tree.specs.Documentation.{documentation_of}
+use Rattle.witx_syntax_tree.specs.Trees.{TypeTree, builtin, ident, string, boolean, handle, list_of, pointer_to, const_pointer_to, tuple_of, expected, enum_of, flags_of, record_of, union_of, variant_of, Member, Maybe, absent, present, Fields, no_fields, one_field, Types, no_types, one_type, UnionFields, no_union_fields, one_union_field, Cases, no_cases, one_case}
 use Rattle.witx_ast.specs.declared.types.IntRepr.{IntRepr}
 use Rattle.witx_ast.specs.declared.types.RecordKind.{RecordKind}
 use Rattle.witx_ast.specs.Tree.{Tree, Field, Arm, fields_of, arms_of}
@@ -30,7 +30,10 @@ union_name None i = number_name i
 union_name (Some names) i = nth_name names i
 
 abbrev pub bool_tree : Tree
-bool_tree = Tree.variant_of IntRepr.U32 (arms_of (record { called = codes "false"; payload = None; comment = [] } ∷ record { called = codes "true"; payload = None; comment = [] } ∷ []))
+bool_tree = Tree.variant_of IntRepr.U32 (arms_of (
+    record { called = codes "false"; payload = None; comment = [] }
+    ∷ record { called = codes "true"; payload = None; comment = [] }
+    ∷ []))
 
 abbrev pub member_arm : Member → Arm
 member_arm n = record { called = n.name.name; payload = None; comment = documentation_of n.comments }
@@ -91,7 +94,8 @@ abbrev mutual
 
   pub union_arms : Here → Option (List (List ℕ)) → ℕ → UnionFields → List Arm
   union_arms h names i no_union_fields = []
-  union_arms h names i (one_union_field docs t fs) = record { called = union_name names i; payload = Some (tree_meant h t); comment = documentation_of docs } ∷ union_arms h names (i + 1) fs
+  union_arms h names i (one_union_field docs t fs) =
+      record { called = union_name names i; payload = Some (tree_meant h t); comment = documentation_of docs } ∷ union_arms h names (i + 1) fs
 
   pub fields_meant : Here → Fields → List Field
   fields_meant h no_fields = []

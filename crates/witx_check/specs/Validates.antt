@@ -2,18 +2,18 @@
 use Rattle.std.specs.Prelude.{◌≡◌, ◌⊎◌, ◌++◌, ◌∷◌, ℕ, List, [], None, map, Result, IfErr, OnOk, OnErr}
 use Rattle.witx_base.specs.Paths.{Path}
 use Rattle.witx_files.specs.declared.location.Location.{Location}
-use Rattle.witx_tree.specs.Views.{comments_view}
-use Rattle.witx_tree.specs.declared.comment.CommentSyntax.{CommentSyntax}
-use Rattle.witx_tree.specs.declared.tree.DeclSyntax.{DeclSyntax}
+use Rattle.witx_syntax_tree.specs.Views.{comments_view}
+use Rattle.witx_syntax_tree.specs.declared.comment.CommentSyntax.{CommentSyntax}
+use Rattle.witx_syntax_tree.specs.declared.tree.DeclSyntax.{DeclSyntax}
 use Rattle.witx_ast.specs.Closed.{IsClosed}
 use Rattle.witx_ast.specs.Ordered.{IsOrdered}
-use Rattle.witx_ast.specs.Definitions.{definition_tree, DefinitionsFit}
+use Rattle.witx_ast.specs.Definitions.{DefinitionTree, definition_tree, DefinitionsFit}
 use Rattle.witx_ast.specs.declared.definition.Definition.{Definition}
 use Rattle.witx_check.specs.declared.error.CheckError.{CheckError}
 use Rattle.witx_check.specs.Answers.{IsFault}
 use Rattle.witx_check.specs.Blame.{Blames}
 use Rattle.witx_check.specs.DeclarationForms.{DeclForm, decl_form_of}
-use Rattle.witx_check.specs.Declarations.{Past, decl_checks, decl_tree, accepted, rejected}
+use Rattle.witx_check.specs.Declarations.{Past, nothing_before, decl_checks, decl_tree, accepted, rejected}
 use Rattle.witx_check.specs.Faults.{first_fault}
 use Rattle.witx_check.specs.Kept.{Kept, Keeps}
 use Rattle.witx_check.specs.Places.{location_in}
@@ -27,12 +27,20 @@ pub record Site : Type 0 where
 abbrev pub site : List ℕ → Path → CommentSyntax → DeclSyntax → Site
 site text path comments d = record { place = location_in text path; comments = comments_view comments; form = decl_form_of d }
 
+-- the definition of a declaration that no other stands before
+abbrev pub definition_alone : Site → DefinitionTree
+definition_alone at = decl_tree nothing_before at.place at.comments at.form
+
+-- one definition more, with this tree
+abbrev pub Adds : List Definition → List Definition → DefinitionTree → Type 0
+Adds old new tree = map definition_tree new ≡ map definition_tree old ++ tree ∷ []
+
 -- The validator goes from `before` to `after`, and the definitions from `old` to `new`. Each answer is for every `past` that
 -- the validator keeps.
 pub record Validates (before after : Kept) (old new : List Definition) (at : Site) (r : Result (Unit {0}) CheckError) : Type 0 where
   -- accepted: the declaration has no fault, its definition stands last, and the next one finds it
   pub ok : (past : Past) → OnOk r (Keeps before past → first_fault (decl_checks past at.place at.form) ≡ None)
-  pub appended : (past : Past) → OnOk r (Keeps before past → map definition_tree new ≡ map definition_tree old ++ decl_tree past at.place at.comments at.form ∷ [])
+  pub appended : (past : Past) → OnOk r (Keeps before past → Adds old new (decl_tree past at.place at.comments at.form))
   pub accepted : (past : Past) → OnOk r (Keeps before past → Keeps after (accepted past at.place at.comments at.form))
   -- refused: the fault is the first one
   pub fault : (past : Past) → IfErr r (λ e. Keeps before past → Blames e (first_fault (decl_checks past at.place at.form)))

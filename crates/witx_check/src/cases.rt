@@ -3,7 +3,7 @@ ghost use Rattle.std.specs.Option.{option_or};
 ghost use Rattle.std.specs.Ordering.{is_eq, nat_cmp};
 ghost use Rattle.std.specs.Cmp.Lexicographic.{slice_cmp};
 ghost use Rattle.witx_base.specs.Found.{found};
-ghost use Rattle.witx_ast.specs.Reads.{tree_of, case_arm};
+ghost use Rattle.witx_ast.specs.Views.{tree_of, case_arm};
 ghost use Rattle.witx_check.specs.Tags.{has_name, arm_names};
 ghost use Rattle.witx_ast.specs.Tree.{arms_of};
 ghost use Rattle.witx_check.specs.NamePlaces.{place_in, case_placed};

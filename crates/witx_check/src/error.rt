@@ -29,7 +29,8 @@ pub enum ValidationError {
         at_location: Location,
         previous_location: Location,
     },
-    /// A module where a type is wanted, or a tag that no tag can be.
+    /// A module where a type is wanted, a tag that no tag can be, or a constant's type that is no
+    /// integer.
     #[error("Wrong kind of name `{}`: expected {expected}, got {got}", .name.as_str())]
     WrongKindName {
         name: Text,
@@ -72,6 +73,14 @@ pub enum ValidationError {
     InvalidUnionField {
         name: Text,
         reason: &'static str,
+        location: Location,
+    },
+    /// A constant above the greatest number of its type.
+    #[error("Constant `{}` is {value}, at most {largest}", .name.as_str())]
+    ConstantTooLarge {
+        name: Text,
+        value: u64,
+        largest: u64,
         location: Location,
     },
 }

@@ -1,13 +1,13 @@
 ghost use Rattle.std.specs.Prelude.{◌≡◌, ◌∷◌, ◌++◌, IfOk, IfErr, OnOk, None, [], map};
 ghost use Rattle.witx_base.specs.Found.{found};
-ghost use Rattle.witx_ast.specs.Reads.{tree_of};
+ghost use Rattle.witx_ast.specs.Views.{tree_of};
 ghost use Rattle.witx_ast.specs.Functions.{param_field, func_tree};
 ghost use Rattle.witx_check.specs.Faults.{first_fault};
 ghost use Rattle.witx_check.specs.Names.{new_mark};
 ghost use Rattle.witx_check.specs.Checks.{field_checks};
 ghost use Rattle.witx_check.specs.Trees.{fields_meant};
 ghost use Rattle.witx_check.specs.Functions.{abi_of, fields_scope, result_checks, checks_inside, checks_func, makes_func, with_export};
-ghost use Rattle.witx_tree.specs.Views.{comments_view, fields_view};
+ghost use Rattle.witx_syntax_tree.specs.Views.{comments_view, fields_view};
 ghost use Rattle.witx_check.specs.SyntaxChecks.{made_field};
 ghost use Rattle.witx_check.specs.Blame.{Blames};
 ghost use Rattle.witx_check.specs.Senses.{here_of};
@@ -18,7 +18,7 @@ use crate::types::checked_type;
 use std::alloc::Global;
 use witx_ast::{Abi, InterfaceFunc, InterfaceFuncParam, Params, TypeRef};
 use witx_base::{Id, OutOfMemory};
-use witx_tree::{CommentSyntax, Documented, FieldSyntax, InterfaceFuncSyntax};
+use witx_syntax_tree::{CommentSyntax, Documented, FieldSyntax, InterfaceFuncSyntax};
 
 /// The ABI of a function, by whether its result is stored whole.
 fn abi_of(stored: bool) -> Abi

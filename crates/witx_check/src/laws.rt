@@ -1,10 +1,7 @@
 //! The laws that let a reader go from what a validator keeps to the positions of declarations.
-ghost use Rattle.std.specs.Prelude.{◌≡◌, ◌∷◌, List, ℕ};
-ghost use Rattle.witx_files.specs.declared.location.Location.{Location};
-ghost use Rattle.witx_ast.specs.declared.definition.Entry.{Entry};
-ghost use Rattle.witx_check.specs.Names.{Names};
+ghost use Rattle.std.specs.Prelude.{◌≡◌, ◌∷◌};
 ghost use Rattle.witx_check.specs.Senses.{kept_sense};
-ghost use Rattle.witx_check.specs.Positions.{Taken, denotes};
+ghost use Rattle.witx_check.specs.Positions.{denotes};
 ghost use Rattle.witx_check.specs.Declarations.{nothing_before};
 ghost use Rattle.witx_check.specs.Kept.{Keeps, KeepsNames};
 ghost use Rattle.witx_check.specs.Validators.{nothing_kept};
@@ -13,7 +10,7 @@ ghost use Rattle.witx_check.specs.Validators.{nothing_kept};
 /// the declarations so far say.
 #[tactic(auto, using(crate::proofs::ByPosition::position_rules))]
 pub fn names_by_position()
-    ensures { (names : Names) (es : List (List ℕ × Entry)) (past : List Taken) (own : List ℕ) (p : Location) → KeepsNames names es past → kept_sense ((own, p) ∷ names) es ≡ denotes past own }
+    ensures { (names : _) (es : _) (past : _) (own : _) (p : _) → KeepsNames names es past → kept_sense ((own, p) ∷ names) es ≡ denotes past own }
 {}
 
 /// A new validator keeps what no declaration leaves.

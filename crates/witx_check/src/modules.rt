@@ -1,17 +1,16 @@
-ghost use Rattle.std.specs.Prelude.{◌≡◌, ◌∷◌, ◌++◌, [], IfOk, IfErr, OnOk, OnErr, None, Some, map, option_map, cond};
+ghost use Rattle.std.specs.Prelude.{◌≡◌, ◌∷◌, ◌++◌, [], IfOk, IfErr, OnOk, OnErr, None, map, option_map};
 ghost use Rattle.witx_base.specs.Found.{found};
 ghost use Rattle.witx_ast.specs.Items.{item_tree, entry_item, ItemsFit};
 ghost use Rattle.witx_ast.specs.Definitions.{module_tree};
-ghost use Rattle.witx_comments.specs.Docs.{documentation_of};
-ghost use Rattle.witx_tree.specs.Views.{noted_decl, comments_view};
+ghost use Rattle.witx_syntax_tree.specs.Documentation.{documentation_of};
+ghost use Rattle.witx_syntax_tree.specs.Views.{noted_decl, comments_view};
 ghost use Rattle.witx_check.specs.Faults.{first_fault};
 ghost use Rattle.witx_check.specs.Names.{new_mark};
 ghost use Rattle.witx_check.specs.Blame.{Blames};
 ghost use Rattle.witx_check.specs.Answers.{IsFault};
 ghost use Rattle.witx_check.specs.Senses.{here_of};
 ghost use Rattle.witx_check.specs.DeclarationForms.{items_in};
-ghost use Rattle.witx_check.specs.Modules.{with_name, item_called, item_checks, items_checks, item_meant};
-ghost use Rattle.witx_check.specs.Positions.{is_name};
+ghost use Rattle.witx_check.specs.Modules.{with_name, item_called, item_with, item_checks, items_checks, item_meant};
 ghost use Rattle.witx_check.specs.Inside.{TakesAtMost, Refuses};
 ghost use Rattle.witx_check.specs.Sites.{place_at, checks_module, makes_module};
 
@@ -26,7 +25,9 @@ use witx_ast::{
     ModuleImportVariant,
 };
 use witx_base::{Duplicate, Id, OutOfMemory};
-use witx_tree::{CommentSyntax, Documented, ModuleDeclSyntax, ModuleImportSyntax, ModuleSyntax};
+use witx_syntax_tree::{
+    CommentSyntax, Documented, ModuleDeclSyntax, ModuleImportSyntax, ModuleSyntax,
+};
 
 /// The items of a module, in order and by name.
 #[derive(Drop)]
@@ -103,7 +104,7 @@ fn item_entry(item: &ModuleDefinition) -> Result<ModuleEntry, OutOfMemory>
 #[tactic(auto, using(crate::proofs::ModuleItems::entry_rules))]
 fn add_item(contents: &mut Contents, item: ModuleDefinition) -> Result<(), OutOfMemory>
     ensures definitions { OnOk result (contents.new.definitions ≡ contents.old.definitions ++ item ∷ []) }
-    ensures entries { (q : _) → OnOk result (option_map entry_item (found contents.new.entries q) ≡ cond (is_name q (item_called (item_tree item))) (Some (item_tree item)) (option_map entry_item (found contents.old.entries q))) }
+    ensures entries { (q : _) → OnOk result (option_map entry_item (found contents.new.entries q) ≡ item_with contents.old.entries (item_tree item) q) }
 {
     let name = item_name(&item)?;
     let entry = item_entry(&item)?;

@@ -1,6 +1,6 @@
 ghost use Rattle.std.specs.Prelude.{◌≡◌, ◌∷◌, ◌++◌, IfOk, IfErr, OnOk, Some, None, [], map, option_map};
 ghost use Rattle.witx_ast.specs.Tree.{Tree, behind, arms_of};
-ghost use Rattle.witx_ast.specs.Reads.{tree_of, datatype_tree, record_tree, variant_tree, member_field, case_arm};
+ghost use Rattle.witx_ast.specs.Views.{tree_of, datatype_tree, record_tree, variant_tree, member_field, case_arm};
 ghost use Rattle.witx_check.specs.Faults.{first_fault};
 ghost use Rattle.witx_check.specs.Checks.{member_checks};
 ghost use Rattle.witx_check.specs.Trees.{in_order, member_arm, flag_field, bool_tree, string_tree, expected_tree, number_name, union_name, enum_tree, flags_tree};
@@ -23,7 +23,9 @@ use witx_ast::{
     TypeRef, Variant,
 };
 use witx_base::{Duplicate, Id, OutOfMemory};
-use witx_tree::{BuiltinSyntax, CommentSyntax, Documented, EnumSyntax, FlagsSyntax, IdSyntax};
+use witx_syntax_tree::{
+    BuiltinSyntax, CommentSyntax, Documented, EnumSyntax, FlagsSyntax, IdSyntax,
+};
 
 #[tactic(auto, using(crate::proofs::Steps::step_rules))]
 pub fn value(alloc: Global, datatype: Datatype) -> Result<TypeRef, OutOfMemory>

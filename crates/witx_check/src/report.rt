@@ -1,6 +1,6 @@
 ghost use Rattle.std.specs.Prelude.{◌≡◌, ◌++◌, IfOk, codes, option_map, string_bytes};
 ghost use Rattle.witx_check.specs.Blame.{fault_of};
-ghost use Rattle.witx_check.specs.Messages.{message, fault_location, repr_word};
+ghost use Rattle.witx_check.specs.Messages.{message, fault_location, quoted, repr_word};
 ghost use Rattle.witx_check.specs.Reports.{IsReport, earlier_location};
 
 use crate::error::ValidationError;
@@ -46,7 +46,8 @@ impl ValidationError {
             | ValidationError::InvalidUnionTag { location, .. }
             | ValidationError::AnonymousRecord { location }
             | ValidationError::UnionSizeMismatch { location, .. }
-            | ValidationError::InvalidUnionField { location, .. } => location,
+            | ValidationError::InvalidUnionField { location, .. }
+            | ValidationError::ConstantTooLarge { location, .. } => location,
             ValidationError::NameAlreadyExists { at_location, .. } => at_location,
         }
     }
@@ -65,54 +66,45 @@ impl ValidationError {
     }
 
     /// The message, which `Display` gives too.
+    #[rattlefmt::skip]
     fn message(&self, alloc: Global) -> Result<String, AllocError>
         ensures { IfOk result (λ text. string_bytes text ≡ message (fault_of self.now)) }
     {
         match self {
-            ValidationError::UnknownName { name, .. } => format!(in alloc;
-                "Unknown name `{}`",
-                name.as_str()
-            ),
-            ValidationError::Recursive { name, .. } => format!(in alloc;
-                "Recursive definition of name `{}`",
-                name.as_str()
-            ),
-            ValidationError::NameAlreadyExists { name, .. } => format!(in alloc;
-                "Redefinition of name `{}`",
-                name.as_str()
-            ),
-            ValidationError::WrongKindName {
-                name,
-                expected,
-                got,
-                ..
-            } => format!(in alloc;
-                "Wrong kind of name `{}`: expected {expected}, got {got}",
-                name.as_str()
-            ),
-            ValidationError::InvalidRepr { repr, .. } => format!(in alloc;
-                "Invalid representation `{}`",
-                repr_word(*repr)
-            ),
-            ValidationError::Abi { reason, .. } => format!(in alloc; "ABI error: {reason}"),
-            ValidationError::InvalidUnionTag { reason, .. } => format!(in alloc;
-                "Invalid union tag: {reason}"
-            ),
-            ValidationError::AnonymousRecord { .. } => String::from_str(
+            Self::UnknownName { name, .. } => quoted(alloc, "Unknown name", name.as_str()),
+            Self::Recursive { name, .. } => quoted(alloc, "Recursive definition of name", name.as_str()),
+            Self::NameAlreadyExists { name, .. } => quoted(alloc, "Redefinition of name", name.as_str()),
+            Self::WrongKindName { name, expected, got, .. } => {
+                let name = name.as_str();
+                format!(in alloc; "Wrong kind of name `{name}`: expected {expected}, got {got}")
+            }
+            Self::InvalidRepr { repr, .. } => quoted(alloc, "Invalid representation", repr_word(*repr)),
+            Self::Abi { reason, .. } => format!(in alloc; "ABI error: {reason}"),
+            Self::InvalidUnionTag { reason, .. } => format!(in alloc; "Invalid union tag: {reason}"),
+            Self::AnonymousRecord { .. } => String::from_str(
                 alloc,
                 "Anonymous structured types (struct, union, enum, flags, handle) are not permitted",
             ),
-            ValidationError::UnionSizeMismatch {
-                expected,
-                found,
-                ..
-            } => format!(in alloc; "Union expected {expected} variants, found {found}"),
-            ValidationError::InvalidUnionField { name, reason, .. } => format!(in alloc;
-                "Invalid union field `{}`: {reason}",
-                name.as_str()
-            ),
+            Self::UnionSizeMismatch { expected, found, .. } => {
+                format!(in alloc; "Union expected {expected} variants, found {found}")
+            }
+            Self::InvalidUnionField { name, reason, .. } => {
+                let name = name.as_str();
+                format!(in alloc; "Invalid union field `{name}`: {reason}")
+            }
+            Self::ConstantTooLarge { name, value, largest, .. } => {
+                let name = name.as_str();
+                format!(in alloc; "Constant `{name}` is {value}, at most {largest}")
+            }
         }
     }
+}
+
+/// Words, and behind them a name in backquotes.
+fn quoted(alloc: Global, words: &str, name: &str) -> Result<String, AllocError>
+    ensures { IfOk result (λ text. string_bytes text ≡ quoted words.now name.now) }
+{
+    format!(in alloc; "{words} `{name}`")
 }
 
 /// The report of a repeated name, whose second place is the earlier one.

@@ -1,20 +1,22 @@
 ghost use Rattle.std.specs.Prelude.{◌≡◌, IfOk, IfErr, OnOk, Some, None, ◌∷◌};
 ghost use Rattle.witx_base.specs.Found.{found};
 ghost use Rattle.witx_check.specs.Places.{location_in};
-ghost use Rattle.witx_check.specs.Names.{new_mark, new_name, use_check, sense_tree};
-ghost use Rattle.witx_check.specs.Faults.{unknown_name, recursive, wrong_kind_name, name_already_exists, anonymous_record, invalid_repr, invalid_union_tag, abi, union_size_mismatch, invalid_union_field};
+ghost use Rattle.witx_check.specs.Names.{new_mark, new_name};
+ghost use Rattle.witx_check.specs.Faults as fault;
 ghost use Rattle.witx_check.specs.Blame.{Blames};
 ghost use Rattle.witx_check.specs.Senses.{here_of};
-ghost use Rattle.witx_ast.specs.Reads.{tree_of};
+ghost use Rattle.witx_check.specs.SyntaxChecks.{used_check, denoted_tree};
+ghost use Rattle.witx_ast.specs.Views.{tree_of, named_tree};
 
 use crate::error::{CheckError, ValidationError};
 use crate::place::SharedPlace;
 use std::alloc::Global;
-use witx_ast::{BuiltinType, Entries, Entry, TypeRef};
+use std::rc::Rc;
+use witx_ast::{BuiltinType, Entries, Entry, NamedType, TypeRef};
 use witx_base::{Duplicate, Id, NameMap, OutOfMemory, Text, WitxPath};
 use witx_files::Location;
 use witx_lex::line_column;
-use witx_tree::IdSyntax;
+use witx_syntax_tree::IdSyntax;
 
 /// Names of the document, and where each stands.
 pub type Names = NameMap<SharedPlace>;
@@ -55,7 +57,7 @@ impl<'a> Scope<'a> {
 }
 
 pub fn unknown(scope: &Scope<'_>, name: &str, at: usize) -> CheckError
-    ensures { Blames result (Some (unknown_name name.now ((here_of scope.now).place at))) }
+    ensures { Blames result (Some (fault.unknown_name name.now ((here_of scope.now).place at))) }
 {
     match (Text::new(scope.alloc, name), scope.location(at)) {
         (Ok(name), Ok(location)) => CheckError::Validation(ValidationError::UnknownName {
@@ -67,7 +69,7 @@ pub fn unknown(scope: &Scope<'_>, name: &str, at: usize) -> CheckError
 }
 
 pub fn recursive(scope: &Scope<'_>, name: &str, at: usize) -> CheckError
-    ensures { Blames result (Some (recursive name.now ((here_of scope.now).place at))) }
+    ensures { Blames result (Some (fault.recursive name.now ((here_of scope.now).place at))) }
 {
     match (Text::new(scope.alloc, name), scope.location(at)) {
         (Ok(name), Ok(location)) => CheckError::Validation(ValidationError::Recursive {
@@ -85,7 +87,7 @@ pub fn wrong_kind(
     got: &'static str,
     at: usize,
 ) -> CheckError
-    ensures { Blames result (Some (wrong_kind_name name.now expected.now got.now ((here_of scope.now).place at))) }
+    ensures { Blames result (Some (fault.wrong_kind_name name.now expected.now got.now ((here_of scope.now).place at))) }
 {
     match (Text::new(scope.alloc, name), scope.location(at)) {
         (Ok(name), Ok(location)) => CheckError::Validation(ValidationError::WrongKindName {
@@ -99,7 +101,7 @@ pub fn wrong_kind(
 }
 
 pub fn repr(scope: &Scope<'_>, repr: BuiltinType, at: usize) -> CheckError
-    ensures { Blames result (Some (invalid_repr repr ((here_of scope.now).place at))) }
+    ensures { Blames result (Some (fault.invalid_repr repr ((here_of scope.now).place at))) }
 {
     match scope.location(at) {
         Ok(location) => CheckError::Validation(ValidationError::InvalidRepr { repr, location }),
@@ -108,7 +110,7 @@ pub fn repr(scope: &Scope<'_>, repr: BuiltinType, at: usize) -> CheckError
 }
 
 pub fn bad_tag(scope: &Scope<'_>, reason: &'static str, at: usize) -> CheckError
-    ensures { Blames result (Some (invalid_union_tag reason.now ((here_of scope.now).place at))) }
+    ensures { Blames result (Some (fault.invalid_union_tag reason.now ((here_of scope.now).place at))) }
 {
     match scope.location(at) {
         Ok(location) => CheckError::Validation(ValidationError::InvalidUnionTag {
@@ -120,7 +122,7 @@ pub fn bad_tag(scope: &Scope<'_>, reason: &'static str, at: usize) -> CheckError
 }
 
 pub fn abi_fault(scope: &Scope<'_>, reason: &'static str, at: usize) -> CheckError
-    ensures { Blames result (Some (abi reason.now ((here_of scope.now).place at))) }
+    ensures { Blames result (Some (fault.abi reason.now ((here_of scope.now).place at))) }
 {
     match scope.location(at) {
         Ok(location) => CheckError::Validation(ValidationError::Abi { reason, location }),
@@ -129,7 +131,7 @@ pub fn abi_fault(scope: &Scope<'_>, reason: &'static str, at: usize) -> CheckErr
 }
 
 pub fn anonymous_type(scope: &Scope<'_>, at: usize) -> CheckError
-    ensures { Blames result (Some (anonymous_record ((here_of scope.now).place at))) }
+    ensures { Blames result (Some (fault.anonymous_record ((here_of scope.now).place at))) }
 {
     match scope.location(at) {
         Ok(location) => CheckError::Validation(ValidationError::AnonymousRecord { location }),
@@ -138,7 +140,7 @@ pub fn anonymous_type(scope: &Scope<'_>, at: usize) -> CheckError
 }
 
 pub fn wrong_size(scope: &Scope<'_>, expected: usize, found: usize, at: usize) -> CheckError
-    ensures { Blames result (Some (union_size_mismatch expected found ((here_of scope.now).place at))) }
+    ensures { Blames result (Some (fault.union_size_mismatch expected found ((here_of scope.now).place at))) }
 {
     match scope.location(at) {
         Ok(location) => CheckError::Validation(ValidationError::UnionSizeMismatch {
@@ -151,7 +153,7 @@ pub fn wrong_size(scope: &Scope<'_>, expected: usize, found: usize, at: usize) -
 }
 
 pub fn bad_field(scope: &Scope<'_>, name: &str, reason: &'static str, at: usize) -> CheckError
-    ensures { Blames result (Some (invalid_union_field name.now reason.now ((here_of scope.now).place at))) }
+    ensures { Blames result (Some (fault.invalid_union_field name.now reason.now ((here_of scope.now).place at))) }
 {
     match (Text::new(scope.alloc, name), scope.location(at)) {
         (Ok(name), Ok(location)) => CheckError::Validation(ValidationError::InvalidUnionField {
@@ -163,8 +165,22 @@ pub fn bad_field(scope: &Scope<'_>, name: &str, reason: &'static str, at: usize)
     }
 }
 
+pub fn too_large(scope: &Scope<'_>, name: &str, value: u64, largest: u64, at: usize) -> CheckError
+    ensures { Blames result (Some (fault.constant_too_large name.now value largest ((here_of scope.now).place at))) }
+{
+    match (Text::new(scope.alloc, name), scope.location(at)) {
+        (Ok(name), Ok(location)) => CheckError::Validation(ValidationError::ConstantTooLarge {
+            name,
+            value,
+            largest,
+            location,
+        }),
+        _ => CheckError::OutOfMemory,
+    }
+}
+
 pub fn known(alloc: Global, name: &Id, at: &SharedPlace, before: &SharedPlace) -> CheckError
-    ensures { Blames result (Some (name_already_exists name.now at.now before.now)) }
+    ensures { Blames result (Some (fault.name_already_exists name.now at.now before.now)) }
 {
     match (
         Text::new(alloc, name.as_str()),
@@ -183,7 +199,7 @@ pub fn known(alloc: Global, name: &Id, at: &SharedPlace, before: &SharedPlace) -
 }
 
 fn known_mark(scope: &Scope<'_>, name: &Id, at: usize, before: usize) -> CheckError
-    ensures { Blames result (Some (name_already_exists name.now ((here_of scope.now).place at) ((here_of scope.now).place before))) }
+    ensures { Blames result (Some (fault.name_already_exists name.now ((here_of scope.now).place at) ((here_of scope.now).place before))) }
 {
     match (
         Text::new(scope.alloc, name.as_str()),
@@ -257,12 +273,12 @@ pub fn introduce(
     }
 }
 
-/// The type that a name denotes.
+/// The named type that a name denotes.
 #[tactic(auto, using(crate::proofs::Steps::step_rules), unfolding(crate::specs::Senses::here_of))]
-pub fn used(scope: &Scope<'_>, name: &IdSyntax<'_>) -> Result<TypeRef, CheckError>
-    ensures ok { OnOk result (use_check name.now.name.now ((here_of scope.now).place name.now.span.start) ((here_of scope.now).sense name.now.name.now) ≡ None) }
-    ensures tree { IfOk result (λ t. tree_of t ≡ sense_tree ((here_of scope.now).sense name.now.name.now)) }
-    ensures fault { IfErr result (λ e. Blames e (use_check name.now.name.now ((here_of scope.now).place name.now.span.start) ((here_of scope.now).sense name.now.name.now))) }
+pub fn denoted<'a>(scope: &Scope<'a>, name: &IdSyntax<'_>) -> Result<&'a Rc<NamedType>, CheckError>
+    ensures ok { OnOk result (used_check (here_of scope.now) name.now ≡ None) }
+    ensures tree { IfOk result (λ named. named_tree named.now.value ≡ denoted_tree (here_of scope.now) name.now) }
+    ensures fault { IfErr result (λ e. Blames e (used_check (here_of scope.now) name.now)) }
 {
     let at = name.span.start;
     let id = Id::new(scope.alloc, name.name)?;
@@ -270,8 +286,18 @@ pub fn used(scope: &Scope<'_>, name: &IdSyntax<'_>) -> Result<TypeRef, CheckErro
         return Err(unknown(scope, name.name, at));
     }
     match scope.entries.get(&id) {
-        Some(Entry::Typename(named)) => Ok(TypeRef::Name(named.clone()?)),
+        Some(Entry::Typename(named)) => Ok(named),
         Some(Entry::Module(_)) => Err(wrong_kind(scope, name.name, "datatype", "module", at)),
         None => Err(recursive(scope, name.name, at)),
     }
+}
+
+/// The type that a name denotes.
+#[tactic(auto, using(crate::proofs::Steps::step_rules))]
+pub fn used(scope: &Scope<'_>, name: &IdSyntax<'_>) -> Result<TypeRef, CheckError>
+    ensures ok { OnOk result (used_check (here_of scope.now) name.now ≡ None) }
+    ensures tree { IfOk result (λ t. tree_of t ≡ denoted_tree (here_of scope.now) name.now) }
+    ensures fault { IfErr result (λ e. Blames e (used_check (here_of scope.now) name.now)) }
+{
+    Ok(TypeRef::Name(denoted(scope, name)?.clone()?))
 }

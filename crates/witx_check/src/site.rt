@@ -1,6 +1,6 @@
 use crate::place::SharedPlace;
 use witx_base::WitxPath;
-use witx_tree::CommentSyntax;
+use witx_syntax_tree::CommentSyntax;
 
 /// Where a declaration stands: the text and the path of its file, the place of its name, and the
 /// comments before it.

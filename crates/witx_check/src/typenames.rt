@@ -1,6 +1,6 @@
 ghost use Rattle.std.specs.Prelude.{◌≡◌, ◌∷◌, IfOk, IfErr, OnOk, OnErr, None};
 ghost use Rattle.witx_base.specs.Found.{found};
-ghost use Rattle.witx_ast.specs.Reads.{named_tree};
+ghost use Rattle.witx_ast.specs.Views.{named_tree};
 ghost use Rattle.witx_check.specs.Faults.{first_fault};
 ghost use Rattle.witx_check.specs.Blame.{Blames};
 ghost use Rattle.witx_check.specs.Answers.{IsFault};
@@ -13,7 +13,7 @@ use crate::site::Site;
 use crate::types::checked_type;
 use std::alloc::Global;
 use witx_ast::{Entries, NamedType};
-use witx_tree::TypenameSyntax;
+use witx_syntax_tree::TypenameSyntax;
 
 /// The named type of a declaration whose name stands at `place`, and is taken in before the type
 /// is checked.

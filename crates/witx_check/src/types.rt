@@ -1,9 +1,9 @@
 ghost use Rattle.std.specs.Prelude.{◌≡◌, IfOk, IfErr, OnOk, None, [], map, option_map};
-ghost use Rattle.witx_tree.specs.Views.{type_view, fields_view, types_view, union_fields_view, cases_view, boxed_view, maybe_of};
-ghost use Rattle.witx_check.specs.SyntaxChecks.{lacks_name, record_checks, record_meant, tuple_checks, tuple_meant, expected_checks, expected_meant, all_tag_checks, union_checks, union_meant, variant_checks, variant_meant};
-ghost use Rattle.witx_ast.specs.Reads.{tree_of, member_field, case_arm};
+ghost use Rattle.witx_syntax_tree.specs.Views.{type_view, fields_view, types_view, union_fields_view, cases_view, boxed_view};
+ghost use Rattle.witx_check.specs.SyntaxChecks.{lacks_name, checks_of, payload_view, part_checks, record_checks, record_meant, tuple_checks, tuple_meant, expected_checks, expected_meant, all_tag_checks, union_checks, union_meant, variant_checks, variant_meant};
+ghost use Rattle.witx_ast.specs.Views.{tree_of, member_field, case_arm};
 ghost use Rattle.witx_check.specs.Faults.{first_fault};
-ghost use Rattle.witx_check.specs.Checks.{type_checks, field_checks, each_type_checks, union_field_checks, maybe_checks, case_checks};
+ghost use Rattle.witx_check.specs.Checks.{field_checks, each_type_checks, maybe_checks, case_checks};
 ghost use Rattle.witx_check.specs.Trees.{tree_meant, fields_meant, types_meant, maybe_tree, union_arms, case_arms};
 ghost use Rattle.witx_check.specs.Tags.{tag_repr, tag_names};
 ghost use Rattle.witx_check.specs.Blame.{Blames};
@@ -22,7 +22,7 @@ use witx_ast::{
     TypeRef,
 };
 use witx_base::Text;
-use witx_tree::{
+use witx_syntax_tree::{
     CaseSyntax, Documented, ExpectedSyntax, FieldSyntax, RecordSyntax, TupleSyntax, TypedefSyntax,
     UnionSyntax, VariantSyntax,
 };
@@ -60,9 +60,9 @@ pub fn checked_type(
     named: bool,
     near: usize,
 ) -> Result<TypeRef, CheckError>
-    ensures ok { OnOk result (first_fault (type_checks (here_of scope.now) named ((here_of scope.now).place near) (type_view syntax.now)) ≡ None) }
+    ensures ok { OnOk result (first_fault (checks_of (here_of scope.now) named near syntax.now) ≡ None) }
     ensures tree { IfOk result (λ t. tree_of t ≡ tree_meant (here_of scope.now) (type_view syntax.now)) }
-    ensures fault { IfErr result (λ e. Blames e (first_fault (type_checks (here_of scope.now) named ((here_of scope.now).place near) (type_view syntax.now)))) }
+    ensures fault { IfErr result (λ e. Blames e (first_fault (checks_of (here_of scope.now) named near syntax.now))) }
 {
     if is_anonymous(syntax, named) {
         return Err(anonymous_type(scope, near));
@@ -195,9 +195,9 @@ fn checked_payload(
     scope: &Scope<'_>,
     near: usize,
 ) -> Result<Option<TypeRef>, CheckError>
-    ensures ok { OnOk result (first_fault (maybe_checks (here_of scope.now) ((here_of scope.now).place near) (maybe_of (option_map type_view of.now))) ≡ None) }
-    ensures tree { IfOk result (λ t. option_map tree_of t ≡ maybe_tree (here_of scope.now) (maybe_of (option_map type_view of.now))) }
-    ensures fault { IfErr result (λ e. Blames e (first_fault (maybe_checks (here_of scope.now) ((here_of scope.now).place near) (maybe_of (option_map type_view of.now))))) }
+    ensures ok { OnOk result (first_fault (maybe_checks (here_of scope.now) ((here_of scope.now).place near) (payload_view of.now)) ≡ None) }
+    ensures tree { IfOk result (λ t. option_map tree_of t ≡ maybe_tree (here_of scope.now) (payload_view of.now)) }
+    ensures fault { IfErr result (λ e. Blames e (first_fault (maybe_checks (here_of scope.now) ((here_of scope.now).place near) (payload_view of.now)))) }
 {
     match of {
         Some(of) => Ok(Some(checked_type(of, scope, false, near)?)),
@@ -230,9 +230,9 @@ fn union_cases(
     names: &Option<TagNames>,
     near: usize,
 ) -> Result<Cases, CheckError>
-    ensures ok { OnOk result (first_fault (union_field_checks (here_of scope.now) ((here_of scope.now).place near) (union_fields_view types.now)) ≡ None) }
+    ensures ok { OnOk result (first_fault (part_checks (here_of scope.now) near types.now) ≡ None) }
     ensures tree { IfOk result (λ cs. map case_arm cs ≡ union_arms (here_of scope.now) names.now 0 (union_fields_view types.now)) }
-    ensures fault { IfErr result (λ e. Blames e (first_fault (union_field_checks (here_of scope.now) ((here_of scope.now).place near) (union_fields_view types.now)))) }
+    ensures fault { IfErr result (λ e. Blames e (first_fault (part_checks (here_of scope.now) near types.now))) }
 {
     let mut cases = Cases::new(scope.alloc);
     for i in 0..types.len() {

@@ -1,12 +1,11 @@
-ghost use Rattle.std.specs.Prelude.{◌≡◌, ◌∷◌, ◌++◌, [], IfErr, IfOk, OnOk, OnErr, None, Some, List, ℕ, map, option_map};
+ghost use Rattle.std.specs.Prelude.{◌≡◌, ◌∷◌, ◌++◌, [], IfOk, OnOk, OnErr, Some, List, ℕ, map, option_map};
 ghost use Rattle.witx_base.specs.Found.{found};
 ghost use Rattle.witx_ast.specs.Definitions.{definition_tree, entry_tree, module_of, module_tree, constant_of};
-ghost use Rattle.witx_ast.specs.Reads.{named_tree};
-ghost use Rattle.witx_check.specs.Blame.{Blames};
-ghost use Rattle.witx_check.specs.Constants.{constant_place, made_constant, place_under, place_with, repeated_constant};
+ghost use Rattle.witx_ast.specs.Views.{named_tree};
+ghost use Rattle.witx_check.specs.Constants.{constant_place, place_under, place_with};
 ghost use Rattle.witx_check.specs.Names.{a_type, a_module};
 ghost use Rattle.witx_check.specs.Kept.{entry_sense_of, sense_with, tree_with, made_typename};
-ghost use Rattle.witx_check.specs.Sites.{kept_in, place_at, typename_at, module_at};
+ghost use Rattle.witx_check.specs.Sites.{kept_in, place_at, typename_at, module_at, constant_at};
 ghost use Rattle.witx_check.specs.Validates.{Validates};
 
 use crate::constants::{ConstantName, ConstantPlaces, checked_constant};
@@ -20,7 +19,7 @@ use std::alloc::Global;
 use std::rc::Rc;
 use witx_ast::{Constant, Definition, Definitions, Entries, Entry, Module, NamedType};
 use witx_base::{Duplicate, Id, OutOfMemory};
-use witx_tree::{ConstSyntax, Documented, ModuleSyntax, TypenameSyntax};
+use witx_syntax_tree::{ConstSyntax, Documented, ModuleSyntax, TypenameSyntax};
 
 /// Puts a finished typename or module behind the definitions and under its name, or neither.
 #[tactic(auto, using(crate::proofs::Finishing::finish_rules))]
@@ -183,23 +182,20 @@ fn keep_constant(
     }
 }
 
-/// Takes a constant in, whose name stands at `place`; a refused one leaves nothing.
+/// Takes a constant in, whose name stands at the place of the site; a refused one leaves nothing.
 pub fn validate_constant(
-    places: &mut ConstantPlaces,
-    place: SharedPlace,
-    alloc: Global,
+    tables: &mut Tables,
+    site: Site<'_>,
     decl: &Documented<'_, ConstSyntax<'_>>,
     definitions: &mut Definitions,
 ) -> Result<(), CheckError>
-    ensures ok { OnOk result (repeated_constant places.old.entries decl.now.item.ty.name.now decl.now.item.name.name.now place ≡ None) }
-    ensures appended { OnOk result (map definition_tree definitions.new ≡ map definition_tree definitions.old ++ constant_of (made_constant decl.now) ∷ []) }
-    ensures places { (ty n : List ℕ) → OnOk result (constant_place places.new.entries ty n ≡ place_with places.old.entries (made_constant decl.now) place ty n) }
-    ensures fault { IfErr result (λ e. Blames e (repeated_constant places.old.entries decl.now.item.ty.name.now decl.now.item.name.name.now place)) }
-    ensures unchanged { OnErr result (definitions.new ≡ definitions.old) }
-    ensures places_unchanged { OnErr result (places.new.entries ≡ places.old.entries) }
+    requires { site.place ≡ place_at site decl.now.item.name }
+    ensures { Validates (kept_in tables.old) (kept_in tables.new) definitions.old definitions.new (constant_at site.entry decl.now) result }
 {
-    match checked_constant(places, &place, alloc, decl) {
-        Ok(constant) => Ok(keep_constant(places, place, constant, definitions)?),
+    match checked_constant(tables, &site, decl) {
+        Ok(constant) => {
+            Ok(keep_constant(&mut tables.constants, site.place, constant, definitions)?)
+        }
         Err(error) => Err(error),
     }
 }

@@ -1,8 +1,8 @@
 ghost use Rattle.std.specs.Prelude.{◌≡◌, IfOk, map};
 ghost use Rattle.witx_ast.specs.Definitions.{definition_tree, DefinitionsFit};
 ghost use Rattle.witx_ast.specs.Ordered.{IsOrdered};
-ghost use Rattle.witx_check.specs.Scopes.{kept_at, site_in};
-ghost use Rattle.witx_check.specs.Validates.{Validates, site};
+ghost use Rattle.witx_check.specs.Scopes.{TakesIn, kept_at, site_in, site_of};
+ghost use Rattle.witx_check.specs.Validates.{Validates};
 ghost use Rattle.witx_check.specs.Validators.{kept_by, nothing_kept};
 
 use crate::constants::ConstantPlaces;
@@ -18,7 +18,7 @@ use std::rc::Rc;
 use witx_ast::{Definitions, Document, Entries};
 use witx_base::{OutOfMemory, WitxPath};
 use witx_lex::LineCursor;
-use witx_tree::{CommentSyntax, DeclSyntax};
+use witx_syntax_tree::{CommentSyntax, DeclSyntax};
 
 /// What the checks of declarations keep: each introduced name with its place, the finished
 /// typenames and modules, and the accepted constants with their places.
@@ -78,7 +78,7 @@ impl DocValidation {
         comments: &CommentSyntax<'_>,
         definitions: &mut Definitions,
     ) -> Result<(), CheckError>
-        ensures validates { Validates (kept_by self.old) (kept_by self.new) definitions.old definitions.new (site lines.old.text.now path.now.path.now comments.now decl.now) result }
+        ensures validates { TakesIn self.old self.new definitions.old definitions.new (site_of lines.old path.now comments.now decl.now) result }
         ensures text { lines.new.text.now ≡ lines.old.text.now }
     {
         let text = lines.text;
@@ -105,13 +105,13 @@ impl DocValidation {
             }
             DeclSyntax::Const(decl) => {
                 let place = path.place(lines, decl.item.name.span.start)?;
-                validate_constant(
-                    &mut self.tables.constants,
+                let site = Site {
+                    text,
+                    path: path.path,
                     place,
-                    self.alloc,
-                    decl,
-                    definitions,
-                )
+                    comments,
+                };
+                validate_constant(&mut self.tables, site, decl, definitions)
             }
         }
     }

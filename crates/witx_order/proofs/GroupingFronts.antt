@@ -1,7 +1,7 @@
 -- The fronts step by step are exactly those by their groups.
 use Rattle.std.proofs.Common.{◌≡◌, ℕ, List, [], ◌∷◌, ◌++◌, refl, sym, ap, ◌∙◌, subst, Option, Some, None, Result, Ok, Err, ◌⊎◌, inl, inr, append_assoc}
 use Rattle.witx_base.specs.Paths.{Path, file_name, join, path_of, all_but_last}
-use Rattle.witx_tree.specs.Trees.{NotedItem}
+use Rattle.witx_syntax_tree.specs.Trees.{NotedItem}
 use Rattle.witx_order.specs.Items.{Item, declaration, use_of, Declared, SyntaxFault}
 use Rattle.witx_order.specs.Walks.{World, Mark, start, decl, skip, end, OpenFile, open_file, declared_in, Place, place, wish, reach, handed_wish, inner_wish, go, next, met, reached, is_taken, folder_of, Marks, none, more, IsFront}
 use Rattle.witx_order.specs.Groups.{Contents, no_items, declared, used, Reached, skipped, opened, StartsOnce}

@@ -7,3 +7,4 @@ pub mod Grouping
 pub mod Taking
 pub mod GroupingFronts
 pub mod Read
+pub mod Examples

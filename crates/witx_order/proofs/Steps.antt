@@ -3,7 +3,7 @@ use Rattle.std.proofs.Common.{◌≡◌, ℕ, ◌<◌, ◌≤◌, List, [], ◌�
 use Rattle.std.proofs.lemmas.Bool.{lt-ltb}
 use Rattle.std.proofs.lemmas.Bool.Decides.{nat_tests}
 use Rattle.witx_base.specs.Paths.{Path}
-use Rattle.witx_tree.specs.Trees.{NotedItem}
+use Rattle.witx_syntax_tree.specs.Trees.{NotedItem}
 use Rattle.witx_order.specs.Items.{Item, declaration, Declared, SyntaxFault}
 use Rattle.witx_order.specs.Walks.{World, Mark, start, decl, skip, end, OpenFile, open_file, declared_in, Place, place, reach, wish, met, reached, started, go, stuck, is_taken, folder_of, too_many, missing, unreadable, faulty}
 use Rattle.witx_order.specs.Verdicts.{Verdict, refused, on, ends, turn, turned, checked, Leads, here, along, Ends}

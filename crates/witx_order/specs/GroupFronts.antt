@@ -2,7 +2,7 @@
 -- groups may still be open and handed paths still to come; of each open file the marks so far are those of its first items.
 use Rattle.std.specs.Prelude.{◌≡◌, ℕ, List, [], ◌∷◌, ◌++◌, Some, Ok}
 use Rattle.witx_base.specs.Paths.{Path, join, path_of, all_but_last, file_name}
-use Rattle.witx_tree.specs.Trees.{NotedItem}
+use Rattle.witx_syntax_tree.specs.Trees.{NotedItem}
 use Rattle.witx_order.specs.Items.{Item, declaration, use_of}
 use Rattle.witx_order.specs.Walks.{World, Mark, start, decl, declared_in, folder_of}
 use Rattle.witx_order.specs.Groups.{Reached, StartsOnce}

@@ -3,7 +3,7 @@
 -- Each path starts once, at its first mention; a skip stands behind the start of its path; there are at most 1,024 starts.
 use Rattle.std.specs.Prelude.{◌≡◌, ◌<◌, ℕ, List, [], ◌∷◌, ◌++◌, length, Some, Ok, true, false}
 use Rattle.witx_base.specs.Paths.{Path, join, path_of, all_but_last, file_name}
-use Rattle.witx_tree.specs.Trees.{NotedItem}
+use Rattle.witx_syntax_tree.specs.Trees.{NotedItem}
 use Rattle.witx_order.specs.Items.{Item, declaration, use_of}
 use Rattle.witx_order.specs.Walks.{World, Mark, start, decl, skip, end, declared_in, is_taken, folder_of, most_files}
 

@@ -2,7 +2,7 @@
 -- A declaration of the reading order keeps the path and the text in which it stands, since its locations depend on them.
 use Rattle.std.specs.Prelude.{ℕ, List, map}
 use Rattle.witx_base.specs.Paths.{Path}
-use Rattle.witx_tree.specs.Trees.{Document, NotedItem, ItemTree, uses, typename, module_of, constant}
+use Rattle.witx_syntax_tree.specs.Trees.{Document, NotedItem, ItemTree, uses, typename, module_of, constant}
 
 -- a top-level form: a declaration with its comments, or the path of a file that is used
 pub data Item : Type 0 where

@@ -5,7 +5,7 @@
 use Rattle.std.specs.Prelude.{◌≡◌, ℕ, List, [], ◌∷◌, ◌++◌, length, Option, None, Some, Result, Ok, Err, Bool, true, false, cond, nat_lt, unwrap_or}
 use Rattle.witx_base.specs.Paths.{Path, join, path_of, parent, all_but_last, file_name}
 use Rattle.witx_files.specs.Files.{same_path}
-use Rattle.witx_tree.specs.Trees.{NotedItem}
+use Rattle.witx_syntax_tree.specs.Trees.{NotedItem}
 use Rattle.witx_order.specs.Items.{Item, declaration, use_of, Declared, SyntaxFault}
 
 -- the text of each path that has a file, the path that each path stands for, what a text consists of or why it is no
@@ -73,7 +73,8 @@ handed_wish None path behind = nameless path
 handed_wish (Some name) path behind = reach behind (join (all_but_last path) (name ∷ [])) (all_but_last path)
 
 abbrev pub item_wish : Path → List ℕ → Path → Item → Place → Wish
-item_wish path text folder (declaration item) behind = declare (declared_in path text item) (record behind { declared = behind.declared ++ declared_in path text item ∷ [] })
+item_wish path text folder (declaration item) behind =
+    declare (declared_in path text item) (record behind { declared = behind.declared ++ declared_in path text item ∷ [] })
 item_wish path text folder (use_of used) behind = reach behind (join folder (path_of used)) folder
 
 abbrev pub outer_wish : List Path → List Path → List Declared → Wish

@@ -1,10 +1,10 @@
 -- What one more declaration adds to what declarations leave.
 use Rattle.std.proofs.Common.{◌≡◌, ℕ, List, [], ◌∷◌, ◌++◌, refl, sym, ap, ◌∙◌, subst, map, append_assoc, append-nil, Some, None, Ok}
 use Rattle.witx_base.specs.Paths.{Path}
-use Rattle.witx_tree.specs.Trees.{Comments}
-use Rattle.witx_tree.specs.Views.{declaration_view}
-use Rattle.witx_tree.specs.declared.tree.DeclSyntax.{DeclSyntax}
-use Rattle.witx_tree.specs.declared.tree.DeclSyntax.TheVariants as decl
+use Rattle.witx_syntax_tree.specs.Trees.{Comments}
+use Rattle.witx_syntax_tree.specs.Views.{declaration_view}
+use Rattle.witx_syntax_tree.specs.declared.tree.DeclSyntax.{DeclSyntax}
+use Rattle.witx_syntax_tree.specs.declared.tree.DeclSyntax.TheVariants as decl
 use Rattle.witx_ast.specs.Definitions.{definition_tree, DefinitionsFit}
 use Rattle.witx_ast.specs.Ordered.{IsOrdered}
 use Rattle.witx_ast.specs.Closed.{IsClosed}

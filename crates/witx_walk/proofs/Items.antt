@@ -2,13 +2,13 @@
 use Rattle.std.proofs.Common.{◌≡◌, ℕ, ◌+◌, ◌<◌, List, [], ◌∷◌, ◌++◌, refl, sym, ap, ◌∙◌, subst, map, length, drop, get_or, Result, Ok, Err}
 use Rattle.std.proofs.lemmas.List.{drop_more}
 use Rattle.witx_base.specs.Paths.{Path, join, path_of}
-use Rattle.witx_tree.specs.Trees.{NotedItem, ItemTree}
-use Rattle.witx_tree.specs.Views.{noted_item, item_view, declaration_view, comments_view}
-use Rattle.witx_tree.specs.declared.comment.Documented.{Documented}
-use Rattle.witx_tree.specs.declared.tree.DeclSyntax.{DeclSyntax}
-use Rattle.witx_tree.specs.declared.tree.DeclSyntax.TheVariants as decl
-use Rattle.witx_tree.specs.declared.tree.TopLevelSyntax.{TopLevelSyntax}
-use Rattle.witx_tree.specs.declared.tree.TopLevelSyntax.TheVariants as top
+use Rattle.witx_syntax_tree.specs.Trees.{NotedItem, ItemTree}
+use Rattle.witx_syntax_tree.specs.Views.{noted_item, item_view, declaration_view, comments_view}
+use Rattle.witx_syntax_tree.specs.declared.comment.Documented.{Documented}
+use Rattle.witx_syntax_tree.specs.declared.tree.DeclSyntax.{DeclSyntax}
+use Rattle.witx_syntax_tree.specs.declared.tree.DeclSyntax.TheVariants as decl
+use Rattle.witx_syntax_tree.specs.declared.tree.TopLevelSyntax.{TopLevelSyntax}
+use Rattle.witx_syntax_tree.specs.declared.tree.TopLevelSyntax.TheVariants as top
 use Rattle.witx_check.specs.Faults.{Fault}
 use Rattle.witx_order.specs.Items.{Item, declaration, use_of, item_at, item_of, items_of, Declared}
 use Rattle.witx_order.specs.Walks.{World, OpenFile, open_file, declared_in, Place, place, wish, reach}

@@ -79,7 +79,8 @@ AgreesWith v (Err OutOfMemory) = Unit {0}
 
 -- the claim holds of the world of the files and aliases, where both are told, and the reading of texts
 abbrev pub Told : Option Files → Option Aliases → (World Fault → Type 0) → Type 0
-Told files aliases P = (fs : Files) (links : Aliases) (reading : Reading) → files ≡ Some fs → aliases ≡ Some links → IsReading reading → P (world fs links reading)
+Told files aliases P =
+    (fs : Files) (links : Aliases) (reading : Reading) → files ≡ Some fs → aliases ≡ Some links → IsReading reading → P (world fs links reading)
 
 -- the answer to the files at these paths, where files and aliases are told
 abbrev pub IsAnswer : Option Files → Option Aliases → List Path → ℕ → ℕ → Answer → Type 0
@@ -103,7 +104,8 @@ told_by (Err OutOfMemory) = None
 
 -- over told files and aliases two answers that tell something tell the same
 abbrev pub OneAnswer : Type 0
-OneAnswer = (files : Files) (aliases : Aliases) (handed : List Path) (before now before' now' : ℕ) (r s : Answer) (x y : Result (List DefinitionTree) (Refusal Fault))
+OneAnswer = (files : Files) (aliases : Aliases) (handed : List Path) (before now before' now' : ℕ) (r s : Answer)
+    (x y : Result (List DefinitionTree) (Refusal Fault))
     → IsAnswer (Some files) (Some aliases) handed before now r → IsAnswer (Some files) (Some aliases) handed before' now' s
     → told_by r ≡ Some x → told_by s ≡ Some y → x ≡ y
 

@@ -4,7 +4,7 @@ use Rattle.std.specs.Prelude.{◌≡◌, ℕ, List, [], ◌∷◌, ◌++◌, Opt
 use Rattle.witx_base.specs.Paths.{Path}
 use Rattle.witx_files.specs.Files.{Files, Aliases, held, canonical}
 use Rattle.witx_files.specs.declared.location.Location.{Location}
-use Rattle.witx_tree.specs.Trees.{Comments, ItemTree, uses, typename, module_of, constant}
+use Rattle.witx_syntax_tree.specs.Trees.{Comments, ItemTree, uses, typename, module_of, constant}
 use Rattle.witx_ast.specs.Definitions.{DefinitionTree}
 use Rattle.witx_check.specs.Faults.{Fault, first_fault}
 use Rattle.witx_check.specs.Places.{location_in}
@@ -20,7 +20,7 @@ abbrev pub form_of : ItemTree → Option DeclForm
 form_of (uses path) = None
 form_of (typename name type_) = Some (typename_form name type_)
 form_of (module_of name items) = Some (module_form name items)
-form_of (constant comments type_name name value) = Some (constant_form type_name.name name value comments)
+form_of (constant comments type_name name value) = Some (constant_form type_name name value comments)
 
 -- where the bytes of a declaration's file stand
 abbrev pub places_of : Declared → ℕ → Location

@@ -27,7 +27,8 @@ IsSourceAnswer source r = (reading : Reading) → IsReading reading → Answers 
 
 -- it is the verdict
 abbrev pub IsSourceVerdict : List ℕ → Answer → Type 0
-IsSourceVerdict source r = (reading : Reading) → IsReading reading → (v : Verdict Fault) → IsVerdict (source_world source reading) (source_path ∷ []) v → AgreesWith v r
+IsSourceVerdict source r =
+    (reading : Reading) → IsReading reading → (v : Verdict Fault) → IsVerdict (source_world source reading) (source_path ∷ []) v → AgreesWith v r
 
 -- the refusals that one file can have: neither is its path without a file name, nor are there too many files, nor does a
 -- call fail

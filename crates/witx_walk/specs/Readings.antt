@@ -1,7 +1,7 @@
 -- The reading of texts as a function: the items of each text that is a document, the fault of each that is none.
 -- The grammar's definition is a relation; its laws say that there is exactly one such function.
 use Rattle.std.specs.Prelude.{◌≡◌, ℕ, List, Result, Ok, Err}
-use Rattle.witx_tree.specs.Trees.{Document}
+use Rattle.witx_syntax_tree.specs.Trees.{Document}
 use Rattle.witx_syntax.specs.Reads.{Reads, IsFaultOf, Told}
 use Rattle.witx_order.specs.Items.{Item, items_of, SyntaxFault}
 

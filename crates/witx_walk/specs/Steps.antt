@@ -16,7 +16,10 @@ use Rattle.witx_check.specs.Blame.{fault_of}
 use Rattle.witx_check.specs.Kept.{Keeps}
 use Rattle.witx_check.specs.Validators.{kept_by}
 use Rattle.witx_order.specs.Items.{Declared}
-use Rattle.witx_order.specs.Walks.{World, Place, is_taken}
+use Rattle.witx_syntax_tree.specs.Views.{comments_view, declaration_view}
+use Rattle.witx_syntax_tree.specs.declared.comment.CommentSyntax.{CommentSyntax}
+use Rattle.witx_syntax_tree.specs.declared.tree.DeclSyntax.{DeclSyntax}
+use Rattle.witx_order.specs.Walks.{World, Place, declared_in, is_taken}
 use Rattle.witx_order.specs.Verdicts.{Leads}
 use Rattle.witx_walk.specs.Meaning.{past_of, definitions_of}
 use Rattle.witx_walk.specs.Answers.{Refuses}
@@ -82,6 +85,11 @@ IsGot files asked before now (Err (BadPath path)) = ⊥
 IsGot files asked before now (Err (TooManyFiles path)) = ⊥
 IsGot files asked before now (Err (Parse e)) = ⊥
 IsGot files asked before now (Err (Validation e)) = ⊥
+
+-- a declaration with its comments, as it stands in the text of the file at a path
+abbrev pub declared_at : Path → List ℕ → CommentSyntax → DeclSyntax → Declared
+declared_at path text comments declaration =
+    declared_in path text (record { comments = comments_view comments; item = declaration_view declaration })
 
 abbrev pub IsDeclared : {U : Type 0} → Option Fault → List Declared → Declared → Walking → Result U WitxError → Type 0
 IsDeclared fault before δ walk (Ok u) = (fault ≡ None) × Holding walk (before ++ δ ∷ [])

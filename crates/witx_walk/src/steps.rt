@@ -2,14 +2,13 @@
 
 ghost use Rattle.std.specs.Prelude.{◌≡◌, List, Option, ℕ, IfOk, IfErr, OnOk};
 ghost use Rattle.witx_order.specs.Items.{Declared};
-ghost use Rattle.witx_order.specs.Walks.{declared_in, folder_of};
-ghost use Rattle.witx_tree.specs.Views.{comments_view, declaration_view};
+ghost use Rattle.witx_order.specs.Walks.{folder_of};
 ghost use Rattle.witx_files.specs.Files.{Files};
 ghost use Rattle.witx_walk.specs.Answers.{Caused, told_fault};
 ghost use Rattle.witx_walk.specs.Meaning.{fault_behind};
 ghost use Rattle.witx_syntax.specs.Reads.{fault_view};
 ghost use Rattle.witx_walk.specs.Readings.{syntax_fault};
-ghost use Rattle.witx_walk.specs.Steps.{Holding, IsDeclared, IsGot, IsReached, IsWell, Never};
+ghost use Rattle.witx_walk.specs.Steps.{Holding, IsDeclared, declared_at, IsGot, IsReached, IsWell, Never};
 
 use crate::error::WitxError;
 use crate::walking::Walking;
@@ -19,7 +18,7 @@ use witx_base::{Duplicate, Text, WitxPath};
 use witx_check::{CheckError, LineCursor, SharedPath};
 use witx_files::{IoError, WitxIo};
 use witx_syntax::{ParseError, ParseFault};
-use witx_tree::{CommentSyntax, DeclSyntax};
+use witx_syntax_tree::{CommentSyntax, DeclSyntax};
 
 /// The path that `joined` stands for. The fault of a call has `joined` itself, so that a failed call is
 /// never answered by want of memory.
@@ -103,10 +102,8 @@ pub fn declare(
     ensures well { IsWell walk.old → OnOk result (IsWell walk.new) }
     ensures declared { (declared : List Declared) → Holding walk.old declared →
         IsDeclared
-        (fault_behind declared (declared_in path.now.path.now lines.old.text.now (record { comments = comments_view comments.now; item = declaration_view declaration.now })))
-        declared
-        (declared_in path.now.path.now lines.old.text.now (record { comments = comments_view comments.now; item = declaration_view declaration.now }))
-        walk.new result }
+        (fault_behind declared (declared_at path.now.path.now lines.old.text.now comments.now declaration.now))
+        declared (declared_at path.now.path.now lines.old.text.now comments.now declaration.now) walk.new result }
     ensures text { lines.new.text.now ≡ lines.old.text.now }
 {
     let definitions = &mut walk.definitions;

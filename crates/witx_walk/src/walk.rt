@@ -4,7 +4,7 @@
 ghost use Rattle.std.specs.Prelude.{◌≡◌, ◌<◌, ◌≤◌, ◌∷◌, [], List, map, Ok, Err, IfErr, IfOk, OnOk, Contains, None};
 ghost use Rattle.std.specs.BTreeSet.{btree_set_len};
 ghost use Rattle.witx_base.specs.Paths.{Path, file_name};
-ghost use Rattle.witx_tree.specs.Views.{noted_item};
+ghost use Rattle.witx_syntax_tree.specs.Views.{noted_item};
 ghost use Rattle.witx_ast.specs.Definitions.{definition_tree};
 ghost use Rattle.witx_ast.specs.Ordered.{IsOrdered};
 ghost use Rattle.witx_ast.specs.Closed.{IsClosed};
@@ -23,7 +23,7 @@ use witx_base::{Duplicate, WitxPath};
 use witx_check::{DocValidation, LineCursor, SharedPath};
 use witx_files::WitxIo;
 use witx_syntax::{SyntaxError, parse_document};
-use witx_tree::{Documented, TopLevelSyntax};
+use witx_syntax_tree::{Documented, TopLevelSyntax};
 
 /// The most files that are taken in.
 const MOST_FILES: usize = 1024;

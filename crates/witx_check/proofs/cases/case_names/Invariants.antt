@@ -1,6 +1,6 @@
 use Rattle.std.proofs.Common.{◌≡◌, ◌++◌, drop, map}
 use Rattle.witx_ast.specs.Tree.{arms_of}
-use Rattle.witx_ast.specs.Reads.{case_arm}
+use Rattle.witx_ast.specs.Views.{case_arm}
 use Rattle.witx_check.specs.Tags.{arm_names}
 use Rattle.witx_check.proofs.cases.case_names.Given as goal
 

@@ -1,5 +1,5 @@
 use Rattle.std.specs.Prelude.{map}
-use Rattle.witx_ast.specs.Reads.{tree_of}
+use Rattle.witx_ast.specs.Views.{tree_of}
 use Rattle.witx_ast.specs.Functions.{param_field}
 use Rattle.witx_check.specs.Senses.{here_of}
 use Rattle.witx_check.proofs.Onward.{row-next, fields-next}

@@ -3,7 +3,7 @@ use Rattle.witx_ast.specs.Functions.{param_field}
 use Rattle.witx_check.specs.Faults.{first_fault}
 use Rattle.witx_check.specs.Trees.{fields_meant}
 use Rattle.witx_check.specs.Functions.{result_checks}
-use Rattle.witx_tree.specs.Views.{fields_view}
+use Rattle.witx_syntax_tree.specs.Views.{fields_view}
 use Rattle.witx_check.specs.Senses.{here_of}
 use Rattle.witx_check.proofs.functions.checked_results.Given as goal
 

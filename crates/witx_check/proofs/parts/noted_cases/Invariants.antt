@@ -1,5 +1,5 @@
 use Rattle.std.proofs.Common.{◌≡◌, ◌++◌, drop, map, []}
-use Rattle.witx_ast.specs.Reads.{case_arm}
+use Rattle.witx_ast.specs.Views.{case_arm}
 use Rattle.witx_check.specs.Faults.{first_fault}
 use Rattle.witx_check.specs.Checks.{member_checks}
 use Rattle.witx_check.specs.Trees.{member_arm}

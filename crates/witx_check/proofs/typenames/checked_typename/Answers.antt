@@ -1,5 +1,5 @@
 use Rattle.std.proofs.lemmas.Result.{err_from_is_err_and}
-use Rattle.witx_tree.specs.Views.{type_view, name_view}
+use Rattle.witx_syntax_tree.specs.Views.{type_view, name_view}
 use Rattle.witx_check.proofs.Within.{typename-bad}
 use Rattle.witx_check.proofs.typenames.checked_typename.Goals as goal
 

@@ -1,7 +1,7 @@
 use Rattle.std.proofs.Common.{◌≡◌, ◌≤◌, ◌+◌, ◌-◌, ◌*◌, List, map, drop}
 use Rattle.std.specs.BTreeSet.{btree_set_len}
 use Rattle.witx_base.specs.Paths.{Path}
-use Rattle.witx_tree.specs.Views.{noted_item}
+use Rattle.witx_syntax_tree.specs.Views.{noted_item}
 use Rattle.witx_order.specs.Items.{Declared, items_of}
 use Rattle.witx_order.specs.Walks.{OpenFile}
 use Rattle.witx_walk.specs.Answers.{Told}
