@@ -1,12 +1,12 @@
 -- A function of the program, as the machine has it, is what its tree says.
 use Rattle.std.proofs.Common.{◌≡◌, List, [], ◌∷◌, map, refl, ap}
 use Rattle.witx_ast.specs.Tree.{Tree, Field}
-use Rattle.witx_ast.specs.Reads.{tree_of}
+use Rattle.witx_ast.specs.Views.{tree_of}
 use Rattle.witx_ast.specs.Functions.{param_field, func_tree}
 use Rattle.witx_ast.specs.declared.function.InterfaceFuncParam.{InterfaceFuncParam}
 use Rattle.witx_ast.specs.declared.function.InterfaceFunc.{InterfaceFunc}
 use Rattle.witx_machine.specs.Functions.{Function, function_of}
-use Rattle.witx_abi.specs.Reads.{called, param_types}
+use Rattle.witx_abi.specs.Views.{called, param_types}
 
 types-read : (ps : List InterfaceFuncParam) → map (λ (p : Field). p.tree) (map param_field ps) ≡ param_types ps
 types-read [] = refl

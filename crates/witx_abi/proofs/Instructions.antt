@@ -3,7 +3,7 @@ use Rattle.std.proofs.Common.{◌≡◌, Bool, true, false, not, cond, map, refl
 use Rattle.witx_ast.specs.Tree.{Tree, behind}
 use Rattle.witx_ast.specs.Plain.{plain_arms}
 use Rattle.witx_ast.specs.Words.{all_arms_bare}
-use Rattle.witx_ast.specs.Reads.{tree_of, datatype_tree, named_tree, variant_tree, case_arm}
+use Rattle.witx_ast.specs.Views.{tree_of, datatype_tree, named_tree, variant_tree, case_arm}
 use Rattle.witx_ast.proofs.Trees.{tree-NamedType, tree-VariantDatatype}
 use Rattle.witx_ast.specs.declared.types.Datatype.{Datatype}
 use Rattle.witx_ast.specs.declared.types.NamedType.{NamedType}
@@ -11,7 +11,7 @@ use Rattle.witx_ast.specs.declared.types.Variant.{Variant, out-Variant}
 use Rattle.witx_machine.specs.Events.{Step}
 use Rattle.witx_machine.specs.Functions.{has_payload}
 use Rattle.witx_machine.specs.Traces.{lower_at, lower_step, lift_at, lift_step}
-use Rattle.witx_abi.specs.Reads.{variant_arms}
+use Rattle.witx_abi.specs.Views.{variant_arms}
 use Rattle.witx_abi.proofs.Types.{bare-arms}
 
 lower-behind : (whole t : Tree) → lower_at whole t ≡ lower_at whole (behind t)

@@ -5,7 +5,7 @@ use Rattle.witx_machine.specs.Events.{Event}
 use Rattle.witx_abi.specs.declared.plan.Planned.{Planned}
 use Rattle.witx_abi.specs.declared.bindgen.BindgenError.{BindgenError}
 use Rattle.witx_abi.specs.declared.error.AbiError.{AbiError}
-use Rattle.witx_abi.specs.Reads.{planned_event, planned_events}
+use Rattle.witx_abi.specs.Views.{planned_event, planned_events}
 use Rattle.witx_abi.specs.Told.{after, TellsFront, abi_error, is_fault, is_bindgen_fault, unlowerable_place}
 use Rattle.witx_machine.specs.Functions.{Function}
 use Rattle.witx_machine.specs.Lowerable.{unlowerable, lowerable}

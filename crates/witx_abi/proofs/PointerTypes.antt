@@ -6,13 +6,13 @@ use Rattle.std.specs.declared.rc.Rc.{Rc}
 use Rattle.std.proofs.lemmas.List.{drop_more, drop_all}
 use Rattle.witx_ast.specs.Tree.{Tree}
 use Rattle.witx_ast.specs.Words.{is_named}
-use Rattle.witx_ast.specs.Reads.{tree_of, named_tree}
+use Rattle.witx_ast.specs.Views.{tree_of, named_tree}
 use Rattle.witx_ast.specs.declared.types.NamedType.{NamedType}
 use Rattle.witx_ast.specs.declared.types.RecordMember.{RecordMember}
 use Rattle.witx_machine.specs.Functions.{tuple_types, is_tuple}
 use Rattle.witx_machine.specs.Signature.{or_alone, ok_pointers}
 use Rattle.witx_machine.specs.Lowerable.{can_be_ok, all_names, none_or_names, members_are_named}
-use Rattle.witx_abi.specs.Reads.{pointer_types}
+use Rattle.witx_abi.specs.Views.{pointer_types}
 
 pub pointer-more : (ps : List (Bor (Rc NamedType Global))) (p : Bor (Rc NamedType Global)) → pointer_types (ps ++ p ∷ []) ≡ pointer_types ps ++ named_tree p.now.value ∷ []
 pointer-more [] p = refl

@@ -5,7 +5,7 @@ use Rattle.std.proofs.lemmas.List.{drop_more}
 use Rattle.witx_ast.specs.Tree.{Tree, Arm, arms_of, arm_list, behind}
 use Rattle.witx_ast.specs.Plain.{plain_arms}
 use Rattle.witx_ast.specs.Words.{all_arms_bare, is_named, is_expected, expected_payloads}
-use Rattle.witx_ast.specs.Reads.{tree_of, datatype_tree, variant_tree, case_arm}
+use Rattle.witx_ast.specs.Views.{tree_of, datatype_tree, variant_tree, case_arm}
 use Rattle.witx_ast.proofs.Trees.{tree-VariantDatatype}
 use Rattle.witx_ast.proofs.ResultLaws.{arms-listed}
 use Rattle.witx_ast.specs.declared.function.Abi.{Abi}
@@ -16,7 +16,7 @@ use Rattle.witx_ast.specs.declared.function.InterfaceFuncParam.{InterfaceFuncPar
 use Rattle.witx_machine.specs.Functions.{has_payload}
 use Rattle.witx_machine.specs.Lowerable.{can_be_param, can_be_result, can_return, first_place, unlowerable_result, none_or_names, members_are_named, all_names}
 use Rattle.witx_machine.specs.declared.surface.Place.{Place}
-use Rattle.witx_abi.specs.Reads.{variant_arms, param_types}
+use Rattle.witx_abi.specs.Views.{variant_arms, param_types}
 use Rattle.witx_abi.proofs.Types.{bare-arms, members-are, tuples-at}
 
 pub prefix-map : {A B : Type 0} (p : B → Bool) (f : A → B) (xs : List A) → prefix_len p (map f xs) ≡ prefix_len (λ x. p (f x)) xs

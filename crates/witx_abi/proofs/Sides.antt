@@ -8,7 +8,7 @@ use Rattle.std.proofs.lemmas.List.{drop_more, drop_all}
 use Rattle.std.proofs.lemmas.Iterator.Adapters.{position_from-zero}
 use Rattle.witx_ast.specs.Tree.{Tree, Arms, arm_list}
 use Rattle.witx_ast.specs.Plain.{Plain, plain, plain_arms}
-use Rattle.witx_ast.specs.Reads.{tree_of, named_tree}
+use Rattle.witx_ast.specs.Views.{tree_of, named_tree}
 use Rattle.witx_ast.specs.Words.{is_named, is_expected}
 use Rattle.witx_ast.specs.declared.function.Abi.{Abi}
 use Rattle.witx_ast.specs.declared.types.RecordKind.{RecordKind}
@@ -23,7 +23,7 @@ use Rattle.witx_machine.specs.Signature.{param_words, words_of_params, words_of_
 use Rattle.witx_machine.specs.Lowerable.{can_be_param, can_be_result, can_return, can_be_ok, can_be_err, is_narrow, unlowerable_result, first_place, unlowerable}
 use Rattle.witx_machine.specs.Traces.{lower_step, lift_step, lower_params, get_args, lift_params, make_spaces, load_all, store_all, lift_cases, lift_by, lift_of, lower_cases, lower_by, lower_of, block_of}
 use Rattle.witx_machine.proofs.HeightLaws.{words-count}
-use Rattle.witx_abi.specs.Reads.{called, param_types, pointer_types, is_list_type}
+use Rattle.witx_abi.specs.Views.{called, param_types, pointer_types, is_list_type}
 use Rattle.witx_abi.proofs.Signatures.{types-drop, types-end}
 
 -- chains

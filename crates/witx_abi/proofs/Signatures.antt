@@ -5,7 +5,7 @@ use Rattle.std.specs.Prelude.{replicate}
 use Rattle.std.proofs.lemmas.List.{drop_more, drop_all}
 use Rattle.witx_ast.specs.Tree.{Tree, behind}
 use Rattle.witx_ast.specs.Plain.{plain}
-use Rattle.witx_ast.specs.Reads.{tree_of, datatype_tree, record_tree}
+use Rattle.witx_ast.specs.Views.{tree_of, datatype_tree, record_tree}
 use Rattle.witx_ast.proofs.Trees.{tree-RecordDatatype}
 use Rattle.witx_ast.specs.declared.function.Abi.{Abi}
 use Rattle.witx_ast.specs.declared.types.RecordKind.{RecordKind}
@@ -16,7 +16,7 @@ use Rattle.witx_machine.specs.declared.surface.WasmType.{WasmType}
 use Rattle.witx_machine.specs.declared.surface.Place.{Place}
 use Rattle.witx_machine.specs.Functions.{tuple_types, result_cases}
 use Rattle.witx_machine.specs.Signature.{first_wordless, param_words, words_of_params, result_word, before_rest, words_of_results, or_alone, pointers_by, ok_pointers, pointers_of}
-use Rattle.witx_abi.specs.Reads.{param_types, pointer_number}
+use Rattle.witx_abi.specs.Views.{param_types, pointer_number}
 use Rattle.witx_abi.proofs.Types.{members-are, tuples-at}
 use Rattle.witx_abi.proofs.Results.{length-map, prefix-map}
 

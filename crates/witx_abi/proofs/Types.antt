@@ -3,7 +3,7 @@ use Rattle.std.proofs.Common.{◌≡◌, ℕ, List, [], ◌∷◌, Bool, true, f
 use Rattle.witx_ast.specs.Tree.{Tree, Arm, Arms, arm, arms_of, fields_of, behind}
 use Rattle.witx_ast.specs.Plain.{plain, plain_arms, all_bare}
 use Rattle.witx_ast.specs.Words.{all_arms_bare, is_bare}
-use Rattle.witx_ast.specs.Reads.{tree_of, datatype_tree, case_arm, member_field, variant_tree}
+use Rattle.witx_ast.specs.Views.{tree_of, datatype_tree, case_arm, member_field, variant_tree}
 use Rattle.witx_ast.proofs.Trees.{tree-RecordMember, tree-VariantDatatype}
 use Rattle.witx_ast.proofs.TreeKinds.{plain-behind}
 use Rattle.witx_ast.specs.declared.types.Datatype.{Datatype}
@@ -11,7 +11,7 @@ use Rattle.witx_ast.specs.declared.types.RecordMember.{RecordMember}
 use Rattle.witx_ast.specs.declared.types.Case.{Case}
 use Rattle.witx_ast.specs.declared.types.Variant.{Variant, out-Variant}
 use Rattle.witx_machine.specs.Functions.{tuple_types, is_tuple, member_types, ok_of, err_of, result_cases}
-use Rattle.witx_abi.specs.Reads.{variant_arms}
+use Rattle.witx_abi.specs.Views.{variant_arms}
 
 pub plain-at : (t : Tree) (d : Datatype) → datatype_tree d ≡ behind t → plain t ≡ plain (datatype_tree d)
 plain-at t d e = sym (plain-behind t) ∙ ap plain (sym e)

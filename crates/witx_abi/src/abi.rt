@@ -3,7 +3,7 @@ ghost use Rattle.witx_machine.specs.Functions.{Function};
 ghost use Rattle.witx_machine.specs.Signature.{signature_params, signature_results, without_signature};
 ghost use Rattle.witx_machine.specs.Lowerable.{unlowerable};
 ghost use Rattle.witx_machine.specs.Traces.{caller_events, callee_events};
-ghost use Rattle.witx_abi.specs.Reads.{called};
+ghost use Rattle.witx_abi.specs.Views.{called};
 ghost use Rattle.witx_abi.specs.Told.{after, TellsFront, is_bindgen_fault, Counts, unlowerable_place, signature_place};
 
 use crate::bindgen::Bindgen;

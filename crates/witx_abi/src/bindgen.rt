@@ -1,8 +1,8 @@
 ghost use Rattle.std.specs.Prelude.{◌≡◌, ℕ, List, Option, [], is_some, vec_len, OnOk};
 ghost use Rattle.witx_machine.specs.Rows.{operands_count, results_count};
 ghost use Rattle.witx_machine.specs.Events.{Event, emit, space, push, finish};
-ghost use Rattle.witx_ast.specs.Reads.{named_tree};
-ghost use Rattle.witx_abi.specs.Reads.{step_of};
+ghost use Rattle.witx_ast.specs.Views.{named_tree};
+ghost use Rattle.witx_abi.specs.Views.{step_of};
 ghost use Rattle.witx_abi.specs.Told.{told_after, is_fault, Counts};
 
 use crate::instruction::Instruction;

@@ -1,13 +1,13 @@
-ghost use Rattle.std.specs.Prelude.{◌≡◌, ◌+◌, ◌++◌, ◌∷◌, [], cond, IfOk, None, Some, is_some, length, option_map, position, not, true, false};
+ghost use Rattle.std.specs.Prelude.{◌≡◌, ◌+◌, ◌++◌, ◌∷◌, [], cond, IfOk, None, Some, is_some, length, position, not, true, false};
 ghost use Rattle.witx_ast.specs.Plain.{plain};
 ghost use Rattle.witx_ast.specs.declared.function.Abi.TheVariants.{Preview1};
-ghost use Rattle.witx_ast.specs.Reads.{tree_of};
+ghost use Rattle.witx_ast.specs.Views.{tree_of};
 ghost use Rattle.witx_machine.specs.Events as machine;
 ghost use Rattle.witx_machine.specs.Functions.{is_tuple, result_cases};
 ghost use Rattle.witx_machine.specs.Lowerable.{can_be_param, can_be_err, can_be_result, unlowerable, unlowerable_result};
 ghost use Rattle.witx_machine.specs.Signature.{param_words, words_of_params, ok_pointers, pointers_of, pointers_by, pointers_under, return_pointers, signature_results};
 ghost use Rattle.witx_machine.specs.Traces as traces;
-ghost use Rattle.witx_abi.specs.Reads.{called, param_types, planned_events, pointer_types};
+ghost use Rattle.witx_abi.specs.Views.{called, param_types, planned_events, pointer_types, payload_tree};
 
 use crate::instruction::Instruction;
 use crate::lowering::{lift, lower};
@@ -140,9 +140,9 @@ fn lower_cases<'a>(
     first: usize,
     pointers: &Pointers<'a>,
 ) -> Result<(), OutOfMemory>
-    requires err { can_be_err (option_map (λ t. tree_of t.now) err) ≡ true }
-    requires pointers { pointer_types pointers.now ≡ ok_pointers (option_map (λ t. tree_of t.now) ok) }
-    ensures { IfOk result (λ _. planned_events plan.new ≡ planned_events plan.old ++ traces.lower_cases (option_map (λ t. tree_of t.now) ok.entry) (option_map (λ t. tree_of t.now) err.entry) first) }
+    requires err { can_be_err (payload_tree err) ≡ true }
+    requires pointers { pointer_types pointers.now ≡ ok_pointers (payload_tree ok) }
+    ensures { IfOk result (λ _. planned_events plan.new ≡ planned_events plan.old ++ traces.lower_cases (payload_tree ok.entry) (payload_tree err.entry) first) }
 {
     lower_ok_block(plan, ok, first, pointers)?;
     lower_err_block(plan, err)?;
@@ -156,8 +156,8 @@ fn lower_ok_block<'a>(
     first: usize,
     pointers: &Pointers<'a>,
 ) -> Result<(), OutOfMemory>
-    requires { pointer_types pointers.now ≡ ok_pointers (option_map (λ t. tree_of t.now) ok) }
-    ensures { IfOk result (λ _. planned_events plan.new ≡ planned_events plan.old ++ traces.block_of (traces.ok_lowered first (option_map (λ t. tree_of t.now) ok.entry)) false) }
+    requires { pointer_types pointers.now ≡ ok_pointers (payload_tree ok) }
+    ensures { IfOk result (λ _. planned_events plan.new ≡ planned_events plan.old ++ traces.block_of (traces.ok_lowered first (payload_tree ok.entry)) false) }
 {
     add(plan, Planned::Push)?;
     lower_ok(plan, ok, first, pointers)?;
@@ -171,8 +171,8 @@ fn lower_ok<'a>(
     first: usize,
     pointers: &Pointers<'a>,
 ) -> Result<(), OutOfMemory>
-    requires { pointer_types pointers.now ≡ ok_pointers (option_map (λ t. tree_of t.now) ok) }
-    ensures { IfOk result (λ _. planned_events plan.new ≡ planned_events plan.old ++ traces.ok_lowered first (option_map (λ t. tree_of t.now) ok.entry)) }
+    requires { pointer_types pointers.now ≡ ok_pointers (payload_tree ok) }
+    ensures { IfOk result (λ _. planned_events plan.new ≡ planned_events plan.old ++ traces.ok_lowered first (payload_tree ok.entry)) }
 {
     match ok {
         Some(tref) => {
@@ -186,7 +186,8 @@ fn lower_ok<'a>(
 
 #[tactic(auto, using(crate::proofs::Sides::side_rules))]
 fn unpack<'a>(plan: &mut Plan<'a>, tref: &TypeRef, amt: usize) -> Result<(), OutOfMemory>
-    ensures { IfOk result (λ _. planned_events plan.new ≡ planned_events plan.old ++ cond (is_tuple (tree_of tref.now)) (machine.emit (machine.Step.TupleLower amt) ∷ []) []) }
+    ensures { IfOk result (λ _. planned_events plan.new ≡ planned_events plan.old
+        ++ cond (is_tuple (tree_of tref.now)) (machine.emit (machine.Step.TupleLower amt) ∷ []) []) }
 {
     if is_tuple(tref) {
         put(plan, Instruction::TupleLower { amt })
@@ -218,8 +219,9 @@ fn store_all<'a>(
 
 #[tactic(auto, using(crate::proofs::Sides::side_rules))]
 fn lower_err_block<'a>(plan: &mut Plan<'a>, err: Option<&'a TypeRef>) -> Result<(), OutOfMemory>
-    requires { can_be_err (option_map (λ t. tree_of t.now) err) ≡ true }
-    ensures { IfOk result (λ _. planned_events plan.new ≡ planned_events plan.old ++ traces.block_of (traces.err_lowered (option_map (λ t. tree_of t.now) err.entry)) (is_some (option_map (λ t. tree_of t.now) err.entry))) }
+    requires { can_be_err (payload_tree err) ≡ true }
+    ensures { IfOk result (λ _. planned_events plan.new ≡ planned_events plan.old
+        ++ traces.block_of (traces.err_lowered (payload_tree err.entry)) (is_some (payload_tree err.entry))) }
 {
     add(plan, Planned::Push)?;
     lower_err(plan, err)?;
@@ -233,8 +235,8 @@ fn lower_err_block<'a>(plan: &mut Plan<'a>, err: Option<&'a TypeRef>) -> Result<
 
 #[tactic(auto, using(crate::proofs::Sides::side_rules))]
 fn lower_err<'a>(plan: &mut Plan<'a>, err: Option<&'a TypeRef>) -> Result<(), OutOfMemory>
-    requires { can_be_err (option_map (λ t. tree_of t.now) err) ≡ true }
-    ensures { IfOk result (λ _. planned_events plan.new ≡ planned_events plan.old ++ traces.err_lowered (option_map (λ t. tree_of t.now) err.entry)) }
+    requires { can_be_err (payload_tree err) ≡ true }
+    ensures { IfOk result (λ _. planned_events plan.new ≡ planned_events plan.old ++ traces.err_lowered (payload_tree err.entry)) }
 {
     match err {
         Some(tref) => {

@@ -1,12 +1,12 @@
-ghost use Rattle.std.specs.Prelude.{◌≡◌, ◌++◌, ◌∷◌, [], IfOk, None, Some, cond, is_some, option_map, position, not, true};
+ghost use Rattle.std.specs.Prelude.{◌≡◌, ◌++◌, ◌∷◌, [], IfOk, None, Some, cond, is_some, position, not, true};
 ghost use Rattle.witx_ast.specs.declared.function.Abi.TheVariants.{Preview1};
-ghost use Rattle.witx_ast.specs.Reads.{tree_of};
+ghost use Rattle.witx_ast.specs.Views.{tree_of};
 ghost use Rattle.witx_machine.specs.Events as machine;
 ghost use Rattle.witx_machine.specs.Functions.{is_tuple, result_cases};
 ghost use Rattle.witx_machine.specs.Lowerable.{can_be_param, can_be_err, can_be_result, unlowerable, unlowerable_result};
 ghost use Rattle.witx_machine.specs.Signature.{signature_params, signature_results, ok_pointers, pointers_of, pointers_by, pointers_under, return_pointers};
 ghost use Rattle.witx_machine.specs.Traces as traces;
-ghost use Rattle.witx_abi.specs.Reads.{called, param_types, planned_events, pointer_types};
+ghost use Rattle.witx_abi.specs.Views.{called, param_types, planned_events, pointer_types, payload_tree};
 
 use crate::instruction::{Instruction, WasmTypes};
 use crate::lowering::{lift, lower};
@@ -130,9 +130,9 @@ fn lift_cases<'a>(
     err: Option<&'a TypeRef>,
     pointers: &Pointers<'a>,
 ) -> Result<(), OutOfMemory>
-    requires err { can_be_err (option_map (λ t. tree_of t.now) err) ≡ true }
-    requires pointers { pointer_types pointers.now ≡ ok_pointers (option_map (λ t. tree_of t.now) ok) }
-    ensures { IfOk result (λ _. planned_events plan.new ≡ planned_events plan.old ++ traces.lift_cases (option_map (λ t. tree_of t.now) ok.entry) (option_map (λ t. tree_of t.now) err.entry)) }
+    requires err { can_be_err (payload_tree err) ≡ true }
+    requires pointers { pointer_types pointers.now ≡ ok_pointers (payload_tree ok) }
+    ensures { IfOk result (λ _. planned_events plan.new ≡ planned_events plan.old ++ traces.lift_cases (payload_tree ok.entry) (payload_tree err.entry)) }
 {
     lift_ok_block(plan, ok, pointers)?;
     lift_err_block(plan, err)?;
@@ -145,8 +145,9 @@ fn lift_ok_block<'a>(
     ok: Option<&'a TypeRef>,
     pointers: &Pointers<'a>,
 ) -> Result<(), OutOfMemory>
-    requires { pointer_types pointers.now ≡ ok_pointers (option_map (λ t. tree_of t.now) ok) }
-    ensures { IfOk result (λ _. planned_events plan.new ≡ planned_events plan.old ++ traces.block_of (traces.ok_lifted (option_map (λ t. tree_of t.now) ok.entry)) (is_some (option_map (λ t. tree_of t.now) ok.entry))) }
+    requires { pointer_types pointers.now ≡ ok_pointers (payload_tree ok) }
+    ensures { IfOk result (λ _. planned_events plan.new ≡ planned_events plan.old
+        ++ traces.block_of (traces.ok_lifted (payload_tree ok.entry)) (is_some (payload_tree ok.entry))) }
 {
     add(plan, Planned::Push)?;
     lift_ok(plan, ok, pointers)?;
@@ -164,8 +165,8 @@ fn lift_ok<'a>(
     ok: Option<&'a TypeRef>,
     pointers: &Pointers<'a>,
 ) -> Result<(), OutOfMemory>
-    requires { pointer_types pointers.now ≡ ok_pointers (option_map (λ t. tree_of t.now) ok) }
-    ensures { IfOk result (λ _. planned_events plan.new ≡ planned_events plan.old ++ traces.ok_lifted (option_map (λ t. tree_of t.now) ok.entry)) }
+    requires { pointer_types pointers.now ≡ ok_pointers (payload_tree ok) }
+    ensures { IfOk result (λ _. planned_events plan.new ≡ planned_events plan.old ++ traces.ok_lifted (payload_tree ok.entry)) }
 {
     match ok {
         Some(tref) => {
@@ -178,7 +179,8 @@ fn lift_ok<'a>(
 
 #[tactic(auto, using(crate::proofs::Sides::side_rules))]
 fn pack<'a>(plan: &mut Plan<'a>, tref: &TypeRef, amt: usize) -> Result<(), OutOfMemory>
-    ensures { IfOk result (λ _. planned_events plan.new ≡ planned_events plan.old ++ cond (is_tuple (tree_of tref.now)) (machine.emit (machine.Step.TupleLift amt) ∷ []) []) }
+    ensures { IfOk result (λ _. planned_events plan.new ≡ planned_events plan.old
+        ++ cond (is_tuple (tree_of tref.now)) (machine.emit (machine.Step.TupleLift amt) ∷ []) []) }
 {
     if is_tuple(tref) {
         put(plan, Instruction::TupleLift { amt })
@@ -201,8 +203,9 @@ fn load_all<'a>(plan: &mut Plan<'a>, pointers: &Pointers<'a>) -> Result<(), OutO
 
 #[tactic(auto, using(crate::proofs::Sides::side_rules))]
 fn lift_err_block<'a>(plan: &mut Plan<'a>, err: Option<&'a TypeRef>) -> Result<(), OutOfMemory>
-    requires { can_be_err (option_map (λ t. tree_of t.now) err) ≡ true }
-    ensures { IfOk result (λ _. planned_events plan.new ≡ planned_events plan.old ++ traces.block_of (traces.err_lifted (option_map (λ t. tree_of t.now) err.entry)) (is_some (option_map (λ t. tree_of t.now) err.entry))) }
+    requires { can_be_err (payload_tree err) ≡ true }
+    ensures { IfOk result (λ _. planned_events plan.new ≡ planned_events plan.old
+        ++ traces.block_of (traces.err_lifted (payload_tree err.entry)) (is_some (payload_tree err.entry))) }
 {
     add(plan, Planned::Push)?;
     lift_err(plan, err)?;
@@ -216,8 +219,8 @@ fn lift_err_block<'a>(plan: &mut Plan<'a>, err: Option<&'a TypeRef>) -> Result<(
 
 #[tactic(auto, using(crate::proofs::Sides::side_rules))]
 fn lift_err<'a>(plan: &mut Plan<'a>, err: Option<&'a TypeRef>) -> Result<(), OutOfMemory>
-    requires { can_be_err (option_map (λ t. tree_of t.now) err) ≡ true }
-    ensures { IfOk result (λ _. planned_events plan.new ≡ planned_events plan.old ++ traces.err_lifted (option_map (λ t. tree_of t.now) err.entry)) }
+    requires { can_be_err (payload_tree err) ≡ true }
+    ensures { IfOk result (λ _. planned_events plan.new ≡ planned_events plan.old ++ traces.err_lifted (payload_tree err.entry)) }
 {
     match err {
         Some(tref) => {

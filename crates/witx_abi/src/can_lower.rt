@@ -1,11 +1,7 @@
-ghost use Rattle.std.specs.Prelude.{◌≡◌, ◌&&◌, ◌||◌, map, not, option_map, position};
-ghost use Rattle.witx_ast.specs.Reads.{tree_of, datatype_tree, record_tree, variant_tree};
-ghost use Rattle.witx_machine.specs.Lowerable.{can_be_result, can_be_ok, can_be_err, can_return, members_are_named, all_names, can_be_param, unlowerable, unlowerable_result};
-ghost use Rattle.witx_ast.specs.Plain.{plain_arms};
-ghost use Rattle.witx_ast.specs.Tree.{arm_list};
-ghost use Rattle.witx_ast.specs.Words.{is_expected};
-ghost use Rattle.witx_machine.specs.Functions.{has_payload, ok_of, err_of};
-ghost use Rattle.witx_abi.specs.Reads.{called, param_types, variant_arms};
+ghost use Rattle.std.specs.Prelude.{◌≡◌, map, not, position};
+ghost use Rattle.witx_ast.specs.Views.{tree_of, datatype_tree, record_tree, variant_tree};
+ghost use Rattle.witx_machine.specs.Lowerable.{can_be_result, can_be_ok, can_be_err, can_return, cases_can_return, members_are_named, all_names, can_be_param, unlowerable, unlowerable_result};
+ghost use Rattle.witx_abi.specs.Views.{called, param_types, variant_arms, payload_tree};
 ghost use Rattle.witx_abi.specs.Told.{refused_place};
 
 use crate::reading::{can_be_param, err_type, is_tuple, ok_type, passes_one_i32};
@@ -108,7 +104,7 @@ fn variant_can_return(variant: &Variant, named: bool) -> bool
 
 #[tactic(auto, using(witx_ast::proofs::TreeKinds::kind_rules, crate::proofs::Results::lowerable_rules))]
 fn cases_can_return(variant: &Variant, named: bool) -> bool
-    ensures { result ≡ is_expected (arm_list (variant_arms variant.now)) && ((has_payload (plain_arms (variant_arms variant.now)) || named) && (can_be_ok (ok_of (variant_arms variant.now)) && can_be_err (err_of (variant_arms variant.now)))) }
+    ensures { result ≡ cases_can_return named (variant_arms variant.now) }
 {
     variant.as_expected().is_some()
         && (!variant.is_enum() || named)
@@ -118,7 +114,7 @@ fn cases_can_return(variant: &Variant, named: bool) -> bool
 
 #[tactic(auto, using(witx_ast::proofs::TreeKinds::kind_rules, crate::proofs::Results::lowerable_rules))]
 fn can_be_ok(ok: Option<&TypeRef>) -> bool
-    ensures { result ≡ can_be_ok (option_map (λ t. tree_of t.now) ok.entry) }
+    ensures { result ≡ can_be_ok (payload_tree ok.entry) }
 {
     match ok {
         None => true,
@@ -128,7 +124,7 @@ fn can_be_ok(ok: Option<&TypeRef>) -> bool
 
 #[tactic(auto, using(witx_ast::proofs::TreeKinds::kind_rules, crate::proofs::Results::lowerable_rules))]
 fn can_be_err(err: Option<&TypeRef>) -> bool
-    ensures { result ≡ can_be_err (option_map (λ t. tree_of t.now) err.entry) }
+    ensures { result ≡ can_be_err (payload_tree err.entry) }
 {
     match err {
         None => true,

@@ -1,9 +1,9 @@
 ghost use Rattle.std.specs.Prelude.{◌≡◌, [], map, All, Some, is_some, vec_len, OnOk};
 ghost use Rattle.witx_base.specs.Calls.{counted, fails_next, no_calls};
-ghost use Rattle.witx_ast.specs.Reads.{named_tree};
+ghost use Rattle.witx_ast.specs.Views.{named_tree};
 ghost use Rattle.witx_machine.specs.Events.{emit, space, push, finish};
 ghost use Rattle.witx_machine.specs.Rows.{operands_count, results_count};
-ghost use Rattle.witx_abi.specs.Reads.{event_of, step_of};
+ghost use Rattle.witx_abi.specs.Views.{event_of, step_of};
 ghost use Rattle.witx_abi.specs.Told.{told_after, is_fault, Counts};
 
 use crate::bindgen::{Bindgen, BindgenError};
@@ -76,7 +76,8 @@ impl Bindgen for FailingBindgen {
     }
 
     fn allocate_space(&mut self, slot: usize, ty: &Rc<NamedType>) -> Result<(), BindgenError>
-        ensures event { Some (map event_of self.new.trace.events) ≡ told_after result (space slot (named_tree ty.now.value)) (Some (map event_of self.old.trace.events)) }
+        ensures event { Some (map event_of self.new.trace.events)
+            ≡ told_after result (space slot (named_tree ty.now.value)) (Some (map event_of self.old.trace.events)) }
         ensures cause { Counts (is_fault result) self.old.calls.faults self.new.calls.faults }
         ensures fails { is_fault result ≡ fails_next self.old.calls }
         ensures counted { self.new.calls ≡ counted (is_fault result) self.old.calls }

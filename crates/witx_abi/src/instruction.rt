@@ -1,6 +1,6 @@
 ghost use Rattle.std.specs.Prelude.{◌≡◌};
 ghost use Rattle.witx_machine.specs.Rows.{operands_count, results_count};
-ghost use Rattle.witx_abi.specs.Reads.{step_of};
+ghost use Rattle.witx_abi.specs.Views.{step_of};
 
 use std::rc::Rc;
 use witx_ast::{InterfaceFunc, NamedType, TypeRef};

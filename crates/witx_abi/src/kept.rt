@@ -1,7 +1,7 @@
 ghost use Rattle.std.specs.Prelude.{◌≡◌, IfOk, map, option_map};
-ghost use Rattle.witx_ast.specs.Reads.{tree_of};
+ghost use Rattle.witx_ast.specs.Views.{tree_of};
 ghost use Rattle.witx_machine.specs.Events as machine;
-ghost use Rattle.witx_abi.specs.Reads.{event_of, kept_step, param_types, planned_event, step_of};
+ghost use Rattle.witx_abi.specs.Views.{event_of, kept_step, param_types, planned_event, step_of, payload_tree};
 
 use crate::event::{Event, Step};
 use crate::instruction::{Instruction, WasmTypes};
@@ -136,7 +136,8 @@ fn kept_call_interface(
     module: &str,
     func: &InterfaceFunc,
 ) -> Result<Step, OutOfMemory>
-    ensures { IfOk result (λ step. kept_step step ≡ machine.Step.CallInterface module.now func.now.name (param_types func.now.params) (param_types func.now.results)) }
+    ensures { IfOk result (λ step. kept_step step
+        ≡ machine.Step.CallInterface module.now func.now.name (param_types func.now.params) (param_types func.now.results)) }
 {
     let module = Id::new(alloc, module)?;
     let name = func.name.copy()?;
@@ -162,7 +163,7 @@ fn types_of(alloc: Global, params: &Params) -> Result<TypeRefs, OutOfMemory>
 }
 
 fn kept_type(tref: Option<&TypeRef>) -> Result<Option<TypeRef>, OutOfMemory>
-    ensures { IfOk result (λ kept. option_map tree_of kept ≡ option_map (λ t. tree_of t.now) tref.entry) }
+    ensures { IfOk result (λ kept. option_map tree_of kept ≡ payload_tree tref.entry) }
 {
     match tref {
         Some(tref) => Ok(Some(tref.clone()?)),

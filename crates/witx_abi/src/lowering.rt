@@ -1,8 +1,8 @@
 ghost use Rattle.std.specs.Prelude.{◌≡◌, true};
-ghost use Rattle.witx_ast.specs.Reads.{tree_of, datatype_tree, named_tree, record_tree, variant_tree};
+ghost use Rattle.witx_ast.specs.Views.{tree_of, datatype_tree, named_tree, record_tree, variant_tree};
 ghost use Rattle.witx_machine.specs.Lowerable.{can_be_param};
 ghost use Rattle.witx_machine.specs.Traces.{lower_builtin, lower_at, lower_step, lift_builtin, lift_at, lift_step};
-ghost use Rattle.witx_abi.specs.Reads.{step_of};
+ghost use Rattle.witx_abi.specs.Views.{step_of};
 
 use crate::instruction::Instruction;
 use std::rc::Rc;

@@ -1,8 +1,8 @@
 ghost use Rattle.std.specs.Prelude.{◌≡◌, ◌≤◌, ◌∷◌, ◌++◌, [], None, Some, IfOk, OnOk, OnErr, IsSome, vec_len};
 ghost use Rattle.witx_machine.specs.Events as machine;
 ghost use Rattle.witx_machine.specs.Rows.{operands_count, results_count};
-ghost use Rattle.witx_abi.specs.Reads.{planned_event, planned_events, step_of};
-ghost use Rattle.witx_machine.specs.Heights.{height_after, heights, moved};
+ghost use Rattle.witx_abi.specs.Views.{planned_event, planned_events, step_of};
+ghost use Rattle.witx_machine.specs.Heights.{height_after, heights};
 ghost use Rattle.witx_abi.specs.Told.{after, TellsFront, is_fault, is_bindgen_fault, unlowerable_place, Counts};
 
 use crate::bindgen::{Bindgen, BindgenError};
@@ -88,7 +88,7 @@ fn emit<B: Bindgen>(
     bindgen: &mut B,
 ) -> Result<(), BindgenError>
     requires { operands_count (step_of instruction.now) ≤ vec_len stack.old }
-    ensures height { OnOk result (moved (operands_count (step_of instruction.now)) (results_count (step_of instruction.now)) (vec_len stack.old) ≡ Some (vec_len stack.new)) }
+    ensures height { OnOk result (height_after (machine.emit (step_of instruction.now)) (vec_len stack.old) ≡ Some (vec_len stack.new)) }
     ensures event { OnOk result (B.told bindgen.new ≡ after (B.told bindgen.old) (machine.emit (step_of instruction.now) ∷ [])) }
     ensures front { OnErr result (TellsFront (machine.emit (step_of instruction.now) ∷ []) (B.told bindgen.old) (B.told bindgen.new)) }
     ensures cause { Counts (is_fault result) (B.faults bindgen.old) (B.faults bindgen.new) }

@@ -1,11 +1,11 @@
-ghost use Rattle.std.specs.Prelude.{◌≡◌, ◌++◌, ◌∷◌, [], None, Some, IfOk, map, option_map, take, true};
+ghost use Rattle.std.specs.Prelude.{◌≡◌, ◌++◌, ◌∷◌, [], None, Some, IfOk, map, take, true};
 ghost use Rattle.witx_ast.specs.declared.function.Abi.TheVariants.{Preview1, Stored};
-ghost use Rattle.witx_ast.specs.Reads.{tree_of};
+ghost use Rattle.witx_ast.specs.Views.{tree_of};
 ghost use Rattle.witx_ast.specs.Words.{is_named};
 ghost use Rattle.witx_machine.specs.Lowerable.{can_be_ok, can_be_result, all_names, unlowerable_result};
 ghost use Rattle.witx_machine.specs.Functions.{result_cases};
 ghost use Rattle.witx_machine.specs.Signature.{ok_pointers, pointers_of, pointers_by, pointers_under};
-ghost use Rattle.witx_abi.specs.Reads.{param_types, pointer_types};
+ghost use Rattle.witx_abi.specs.Views.{param_types, pointer_types, payload_tree};
 
 use crate::reading::{ok_type, result_cases, tuple_members};
 use std::alloc::Global;
@@ -70,8 +70,8 @@ fn result_pointers<'a>(alloc: Global, tref: &'a TypeRef) -> Result<Pointers<'a>,
 // The return pointers of an ok type: those of a tuple's members, or the one of another type.
 #[tactic(auto, using(crate::proofs::PointerTypes::pointer_rules))]
 fn ok_pointers<'a>(alloc: Global, ok: Option<&'a TypeRef>) -> Result<Pointers<'a>, OutOfMemory>
-    requires { can_be_ok (option_map (λ t. tree_of t.now) ok) ≡ true }
-    ensures { IfOk result (λ pointers. pointer_types pointers ≡ ok_pointers (option_map (λ t. tree_of t.now) ok.entry)) }
+    requires { can_be_ok (payload_tree ok) ≡ true }
+    ensures { IfOk result (λ pointers. pointer_types pointers ≡ ok_pointers (payload_tree ok.entry)) }
 {
     let mut pointers = Items::new(alloc);
     if let Some(tref) = ok {

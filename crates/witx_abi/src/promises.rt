@@ -2,7 +2,7 @@ ghost use Rattle.std.specs.Prelude.{◌≡◌};
 ghost use Rattle.witx_ast.specs.declared.function.InterfaceFunc.{InterfaceFunc};
 ghost use Rattle.witx_ast.specs.Functions.{func_tree};
 ghost use Rattle.witx_machine.specs.Functions.{function_of};
-ghost use Rattle.witx_abi.specs.Reads.{called};
+ghost use Rattle.witx_abi.specs.Views.{called};
 
 /// A function as it is lowered here is the one that its tree says, of which the machine's laws speak.
 pub fn functions_are_read_as_their_trees()

@@ -1,11 +1,11 @@
 ghost use Rattle.std.specs.Prelude.{◌≡◌, ◌++◌, ◌∷◌, [], IfOk, map, option_map};
 ghost use Rattle.witx_ast.specs.Plain.{plain};
-ghost use Rattle.witx_ast.specs.Reads.{tree_of, datatype_tree, record_tree, case_arm};
+ghost use Rattle.witx_ast.specs.Views.{tree_of, datatype_tree, record_tree, case_arm};
 ghost use Rattle.witx_machine.specs.Functions.{ok_of, err_of, tuple_types, is_tuple, result_cases};
 ghost use Rattle.witx_machine.specs.Signature.{param_words, result_word};
 ghost use Rattle.witx_machine.specs.Words.{builtin_word_type, same_types};
 ghost use Rattle.witx_machine.specs.Lowerable.{can_be_param};
-ghost use Rattle.witx_abi.specs.Reads.{variant_arms, is_list_type};
+ghost use Rattle.witx_abi.specs.Views.{variant_arms, is_list_type, payload_tree};
 
 use crate::instruction::WasmTypes;
 use witx_ast::{
@@ -111,7 +111,7 @@ fn datatype_cases(datatype: &Datatype) -> Option<&Variant>
 
 /// What the first case carries.
 pub fn ok_type(variant: &Variant) -> Option<&TypeRef>
-    ensures { option_map (λ t. tree_of t.now) result ≡ ok_of (variant_arms variant.now) }
+    ensures { payload_tree result ≡ ok_of (variant_arms variant.now) }
 {
     match variant.cases.get(0) {
         Some(case) => payload(case),
@@ -121,7 +121,7 @@ pub fn ok_type(variant: &Variant) -> Option<&TypeRef>
 
 /// What the second case carries.
 pub fn err_type(variant: &Variant) -> Option<&TypeRef>
-    ensures { option_map (λ t. tree_of t.now) result ≡ err_of (variant_arms variant.now) }
+    ensures { payload_tree result ≡ err_of (variant_arms variant.now) }
 {
     match variant.cases.get(1) {
         Some(case) => payload(case),
@@ -131,7 +131,7 @@ pub fn err_type(variant: &Variant) -> Option<&TypeRef>
 
 #[tactic(auto, using(witx_ast::proofs::TreeKinds::kind_rules, crate::proofs::Types::type_rules))]
 fn payload(case: &Case) -> Option<&TypeRef>
-    ensures { option_map (λ t. tree_of t.now) result ≡ (case_arm case.now).payload }
+    ensures { payload_tree result ≡ (case_arm case.now).payload }
 {
     match &case.tref {
         Some(tref) => Some(tref),

@@ -2,7 +2,7 @@ ghost use Rattle.std.specs.Prelude.{◌≡◌, IfOk, None, map};
 ghost use Rattle.witx_machine.specs.Lowerable.{unlowerable};
 ghost use Rattle.witx_machine.specs.Signature.{signature_params, signature_results};
 ghost use Rattle.witx_machine.specs.Traces.{caller_events, callee_events};
-ghost use Rattle.witx_abi.specs.Reads.{called, event_of};
+ghost use Rattle.witx_abi.specs.Views.{called, event_of};
 
 use crate::callee::plan_callee;
 use crate::caller::plan_caller;

@@ -1,9 +1,9 @@
-ghost use Rattle.std.specs.Prelude.{◌≡◌, ◌++◌, IfOk, is_none, length, map, option_map, position, replicate, take};
+ghost use Rattle.std.specs.Prelude.{◌≡◌, ◌++◌, IfOk, is_none, length, map, position, replicate, take};
 ghost use Rattle.witx_ast.specs.Plain.{plain};
-ghost use Rattle.witx_ast.specs.Reads.{tree_of, datatype_tree, record_tree};
+ghost use Rattle.witx_ast.specs.Views.{tree_of, datatype_tree, record_tree};
 ghost use Rattle.witx_machine.specs.Functions.{result_cases};
 ghost use Rattle.witx_machine.specs.Signature.{first_wordless, pointers_under, words_of_results, pointers_by, ok_pointers, pointers_of, result_word, signature_params, signature_results, without_signature, words_of_params};
-ghost use Rattle.witx_abi.specs.Reads.{called, param_types, pointer_number};
+ghost use Rattle.witx_abi.specs.Views.{called, param_types, pointer_number, payload_tree};
 ghost use Rattle.witx_abi.specs.Told.{signature_place};
 
 use crate::error::SignatureError;
@@ -152,7 +152,7 @@ fn pointer_count(tref: &TypeRef) -> usize
 
 #[tactic(auto, using(crate::proofs::Signatures::signature_rules))]
 fn ok_count(ok: Option<&TypeRef>) -> usize
-    ensures { result ≡ length (ok_pointers (option_map (λ t. tree_of t.now) ok.entry)) }
+    ensures { result ≡ length (ok_pointers (payload_tree ok.entry)) }
 {
     match ok {
         Some(tref) => member_count(tref.type_()),

@@ -1,7 +1,7 @@
 ghost use Rattle.std.specs.Prelude.{◌≡◌, [], map, All, IfOk, OnOk, Some, is_some, vec_len};
 ghost use Rattle.witx_machine.specs.Events.{emit, finish};
 ghost use Rattle.witx_machine.specs.Rows.{operands_count, results_count};
-ghost use Rattle.witx_abi.specs.Reads.{event_of, planned_events, step_of};
+ghost use Rattle.witx_abi.specs.Views.{event_of, planned_events, step_of};
 ghost use Rattle.witx_abi.specs.Told.{told_after, is_fault, Counts};
 
 use crate::bindgen::{Bindgen, BindgenError};

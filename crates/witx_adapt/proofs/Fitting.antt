@@ -14,7 +14,7 @@ use Rattle.witx_ast.specs.declared.function.InterfaceFuncParam.{InterfaceFuncPar
 use Rattle.witx_ast.specs.declared.function.InterfaceFunc.{InterfaceFunc}
 use Rattle.witx_ast.specs.Tree.{Tree, Fields, Arms, Field, behind}
 use Rattle.witx_ast.specs.Plain.{plain, plain_fields, plain_arms, field_count, arm_count}
-use Rattle.witx_ast.specs.Reads.{tree_of}
+use Rattle.witx_ast.specs.Views.{tree_of}
 use Rattle.witx_ast.specs.Tags.{repr_bits, flags_fit, fits, fields_fit, arms_fit, types_fit, function_fits}
 use Rattle.witx_ast.specs.Misfits.{Excess, Misfit, beyond, most_cases, flags_beyond, misfits, field_misfits, arm_misfits, params_misfits, item_misfits, definition_misfits, first_here, first_misfit_from, first_misfit}
 use Rattle.witx_ast.specs.Functions.{func_tree, param_field}
@@ -27,7 +27,7 @@ use Rattle.witx_machine.specs.Functions.{Function, function_of}
 use Rattle.witx_machine.specs.Lowerable.{unlowerable}
 use Rattle.witx_machine.specs.Faithful.{Faithful}
 use Rattle.witx_machine.proofs.CellLaws.{traces_are_faithful}
-use Rattle.witx_abi.specs.Reads.{called, event_of, param_types}
+use Rattle.witx_abi.specs.Views.{called, event_of, param_types}
 use Rattle.witx_adapt.specs.declared.adapted.AdaptedFunc.{AdaptedFunc}
 use Rattle.witx_ast.specs.Closed.{ParamNamesStand, ItemNamesStand, AllNamesStand, ClosedAfter, IsClosed}
 use Rattle.witx_adapt.specs.Entries.{Entry, Owned, owned_item, owned_functions, all_functions, entry_of, entry_for, IsFaithful}

@@ -11,7 +11,7 @@ use Rattle.witx_machine.specs.Functions.{function_of}
 use Rattle.witx_machine.specs.Signature.{signature_params, signature_results}
 use Rattle.witx_machine.specs.Traces.{caller_events, callee_events}
 use Rattle.witx_machine.specs.Faithful.{Faithful}
-use Rattle.witx_abi.specs.Reads.{event_of, called}
+use Rattle.witx_abi.specs.Views.{event_of, called}
 use Rattle.witx_adapt.specs.declared.adapted.AdaptedFunc.{AdaptedFunc}
 
 -- a function's signature and the events of its caller and its callee
@@ -54,9 +54,12 @@ abbrev pub owned_item : ModuleTree → ItemTree → List Owned
 owned_item m (import_of i) = []
 owned_item m (func_of f) = record { owner = m; func = f } ∷ []
 
+abbrev pub module_functions : ModuleTree → List Owned
+module_functions m = flat_map (owned_item m) m.items
+
 abbrev pub owned_functions : DefinitionTree → List Owned
 owned_functions (typename_of name t docs) = []
-owned_functions (module_of m) = flat_map (owned_item m) m.items
+owned_functions (module_of m) = module_functions m
 owned_functions (constant_of c) = []
 
 abbrev pub all_functions : List DefinitionTree → List Owned

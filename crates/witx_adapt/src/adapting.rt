@@ -1,14 +1,13 @@
 ghost use Rattle.std.specs.Prelude.{◌≡◌, ◌++◌, All, None, Some, IfErr, IfOk, OnOk, map};
-ghost use Rattle.std.specs.List.{flat_map};
 ghost use Rattle.witx_ast.specs.Functions.{func_tree};
 ghost use Rattle.witx_ast.specs.Items.{item_tree};
 ghost use Rattle.witx_ast.specs.Definitions.{definition_tree, module_tree};
 ghost use Rattle.witx_machine.specs.Lowerable.{unlowerable};
-ghost use Rattle.witx_abi.specs.Reads.{called};
+ghost use Rattle.witx_abi.specs.Views.{called};
 ghost use Rattle.witx_ast.specs.Closed.{IsClosed};
 ghost use Rattle.witx_ast.specs.Ordered.{IsOrdered};
 ghost use Rattle.witx_layout.specs.Layouts.{all_layouts};
-ghost use Rattle.witx_adapt.specs.Entries.{IsFaithful, all_functions, entry_for, entry_of, owned_functions, owned_item};
+ghost use Rattle.witx_adapt.specs.Entries.{IsFaithful, all_functions, entry_for, entry_of, module_functions, owned_functions, owned_item};
 ghost use Rattle.witx_adapt.specs.Adaptable.{IsAdaptable, Refuses, UnlowerableAt, first_unlowered, unlowered};
 
 use crate::adapted::{Adapted, AdaptedFunc, AdaptedFuncs};
@@ -90,7 +89,8 @@ fn push_functions(
     functions: &mut AdaptedFuncs,
     definition: &Definition,
 ) -> Result<(), DocumentError>
-    ensures functions { OnOk result (map entry_of functions.new ≡ map entry_of functions.old ++ map entry_for (owned_functions (definition_tree definition.now))) }
+    ensures functions { OnOk result (map entry_of functions.new ≡ map entry_of functions.old
+        ++ map entry_for (owned_functions (definition_tree definition.now))) }
     ensures lowerable { OnOk result (first_unlowered (owned_functions (definition_tree definition.now)) ≡ None) }
     ensures unlowerable { IfErr result (UnlowerableAt (first_unlowered (owned_functions (definition_tree definition.now)))) }
 {
@@ -106,9 +106,10 @@ fn push_module(
     functions: &mut AdaptedFuncs,
     owner: &Rc<Module>,
 ) -> Result<(), DocumentError>
-    ensures functions { OnOk result (map entry_of functions.new ≡ map entry_of functions.old ++ map entry_for (flat_map (owned_item (module_tree owner.now.value)) (module_tree owner.now.value).items)) }
-    ensures lowerable { OnOk result (first_unlowered (flat_map (owned_item (module_tree owner.now.value)) (module_tree owner.now.value).items) ≡ None) }
-    ensures unlowerable { IfErr result (UnlowerableAt (first_unlowered (flat_map (owned_item (module_tree owner.now.value)) (module_tree owner.now.value).items))) }
+    ensures functions { OnOk result (map entry_of functions.new ≡ map entry_of functions.old
+        ++ map entry_for (module_functions (module_tree owner.now.value))) }
+    ensures lowerable { OnOk result (first_unlowered (module_functions (module_tree owner.now.value)) ≡ None) }
+    ensures unlowerable { IfErr result (UnlowerableAt (first_unlowered (module_functions (module_tree owner.now.value)))) }
 {
     let items = owner.definitions().as_slice();
     for item in items {
@@ -123,7 +124,8 @@ fn push_item(
     owner: &Rc<Module>,
     item: &ModuleDefinition,
 ) -> Result<(), DocumentError>
-    ensures functions { OnOk result (map entry_of functions.new ≡ map entry_of functions.old ++ map entry_for (owned_item (module_tree owner.now.value) (item_tree item.now))) }
+    ensures functions { OnOk result (map entry_of functions.new ≡ map entry_of functions.old
+        ++ map entry_for (owned_item (module_tree owner.now.value) (item_tree item.now))) }
     ensures lowerable { OnOk result (first_unlowered (owned_item (module_tree owner.now.value) (item_tree item.now)) ≡ None) }
     ensures unlowerable { IfErr result (UnlowerableAt (first_unlowered (owned_item (module_tree owner.now.value) (item_tree item.now)))) }
 {

@@ -5,7 +5,7 @@ use Rattle.std.proofs.lemmas.List.{take_more, length-append}
 use Rattle.std.proofs.lemmas.List.Elements.{All-append, All-cons}
 use Rattle.std.proofs.Math.Seq.{get_or-append_seam}
 use Rattle.witx_ast.specs.Plain.{plain}
-use Rattle.witx_ast.specs.Reads.{tree_of, member_field, members_plain}
+use Rattle.witx_ast.specs.Views.{tree_of, member_field, members_plain}
 use Rattle.witx_ast.proofs.Trees.{tree-RecordMember}
 use Rattle.witx_ast.proofs.Parts.{members-drop, members-end}
 use Rattle.witx_ast.specs.declared.types.RecordMember.{RecordMember}

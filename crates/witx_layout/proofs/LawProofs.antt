@@ -3,7 +3,7 @@ use Rattle.std.specs.Prelude.{◌≡◌, ℕ, ◌+◌, ◌-◌, ◌%◌, ◌≤�
 use Rattle.std.proofs.Common.{arith, inl, inr, refl, ◌∙◌, sym, ap}
 use Rattle.std.proofs.Math.Nat.{mod_self, mod-lt, add-mod-mod, mod-add-mod}
 use Rattle.witx_ast.specs.Plain.{Plain, plain, Fields, Arms}
-use Rattle.witx_ast.specs.Reads.{record_tree, variant_tree, members_plain, cases_plain}
+use Rattle.witx_ast.specs.Views.{record_tree, variant_tree, members_plain, cases_plain}
 use Rattle.witx_ast.proofs.Parts.{record-plain, variant-plain}
 use Rattle.witx_ast.specs.declared.types.BuiltinType.{BuiltinType}
 use Rattle.witx_ast.specs.declared.types.IntRepr.{IntRepr}

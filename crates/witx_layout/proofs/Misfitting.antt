@@ -3,7 +3,7 @@ use Rattle.std.specs.Prelude.{◌≡◌, ℕ, ◌+◌, ◌≤◌, ◌<◌, List,
 use Rattle.std.proofs.Common.{get_or, refl, sym, ◌∙◌, append-nil}
 use Rattle.std.proofs.lemmas.List.{drop_more, drop_all}
 use Rattle.witx_ast.specs.Tree.{fields_of, arms_of}
-use Rattle.witx_ast.specs.Reads.{tree_of, record_tree, variant_tree, member_field, case_arm}
+use Rattle.witx_ast.specs.Views.{tree_of, record_tree, variant_tree, member_field, case_arm}
 use Rattle.witx_ast.specs.Functions.{param_field}
 use Rattle.witx_ast.specs.Items.{ItemTree, import_of, func_of, item_tree}
 use Rattle.witx_ast.specs.Definitions.{definition_tree}

@@ -5,7 +5,7 @@ use Rattle.std.proofs.Common.{arith, get_or, refl}
 use Rattle.std.proofs.lemmas.List.{drop_more}
 use Rattle.witx_base.specs.Found.{found}
 use Rattle.witx_ast.specs.Tree.{Tree, fields_of, arms_of}
-use Rattle.witx_ast.specs.Reads.{tree_of, named_tree, record_tree, variant_tree, datatype_tree, member_field, case_arm}
+use Rattle.witx_ast.specs.Views.{tree_of, named_tree, record_tree, variant_tree, datatype_tree, member_field, case_arm}
 use Rattle.witx_ast.proofs.Trees.{tree-Record, tree-Variant, tree-Value, tree-NamedType, tree-RecordMember, tree-Case, tree-RecordDatatype, tree-VariantDatatype}
 use Rattle.witx_ast.specs.declared.types.NamedType.{NamedType}
 use Rattle.witx_ast.specs.declared.types.RecordMember.{RecordMember}

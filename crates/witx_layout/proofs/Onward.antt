@@ -2,8 +2,8 @@
 use Rattle.std.specs.Prelude.{◌≡◌, ℕ, ◌+◌, ◌≤◌, ◌<◌, max, List, length, drop, Some, None}
 use Rattle.std.proofs.Common.{arith, get_or}
 use Rattle.witx_ast.specs.Plain.{plain, Fields}
-use Rattle.witx_ast.specs.Reads.{tree_of}
-use Rattle.witx_ast.specs.Reads.{members_plain, cases_plain}
+use Rattle.witx_ast.specs.Views.{tree_of}
+use Rattle.witx_ast.specs.Views.{members_plain, cases_plain}
 use Rattle.witx_ast.proofs.Trees.{tree_rules}
 use Rattle.witx_ast.proofs.Parts.{members-drop, members-end, cases-bare, cases-carries, cases-end, record-plain, variant-plain}
 use Rattle.witx_ast.specs.declared.types.RecordMember.{RecordMember}

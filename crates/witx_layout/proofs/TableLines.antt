@@ -3,7 +3,7 @@ use Rattle.std.specs.Prelude.{◌≡◌, ℕ, ◌+◌, ◌≤◌, ◌<◌, List,
 use Rattle.std.proofs.Common.{arith, get_or, refl, sym, ◌∙◌, append_assoc, append-nil}
 use Rattle.witx_base.specs.Found.{found}
 use Rattle.witx_ast.specs.Plain.{Plain, plain, Arms}
-use Rattle.witx_ast.specs.Reads.{tree_of, named_tree, variant_tree, members_plain, cases_plain}
+use Rattle.witx_ast.specs.Views.{tree_of, named_tree, variant_tree, members_plain, cases_plain}
 use Rattle.witx_ast.proofs.Trees.{tree-NamedType}
 use Rattle.witx_ast.proofs.Parts.{members-drop, members-end, variant-plain}
 use Rattle.witx_ast.specs.declared.types.IntRepr.{IntRepr}

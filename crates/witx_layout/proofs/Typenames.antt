@@ -5,7 +5,7 @@ use Rattle.std.proofs.lemmas.List.{drop_more, drop_all, length-append, get_or-ap
 use Rattle.std.proofs.lemmas.List.Elements.{All-append, All-cons}
 use Rattle.std.proofs.Math.ListN.{get_or-append}
 use Rattle.witx_ast.specs.Plain.{plain}
-use Rattle.witx_ast.specs.Reads.{tree_of, named_tree}
+use Rattle.witx_ast.specs.Views.{tree_of, named_tree}
 use Rattle.witx_ast.proofs.Trees.{tree-NamedType}
 use Rattle.witx_ast.specs.Definitions.{definition_tree}
 use Rattle.witx_ast.specs.declared.types.NamedType.{NamedType}

@@ -4,7 +4,7 @@ use Rattle.std.proofs.Common.{arith, get_or, refl, sym, ◌∙◌, append_assoc,
 use Rattle.std.proofs.lemmas.List.{drop_more, drop_all}
 use Rattle.witx_ast.specs.Tree.{behind}
 use Rattle.witx_ast.specs.Plain.{plain, Fields}
-use Rattle.witx_ast.specs.Reads.{tree_of, datatype_tree, named_tree, members_plain}
+use Rattle.witx_ast.specs.Views.{tree_of, datatype_tree, named_tree, members_plain}
 use Rattle.witx_ast.proofs.Trees.{tree-RecordMember, tree-NamedType}
 use Rattle.witx_ast.proofs.TreeKinds.{plain-behind}
 use Rattle.witx_ast.specs.declared.types.Datatype.{Datatype}

@@ -2,7 +2,7 @@ ghost use Rattle.std.specs.Prelude.{◌≡◌, ◌≤◌, ◌<◌, ◌%◌};
 ghost use Rattle.witx_layout.specs.Numbers.{align_to, size_of, align_of, repr_size, offsets, part_offsets, payload_offset};
 ghost use Rattle.witx_layout.specs.Laws.{IsPowerOfTwo, IsRoundedUp, IsUnflagged, LieApart, AreMultiples, LieInside};
 ghost use Rattle.witx_ast.specs.Plain.{plain};
-ghost use Rattle.witx_ast.specs.Reads.{record_tree, variant_tree, members_plain, cases_plain};
+ghost use Rattle.witx_ast.specs.Views.{record_tree, variant_tree, members_plain, cases_plain};
 ghost use Rattle.witx_ast.specs.declared.types.RecordDatatype.{out-RecordDatatype};
 ghost use Rattle.witx_ast.specs.declared.types.Variant.{out-Variant};
 

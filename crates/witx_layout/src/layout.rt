@@ -1,9 +1,9 @@
 ghost use Rattle.std.specs.Prelude.{◌≡◌, ◌≤◌, ◌<◌, ◌^◌, MatchResult, IfOk, IsErr, ◌↔◌};
 ghost use Rattle.witx_layout.specs.Numbers.{size_of, align_of, members_end, members_align, payloads_size, payloads_align, payload_offset as begin_of_payload};
 ghost use Rattle.witx_ast.specs.Plain.{Plain, Arms, plain, builtin, handle};
-ghost use Rattle.witx_ast.specs.Reads.{tree_of, datatype_tree, named_tree, record_tree, variant_tree};
+ghost use Rattle.witx_ast.specs.Views.{tree_of, datatype_tree, named_tree, record_tree, variant_tree};
 ghost use Rattle.witx_ast.specs.Words.{repr_builtin};
-ghost use Rattle.witx_ast.specs.Reads.{members_plain, cases_plain};
+ghost use Rattle.witx_ast.specs.Views.{members_plain, cases_plain};
 ghost use Rattle.witx_ast.specs.declared.types.IntRepr.{IntRepr};
 
 use crate::rounding::{followed_by, greater, padded, tagged};
@@ -304,7 +304,7 @@ pub trait VariantOffset {
 
 impl VariantOffset for Variant {
     ghost use Rattle.witx_ast.specs.declared.types.Variant.{out-Variant};
-    ghost use Rattle.witx_ast.specs.Reads.{cases_plain};
+    ghost use Rattle.witx_ast.specs.Views.{cases_plain};
 
     ghost tag = { λ v. (out-Variant v).tag_repr };
 

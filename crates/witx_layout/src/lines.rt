@@ -2,7 +2,7 @@ ghost use Rattle.std.specs.Prelude.{◌≡◌, ◌≤◌, ◌<◌, ◌++◌, ◌
 ghost use Rattle.witx_layout.specs.Numbers.{size_of, members_end, offsets};
 ghost use Rattle.witx_layout.specs.LayoutsText.{layouts_text as text_of_layouts, typename_sizes, definition_lines, definition_sizes, typename_line, typename_lines, field_line, field_lines, flags_line, tag_line, tag_numbers_line, part_lines};
 ghost use Rattle.witx_ast.specs.Plain.{plain};
-ghost use Rattle.witx_ast.specs.Reads.{named_tree, datatype_tree, members_plain, cases_plain};
+ghost use Rattle.witx_ast.specs.Views.{named_tree, datatype_tree, members_plain, cases_plain};
 ghost use Rattle.witx_ast.specs.Definitions.{definition_tree};
 ghost use Rattle.witx_ast.specs.declared.types.RecordDatatype.{out-RecordDatatype};
 ghost use Rattle.witx_ast.specs.declared.types.Variant.{out-Variant};
@@ -148,7 +148,8 @@ pub fn put_flags(out: &mut String, repr: IntRepr) -> Result<(), OutOfMemory>
 
 #[tactic(auto, using(crate::proofs::Written::line_rules))]
 fn put_tag(out: &mut String, variant: &Variant) -> Result<(), OutOfMemory>
-    ensures { OnOk result (string_bytes out.new ≡ string_bytes out.old ++ tag_line (out-Variant variant.now).tag_repr (cases_plain (out-Variant variant.now).cases)) }
+    ensures { OnOk result (string_bytes out.new ≡ string_bytes out.old
+        ++ tag_line (out-Variant variant.now).tag_repr (cases_plain (out-Variant variant.now).cases)) }
 {
     put_tag_numbers(out, variant.tag_repr.mem_align(), variant.payload_offset())
 }

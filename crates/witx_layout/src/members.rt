@@ -1,7 +1,7 @@
 ghost use Rattle.std.specs.Prelude.{◌≡◌, ◌≤◌, ◌<◌, ◌+◌, ◌^◌, ℕ, List, map, All, Any, IfOk, OnOk, MatchOption};
 ghost use Rattle.witx_layout.specs.Numbers.{align_to as rounded, offsets as offsets_from, size_of};
 ghost use Rattle.witx_ast.specs.Plain.{plain};
-ghost use Rattle.witx_ast.specs.Reads.{tree_of, members_plain};
+ghost use Rattle.witx_ast.specs.Views.{tree_of, members_plain};
 ghost use Rattle.witx_ast.specs.declared.types.RecordMember.{RecordMember};
 
 use crate::layout::{Layout, TooLarge};

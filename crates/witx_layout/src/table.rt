@@ -5,7 +5,7 @@ ghost use Rattle.witx_base.specs.Texts.{same_text};
 ghost use Rattle.witx_base.specs.Found.{found};
 ghost use Rattle.witx_ast.specs.Tree.{fields_of, arms_of};
 ghost use Rattle.witx_ast.specs.Plain.{plain};
-ghost use Rattle.witx_ast.specs.Reads.{tree_of, datatype_tree, named_tree, record_tree, variant_tree, member_field, case_arm, members_plain, cases_plain};
+ghost use Rattle.witx_ast.specs.Views.{tree_of, datatype_tree, named_tree, record_tree, variant_tree, member_field, case_arm, members_plain, cases_plain};
 ghost use Rattle.witx_ast.specs.Entries.{by_name};
 ghost use Rattle.witx_ast.specs.Definitions.{definition_tree, introduced};
 ghost use Rattle.witx_ast.specs.Ordered.{IsOrdered};

@@ -4,7 +4,7 @@ ghost use Rattle.std.specs.Map.{keys_of};
 ghost use Rattle.witx_base.specs.Texts.{same_text};
 ghost use Rattle.witx_ast.specs.Tree.{fields_of};
 ghost use Rattle.witx_ast.specs.Plain.{plain};
-ghost use Rattle.witx_ast.specs.Reads.{tree_of, datatype_tree, named_tree, variant_tree, member_field, members_plain, cases_plain};
+ghost use Rattle.witx_ast.specs.Views.{tree_of, datatype_tree, named_tree, variant_tree, member_field, members_plain, cases_plain};
 ghost use Rattle.witx_ast.specs.Entries.{by_name};
 ghost use Rattle.witx_ast.specs.Definitions.{definition_tree, introduced};
 ghost use Rattle.witx_ast.specs.Ordered.{IsOrdered};
@@ -226,9 +226,11 @@ fn put_known_member<L: Ledger>(
     steps: &mut Steps<L>,
 ) -> Result<usize, LayoutError>
     requires { Knows table.now (tree_of member.now.tref) }
-    ensures line { OnOk result (string_bytes out.new ≡ string_bytes out.old ++ field_line member.now.name (rounded reached (align_of (plain (tree_of member.now.tref))))) }
+    ensures line { OnOk result (string_bytes out.new ≡ string_bytes out.old
+        ++ field_line member.now.name (rounded reached (align_of (plain (tree_of member.now.tref))))) }
     ensures end { IfOk result (λ end. end ≡ rounded reached (align_of (plain (tree_of member.now.tref))) + size_of (plain (tree_of member.now.tref))) }
-    ensures too_large { result ≡ Err LayoutError.TooLarge → 2 ^ 64 ≤ rounded reached (align_of (plain (tree_of member.now.tref))) + size_of (plain (tree_of member.now.tref)) }
+    ensures too_large { result ≡ Err LayoutError.TooLarge
+        → 2 ^ 64 ≤ rounded reached (align_of (plain (tree_of member.now.tref))) + size_of (plain (tree_of member.now.tref)) }
 {
     let part = type_layout(table, &member.tref, steps)?;
     let Some(begin) = align_to(reached, part.align) else {
@@ -250,7 +252,8 @@ fn put_known_tag<L: Ledger>(
     steps: &mut Steps<L>,
 ) -> Result<(), LayoutError>
     requires { Knows table.now (variant_tree variant.now) }
-    ensures lines { OnOk result (string_bytes out.new ≡ string_bytes out.old ++ tag_line (out-Variant variant.now).tag_repr (cases_plain (out-Variant variant.now).cases)) }
+    ensures lines { OnOk result (string_bytes out.new ≡ string_bytes out.old
+        ++ tag_line (out-Variant variant.now).tag_repr (cases_plain (out-Variant variant.now).cases)) }
     ensures too_large { result ≡ Err LayoutError.TooLarge → 2 ^ 64 ≤ size_of (plain (variant_tree variant.now)) }
 {
     let tag = variant.tag_repr.mem_align();

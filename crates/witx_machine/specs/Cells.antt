@@ -52,7 +52,8 @@ is_i32 w = same_type w.type WasmType.I32
 -- the next address, with a cell made for t
 abbrev pub given : Tree → Option Value → Cells → List ℕ → Taken → Option (Word × Memory)
 given t v cells [] taken = None
-given t v cells (a ∷ more) taken = Some (i32 a, record { cells = insert cells a (record { made_for = t; content = v }); fresh = more; taken = taken ++ (a, t) ∷ [] })
+given t v cells (a ∷ more) taken =
+    Some (i32 a, record { cells = insert cells a (record { made_for = t; content = v }); fresh = more; taken = taken ++ (a, t) ∷ [] })
 
 -- what is in a cell that was made for a type alike to t
 abbrev pub loaded : Tree → Option Cell → Option Value
@@ -106,7 +107,8 @@ cells = record {
   give = λ t m. given t None m.cells m.fresh m.taken;
   put = λ t v m. when (by_address (plain t)) (given t (Some v) m.cells m.fresh m.taken);
   get = λ t w m. when (is_i32 w) (loaded t (get m.cells w.bits));
-  set = λ t w v m. when (is_i32 w) (option_map (λ c. record { cells = insert m.cells w.bits c; fresh = m.fresh; taken = m.taken }) (stored t v (get m.cells w.bits)));
+  set = λ t w v m. when (is_i32 w)
+      (option_map (λ c. record { cells = insert m.cells w.bits c; fresh = m.fresh; taken = m.taken }) (stored t v (get m.cells w.bits)));
   picks = case_picked;
   case_word = λ e. i32 (cond e 1 0);
   chooses = λ w. when (is_i32 w) (Some (cond (nat_eq w.bits 0) false true));
@@ -119,9 +121,11 @@ outcome (went x) = Some x
 outcome no_rule = None
 outcome (stuck_at p) = None
 
-abbrev pub run_cells_to : List ℕ → Function → Receiver → (caller callee : List Event) → List Value → Option Value → Cells → List ℕ → Option (Outcome Value Word Memory)
+abbrev pub run_cells_to : List ℕ → Function → Receiver → (caller callee : List Event) → List Value → Option Value → Cells → List ℕ
+    → Option (Outcome Value Word Memory)
 run_cells_to m f to caller callee arguments reply memory addresses =
-    outcome (run_to {P = Unit {0}} (λ e. e) (λ e. tt) cells m f to tt tt caller callee arguments reply (record { cells = memory; fresh = addresses; taken = [] }))
+    outcome (run_to {P = Unit {0}} (λ e. e) (λ e. tt) cells m f to tt tt caller callee arguments reply
+    (record { cells = memory; fresh = addresses; taken = [] }))
 
 abbrev pub run_cells : List ℕ → Function → (caller callee : List Event) → List Value → Option Value → Cells → List ℕ → Option (Outcome Value Word Memory)
 run_cells m f = run_cells_to m f (itself m f)

@@ -17,7 +17,8 @@ use Rattle.witx_machine.specs.Cells.{get, Cells, Cell, Memory, Taken, cells, run
 use Rattle.witx_machine.specs.Passage.{Meaning, Passes, Returns}
 
 -- a run ended as it should, in any domain; arranged: the arguments as the callee is to hand them over
-pub record EndsWell {V W M : Type 0} (D : Domain V W M) (J : Meaning V W M) (f : Function) (arguments : List V) (arranged : Option (List V)) (reply : Option V) (o : Outcome V W M) : Type 0 where
+pub record EndsWell {V W M : Type 0} (D : Domain V W M) (J : Meaning V W M) (f : Function)
+    (arguments : List V) (arranged : Option (List V)) (reply : Option V) (o : Outcome V W M) : Type 0 where
   pub passes : Passes D J f arguments o
   pub gives_back : Returns D J f reply o
   pub noted : arranged ≡ Some o.call.noted
@@ -106,7 +107,8 @@ FaithfulTo m f to arranged caller callee =
     (arguments : List Value) (reply : Option Value) (memory : Cells) (addresses : List ℕ) →
     IsTrue (are_arguments f.params arguments) → IsTrue (is_reply f.results reply) → IsFalse (zero_error f reply) →
     AreFree memory addresses → length addresses ≡ length caller + length callee →
-    (o : Outcome Value Word Memory) × (run_cells_to m f to caller callee arguments reply memory addresses ≡ Some o) × EndsWell cells cell_meaning f arguments (arranged arguments) reply o ×
+    (o : Outcome Value Word Memory) × (run_cells_to m f to caller callee arguments reply memory addresses ≡ Some o) ×
+    EndsWell cells cell_meaning f arguments (arranged arguments) reply o ×
     ((a : ℕ) (c : Cell) → get memory a ≡ Some c → get o.memory.cells a ≡ Some c)
 
 -- FAITHFUL: both traces are of the one function, and the arguments are handed over as they are

@@ -8,7 +8,7 @@ use Rattle.std.specs.Prelude.{ℕ, List, [], ◌∷◌, Bool, true, false, ◌&&
 use Rattle.witx_ast.specs.declared.function.Abi.{Abi}
 use Rattle.witx_ast.specs.declared.types.IntRepr.{IntRepr}
 use Rattle.witx_ast.specs.declared.types.RecordKind.{RecordKind}
-use Rattle.witx_ast.specs.Tree.{Tree, arm_list}
+use Rattle.witx_ast.specs.Tree.{Tree, Arms, arm_list}
 use Rattle.witx_ast.specs.Plain.{plain, plain_arms}
 use Rattle.witx_ast.specs.Words.{is_named, is_expected}
 use Rattle.witx_machine.specs.declared.surface.WasmType.{WasmType}
@@ -51,6 +51,11 @@ abbrev pub is_narrow : IntRepr → Bool
 is_narrow IntRepr.U64 = false
 is_narrow _ = true
 
+-- the cases `ok` and `err`, of a type that is a name or with a payload
+abbrev pub cases_can_return : Bool → Arms → Bool
+cases_can_return named cs =
+    is_expected (arm_list cs) && ((has_payload (plain_arms cs) || named) && (can_be_ok (ok_of cs) && can_be_err (err_of cs)))
+
 -- named: whether the type stands there as a name; then the type itself
 abbrev pub can_return : Bool → Tree → Bool
 can_return named (Tree.named n t d) = can_return true t
@@ -59,8 +64,7 @@ can_return named (Tree.pointer_to t) = true
 can_return named (Tree.const_pointer_to t) = true
 can_return named Tree.handle = named
 can_return named (Tree.record_of (RecordKind.Bitflags r) ms) = named
-can_return named (Tree.variant_of r cs) =
-    is_narrow r && (is_expected (arm_list cs) && ((has_payload (plain_arms cs) || named) && (can_be_ok (ok_of cs) && can_be_err (err_of cs))))
+can_return named (Tree.variant_of r cs) = is_narrow r && cases_can_return named cs
 can_return named _ = false
 
 abbrev pub can_be_result : Abi → Tree → Bool

@@ -208,14 +208,17 @@ module _ {P E V W M C : Type 0} (event : E → Event) (place : E → P) (D : Dom
       -- the table: what each step takes from the stack, under which condition, and what it leaves
       abbrev pub act : Row → State E V W M C → Tried P (State E V W M C)
       act (get_arg i) s = found (slice_get side.arguments i) (λ x. went (with_stack (x ∷ s.stack) s))
-      act addr_of s = top_value s.stack (λ v t rest. found t (λ t. found (D.put t v s.memory) (λ r. went (record s { stack = word_item r.0 ∷ rest; memory = r.1 }))))
+      act addr_of s =
+          top_value s.stack (λ v t rest. found t (λ t. found (D.put t v s.memory) (λ r. went (record s { stack = word_item r.0 ∷ rest; memory = r.1 }))))
       act (lowering x) s = top_value s.stack (λ v t rest. found (D.lower x v) (λ w. went (with_stack (word_item w ∷ rest) s)))
       act (lifting x) s = top_word s.stack (λ w rest. found (D.lift x w) (λ v. went (with_stack (plain_item v ∷ rest) s)))
       act list_pointer_length s = top_value s.stack (λ v t rest. found (D.list_words v) (λ ws. went (with_stack (word_item ws.1 ∷ word_item ws.0 ∷ rest) s)))
-      act list_from_pointer_length s = top_word s.stack (λ l rest. top_word rest (λ a rest. found (D.list_value a l) (λ v. went (with_stack (plain_item v ∷ rest) s))))
+      act list_from_pointer_length s =
+          top_word s.stack (λ l rest. top_word rest (λ a rest. found (D.list_value a l) (λ v. went (with_stack (plain_item v ∷ rest) s))))
       act (return_pointer_get k) s = found (slot_word k s.slots) (λ w. went (with_stack (word_item w ∷ s.stack) s))
       act (load t) s = top_word s.stack (λ a rest. found (D.get t a s.memory) (λ v. went (with_stack (value_item v (Some t) ∷ rest) s)))
-      act (store t) s = top_word s.stack (λ a rest. top_value rest (λ v n rest. found (D.set t a v s.memory) (λ m. went (record s { stack = rest; memory = m }))))
+      act (store t) s =
+          top_word s.stack (λ a rest. top_value rest (λ v n rest. found (D.set t a v s.memory) (λ m. went (record s { stack = rest; memory = m }))))
       act (tuple_lift n) s = found (values_off n [] s.stack) (λ r. went (with_stack (plain_item (D.tuple r.0) ∷ r.1) s))
       act (tuple_lower n) s = top_value s.stack (λ v t rest. found (D.parts n v) (λ vs. went (with_stack (pushed (map plain_item vs) rest) s)))
       act variant_payload s = found (payload_in inside) (λ x. went (with_stack (x ∷ s.stack) s))

@@ -22,10 +22,13 @@ pub record Moves {A : Type 0} (operands results : ℕ) (before after : List A) :
 -- wherever the step stands, and however the blocks are run that it runs
 abbrev pub KeepsToTable : {C : Type 0} → Side (Unit {0}) Event Value Word Memory C → Type 0
 KeepsToTable {C} side =
-    (runs : Inside Value Word → List Event → State Event Value Word Memory C → Tried (Unit {0}) (State Event Value Word Memory C)) (inside : Inside Value Word) (x : Step) (s s' : State Event Value Word Memory C) →
+    (runs : Inside Value Word → List Event → State Event Value Word Memory C → Tried (Unit {0}) (State Event Value Word Memory C)) →
+    (inside : Inside Value Word) (x : Step) (s s' : State Event Value Word Memory C) →
     act (λ e. e) (λ e. tt) cells side runs inside (row x) s ≡ went s' → Moves (operands_count x) (results_count x) s.stack s'.stack
 
 abbrev pub RowsKeepToTable : Type 0
 RowsKeepToTable =
-    ((m : List ℕ) (f : Function) (to : Receiver) (callee : List Event) (arguments : List Value) (reply : Option Value) → KeepsToTable (caller_side (λ e. e) (λ e. tt) cells m f to tt callee arguments reply)) ×
-    ((m : List ℕ) (f : Function) (reply : Option Value) (words : List Word) → KeepsToTable (callee_side (λ e. e) (λ e. tt) cells m f reply words))
+    ((m : List ℕ) (f : Function) (to : Receiver) (callee : List Event) (arguments : List Value) (reply : Option Value) →
+    KeepsToTable (caller_side (λ e. e) (λ e. tt) cells m f to tt callee arguments reply)) ×
+    ((m : List ℕ) (f : Function) (reply : Option Value) (words : List Word) →
+    KeepsToTable (callee_side (λ e. e) (λ e. tt) cells m f reply words))

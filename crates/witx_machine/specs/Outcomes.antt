@@ -7,10 +7,13 @@ use Rattle.witx_machine.specs.Functions.{Function}
 use Rattle.witx_machine.specs.Run.{Outcome, Receiver}
 use Rattle.witx_machine.specs.Cells.{Cells, Memory, run_cells_to}
 
-abbrev pub IsOutcome : List ℕ → Function → Receiver → (caller callee : List Event) → List Value → Option Value → Cells → List ℕ → Outcome Value Word Memory → Type 0
+abbrev pub IsOutcome : List ℕ → Function → Receiver → (caller callee : List Event) → List Value → Option Value → Cells → List ℕ
+    → Outcome Value Word Memory → Type 0
 IsOutcome m f to caller callee arguments reply memory addresses o = run_cells_to m f to caller callee arguments reply memory addresses ≡ Some o
 
 abbrev pub AtMostOneOutcome : Type 0
 AtMostOneOutcome =
-    (m : List ℕ) (f : Function) (to : Receiver) (caller callee : List Event) (arguments : List Value) (reply : Option Value) (memory : Cells) (addresses : List ℕ) (o o' : Outcome Value Word Memory) →
-    IsOutcome m f to caller callee arguments reply memory addresses o → IsOutcome m f to caller callee arguments reply memory addresses o' → o ≡ o'
+    (m : List ℕ) (f : Function) (to : Receiver) (caller callee : List Event) (arguments : List Value) (reply : Option Value)
+    (memory : Cells) (addresses : List ℕ) (o o' : Outcome Value Word Memory) →
+    IsOutcome m f to caller callee arguments reply memory addresses o →
+    IsOutcome m f to caller callee arguments reply memory addresses o' → o ≡ o'

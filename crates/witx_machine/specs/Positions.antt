@@ -16,4 +16,5 @@ numbered spot i [] = []
 numbered spot i (e ∷ es) = (spot i, e) ∷ numbered spot (i + 1) es
 
 abbrev pub spotted_run : {V W M : Type 0} → Domain V W M → List ℕ → Function → (caller callee : List Event) → List V → Option V → M → Tried Spot (Outcome V W M)
-spotted_run D m f caller callee = run (λ e. e.1) (λ e. e.0) D m f (in_caller (length caller)) (in_callee (length callee)) (numbered in_caller 0 caller) (numbered in_callee 0 callee)
+spotted_run D m f caller callee =
+    run (λ e. e.1) (λ e. e.0) D m f (in_caller (length caller)) (in_callee (length callee)) (numbered in_caller 0 caller) (numbered in_callee 0 callee)

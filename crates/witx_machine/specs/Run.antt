@@ -132,7 +132,12 @@ module _ {P E V W M : Type 0} (event : E → Event) (place : E → P) (D : Domai
     -- the caller's state after the callee's run, which gave these words back and left this memory
     abbrev pub answered : List W → List V → List W → M → State E V W M (Call V W M) → State E V W M (Call V W M)
     answered words noted results at_return s =
-        record s { stack = pushed (map word_item results) s.stack; memory = at_return; returned = one_word results; called = Some (record { words = words; at_call = s.memory; noted = noted; callee_words = results; at_return = at_return }) }
+        record s {
+          stack = pushed (map word_item results) s.stack;
+          memory = at_return;
+          returned = one_word results;
+          called = Some (record { words = words; at_call = s.memory; noted = noted; callee_words = results; at_return = at_return });
+        }
 
     -- what the callee gave back is words of the result types
     abbrev pub taken_back : List W → State E V W M (Call V W M) → List V × List (Item V W) × State E V W M (List V) → Tried P (State E V W M (Call V W M))
@@ -148,20 +153,23 @@ module _ {P E V W M : Type 0} (event : E → Event) (place : E → P) (D : Domai
 
     -- its first call, by its names and types of words
     abbrev pub calls_wasm : State E V W M (Call V W M) → List ℕ → List ℕ → List WasmType → List WasmType → Bool
-    calls_wasm s m' n ps rs = is_none s.called && (same_bytes m' m && (same_bytes n f.name && (same_types ps (signature_params f) && same_types rs (signature_results f))))
+    calls_wasm s m' n ps rs =
+        is_none s.called && (same_bytes m' m && (same_bytes n f.name && (same_types ps (signature_params f) && same_types rs (signature_results f))))
 
     abbrev pub caller_side : P → List E → List V → Option V → Side P E V W M (Call V W M)
     caller_side last callee arguments reply = record {
       arguments = argument_items f.params arguments;
       has_cases = result_has_cases f.results;
-      on_wasm = λ m' n ps rs s. only (calls_wasm s m' n ps rs) (found (words_off (length ps) [] s.stack) (λ r. only (typed D ps r.0) (called_with last callee reply r.0 (record s { stack = r.1 }))));
+      on_wasm = λ m' n ps rs s. only (calls_wasm s m' n ps rs) (found (words_off (length ps) [] s.stack)
+          (λ r. only (typed D ps r.0) (called_with last callee reply r.0 (record s { stack = r.1 }))));
       on_interface = λ m' n ps rs s. no_rule;
     }
 
     -- A RUN of a caller against a callee; the places after the last events name a trace that doesn't return
     abbrev pub run_to : P → P → (caller callee : List E) → List V → Option V → M → Tried P (Outcome V W M)
     run_to caller_end callee_end caller callee arguments reply memory =
-        next (run_trace event place D (caller_side callee_end callee arguments reply) caller_end caller (start memory)) (λ r. went (record { call = r.0; back = r.1; memory = r.2.memory }))
+        next (run_trace event place D (caller_side callee_end callee arguments reply) caller_end caller (start memory))
+        (λ r. went (record { call = r.0; back = r.1; memory = r.2.memory }))
 
   -- A PLAIN RUN: both traces are of the one function
   abbrev pub run : List ℕ → Function → P → P → (caller callee : List E) → List V → Option V → M → Tried P (Outcome V W M)

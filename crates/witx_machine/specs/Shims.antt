@@ -29,7 +29,8 @@ pub record StandsIn (order : List ℕ) (old new : Function) : Type 0 where
 -- the number of the old parameter of each new one's name
 abbrev pub order_by_name : (old new : List Field) → Option (List ℕ)
 order_by_name old [] = Some []
-order_by_name old (p ∷ ps) = option_and_then (λ i. option_and_then (λ is. Some (i ∷ is)) (order_by_name old ps)) (position (λ q. same_bytes q.called p.called) old)
+order_by_name old (p ∷ ps) =
+    option_and_then (λ i. option_and_then (λ is. Some (i ∷ is)) (order_by_name old ps)) (position (λ q. same_bytes q.called p.called) old)
 
 -- the numbers of each parameter's words, from the w-th on
 abbrev pub word_numbers : ℕ → List Tree → List (List ℕ)
@@ -38,7 +39,9 @@ word_numbers w (t ∷ ts) = numbers w (length (param_words (plain t))) ∷ word_
 
 -- the numbers of the old words in the order in which the new callee gets them: those of the parameters in this order, then the return pointers
 abbrev pub pass : List ℕ → Function → Option (List ℕ)
-pass order old = option_map (λ params. concat params ++ numbers (length (words_of_params old.params)) (length (return_pointers old))) (in_order order (word_numbers 0 old.params))
+pass order old =
+    option_map (λ params. concat params ++ numbers (length (words_of_params old.params)) (length (return_pointers old)))
+    (in_order order (word_numbers 0 old.params))
 
 -- FAITHFUL THROUGH A SHIM that hands on the words of these numbers, for an old function of the module m and a new one of the module n
 abbrev pub FaithfulThrough : (m n : List ℕ) → (old new : Function) → (order words : List ℕ) → (caller callee : List Event) → Type 0

@@ -22,7 +22,8 @@ pub fn shims_are_faithful()
     ensures { (old_module new_module : List ℕ) (old new : FunctionTree) (order words : List ℕ) →
         IsTrue (lowerable (function_of old)) → IsTrue (lowerable (function_of new)) → IsTrue (function_fits old) → IsTrue (function_fits new) →
         StandsIn order (function_of old) (function_of new) → pass order (function_of old) ≡ Some words →
-        FaithfulThrough old_module new_module (function_of old) (function_of new) order words (caller_events old_module (function_of old)) (callee_events new_module (function_of new)) }
+        FaithfulThrough old_module new_module (function_of old) (function_of new) order words
+        (caller_events old_module (function_of old)) (callee_events new_module (function_of new)) }
 {}
 
 /// Each row of the machine takes as many operands off the stack, and leaves as many results there, as

@@ -1,6 +1,6 @@
 use Rattle.std.proofs.Common.{ap, ◌∙◌, ◌++◌}
 use Rattle.witx_machine.specs.Traces.{caller_events}
-use Rattle.witx_abi.specs.Reads.{called, planned_events}
+use Rattle.witx_abi.specs.Views.{called, planned_events}
 use Rattle.witx_abi.proofs.Plans.{caller-ready}
 use Rattle.witx_abi.proofs.abi.play_call.Goals as goal
 

@@ -1,6 +1,6 @@
 use Rattle.std.proofs.Common.{ap, ◌∙◌, ◌++◌}
 use Rattle.witx_machine.specs.Traces.{callee_events}
-use Rattle.witx_abi.specs.Reads.{called, planned_events}
+use Rattle.witx_abi.specs.Views.{called, planned_events}
 use Rattle.witx_abi.proofs.Plans.{callee-ready}
 use Rattle.witx_abi.proofs.abi.play_callee.Goals as goal
 

@@ -1,7 +1,7 @@
 use Rattle.std.proofs.Common.{◌≡◌, ◌+◌, ◌++◌, drop, length}
 use Rattle.witx_machine.specs.Traces.{lift_params}
 use Rattle.witx_machine.specs.Signature.{words_of_params}
-use Rattle.witx_abi.specs.Reads.{param_types, planned_events}
+use Rattle.witx_abi.specs.Views.{param_types, planned_events}
 use Rattle.witx_abi.proofs.callee.lift_params.Given as goal
 
 abbrev pub invariant-loop-param : goal.invariant-loop-param

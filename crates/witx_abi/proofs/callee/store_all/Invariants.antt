@@ -1,6 +1,6 @@
 use Rattle.std.proofs.Common.{◌≡◌, ◌≤◌, ◌++◌, take, length}
 use Rattle.witx_machine.specs.Traces.{store_all}
-use Rattle.witx_abi.specs.Reads.{planned_events, pointer_types}
+use Rattle.witx_abi.specs.Views.{planned_events, pointer_types}
 use Rattle.witx_abi.proofs.callee.store_all.Given as goal
 
 abbrev pub invariant-loop-left : goal.invariant-loop-left

@@ -1,6 +1,6 @@
 use Rattle.std.proofs.Common.{◌≡◌, ◌++◌, drop}
 use Rattle.witx_machine.specs.Traces.{load_all}
-use Rattle.witx_abi.specs.Reads.{planned_events, pointer_types}
+use Rattle.witx_abi.specs.Views.{planned_events, pointer_types}
 use Rattle.witx_abi.proofs.caller.load_all.Given as goal
 
 abbrev pub invariant-loop-n : goal.invariant-loop-n

@@ -1,6 +1,6 @@
 use Rattle.std.proofs.Common.{◌≡◌, ◌++◌, drop}
 use Rattle.witx_machine.specs.Traces.{lower_params}
-use Rattle.witx_abi.specs.Reads.{param_types, planned_events}
+use Rattle.witx_abi.specs.Views.{param_types, planned_events}
 use Rattle.witx_abi.proofs.caller.lower_params.Given as goal
 
 abbrev pub invariant-loop-nth : goal.invariant-loop-nth

@@ -1,6 +1,6 @@
 use Rattle.std.proofs.Common.{◌≡◌, ◌++◌, drop}
 use Rattle.witx_machine.specs.Traces.{make_spaces}
-use Rattle.witx_abi.specs.Reads.{planned_events, pointer_types}
+use Rattle.witx_abi.specs.Views.{planned_events, pointer_types}
 use Rattle.witx_abi.proofs.caller.make_spaces.Given as goal
 
 abbrev pub invariant-loop-slot : goal.invariant-loop-slot

@@ -1,5 +1,5 @@
 use Rattle.std.proofs.Common.{◌≡◌, drop, map}
-use Rattle.witx_ast.specs.Reads.{tree_of}
+use Rattle.witx_ast.specs.Views.{tree_of}
 use Rattle.witx_machine.specs.Lowerable.{all_names}
 use Rattle.witx_abi.proofs.can_lower.all_are_named.Given as goal
 

@@ -1,5 +1,5 @@
 use Rattle.std.proofs.Common.{◌≡◌, IsSome, take, drop, vec_len}
-use Rattle.witx_abi.specs.Reads.{planned_events}
+use Rattle.witx_abi.specs.Views.{planned_events}
 use Rattle.witx_machine.specs.Heights.{heights}
 use Rattle.witx_abi.specs.Told.{after}
 use Rattle.witx_abi.proofs.plan.play.Given as goal

@@ -1,6 +1,6 @@
 use Rattle.std.proofs.Common.{◌≡◌, ◌++◌, drop, map}
-use Rattle.witx_ast.specs.Reads.{tree_of}
-use Rattle.witx_abi.specs.Reads.{pointer_types}
+use Rattle.witx_ast.specs.Views.{tree_of}
+use Rattle.witx_abi.specs.Views.{pointer_types}
 use Rattle.witx_abi.proofs.pointers.push_members.Given as goal
 
 abbrev pub invariant-loop-member : goal.invariant-loop-member

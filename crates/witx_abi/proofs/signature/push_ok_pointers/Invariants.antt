@@ -1,7 +1,7 @@
 use Rattle.std.proofs.Common.{◌≡◌, ◌++◌, drop, map}
 use Rattle.witx_machine.specs.declared.surface.WasmType.{WasmType}
 use Rattle.witx_machine.specs.Signature.{pointers_of}
-use Rattle.witx_abi.specs.Reads.{param_types}
+use Rattle.witx_abi.specs.Views.{param_types}
 use Rattle.witx_abi.proofs.signature.push_ok_pointers.Given as goal
 
 abbrev pub invariant-loop-each : goal.invariant-loop-each

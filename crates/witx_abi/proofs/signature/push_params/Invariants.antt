@@ -1,6 +1,6 @@
 use Rattle.std.proofs.Common.{◌≡◌, ◌++◌, drop}
 use Rattle.witx_machine.specs.Signature.{words_of_params}
-use Rattle.witx_abi.specs.Reads.{param_types}
+use Rattle.witx_abi.specs.Views.{param_types}
 use Rattle.witx_abi.proofs.signature.push_params.Given as goal
 
 abbrev pub invariant-loop-param : goal.invariant-loop-param

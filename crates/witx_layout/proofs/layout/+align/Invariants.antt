@@ -1,5 +1,5 @@
 use Rattle.std.proofs.Common.{◌≡◌, ◌<◌, max, drop}
-use Rattle.witx_ast.specs.Reads.{members_plain, cases_plain}
+use Rattle.witx_ast.specs.Views.{members_plain, cases_plain}
 use Rattle.witx_layout.specs.Numbers.{members_align, payloads_align}
 use Rattle.witx_layout.proofs.layout.+align.Given as goal
 

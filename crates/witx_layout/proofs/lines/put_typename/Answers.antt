@@ -1,7 +1,7 @@
 use Rattle.std.proofs.Common.{◌≡◌, ◌++◌, string_bytes}
 use Rattle.witx_ast.specs.Plain.{plain}
 use Rattle.witx_ast.specs.Tree.{behind}
-use Rattle.witx_ast.specs.Reads.{tree_of, named_tree, datatype_tree}
+use Rattle.witx_ast.specs.Views.{tree_of, named_tree, datatype_tree}
 use Rattle.witx_layout.specs.LayoutsText.{part_lines, typename_lines}
 use Rattle.witx_layout.proofs.Written.{named-behind, lines-behind}
 use Rattle.witx_layout.proofs.lines.put_typename.Goals as goal

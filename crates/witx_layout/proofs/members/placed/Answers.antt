@@ -1,7 +1,7 @@
 use Rattle.std.proofs.Common.{arith, ◌≡◌, ◌≤◌, ◌^◌, refl}
 use Rattle.std.proofs.lemmas.List.{take_more, map-append}
 use Rattle.witx_ast.specs.Plain.{plain}
-use Rattle.witx_ast.specs.Reads.{tree_of}
+use Rattle.witx_ast.specs.Views.{tree_of}
 use Rattle.witx_layout.specs.Numbers.{align_to, align_of}
 use Rattle.witx_layout.proofs.Begins.{reached, reached-more, next-begin, begin-large, all-small}
 use Rattle.witx_layout.proofs.members.placed.Goals as goal

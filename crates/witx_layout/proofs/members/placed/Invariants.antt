@@ -1,5 +1,5 @@
 use Rattle.std.proofs.Common.{◌≡◌, map, take, drop, ◌++◌, ◌<◌, ◌≤◌, ◌^◌, All, MatchOption}
-use Rattle.witx_ast.specs.Reads.{members_plain}
+use Rattle.witx_ast.specs.Views.{members_plain}
 use Rattle.witx_layout.specs.Numbers.{offsets}
 use Rattle.witx_layout.proofs.Begins.{reached}
 use Rattle.witx_layout.proofs.members.placed.Given as goal

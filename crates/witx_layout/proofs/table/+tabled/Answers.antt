@@ -1,6 +1,6 @@
 use Rattle.std.proofs.Common.{◌≡◌, ◌+◌, arith, ap, sym, ◌∙◌, map}
 use Rattle.witx_ast.specs.Tree.{fields_of, arms_of}
-use Rattle.witx_ast.specs.Reads.{tree_of, datatype_tree, record_tree, variant_tree, member_field, case_arm}
+use Rattle.witx_ast.specs.Views.{tree_of, datatype_tree, record_tree, variant_tree, member_field, case_arm}
 use Rattle.witx_layout.specs.Nodes.{type_nodes, field_nodes, arm_nodes}
 use Rattle.witx_layout.proofs.Onward.{next-end, next-align, bare-size, bare-align, carries-size, carries-align}
 use Rattle.witx_layout.proofs.Nodes.{in-record, in-variant, in-value, in-record-nodes, in-variant-nodes, in-value-nodes, record-nodes, variant-nodes, record-known, variant-known, member-known, members-known, member-nodes, fewer-nodes, next-nodes, within-nodes, payload-known, payload-nodes, within-arm-nodes, same-arm-nodes, fewer-arm-nodes, bare-known, bare-nodes, payloads-known, carries-nodes}

@@ -1,6 +1,6 @@
 use Rattle.std.proofs.Common.{◌≡◌, ◌<◌, ◌≤◌, ◌+◌, ◌*◌, max, drop, map}
 use Rattle.witx_ast.specs.Tree.{fields_of, arms_of}
-use Rattle.witx_ast.specs.Reads.{tree_of, datatype_tree, record_tree, variant_tree, member_field, case_arm, members_plain, cases_plain}
+use Rattle.witx_ast.specs.Views.{tree_of, datatype_tree, record_tree, variant_tree, member_field, case_arm, members_plain, cases_plain}
 use Rattle.witx_layout.specs.Numbers.{members_end, members_align, payloads_size, payloads_align}
 use Rattle.witx_layout.specs.Nodes.{type_nodes, field_nodes, arm_nodes}
 use Rattle.witx_layout.proofs.Nodes.{left_nodes, left_arm_nodes, LeftKnown, LeftArmsKnown}

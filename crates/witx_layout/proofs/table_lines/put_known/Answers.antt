@@ -1,5 +1,5 @@
 use Rattle.witx_ast.specs.Plain.{plain}
-use Rattle.witx_ast.specs.Reads.{tree_of}
+use Rattle.witx_ast.specs.Views.{tree_of}
 use Rattle.witx_layout.specs.Numbers.{size_of}
 use Rattle.witx_layout.proofs.Typenames.{one-large}
 use Rattle.witx_layout.proofs.table_lines.put_known.Goals as goal

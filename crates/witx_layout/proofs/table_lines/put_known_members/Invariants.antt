@@ -1,5 +1,5 @@
 use Rattle.std.proofs.Common.{◌≡◌, ◌++◌, drop, string_bytes}
-use Rattle.witx_ast.specs.Reads.{members_plain}
+use Rattle.witx_ast.specs.Views.{members_plain}
 use Rattle.witx_layout.specs.Numbers.{members_end, offsets}
 use Rattle.witx_layout.specs.LayoutsText.{field_lines}
 use Rattle.witx_layout.proofs.Nodes.{LeftKnown}

@@ -1,5 +1,5 @@
 use Rattle.std.proofs.Common.{◌≡◌, take, map}
-use Rattle.witx_abi.specs.Reads.{event_of, planned_events}
+use Rattle.witx_abi.specs.Views.{event_of, planned_events}
 use Rattle.witx_abi.proofs.trace.Trace.of.Given as goal
 
 abbrev pub invariant-loop-planned : goal.invariant-loop-planned

@@ -1,15 +1,16 @@
 -- How the events and the instructions of the program are read: as the events of the machine.
 -- Each type is read as its tree, once, so that events say the same whatever pointers hold their types.
-use Rattle.std.specs.Prelude.{ℕ, List, map, length, Bool, true, false, option_map}
+use Rattle.std.specs.Prelude.{ℕ, List, map, length, Bool, true, false, Option, option_map}
 use Rattle.witx_ast.specs.declared.function.InterfaceFuncParam.{InterfaceFuncParam}
 use Rattle.witx_ast.specs.declared.function.InterfaceFunc.{InterfaceFunc}
 use Rattle.std.specs.Borrow.{Bor}
 use Rattle.std.specs.declared.alloc.Global.{Global}
 use Rattle.std.specs.declared.rc.Rc.{Rc}
 use Rattle.witx_ast.specs.declared.types.NamedType.{NamedType}
+use Rattle.witx_ast.specs.declared.types.TypeRef.{TypeRef}
 use Rattle.witx_ast.specs.declared.types.Variant.{Variant, out-Variant}
 use Rattle.witx_ast.specs.Tree.{Tree, Arms, arms_of}
-use Rattle.witx_ast.specs.Reads.{tree_of, named_tree, case_arm}
+use Rattle.witx_ast.specs.Views.{tree_of, named_tree, case_arm}
 use Rattle.witx_ast.specs.Plain.{Plain}
 use Rattle.witx_machine.specs.Functions.{Function}
 use Rattle.witx_machine.specs.Signature.{pointers_at}
@@ -38,6 +39,10 @@ is_list_type _ = false
 -- the types of return pointers
 abbrev pub pointer_types : List (Bor (Rc NamedType Global)) → List Tree
 pointer_types ps = map (λ p. named_tree p.now.value) ps
+
+-- the type of a payload, where there is one
+abbrev pub payload_tree : Option (Bor TypeRef) → Option Tree
+payload_tree t = option_map (λ t. tree_of t.now) t
 
 -- how many return pointers an ok type needs: one for each member of a tuple, else one
 abbrev pub pointer_number : Tree → ℕ
@@ -96,7 +101,7 @@ step_of (instruction.EnumLift t) = Step.EnumLift (named_tree t.now.value)
 step_of (instruction.EnumLower t) = Step.EnumLower (named_tree t.now.value)
 step_of instruction.VariantPayload = Step.VariantPayload
 step_of instruction.ReuseReturn = Step.ReuseReturn
-step_of (instruction.ResultLower ok err) = Step.ResultLower (option_map (λ t. tree_of t.now) ok) (option_map (λ t. tree_of t.now) err)
+step_of (instruction.ResultLower ok err) = Step.ResultLower (payload_tree ok) (payload_tree err)
 step_of instruction.ResultLift = Step.ResultLift
 step_of (instruction.Return n) = Step.Return n
 
