@@ -1,0 +1,11 @@
+pub mod Examples
+pub mod MappingExamples
+pub mod Standing
+pub mod SameLaws
+pub mod Steps
+pub mod Tables
+pub mod Mapping
+pub mod Gathering
+pub mod OnceLaws
+pub mod Copied
+pub mod PolyfillCopies

@@ -1,0 +1,10 @@
+pub mod Answers
+pub mod Represents
+pub mod Depth
+pub mod Conversions
+pub mod Polyfills
+pub mod Halves
+pub mod Gathered
+pub mod Once
+pub mod Views
+pub mod Seen

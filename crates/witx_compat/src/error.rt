@@ -1,0 +1,39 @@
+ghost use Rattle.std.specs.Prelude.{◌≡◌};
+
+use std::alloc::AllocError;
+use thiserror::Error;
+use witx_base::{Id, OutOfMemory};
+
+/// Why modules can't be mapped to each other.
+#[derive(PartialEq, Eq, Debug, Drop, Error)]
+pub enum PolyfillError {
+    /// A document lacks a module of that name.
+    #[error("Module not present: `{}`", .name.as_str())]
+    ModuleNotPresent { name: Id },
+    /// The new module, named `module`, lacks an old function.
+    #[error("Function not present: `{}`", .name.as_str())]
+    FuncNotPresent { module: Id, name: Id },
+    /// Memory was refused.
+    #[error("out of memory")]
+    OutOfMemory,
+}
+
+impl From<OutOfMemory> for PolyfillError {
+    ghost use Rattle.witx_compat.specs.declared.error.PolyfillError.TheVariants as error;
+
+    ghost from_gives = { λ _ e. e ≡ error.OutOfMemory };
+
+    fn from(_refused: OutOfMemory) -> PolyfillError {
+        PolyfillError::OutOfMemory
+    }
+}
+
+impl From<AllocError> for PolyfillError {
+    ghost use Rattle.witx_compat.specs.declared.error.PolyfillError.TheVariants as error;
+
+    ghost from_gives = { λ _ e. e ≡ error.OutOfMemory };
+
+    fn from(_refused: AllocError) -> PolyfillError {
+        PolyfillError::OutOfMemory
+    }
+}
