@@ -1,0 +1,39 @@
+-- What a write asks for and gives.
+use Rattle.std.specs.Prelude.{◌≡◌, ℕ, ◌+◌, ◌^◌, ◌≤◌, true, Option, Some, None}
+use Rattle.witx_ast.specs.Plain.{Plain, plain, Fields, Arms}
+use Rattle.witx_ast.specs.Values.{Value, Values}
+use Rattle.witx_ast.specs.ValueTests.{is_value, are_values}
+use Rattle.witx_ast.specs.Tags.{fits, fields_fit, arms_fit}
+use Rattle.witx_ast.specs.Views.{tree_of}
+use Rattle.witx_ast.specs.declared.types.TypeRef.{TypeRef}
+use Rattle.witx_bytes.specs.Bytes.{Bytes, Image, AreHeld, written}
+use Rattle.witx_bytes.specs.Payloads.{is_case}
+
+-- a value of the type, which fits its tags
+pub record CanWrite (t : Plain) (v : Value) : Type 0 where
+  pub value : is_value t v ≡ true
+  pub fit : fits t ≡ true
+
+-- the same of members
+pub record CanWriteAll (ms : Fields) (vs : Values) : Type 0 where
+  pub values : are_values ms vs ≡ true
+  pub fit : fields_fit ms ≡ true
+
+-- the same of a payload
+pub record CanWritePayload (cs : Arms) (i : ℕ) (o : Option Value) : Type 0 where
+  pub value : is_case cs i o ≡ true
+  pub fit : arms_fit cs ≡ true
+
+-- a payload of a case that has this type
+abbrev pub CanWriteCase : Option TypeRef → Value → Type 0
+CanWriteCase None v = ⊥
+CanWriteCase (Some t) v = CanWrite (plain (tree_of t)) v
+
+-- the range ends within 2^32, and its bytes are held
+pub record HasRange (at size : ℕ) (m : Bytes) : Type 0 where
+  pub within : at + size ≤ 2 ^ 32
+  pub held : AreHeld at (at + size) m
+
+-- exactly the bytes of the image are set
+abbrev pub Writes : ℕ → Image → Bytes → Bytes → Type 0
+Writes at xs m k = (x : ℕ) → k x ≡ written at xs m x

@@ -1,0 +1,40 @@
+ghost use Rattle.std.specs.Prelude.{◌≡◌, ℕ, length, Some, ◌↔◌};
+ghost use Rattle.witx_ast.specs.Plain.{Plain};
+ghost use Rattle.witx_ast.specs.Values.{Value, IsValue};
+ghost use Rattle.witx_ast.specs.Tags.{AllFit};
+ghost use Rattle.witx_layout.specs.Numbers.{size_of};
+ghost use Rattle.witx_bytes.specs.Bytes.{Bytes, AreBytes};
+ghost use Rattle.witx_bytes.specs.Images.{image, Spells};
+ghost use Rattle.witx_bytes.specs.Reading.{value_at};
+ghost use Rattle.witx_bytes.specs.Follow.{BytesFollowCells};
+
+use witx_layout::Layout;
+
+/// The image of a value is as long as its type's size.
+pub fn image_has_the_size()
+    ensures { (t : Plain) (v : Value) → IsValue t v → length (image t v) ≡ size_of t }
+{}
+
+/// Bytes spell at most one value of a type that fits its tags.
+pub fn at_most_one_value()
+    ensures { (t : Plain) (memory : Bytes) (at : ℕ) (v w : Value) → AllFit t → Spells memory at t v → Spells memory at t w → v ≡ w }
+{}
+
+/// What is read of a type that fits its tags is the value that the bytes spell.
+pub fn reading_is_spelling()
+    ensures { (t : Plain) (m : Bytes) (at : ℕ) (v : Value) → AreBytes m → AllFit t → value_at t m at ≡ Some v ↔ Spells m at t v }
+{}
+
+/// Alike types, whose plain trees are equal, have the same values with the same images.
+pub fn alike_images<A: Layout, B: Layout>(a: &A, b: &B)
+    requires { A.plain_tree a.now ≡ B.plain_tree b.now }
+    ensures values { (v : Value) → IsValue (A.plain_tree a.now) v → IsValue (B.plain_tree b.now) v }
+    ensures images { (v : Value) → image (A.plain_tree a.now) v ≡ image (B.plain_tree b.now) v }
+{}
+
+/// Where a run over cells from an empty memory has an outcome, and takes addresses that are fit for a
+/// memory of bytes, the run over these bytes with the same addresses has the same words, noted values
+/// and returned values, and the given bytes are unchanged.
+pub fn bytes_follow_cells()
+    ensures { BytesFollowCells }
+{}

@@ -1,0 +1,20 @@
+//! A memory of bytes, and the images of values in it.
+#![tactic(auto)]
+
+mod fitting;
+mod laws;
+mod membership;
+mod memory;
+mod numbers;
+mod places;
+mod value;
+mod write;
+
+pub use fitting::writable;
+pub use laws::{
+    alike_images, at_most_one_value, bytes_follow_cells, image_has_the_size, reading_is_spelling,
+};
+pub use membership::is_value;
+pub use memory::{ByteMemory, PlaceError};
+pub use value::{Bools, Value, Values};
+pub use write::write_value;

@@ -1,0 +1,98 @@
+ghost use Rattle.std.specs.Prelude.{◌≡◌, ◌+◌, ◌^◌, ◌<◌, ◌≤◌, ℕ, true, is_some, pos, length};
+ghost use Rattle.witx_ast.specs.ValueTests.{in_range as is_in_range, is_below as below, is_within as within};
+ghost use Rattle.witx_layout.specs.Numbers.{builtin_size};
+ghost use Rattle.witx_machine.specs.Words.{wrapped, bits_of_flags};
+ghost use Rattle.witx_bytes.specs.Bytes.{held, written, all_held, AreHeld};
+ghost use Rattle.witx_bytes.specs.Images.{little};
+ghost use Rattle.witx_bytes.specs.Writes.{HasRange, Writes};
+
+use crate::memory::ByteMemory;
+use witx_ast::BuiltinType;
+
+/// Writes a number in so many bytes, the lowest first.
+#[tactic(auto, using(crate::proofs::Writing::number_rules))]
+pub(crate) fn write_number(memory: &mut ByteMemory, at: u64, width: u64, number: u64)
+    requires { HasRange at width (held memory.old) }
+    ensures { Writes at (little width number) (held memory.old) (held memory.new) }
+{
+    let mut rest = number;
+    for x in at..at + width {
+        memory.put(x as u32, (rest % 256) as u8);
+        rest /= 256;
+    }
+}
+
+/// How many numbers a builtin has room for.
+fn modulus(builtin: BuiltinType) -> i128
+    ensures { result ≡ pos (256 ^ builtin_size builtin) }
+{
+    match builtin {
+        BuiltinType::U8 { lang_c_char: _ } | BuiltinType::S8 => 1 << 8,
+        BuiltinType::U16 | BuiltinType::S16 => 1 << 16,
+        BuiltinType::Char
+        | BuiltinType::U32 { lang_ptr_size: _ }
+        | BuiltinType::S32
+        | BuiltinType::F32 => 1 << 32,
+        BuiltinType::U64 | BuiltinType::S64 | BuiltinType::F64 => 1 << 64,
+    }
+}
+
+/// The number in two's complement of the builtin's size.
+pub(crate) fn number_bits(builtin: BuiltinType, number: i128) -> u64
+    requires { is_in_range builtin number ≡ true }
+    ensures { result ≡ wrapped (256 ^ builtin_size builtin) number }
+{
+    if number < 0 {
+        (number + modulus(builtin)) as u64
+    } else {
+        number as u64
+    }
+}
+
+/// Flag k is bit k.
+#[tactic(auto, using(crate::proofs::FlagBits::flag_rules))]
+pub(crate) fn flag_bits(flags: &[bool]) -> u64
+    requires { length flags.now ≤ 64 }
+    ensures { result ≡ bits_of_flags flags.now }
+{
+    let mut bits = 0;
+    let mut i = flags.len();
+    while i > 0 {
+        i -= 1;
+        bits = bits * 2 + if flags[i] { 1 } else { 0 };
+    }
+    bits
+}
+
+/// Whether a number is one of the builtin.
+pub(crate) fn in_range(ty: BuiltinType, number: i128) -> bool
+    ensures { result ≡ is_in_range ty number }
+{
+    match ty {
+        BuiltinType::Char => is_below(number, 0xD800)
+            || (number >= 0xE000 && is_below(number, 0x110000)),
+        BuiltinType::U8 { lang_c_char: _ } => is_below(number, 1 << 8),
+        BuiltinType::U16 => is_below(number, 1 << 16),
+        BuiltinType::U32 { lang_ptr_size: _ } => is_below(number, 1 << 32),
+        BuiltinType::U64 => is_below(number, 1 << 64),
+        BuiltinType::S8 => is_within(number, 1 << 7),
+        BuiltinType::S16 => is_within(number, 1 << 15),
+        BuiltinType::S32 => is_within(number, 1 << 31),
+        BuiltinType::S64 => is_within(number, 1 << 63),
+        BuiltinType::F32 => is_below(number, 1 << 32),
+        BuiltinType::F64 => is_below(number, 1 << 64),
+    }
+}
+
+fn is_below(number: i128, end: u128) -> bool
+    ensures { result ≡ below end number }
+{
+    number >= 0 && (number as u128) < end
+}
+
+fn is_within(number: i128, end: u128) -> bool
+    requires { end < 2 ^ 127 }
+    ensures { result ≡ within end number }
+{
+    number >= -(end as i128) && number < end as i128
+}

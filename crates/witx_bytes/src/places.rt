@@ -1,0 +1,29 @@
+ghost use Rattle.std.specs.Prelude.{◌≡◌, ◌^◌, ◌<◌, ◌≤◌};
+ghost use Rattle.witx_ast.specs.Plain.{plain};
+ghost use Rattle.witx_ast.specs.Views.{tree_of};
+ghost use Rattle.witx_layout.specs.Numbers.{size_of, align_of, align_to as rounded};
+
+use witx_ast::TypeRef;
+use witx_layout::{Layout, SizeAlign, TooLarge};
+
+/// The offset, rounded up to a multiple of the alignment.
+pub(crate) fn rounded_up(offset: u64, alignment: u64) -> u64
+    requires some { 0 < alignment }
+    requires few { alignment ≤ 8 }
+    requires small { rounded offset alignment < 2 ^ 64 }
+    ensures { result ≡ rounded offset alignment }
+{
+    offset + (alignment - offset % alignment) % alignment
+}
+
+/// The layout of a type that isn't too large.
+pub(crate) fn layout_of(ty: &TypeRef) -> SizeAlign
+    requires { size_of (plain (tree_of ty.now)) < 2 ^ 64 }
+    ensures size { result.size ≡ size_of (plain (tree_of ty.now)) }
+    ensures align { result.align ≡ align_of (plain (tree_of ty.now)) }
+{
+    match ty.mem_size_align() {
+        Ok(layout) => layout,
+        Err(TooLarge) => unreachable!(),
+    }
+}
