@@ -1,6 +1,6 @@
 pub mod Paths
 pub mod Exclusion
-pub mod Reading
+pub mod ReadThrough
 pub mod Refusing
 pub mod Running
-pub mod Writing
+pub mod WrittenWhole

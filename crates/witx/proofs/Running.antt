@@ -12,7 +12,7 @@ use Rattle.witx_adapt.specs.Listings.{listing_text}
 use Rattle.witx.specs.declared.words.Command.{Command}
 use Rattle.witx.specs.declared.words.Command.TheVariants as command
 use Rattle.witx.specs.Adapting.{IsAdapted, Parses, defined}
-use Rattle.witx.specs.Causes.{IsAnswered, IsMeaning, IsOutput, Reads}
+use Rattle.witx.specs.Causes.{IsAnswered, IsMeaning, IsOutput, Reads, RunInput}
 
 -- the facts of a listed value
 pub record IsListed (form : Option Command) (files : Files) (handed : List Path) (text : List ℕ) (a : Adapted) : Type 0 where
@@ -52,16 +52,16 @@ listed-in : (form : Option Command) (files : Files) (handed : List Path) (text :
 listed-in form files handed text None P o h = tt
 listed-in form files handed text (Some a) P o h = h a (listed-output form files handed text a o)
 
-module _ (form : Option Command) (left after : Option (List ℕ)) (handed : List Path) (before now : ℕ) (text : List ℕ) (adapted r : Option Adapted) (status : ℕ)
-    (x : IsAnswered form left after handed before now text adapted) (e : r ≡ (if status == 0 then adapted else None)) where
-  kept : (P : Adapted → Type 0) → (status ≡ 0 → (a : Adapted) → IsListed form x.files handed text a → P a) → IfSome r P
-  kept P h = kept-if (status == 0) adapted r P e (λ z. listed-in form x.files handed text adapted P x.output (h (eqb-true status 0 z)))
+module _ (i : RunInput) (text : List ℕ) (adapted r : Option Adapted) (status : ℕ)
+    (x : IsAnswered i text adapted) (e : r ≡ (if status == 0 then adapted else None)) where
+  kept : (P : Adapted → Type 0) → (status ≡ 0 → (a : Adapted) → IsListed i.form x.files i.handed text a → P a) → IfSome r P
+  kept P h = kept-if (status == 0) adapted r P e (λ z. listed-in i.form x.files i.handed text adapted P x.output (h (eqb-true status 0 z)))
 
   pub kept-listing : (a b : Option (List ℕ)) → (status ≡ 0 → Appends a b text) → IfSome r (λ v. Appends a b (listing_text v))
   kept-listing a b h = kept (λ v. Appends a b (listing_text v)) (λ z v l. subst (Appends a b) l.listed (h z))
 
-  pub kept-document : IfSome r (λ v. IsMeaning left handed (defined v))
-  kept-document = kept (λ v. IsMeaning left handed (defined v)) (λ z v l. meaning-of left x.files handed v x.bundle l.meant)
+  pub kept-document : IfSome r (λ v. IsMeaning i.left i.handed (defined v))
+  kept-document = kept (λ v. IsMeaning i.left i.handed (defined v)) (λ z v l. meaning-of i.left x.files i.handed v x.bundle l.meant)
 
   pub kept-functions : IfSome r (λ v. map entry_of v.functions ≡ map entry_for (all_functions (defined v)))
   kept-functions = kept (λ v. map entry_of v.functions ≡ map entry_for (all_functions (defined v))) (λ z v l. l.parts.functions)
@@ -72,11 +72,11 @@ module _ (form : Option Command) (left after : Option (List ℕ)) (handed : List
   pub kept-faithful : IfSome r (λ v. All IsFaithful v.functions)
   kept-faithful = kept (λ v. All IsFaithful v.functions) (λ z v l. l.parts.faithful)
 
-  pub kept-adapted : IsSome r → (status ≡ 0) × (form ≡ Some command.Adapt)
-  kept-adapted i = some-is ((status ≡ 0) × (form ≡ Some command.Adapt)) r i (kept (λ v. (status ≡ 0) × (form ≡ Some command.Adapt)) (λ z v l. (z, l.is_adapt)))
+  pub kept-adapted : IsSome r → (status ≡ 0) × (i.form ≡ Some command.Adapt)
+  kept-adapted there = some-is ((status ≡ 0) × (i.form ≡ Some command.Adapt)) r there (kept (λ v. (status ≡ 0) × (i.form ≡ Some command.Adapt)) (λ z v l. (z, l.is_adapt)))
 
-  pub kept-done : status ≡ 0 → IsAnswered form left after handed before now text r
-  kept-done z = subst (IsAnswered form left after handed before now text) (sym (e ∙ ap (λ b. cond b adapted None) (eq-eqb status 0 z))) x
+  pub kept-done : status ≡ 0 → IsAnswered i text r
+  kept-done z = subst (IsAnswered i text) (sym (e ∙ ap (λ b. cond b adapted None) (eq-eqb status 0 z))) x
 
-  pub kept-listed : status ≡ 0 → form ≡ Some command.Adapt → IsSome r
-  kept-listed z f = let y = kept-done z in has-value y.files handed text r (subst (λ o. IsOutput o y.files handed text r) f y.output)
+  pub kept-listed : status ≡ 0 → i.form ≡ Some command.Adapt → IsSome r
+  kept-listed z f = let y = kept-done z in has-value y.files i.handed text r (subst (λ o. IsOutput o y.files i.handed text r) f y.output)

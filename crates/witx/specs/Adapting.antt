@@ -47,7 +47,8 @@ abbrev pub AdaptRefuses : Option Files → Option Aliases → List Path → (bef
 AdaptRefuses files aliases handed before now (adapt_error.Refused e) = IsTextRefusal e × IsParsed files aliases handed before now (Err e)
 AdaptRefuses files aliases handed before now (adapt_error.TagTooNarrow t) = DocumentRefused files aliases handed before now (document_error.TagTooNarrow t)
 AdaptRefuses files aliases handed before now (adapt_error.TooLarge n) = DocumentRefused files aliases handed before now (document_error.TooLarge n)
-AdaptRefuses files aliases handed before now (adapt_error.Unlowerable m f p) = DocumentRefused files aliases handed before now (document_error.Unlowerable m f p)
+AdaptRefuses files aliases handed before now (adapt_error.Unlowerable m f p) =
+    DocumentRefused files aliases handed before now (document_error.Unlowerable m f p)
 AdaptRefuses files aliases handed before now adapt_error.OutOfMemory = Unit {0}
 
 -- what is so of a refusal over any reader, whether or not it tells its files

@@ -18,6 +18,7 @@ use Rattle.witx.specs.declared.words.Command.TheVariants as command
 use Rattle.witx.specs.declared.input.InputError.{InputError}
 use Rattle.witx.specs.declared.input.InputError.TheVariants as input
 use Rattle.witx.specs.Streams.{Finished}
+use Rattle.witx.specs.Words.{command_of, handed_by}
 use Rattle.witx.specs.declared.refusal.Stop.{Stop}
 use Rattle.witx.specs.declared.refusal.Stop.TheVariants as stop
 use Rattle.witx.specs.declared.refusal.Refusal.{Refusal}
@@ -49,23 +50,42 @@ abbrev pub FormRefuses : Option Command → Files → List Path → List ℕ →
 FormRefuses None files handed report = ⊥
 FormRefuses (Some c) files handed report = CommandRefuses c files handed report
 
--- what is so where a run refuses: form is the command of the words, where they have a form; left says which bytes the
--- source had left, and before and now are its count of faults
-abbrev pub Cause : (form : Option Command) → (left : Option (List ℕ)) → (handed : List Path) → (before now : ℕ) → Refusal → Type 0
-Cause form left handed before now refusal.Usage = (form ≡ None) × (now ≡ before)
-Cause form left handed before now refusal.Source = IsSome form × Rose before now
-Cause form left handed before now (refusal.Bundle e) = IsSome form × (now ≡ before) × IsCause e × Reads left (Err e)
-Cause form left handed before now (refusal.Command report) = (now ≡ before) × (files : Files) × Reads left (Ok files) × FormRefuses form files handed report
+-- what a run is given: the command of its words, where they have a form, the paths that they hand, and what is told of
+-- its source: which bytes it had left before and has left after, and its count of faults before and now
+pub record RunInput : Type 0 where
+  pub form : Option Command
+  pub handed : List Path
+  pub left : Option (List ℕ)
+  pub after : Option (List ℕ)
+  pub before : ℕ
+  pub now : ℕ
+
+-- with a source, by what is told of it
+abbrev pub run_input : {S : Type 0} → Option Command → List Path → (S → Option (List ℕ)) → (S → ℕ) → (old new : S) → RunInput
+run_input form handed left faults old new =
+    record { form = form; handed = handed; left = left old; after = left new; before = faults old; now = faults new }
+
+-- with words
+abbrev pub input_of : {S : Type 0} → List (List ℕ) → (S → Option (List ℕ)) → (S → ℕ) → (old new : S) → RunInput
+input_of words left faults old new = run_input (command_of words) (handed_by words) left faults old new
+
+-- what is so where a run refuses
+abbrev pub Cause : RunInput → Refusal → Type 0
+Cause i refusal.Usage = (i.form ≡ None) × (i.now ≡ i.before)
+Cause i refusal.Source = IsSome i.form × Rose i.before i.now
+Cause i (refusal.Bundle e) = IsSome i.form × (i.now ≡ i.before) × IsCause e × Reads i.left (Err e)
+Cause i (refusal.Command report) = (i.now ≡ i.before) × (files : Files) × Reads i.left (Ok files) × FormRefuses i.form files i.handed report
 
 -- why a run has no output
-abbrev pub StopCause : (form : Option Command) → (left : Option (List ℕ)) → (handed : List Path) → (before now : ℕ) → Stop → Type 0
-StopCause form left handed before now (stop.Refused r) = Cause form left handed before now r
-StopCause form left handed before now stop.OutOfMemory = now ≡ before
+abbrev pub StopCause : RunInput → Stop → Type 0
+StopCause i (stop.Refused r) = Cause i r
+StopCause i stop.OutOfMemory = i.now ≡ i.before
 
 -- the text that a command writes over the files of a bundle, and the value that it lists
 unfoldable pub IsOutput : Option Command → Files → List Path → List ℕ → Option Adapted → Type 0
 IsOutput (Some command.Adapt) files handed text (Some a) = Parses files handed (Ok (defined a)) × IsAdapted a × (text ≡ listing_text a)
-IsOutput (Some command.Layouts) files handed text None = (ds : List DefinitionTree) × Parses files handed (Ok ds) × All (λ size. size < 2 ^ 64) (typename_sizes ds) × (text ≡ layouts_text ds)
+IsOutput (Some command.Layouts) files handed text None =
+    (ds : List DefinitionTree) × Parses files handed (Ok ds) × All (λ size. size < 2 ^ 64) (typename_sizes ds) × (text ≡ layouts_text ds)
 IsOutput _ files handed text adapted = ⊥
 
 -- the files mean a document of which the command tells everything
@@ -74,12 +94,12 @@ IsValidFor command.Adapt files handed = (ds : List DefinitionTree) × Parses fil
 IsValidFor command.Layouts files handed = (ds : List DefinitionTree) × Parses files handed (Ok ds) × All (λ size. size < 2 ^ 64) (typename_sizes ds)
 
 -- what is so where a run has its output: the source was read to its end and gave a bundle, over whose files it is
-pub record IsAnswered (form : Option Command) (left after : Option (List ℕ)) (handed : List Path) (before now : ℕ) (text : List ℕ) (adapted : Option Adapted) : Type 0 where
-  pub finished : Finished left after
-  pub no_fault : now ≡ before
+pub record IsAnswered (i : RunInput) (text : List ℕ) (adapted : Option Adapted) : Type 0 where
+  pub finished : Finished i.left i.after
+  pub no_fault : i.now ≡ i.before
   pub files : Files
-  pub bundle : Reads left (Ok files)
-  pub output : IsOutput form files handed text adapted
+  pub bundle : Reads i.left (Ok files)
+  pub output : IsOutput i.form files i.handed text adapted
 
 -- the definitions of the document that the bytes of a bundle mean, where they are told
 abbrev pub IsMeaning : (left : Option (List ℕ)) → (handed : List Path) → List DefinitionTree → Type 0

@@ -19,7 +19,8 @@ use Rattle.witx.specs.Causes.{IsOutput, IsValidFor}
 -- two readings of one bundle never give an output and a refusal
 abbrev pub OutputOrRefusal : Type 0
 OutputOrRefusal = (bytes : List ℕ) (files others : Files) → IsRead bytes (Ok files) → IsRead bytes (Ok others)
-    → (handed : List Path) (c : Command) (text report : List ℕ) (adapted : Option Adapted) → IsOutput (Some c) others handed text adapted → CommandRefuses c files handed report → ⊥
+    → (handed : List Path) (c : Command) (text report : List ℕ) (adapted : Option Adapted)
+    → IsOutput (Some c) others handed text adapted → CommandRefuses c files handed report → ⊥
 
 -- a bundle whose files are valid for a command isn't refused by it
 abbrev pub ValidIsNotRefused : Type 0
@@ -28,5 +29,6 @@ ValidIsNotRefused = (bytes : List ℕ) (files others : Files) → IsRead bytes (
 
 -- told files that are valid are refused only for want of memory, where no call failed
 abbrev pub ValidFilesAreNotRefused : Type 0
-ValidFilesAreNotRefused = (files : Files) (aliases : Aliases) (handed : List Path) (ds : List DefinitionTree) → IsParsed (Some files) (Some aliases) handed 0 0 (Ok ds) → IsAdaptable ds
+ValidFilesAreNotRefused = (files : Files) (aliases : Aliases) (handed : List Path) (ds : List DefinitionTree)
+    → IsParsed (Some files) (Some aliases) handed 0 0 (Ok ds) → IsAdaptable ds
     → (before now : ℕ) (e : AdaptError) → (Rose before now → ⊥) → AdaptRefuses (Some files) (Some aliases) handed before now e → e ≡ adapt_error.OutOfMemory

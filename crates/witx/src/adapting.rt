@@ -35,7 +35,8 @@ pub fn adapt<I: WitxIo>(
     ensures refused { IfErr result (AdaptRefuses (I.files io.old) (I.aliases io.old) paths.now (I.faults io.old) (I.faults io.new)) }
     ensures cause { IfErr result (HasAdaptCause (λ p. Contains paths.now p × (file_name p ≡ None)) (I.files io.old) (I.faults io.old) (I.faults io.new)) }
     ensures complete { (files : Files) (aliases : Aliases) (ds : List DefinitionTree) → I.files io.old ≡ Some files → I.aliases io.old ≡ Some aliases
-        → IsParsed (Some files) (Some aliases) paths.now 0 0 (Ok ds) → IsAdaptable ds → (Rose (I.faults io.old) (I.faults io.new) → ⊥) → IfErr result (λ e. e ≡ AdaptError.OutOfMemory) }
+        → IsParsed (Some files) (Some aliases) paths.now 0 0 (Ok ds) → IsAdaptable ds
+        → (Rose (I.faults io.old) (I.faults io.new) → ⊥) → IfErr result (λ e. e ≡ AdaptError.OutOfMemory) }
     ensures no_fault { OnOk result (I.faults io.new ≡ I.faults io.old) }
     ensures files { I.files io.new ≡ I.files io.old }
     ensures aliases { I.aliases io.new ≡ I.aliases io.old }
@@ -61,7 +62,8 @@ pub fn adapted<I: WitxIo>(
     ensures adaptable { IfOk result (λ a. IsAdaptable (defined a)) }
     ensures refused { IfErr result (λ u. AdaptRefuses (I.files io.old) (I.aliases io.old) paths.now (I.faults io.old) (I.faults io.new) (refusal_of u)) }
     ensures meant { IfErr result (IsMeant (I.files io.old) (I.aliases io.old) paths.now (I.faults io.old) (I.faults io.new)) }
-    ensures cause { IfErr result (λ u. HasAdaptCause (λ p. Contains paths.now p × (file_name p ≡ None)) (I.files io.old) (I.faults io.old) (I.faults io.new) (refusal_of u)) }
+    ensures cause { IfErr result (λ u. HasAdaptCause (λ p. Contains paths.now p × (file_name p ≡ None))
+        (I.files io.old) (I.faults io.old) (I.faults io.new) (refusal_of u)) }
     ensures no_fault { OnOk result (I.faults io.new ≡ I.faults io.old) }
     ensures files { I.files io.new ≡ I.files io.old }
     ensures aliases { I.aliases io.new ≡ I.aliases io.old }

@@ -75,7 +75,7 @@ fn read_buffer(alloc: Global) -> Result<Vec<u8>, AllocError>
 }
 
 /// Reads until the end, or until there is one byte more than a bundle may have.
-#[tactic(auto, using(crate::proofs::Reading::reading_rules))]
+#[tactic(auto, using(crate::proofs::ReadThrough::reading_rules))]
 fn read_through<S: Source>(
     source: &mut S,
     buffer: &mut [u8],
@@ -117,7 +117,7 @@ fn read_bytes<S: Source>(alloc: Global, source: &mut S) -> Result<Vec<u8>, Input
 ///
 /// `Source` comes only where the source failed; `Bundle` exactly where its bytes are no bundle, unless
 /// it failed before.
-#[tactic(auto, using(crate::proofs::Reading::bundle_rules))]
+#[tactic(auto, using(crate::proofs::ReadThrough::bundle_rules))]
 pub fn read_bundle<S: Source>(alloc: Global, source: &mut S) -> Result<MockFs, InputError>
     ensures files { IfOk result (λ files. Reads (S.left source.old) (Ok files)) }
     ensures finished { OnOk result (Finished (S.left source.old) (S.left source.new)) }

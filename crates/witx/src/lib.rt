@@ -1,4 +1,6 @@
-//! The program: it reads a bundle of interface texts and writes what its command asks for.
+//! The program: it reads a bundle of interface texts and writes what its command asks for. And the whole
+//! library, in one crate to be named: what the crates below offer to a caller stands here too. The laws
+//! about their definitions, which nobody calls, stay where they are.
 #![tactic(auto)]
 
 mod adapting;
@@ -23,7 +25,57 @@ pub use output::put_text;
 pub use program::{Ran, run};
 pub use refusal::Refusal;
 pub use status::NO_MEMORY;
-pub use witx_adapt::{Adapted, AdaptedFunc, AdaptedFuncs, SizeAligns, listing};
-pub use witx_bundle::{Bundle, BundleError};
-pub use witx_walk::{WitxError, parse, parse_witx_with};
 pub use words::{Command, command_of};
+// By hand, since more than a hundred names would be laid out one a line.
+#[rattlefmt::skip]
+pub use witx_base::{
+    Bytes, CallCounter, Calls, Duplicate, Failed, Id, Items, MemSink, MemSource, NameMap,
+    OutOfMemory, Reading, Sink, Source, Text, WitxPath, Writing,
+};
+#[rattlefmt::skip]
+pub use witx_lex::{
+    Comments, LexError, LexFault, LexKind, Lexed, LineCursor, Span, Token, Tokens, lex, line_column,
+};
+#[rattlefmt::skip]
+pub use witx_syntax_tree::{
+    BuiltinSyntax, CaseSyntax, CaseSyntaxes, CommentSyntax, ConstSyntax, DeclSyntax, Documented,
+    EnumSyntax, ExpectedSyntax, FieldSyntax, FieldSyntaxes, FlagsSyntax, HandleSyntax, IdSyntax,
+    ImportTypeSyntax, InterfaceFuncSyntax, MemberSyntaxes, ModuleDeclSyntax, ModuleDeclSyntaxes,
+    ModuleImportSyntax, ModuleSyntax, RecordSyntax, TopLevelDocument, TopLevelSyntax,
+    TopLevelSyntaxes, TupleSyntax, TypeSyntaxes, TypedefSyntax, TypenameSyntax, UnionFieldSyntaxes,
+    UnionSyntax, VariantSyntax, documentation,
+};
+#[rattlefmt::skip]
+pub use witx_syntax::{ParseError, ParseFault, SyntaxError, parse_document};
+#[rattlefmt::skip]
+pub use witx_files::{Aliases, FailingFs, IoError, IoFault, Location, MockFs, WitxIo};
+#[rattlefmt::skip]
+pub use witx_bundle::{Bundle, BundleError};
+#[rattlefmt::skip]
+pub use witx_ast::{
+    Abi, BuiltinType, Case, Cases, Constant, Constants, Datatype, Definition, Definitions, Document,
+    Entries, Entry, Funcs, HandleDatatype, Imports, IntRepr, InterfaceFunc, InterfaceFuncParam,
+    Kind, Members, Module, ModuleDefinition, ModuleDefinitions, ModuleEntries, ModuleEntry,
+    ModuleImport, ModuleImportVariant, Modules, NamedType, OfKind, Params, RecordDatatype,
+    RecordKind, RecordMember, TypeRef, TypeRefs, Typenames, Variant,
+};
+#[rattlefmt::skip]
+pub use witx_check::{CheckError, DocValidation, DocValidationScope, SharedPath, ValidationError};
+#[rattlefmt::skip]
+pub use witx_walk::{WitxError, parse, parse_witx_with};
+#[rattlefmt::skip]
+pub use witx_layout::{
+    Layout, LayoutError, LayoutsError, MemberLayouts, RecordMemberLayout, RecordMembers, SizeAlign,
+    SizeAligns, Steps, TagTooNarrow, TooLarge, VariantOffset, fits_tags, layouts, layouts_text,
+    ordered_layouts_text, uncounted_layouts,
+};
+#[rattlefmt::skip]
+pub use witx_abi::{
+    AbiError, AbiFunc, Bindgen, BindgenError, Event, Events, FailingBindgen, Instruction, Place,
+    SignatureError, Step, Trace, WasmType, WasmTypes, callee_trace, caller_trace, lowerable,
+    words_back, words_in,
+};
+#[rattlefmt::skip]
+pub use witx_adapt::{
+    Adapted, AdaptedFunc, AdaptedFuncs, DocumentError, RefusedDocument, adapt_document, listing,
+};

@@ -14,7 +14,7 @@ fn from(bytes: &[u8], at: usize) -> &[u8]
 }
 
 /// Writes a whole text, or fails where the sink does; the sink then holds a prefix of the text.
-#[tactic(auto, using(crate::proofs::Writing::writing_rules))]
+#[tactic(auto, using(crate::proofs::WrittenWhole::writing_rules))]
 pub fn put_text<K: Sink>(sink: &mut K, text: &str) -> Result<(), Failed>
     ensures whole { OnOk result (Appends (K.taken sink.old) (K.taken sink.new) text.now) }
     ensures no_fault { OnOk result (K.faults sink.new ≡ K.faults sink.old) }

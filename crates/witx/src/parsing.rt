@@ -20,7 +20,8 @@ pub fn parsed<I: WitxIo>(
     paths: &[WitxPath],
     io: &mut I,
 ) -> Result<Document, WitxError>
-    ensures document { IfOk result (λ d. IsParsed (I.files io.old) (I.aliases io.old) paths.now (I.faults io.old) (I.faults io.new) (Ok (map definition_tree d.definitions))) }
+    ensures document { IfOk result (λ d. IsParsed (I.files io.old) (I.aliases io.old) paths.now (I.faults io.old) (I.faults io.new)
+        (Ok (map definition_tree d.definitions))) }
     ensures ordered { IfOk result (λ d. IsOrdered (map definition_tree d.definitions)) }
     ensures closed { IfOk result (λ d. IsClosed (map definition_tree d.definitions)) }
     ensures refused { IfErr result (λ e. IsParsed (I.files io.old) (I.aliases io.old) paths.now (I.faults io.old) (I.faults io.new) (Err e)) }

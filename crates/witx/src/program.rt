@@ -14,7 +14,7 @@ ghost use Rattle.witx.specs.Adapting.{defined};
 ghost use Rattle.witx.specs.Reports.{CommandRefuses};
 ghost use Rattle.witx_files.specs.Files.{Files};
 ghost use Rattle.witx.specs.declared.words.Command.{Command};
-ghost use Rattle.witx.specs.Causes.{Cause, IsAnswered, IsCause, IsMeaning, IsTold, IsValidFor, StopCause};
+ghost use Rattle.witx.specs.Causes.{Cause, IsAnswered, IsCause, IsMeaning, IsTold, IsValidFor, StopCause, input_of, run_input};
 
 use crate::commands::{Output, perform};
 use crate::input::{InputError, READS, read_bundle};
@@ -54,7 +54,7 @@ pub fn run<S: Source, O: Sink, E: Sink>(
     err: &mut E,
 ) -> Ran
     ensures done { result.status ≡ 0 → (text : List ℕ)
-        × IsAnswered (command_of words.now) (S.left source.old) (S.left source.new) (handed_by words.now) (S.faults source.old) (S.faults source.new) text result.adapted
+        × IsAnswered (input_of words.now S.left S.faults source.old source.new) text result.adapted
         × Appends (O.taken out.old) (O.taken out.new) text × (err.new ≡ err.old) }
     ensures listing { IfSome result.adapted (λ a. Appends (O.taken out.old) (O.taken out.new) (listing_text a)) }
     ensures document { IfSome result.adapted (λ a. IsMeaning (S.left source.old) (handed_by words.now) (defined a)) }
@@ -65,20 +65,24 @@ pub fn run<S: Source, O: Sink, E: Sink>(
     ensures listed { result.status ≡ 0 → command_of words.now ≡ Some Command.Adapt → IsSome result.adapted }
     ensures usage { command_of words.now ≡ None → IsRefused 2 result.status }
     ensures nothing_read { command_of words.now ≡ None → source.new ≡ source.old }
-    ensures told { IsTold result.status → (r : Refusal) × (status_of r ≡ result.status) × Cause (command_of words.now) (S.left source.old) (handed_by words.now) (S.faults source.old) (S.faults source.new) r
+    ensures told { IsTold result.status → (r : Refusal) × (status_of r ≡ result.status)
+        × Cause (input_of words.now S.left S.faults source.old source.new) r
         × Appends (E.taken err.old) (E.taken err.new) (text_of r) × (out.new ≡ out.old) }
     ensures no_bundle { (bytes : List ℕ) (e : BundleError) → IsSome (command_of words.now) → S.left source.old ≡ Some bytes → IsCause e → IsRead bytes (Err e)
         → (Rose (S.faults source.old) (S.faults source.new) → ⊥) → IsRefused 6 result.status }
     ensures complete { (bytes : List ℕ) (files : Files) (c : Command) → S.left source.old ≡ Some bytes → IsRead bytes (Ok files) → command_of words.now ≡ Some c
         → IsValidFor c files (handed_by words.now) → (Rose (S.faults source.old) (S.faults source.new) → ⊥) → (Rose (O.faults out.old) (O.faults out.new) → ⊥)
         → (result.status ≡ 0) ⊎ (result.status ≡ 5) }
-    ensures refused { (bytes : List ℕ) (files : Files) (c : Command) (report : List ℕ) → S.left source.old ≡ Some bytes → IsRead bytes (Ok files) → command_of words.now ≡ Some c
+    ensures refused { (bytes : List ℕ) (files : Files) (c : Command) (report : List ℕ)
+        → S.left source.old ≡ Some bytes → IsRead bytes (Ok files) → command_of words.now ≡ Some c
         → CommandRefuses c files (handed_by words.now) report → (Rose (S.faults source.old) (S.faults source.new) → ⊥) → IsRefused 1 result.status }
     ensures source_failed { S.faults source.old < S.faults source.new → IsRefused 3 result.status }
     ensures unwritten { result.status ≡ 4 →
-        (Rose (O.faults out.old) (O.faults out.new) × (err.new ≡ err.old) × (text : List ℕ) × (adapted : Option Adapted) × IsAnswered (command_of words.now) (S.left source.old) (S.left source.new) (handed_by words.now) (S.faults source.old) (S.faults source.new) text adapted
+        (Rose (O.faults out.old) (O.faults out.new) × (err.new ≡ err.old) × (text : List ℕ) × (adapted : Option Adapted)
+        × IsAnswered (input_of words.now S.left S.faults source.old source.new) text adapted
         × TookPrefix (O.taken out.old) (O.taken out.new) text)
-        ⊎ (Rose (E.faults err.old) (E.faults err.new) × (out.new ≡ out.old) × (r : Refusal) × Cause (command_of words.now) (S.left source.old) (handed_by words.now) (S.faults source.old) (S.faults source.new) r
+        ⊎ (Rose (E.faults err.old) (E.faults err.new) × (out.new ≡ out.old) × (r : Refusal)
+        × Cause (input_of words.now S.left S.faults source.old source.new) r
         × TookPrefix (E.taken err.old) (E.taken err.new) (text_of r)) }
     ensures out_failed { O.faults out.old < O.faults out.new → result.status ≡ 4 }
     ensures err_failed { E.faults err.old < E.faults err.new → result.status ≡ 4 }
@@ -105,8 +109,8 @@ pub fn run<S: Source, O: Sink, E: Sink>(
 
 /// What a run is to write, by its words and its source.
 fn prepare<S: Source>(alloc: Global, words: &[Text], source: &mut S) -> Result<Output, Stop>
-    ensures answered { IfOk result (λ o. IsAnswered (command_of words.now) (S.left source.old) (S.left source.new) (handed_by words.now) (S.faults source.old) (S.faults source.new) o.text o.adapted) }
-    ensures stopped { IfErr result (StopCause (command_of words.now) (S.left source.old) (handed_by words.now) (S.faults source.old) (S.faults source.new)) }
+    ensures answered { IfOk result (λ o. IsAnswered (input_of words.now S.left S.faults source.old source.new) o.text o.adapted) }
+    ensures stopped { IfErr result (StopCause (input_of words.now S.left S.faults source.old source.new)) }
     ensures usage { command_of words.now ≡ None → result ≡ Err (Stop.Refused Refusal.Usage) }
     ensures nothing_read { command_of words.now ≡ None → source.new ≡ source.old }
     ensures later { S.faults source.old ≤ S.faults source.new }
@@ -125,8 +129,8 @@ fn prepare_command<S: Source>(
     words: &[Text],
     source: &mut S,
 ) -> Result<Output, Stop>
-    ensures answered { IfOk result (λ o. IsAnswered (Some command) (S.left source.old) (S.left source.new) (handed_by words.now) (S.faults source.old) (S.faults source.new) o.text o.adapted) }
-    ensures stopped { IfErr result (StopCause (Some command) (S.left source.old) (handed_by words.now) (S.faults source.old) (S.faults source.new)) }
+    ensures answered { IfOk result (λ o. IsAnswered (run_input (Some command) (handed_by words.now) S.left S.faults source.old source.new) o.text o.adapted) }
+    ensures stopped { IfErr result (StopCause (run_input (Some command) (handed_by words.now) S.left S.faults source.old source.new)) }
     ensures later { S.faults source.old ≤ S.faults source.new }
     ensures reads { S.reads source.new ≤ S.reads source.old + READS }
 {
