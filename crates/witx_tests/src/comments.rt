@@ -1,7 +1,7 @@
 //! Documentation texts of comments.
 
 use std::alloc::Global;
-use witx_comments::documentation;
+use witx_syntax_tree::documentation;
 
 /// Comments, without the two signs that begin each, and their documentation.
 const DOCUMENTED: &[(&[&str], &str)] = &[

@@ -213,15 +213,16 @@ in "/a":
     ),
     (
         "\
+(typename $n u8)
 (@witx const $n $max 1)
 (@witx const $n $max 1)",
         r#"witx: in "/a":
-    2 | (@witx const $n $max 1)
+    3 | (@witx const $n $max 1)
                          ^
 Redefinition of name `max`
 Originally defined at:
 in "/a":
-    1 | (@witx const $n $max 1)
+    2 | (@witx const $n $max 1)
                          ^
 "#,
     ),
@@ -516,11 +517,19 @@ static ACCEPTED: &[&str] = &[
     r#"(module $m (@interface func (export "f") (param $x u8)) (@interface func (export "g") (param $x u8)))"#,
     r#"(module $m (@interface func (export "m") (param $m u8)))"#,
     "\
+(typename $n u8)
+(typename $k u8)
 (@witx const $n $max 1)
 (@witx const $k $max 1)",
     "\
+(typename $n u8)
 (@witx const $n $max 1)
 (typename $max u8)",
+    "\
+(typename $k u8)
+(typename $n $k)
+(@witx const $n $max 255)
+(@witx const $k $max 255)",
     "(typename $a (handle))",
     "(typename $a (union (@witx tag u64) u8 u8))",
     "\

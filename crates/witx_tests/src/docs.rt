@@ -31,6 +31,8 @@ const DOCUMENTED: &str = r#"
 (typename $v (variant
     ;;; a case
     (case $d u8)))
+;;; a number
+(typename $n u8)
 ;;; a module
 (module $m
     ;;; an import
@@ -43,7 +45,7 @@ const DOCUMENTED: &str = r#"
         (result $s u8)))
 (
     ;;; a constant
-    @witx const $r $k 1)
+    @witx const $n $k 1)
 "#;
 
 /// Each name, with its documentation.
@@ -58,6 +60,7 @@ b: e: an enum
 c: a name
 v: a variant
 d: a case
+n: a number
 m: a module
 memory: an import
 g: a function

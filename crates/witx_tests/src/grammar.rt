@@ -1,153 +1,152 @@
 //! Derivations and faults of a small grammar: words, pairs and lists.
 
-ghost use Rattle.witx_grammar.specs.Prediction.{IsFine};
+ghost use Rattle.witx_grammar.specs.Kinds.{enum_exact};
+ghost use Rattle.witx_grammar.specs.Prediction.{IsPredictive};
+ghost use Rattle.witx_tests.specs.contracts.grammar.TokenKind.{the_type as token_kinds};
+ghost use Rattle.witx_tests.specs.contracts.grammar.Phrase.{the_type as phrases};
+ghost use Rattle.witx_tests.specs.contracts.grammar.Form.{the_type as forms};
 
 use std::alloc::Global;
-use witx_grammar::Move::{Leaf, Node};
-use witx_grammar::Symbol::{Form, Token};
-use witx_grammar::{Move, Parsed, Row, Sign, Table, parse};
+use witx_grammar::Step::{Leaf, Node};
+use witx_grammar::Symbol::{Nonterminal as N, Terminal as T};
+use witx_grammar::{Kind, Parsed, Production, Rule, Step, Table, parse};
 
-const OPEN: u8 = 0;
+#[derive(Clone, Copy, PartialEq, Eq)]
+enum TokenKind {
+    Open,
+    Close,
+    Word,
+    Pair,
+    End,
+}
 
-const CLOSE: u8 = 1;
+impl Kind for TokenKind {
+    ghost exact = { enum_exact token_kinds tt };
+}
 
-const WORD: u8 = 2;
+#[derive(Clone, Copy, PartialEq, Eq)]
+enum Phrase {
+    Text,
+    Item,
+    Items,
+}
 
-const PAIR: u8 = 3;
+impl Kind for Phrase {
+    ghost exact = { enum_exact phrases tt };
+}
 
-const END: u8 = 4;
+#[derive(Clone, Copy, PartialEq, Eq)]
+enum Form {
+    NoText,
+    MoreText,
+    Word,
+    Pair,
+    List,
+    NoItems,
+    MoreItems,
+}
 
-const TEXT: u8 = 0;
+impl Kind for Form {
+    ghost exact = { enum_exact forms tt };
+}
 
-const ITEM: u8 = 1;
-
-const ITEMS: u8 = 2;
+use Form::{List, MoreItems, MoreText, NoItems, NoText};
+use Phrase::{Item, Items, Text};
+use TokenKind::{Close, End, Open, Pair, Word};
 
 /// Words, `( PAIR item item )` and `( items )`, any number of them.
-static ROWS: [Row<'static>; 7] = [
-    Row {
-        form: TEXT,
-        symbols: &[Token(END)],
-    },
-    Row {
-        form: TEXT,
-        symbols: &[Form(ITEM), Form(TEXT)],
-    },
-    Row {
-        form: ITEM,
-        symbols: &[Token(WORD)],
-    },
-    Row {
-        form: ITEM,
-        symbols: &[
-            Token(OPEN),
-            Token(PAIR),
-            Form(ITEM),
-            Form(ITEM),
-            Token(CLOSE),
+static RULES: [Rule<'static, TokenKind, Phrase, Form>; 3] = [
+    Rule {
+        nonterminal: Text,
+        productions: &[
+            Production {
+                name: NoText,
+                symbols: &[T(End)],
+            },
+            Production {
+                name: MoreText,
+                symbols: &[N(Item), N(Text)],
+            },
         ],
     },
-    Row {
-        form: ITEM,
-        symbols: &[Token(OPEN), Form(ITEMS)],
+    Rule {
+        nonterminal: Item,
+        productions: &[
+            Production {
+                name: Form::Word,
+                symbols: &[T(Word)],
+            },
+            Production {
+                name: Form::Pair,
+                symbols: &[T(Open), T(Pair), N(Item), N(Item), T(Close)],
+            },
+            Production {
+                name: List,
+                symbols: &[T(Open), N(Items)],
+            },
+        ],
     },
-    Row {
-        form: ITEMS,
-        symbols: &[Token(CLOSE)],
-    },
-    Row {
-        form: ITEMS,
-        symbols: &[Form(ITEM), Form(ITEMS)],
-    },
-];
-
-static SIGNS: [Sign<'static>; 7] = [
-    Sign {
-        form: TEXT,
-        sorts: &[END],
-        row: 0,
-    },
-    Sign {
-        form: TEXT,
-        sorts: &[],
-        row: 1,
-    },
-    Sign {
-        form: ITEM,
-        sorts: &[WORD],
-        row: 2,
-    },
-    Sign {
-        form: ITEM,
-        sorts: &[OPEN, PAIR],
-        row: 3,
-    },
-    Sign {
-        form: ITEM,
-        sorts: &[],
-        row: 4,
-    },
-    Sign {
-        form: ITEMS,
-        sorts: &[CLOSE],
-        row: 5,
-    },
-    Sign {
-        form: ITEMS,
-        sorts: &[],
-        row: 6,
+    Rule {
+        nonterminal: Items,
+        productions: &[
+            Production {
+                name: NoItems,
+                symbols: &[T(Close)],
+            },
+            Production {
+                name: MoreItems,
+                symbols: &[N(Item), N(Items)],
+            },
+        ],
     },
 ];
 
-static RANKS: [u8; 3] = [2, 1, 2];
-
-fn table() -> Table<'static>
-    ensures { IsFine result }
+fn table() -> Table<'static, TokenKind, Phrase, Form>
+    ensures { IsPredictive ⟦<TokenKind as PartialEq>⟧.eq ⟦<Phrase as PartialEq>⟧.eq ⟦<Form as PartialEq>⟧.eq result }
 {
-    Table {
-        rows: &ROWS,
-        signs: &SIGNS,
-        ranks: &RANKS,
-    }
+    Table { rules: &RULES }
 }
 
 /// Tokens, and the steps of their derivation.
-const DERIVED: &[(&[u8], &[Move])] = &[
-    (&[END], &[Node(0), Leaf]),
-    (&[WORD, END], &[Node(1), Node(2), Leaf, Node(0), Leaf]),
+const DERIVED: &[(&[TokenKind], &[Step<Form>])] = &[
+    (&[End], &[Node(NoText), Leaf]),
     (
-        &[OPEN, OPEN, PAIR, WORD, WORD, CLOSE, CLOSE, END],
+        &[Word, End],
+        &[Node(MoreText), Node(Form::Word), Leaf, Node(NoText), Leaf],
+    ),
+    (
+        &[Open, Open, Pair, Word, Word, Close, Close, End],
         &[
-            Node(1),
-            Node(4),
+            Node(MoreText),
+            Node(List),
             Leaf,
-            Node(6),
-            Node(3),
-            Leaf,
-            Leaf,
-            Node(2),
-            Leaf,
-            Node(2),
+            Node(MoreItems),
+            Node(Form::Pair),
             Leaf,
             Leaf,
-            Node(5),
+            Node(Form::Word),
             Leaf,
-            Node(0),
+            Node(Form::Word),
+            Leaf,
+            Leaf,
+            Node(NoItems),
+            Leaf,
+            Node(NoText),
             Leaf,
         ],
     ),
 ];
 
-fn is_derived(alloc: Global, sorts: &[u8], moves: &[Move]) -> bool {
-    match parse(alloc, &table(), TEXT, sorts) {
-        Ok(Parsed::Derivation(found)) => found.as_slice() == moves,
+fn is_derived(alloc: Global, tokens: &[TokenKind], steps: &[Step<Form>]) -> bool {
+    match parse(alloc, &table(), Text, tokens) {
+        Ok(Parsed::Derivation(found)) => found.as_slice() == steps,
         _ => false,
     }
 }
 
 fn are_derived(alloc: Global) -> bool {
-    for (sorts, moves) in DERIVED {
-        if !is_derived(alloc, sorts, moves) {
+    for (tokens, steps) in DERIVED {
+        if !is_derived(alloc, tokens, steps) {
             return false;
         }
     }
@@ -160,40 +159,36 @@ fn derivations(rt: HostRuntime) {
 }
 
 /// Tokens without a derivation, the first that can't stand at its place, and what could.
-const FAULTS: &[(&[u8], usize, &[u8])] = &[
-    (&[], 0, &[OPEN, WORD, END]),
-    (&[CLOSE], 0, &[OPEN, WORD, END]),
-    (&[OPEN, END], 1, &[OPEN, CLOSE, WORD, PAIR]),
-    (&[OPEN, PAIR, CLOSE, END], 2, &[OPEN, WORD]),
-    (&[OPEN, PAIR, WORD, WORD, WORD, CLOSE, END], 4, &[CLOSE]),
-    (&[WORD, END, WORD], 2, &[]),
-    (&[WORD, WORD], 2, &[OPEN, WORD, END]),
+const FAULTS: &[(&[TokenKind], usize, &[TokenKind])] = &[
+    (&[], 0, &[Open, Word, End]),
+    (&[Close], 0, &[Open, Word, End]),
+    (&[Open, End], 1, &[Open, Close, Word, Pair]),
+    (&[Open, Pair, Close, End], 2, &[Open, Word]),
+    (&[Open, Pair, Word, Word, Word, Close, End], 4, &[Close]),
+    (&[Word, End, Word], 2, &[]),
+    (&[Word, Word], 2, &[Open, Word, End]),
 ];
 
-fn has(sorts: &[u8], sort: u8) -> bool {
-    sorts.contains(&sort)
-}
-
-/// Whether the lists have the same tokens, in any order.
-fn are_same(left: &[u8], right: &[u8]) -> bool {
-    for sort in [OPEN, CLOSE, WORD, PAIR, END] {
-        if has(left, sort) != has(right, sort) {
+/// Whether the lists have the same kinds, in any order.
+fn are_same(left: &[TokenKind], right: &[TokenKind]) -> bool {
+    for kind in [Open, Close, Word, Pair, End] {
+        if left.contains(&kind) != right.contains(&kind) {
             return false;
         }
     }
     true
 }
 
-fn is_fault(alloc: Global, sorts: &[u8], at: usize, next: &[u8]) -> bool {
-    match parse(alloc, &table(), TEXT, sorts) {
-        Ok(Parsed::Bad(fault)) => fault.at == at && are_same(fault.next.as_slice(), next),
+fn is_fault(alloc: Global, tokens: &[TokenKind], at: usize, expected: &[TokenKind]) -> bool {
+    match parse(alloc, &table(), Text, tokens) {
+        Ok(Parsed::Fault(fault)) => fault.at == at && are_same(fault.expected.as_slice(), expected),
         _ => false,
     }
 }
 
 fn are_faults(alloc: Global) -> bool {
-    for (sorts, at, next) in FAULTS {
-        if !is_fault(alloc, sorts, *at, next) {
+    for (tokens, at, expected) in FAULTS {
+        if !is_fault(alloc, tokens, *at, expected) {
             return false;
         }
     }

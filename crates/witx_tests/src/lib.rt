@@ -21,6 +21,8 @@ mod check;
 #[cfg(test)]
 mod comments;
 #[cfg(test)]
+mod constants;
+#[cfg(test)]
 mod declarations;
 #[cfg(test)]
 mod declared;
@@ -46,6 +48,8 @@ mod run;
 mod stored;
 #[cfg(test)]
 mod streams;
+#[cfg(test)]
+mod surface;
 #[cfg(test)]
 mod syntax;
 #[cfg(test)]

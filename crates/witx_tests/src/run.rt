@@ -231,9 +231,27 @@ typename b_float size 8 align 8
         "adapt /a",
         "\
 ;;;; file /a
+(typename $n u64)
 (@witx const $n $max 18446744073709551615)",
         0,
-        "const n max 18446744073709551615\n",
+        "\
+typename n size 8 align 8
+const n max 18446744073709551615
+",
+        "",
+    ),
+    (
+        "adapt /a",
+        r#";;;; file /a
+(use "b")
+(@witx const $n $max 255)
+;;;; file /b
+(typename $n u8)"#,
+        0,
+        "\
+typename n size 1 align 1
+const n max 255
+",
         "",
     ),
     ("adapt /a", DOUBLINGS, 0, DOUBLED, ""),
@@ -296,6 +314,34 @@ witx: expected a string
         1,
         "",
         r#"witx: path "" has no file name
+"#,
+    ),
+    (
+        "adapt /a",
+        "\
+;;;; file /a
+(@witx const $n $max 18446744073709551615)",
+        1,
+        "",
+        r#"witx: in "/a":
+    1 | (@witx const $n $max 18446744073709551615)
+                      ^
+Unknown name `n`
+"#,
+    ),
+    (
+        "adapt /a",
+        r#";;;; file /a
+(use "b")
+(@witx const $n $max 256)
+;;;; file /b
+(typename $n u8)"#,
+        1,
+        "",
+        r#"witx: in "/a":
+    2 | (@witx const $n $max 256)
+                         ^
+Constant `max` is 256, at most 255
 "#,
     ),
     (
