@@ -156,6 +156,7 @@ fn types_of(alloc: Global, params: &Params) -> Result<TypeRefs, OutOfMemory>
     ensures { IfOk result (λ types. map tree_of types ≡ param_types params.now) }
 {
     let mut types = Items::new(alloc);
+    types.reserve(params.len())?;
     for param in params.as_slice() {
         types.push(param.tref.clone()?)?;
     }

@@ -25,6 +25,18 @@ pub enum Planned<'a> {
 /// The events to come, in order.
 pub type Plan<'a> = Items<Planned<'a>>;
 
+/// How many events a plan takes memory for at once; few functions have more on one side.
+const ROOM: usize = 32;
+
+/// A plan without events.
+pub fn new_plan<'a>(alloc: Global) -> Result<Plan<'a>, OutOfMemory>
+    ensures { IfOk result (λ plan. plan ≡ []) }
+{
+    let mut plan: Plan<'a> = Items::new(alloc);
+    plan.reserve(ROOM)?;
+    Ok(plan)
+}
+
 /// Appends an event to the plan.
 #[tactic(auto, using(crate::proofs::Plans::plan_rules))]
 pub fn add<'a>(plan: &mut Plan<'a>, event: Planned<'a>) -> Result<(), OutOfMemory>

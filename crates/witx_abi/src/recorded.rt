@@ -7,11 +7,12 @@ ghost use Rattle.witx_abi.specs.Views.{called, event_of};
 use crate::callee::plan_callee;
 use crate::caller::plan_caller;
 use crate::instruction::WasmTypes;
+use crate::plan::new_plan;
 use crate::pointers::return_pointers;
 use crate::trace::Trace;
 use std::alloc::Global;
 use witx_ast::InterfaceFunc;
-use witx_base::{Id, Items, OutOfMemory};
+use witx_base::{Id, OutOfMemory};
 
 /// The trace of the side that calls a function that can be lowered, with the words of its signature.
 ///
@@ -30,7 +31,7 @@ pub fn caller_trace<'a>(
     ensures { IfOk result (λ trace. map event_of trace.events ≡ caller_events owner.now (called func.now)) }
 {
     let pointers = return_pointers(alloc, func.abi, &func.results)?;
-    let mut plan = Items::new(alloc);
+    let mut plan = new_plan(alloc)?;
     plan_caller(&mut plan, owner, func, &pointers, params, results)?;
     Trace::of(alloc, &plan)
 }
@@ -48,7 +49,7 @@ pub fn callee_trace<'a>(
     ensures { IfOk result (λ trace. map event_of trace.events ≡ callee_events owner.now (called func.now)) }
 {
     let pointers = return_pointers(alloc, func.abi, &func.results)?;
-    let mut plan = Items::new(alloc);
+    let mut plan = new_plan(alloc)?;
     plan_callee(&mut plan, owner, func, &pointers)?;
     Trace::of(alloc, &plan)
 }

@@ -35,6 +35,7 @@ impl Trace {
         ensures { IfOk result (λ trace. map event_of trace.events ≡ planned_events plan.now) }
     {
         let mut events = Items::new(alloc);
+        events.reserve(plan.len())?;
         for planned in plan.as_slice() {
             events.push(kept_event(alloc, planned)?)?;
         }

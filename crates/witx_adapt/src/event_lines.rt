@@ -119,20 +119,37 @@ fn put_number(text: &mut String, n: usize) -> Result<(), OutOfMemory>
     Ok(write!(text, " {n}")?)
 }
 
+/// A word behind a space.
+fn put_word(text: &mut String, word: &str) -> Result<(), AllocError>
+    ensures { OnOk result (string_bytes text.new ≡ string_bytes text.old ++ (codes " " ++ word.now)) }
+{
+    text.push_str(" ")?;
+    text.push_str(word)
+}
+
 #[tactic(auto, using(witx_ast::proofs::Trees::tree_rules))]
 fn put_name(text: &mut String, ty: &NamedType) -> Result<(), OutOfMemory>
     ensures { OnOk result (string_bytes text.new ≡ string_bytes text.old ++ type_field (named_tree ty.now)) }
 {
-    let name = ty.name.as_str();
-    Ok(write!(text, " {name}")?)
+    Ok(put_word(text, ty.name.as_str())?)
 }
 
+#[tactic(auto, using(witx_ast::proofs::Trees::tree_rules))]
 fn put_type(alloc: Global, text: &mut String, ty: &TypeRef) -> Result<(), OutOfMemory>
     ensures { OnOk result (string_bytes text.new ≡ string_bytes text.old ++ type_field (tree_of ty.now)) }
 {
+    match ty {
+        TypeRef::Name(named) => put_name(text, named),
+        TypeRef::Value(_) => put_shown(alloc, text, ty),
+    }
+}
+
+/// A type as it is shown, which takes memory for its text.
+fn put_shown(alloc: Global, text: &mut String, ty: &TypeRef) -> Result<(), OutOfMemory>
+    ensures { OnOk result (string_bytes text.new ≡ string_bytes text.old ++ type_field (tree_of ty.now)) }
+{
     let name = ty.type_name(alloc)?;
-    text.push_str(" ")?;
-    Ok(text.push_str(name.as_str())?)
+    Ok(put_word(text, name.as_str())?)
 }
 
 /// Two quoted names, each behind a space.
