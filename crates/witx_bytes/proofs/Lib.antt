@@ -17,3 +17,7 @@ pub mod Payloads
 pub mod Belonging
 pub mod Examples
 pub mod MachineExamples
+pub mod ReadNumbers
+pub mod ReadFlags
+pub mod ReadParts
+pub mod Answered

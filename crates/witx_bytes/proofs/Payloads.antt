@@ -11,14 +11,17 @@ use Rattle.witx_ast.specs.declared.types.TypeRef.{TypeRef}
 use Rattle.witx_ast.proofs.Parts.{cases-bare, cases-carries}
 use Rattle.witx_ast.proofs.ValueLaws.{bare-case-decides, case-with-decides}
 use Rattle.witx_layout.specs.Numbers.{payloads_size}
+use Rattle.witx_bytes.specs.Bytes.{Bytes}
 use Rattle.witx_bytes.specs.Images.{payload_image}
-use Rattle.witx_bytes.specs.Payloads.{payload_type_fits, is_payload_of, is_case, case_size, type_image}
+use Rattle.witx_bytes.specs.Reading.{arm_at}
+use Rattle.witx_bytes.specs.Payloads.{payload_type_fits, is_payload_of, is_case, case_size, type_image, payload_at}
 use Rattle.witx_bytes.proofs.ReadBack.{bare-below, with-below}
 
 pub record CaseIs (cs : Arms) (i : ℕ) (o : Option TypeRef) : Type 0 where
   pub bare : is_bare_case cs i ≡ is_none o
   pub carried : (u : Value) → is_case_with cs i u ≡ is_payload_of o (Some u)
   pub pictured : (u : Value) → payload_image cs i u ≡ type_image o u
+  pub stands : (m : Bytes) (at : ℕ) → arm_at cs i m at ≡ payload_at o m at
   pub within : case_size o ≤ payloads_size cs
   pub fit : arms_fit cs ≡ true → payload_type_fits o ≡ true
 
@@ -31,12 +34,12 @@ head_is c cs None e = cases-bare (c ∷ cs) 0 c (omega arith) refl e
 head_is c cs (Some t) e = cases-carries (c ∷ cs) 0 c t (omega arith) refl e
 
 first_case : (o : Option TypeRef) (n : List ℕ) (cs : Arms) → CaseIs (headed o n cs) zero o
-first_case None n cs = record { bare = refl; carried = λ u. refl; pictured = λ u. refl; within = omega arith; fit = λ f. refl }
-first_case (Some t) n cs = record { bare = refl; carried = λ u. refl; pictured = λ u. refl; within = omega arith; fit = λ f. (both (fits (plain (tree_of t))) _ f).0 }
+first_case None n cs = record { bare = refl; carried = λ u. refl; pictured = λ u. refl; stands = λ m at. refl; within = omega arith; fit = λ f. refl }
+first_case (Some t) n cs = record { bare = refl; carried = λ u. refl; pictured = λ u. refl; stands = λ m at. refl; within = omega arith; fit = λ f. (both (fits (plain (tree_of t))) _ f).0 }
 
 later_case : (o : Option TypeRef) (n : List ℕ) (cs : Arms) (i : ℕ) (p : Option TypeRef) → CaseIs cs i p → CaseIs (headed o n cs) (suc i) p
-later_case None n cs i p h = record { bare = h.bare; carried = h.carried; pictured = h.pictured; within = h.within; fit = h.fit }
-later_case (Some q) n cs i p h = record { bare = h.bare; carried = h.carried; pictured = h.pictured; within = omega (arith, h.within); fit = λ f. h.fit (both (fits (plain (tree_of q))) _ f).1 }
+later_case None n cs i p h = record { bare = h.bare; carried = h.carried; pictured = h.pictured; stands = h.stands; within = h.within; fit = h.fit }
+later_case (Some q) n cs i p h = record { bare = h.bare; carried = h.carried; pictured = h.pictured; stands = h.stands; within = omega (arith, h.within); fit = λ f. h.fit (both (fits (plain (tree_of q))) _ f).1 }
 
 pub case_found : (cs : List Case) (i : ℕ) (c d : Case) → c ≡ get_or cs i d → i < length cs → CaseIs (cases_plain cs) i c.tref
 case_found [] i c d p l = absurd (omega (arith, l))

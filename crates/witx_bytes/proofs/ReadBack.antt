@@ -56,7 +56,7 @@ bare-arm (Arms.carries name t cs) (suc i) m at h = bare-arm cs i m at h
 tag-read : (repr : IntRepr) (cs : Arms) (i : ℕ) (m : Bytes) (at : ℕ) → (arm_count cs ≤ 2 ^ repr_bits repr) → i < arm_count cs → Agrees m at (tag_image repr i) → number_at (repr_size repr) m at ≡ Some i
 tag-read repr cs i m at f lt h = number-back (repr_size repr) i m at (omega (arith, f, lt, repr-modulus repr)) h
 
-variant-read : (repr : IntRepr) (cs : Arms) (i : ℕ) (m : Bytes) (at : ℕ) (v : Value) → number_at (repr_size repr) m at ≡ Some i → variant_at (all_bare cs) (arm_count cs) i (arm_at cs i m (at + payload_offset repr cs)) ≡ Some v → value_at (Plain.variant_of repr cs) m at ≡ Some v
+pub variant-read : (repr : IntRepr) (cs : Arms) (i : ℕ) (m : Bytes) (at : ℕ) (v : Value) → number_at (repr_size repr) m at ≡ Some i → variant_at (all_bare cs) (arm_count cs) i (arm_at cs i m (at + payload_offset repr cs)) ≡ Some v → value_at (Plain.variant_of repr cs) m at ≡ Some v
 variant-read repr cs i m at v h k = ap (option_and_then (λ i. variant_at (all_bare cs) (arm_count cs) i (arm_at cs i m (at + payload_offset repr cs)))) h ∙ k
 
 mutual

@@ -1,5 +1,5 @@
 -- Cases and their payloads, as the program has them.
-use Rattle.std.specs.Prelude.{ℕ, [], Bool, true, false, Option, Some, None, is_none}
+use Rattle.std.specs.Prelude.{ℕ, [], Bool, true, false, Option, Some, None, option_map, is_none}
 use Rattle.witx_ast.specs.Plain.{plain, Arms}
 use Rattle.witx_ast.specs.Views.{tree_of}
 use Rattle.witx_ast.specs.Tags.{fits}
@@ -8,8 +8,9 @@ use Rattle.witx_ast.specs.ValueTests.{is_value, is_bare_case, is_case_with}
 use Rattle.witx_ast.specs.declared.types.TypeRef.{TypeRef}
 use Rattle.witx_ast.specs.declared.types.Case.{Case}
 use Rattle.witx_layout.specs.Numbers.{size_of}
-use Rattle.witx_bytes.specs.Bytes.{Image}
+use Rattle.witx_bytes.specs.Bytes.{Bytes, Image}
 use Rattle.witx_bytes.specs.Images.{image, payload_image}
+use Rattle.witx_bytes.specs.Reading.{value_at}
 
 abbrev pub payload_type_fits : Option TypeRef → Bool
 payload_type_fits None = true
@@ -42,3 +43,8 @@ type_image (Some t) v = image (plain (tree_of t)) v
 abbrev pub case_image : Arms → ℕ → Option Value → Image
 case_image cs i None = []
 case_image cs i (Some v) = payload_image cs i v
+
+-- the payload that stands there, by the case's type
+abbrev pub payload_at : Option TypeRef → Bytes → ℕ → Option (Option Value)
+payload_at None m at = Some None
+payload_at (Some t) m at = option_map Some (value_at (plain (tree_of t)) m at)

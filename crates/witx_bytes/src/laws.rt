@@ -1,4 +1,4 @@
-ghost use Rattle.std.specs.Prelude.{◌≡◌, ℕ, length, Some, ◌↔◌};
+ghost use Rattle.std.specs.Prelude.{◌≡◌, ◌+◌, ◌<◌, ◌≤◌, ◌⊎◌, ℕ, length, Some, ◌↔◌};
 ghost use Rattle.witx_ast.specs.Plain.{Plain};
 ghost use Rattle.witx_ast.specs.Values.{Value, IsValue};
 ghost use Rattle.witx_ast.specs.Tags.{AllFit};
@@ -7,6 +7,7 @@ ghost use Rattle.witx_bytes.specs.Bytes.{Bytes, AreBytes};
 ghost use Rattle.witx_bytes.specs.Images.{image, Spells};
 ghost use Rattle.witx_bytes.specs.Reading.{value_at};
 ghost use Rattle.witx_bytes.specs.Follow.{BytesFollowCells};
+ghost use Rattle.witx_bytes.specs.Writes.{Writes};
 
 use witx_layout::Layout;
 
@@ -18,6 +19,12 @@ pub fn image_has_the_size()
 /// Bytes spell at most one value of a type that fits its tags.
 pub fn at_most_one_value()
     ensures { (t : Plain) (memory : Bytes) (at : ℕ) (v w : Value) → AllFit t → Spells memory at t v → Spells memory at t w → v ≡ w }
+{}
+
+/// What is written spells its value, and no byte outside the range changes.
+pub fn writing_is_spelling()
+    ensures spelled { (t : Plain) (v : Value) (m k : Bytes) (at : ℕ) → IsValue t v → Writes at (image t v) m k → Spells k at t v }
+    ensures outside { (t : Plain) (v : Value) (m k : Bytes) (at x : ℕ) → IsValue t v → Writes at (image t v) m k → (x < at) ⊎ (at + size_of t ≤ x) → k x ≡ m x }
 {}
 
 /// What is read of a type that fits its tags is the value that the bytes spell.

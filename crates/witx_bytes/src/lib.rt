@@ -7,14 +7,20 @@ mod membership;
 mod memory;
 mod numbers;
 mod places;
+mod read;
+mod read_error;
+mod scalars;
 mod value;
 mod write;
 
 pub use fitting::writable;
 pub use laws::{
     alike_images, at_most_one_value, bytes_follow_cells, image_has_the_size, reading_is_spelling,
+    writing_is_spelling,
 };
 pub use membership::is_value;
 pub use memory::{ByteMemory, PlaceError};
+pub use read::read_value;
+pub use read_error::ReadError;
 pub use value::{Bools, Value, Values};
 pub use write::write_value;

@@ -45,6 +45,13 @@ impl ByteMemory {
         }
     }
 
+    /// What is held are bytes, at addresses below 2^32.
+    pub(crate) fn bounds(&self)
+        ensures { IsByteMemory (held self.now) }
+    {
+        let _ = &self.bytes;
+    }
+
     /// The byte at an address, if it is held.
     pub fn byte(&self, at: u32) -> Option<u8>
         ensures { result ≡ held self.now at }

@@ -1,7 +1,7 @@
 ghost use Rattle.std.specs.Prelude.{◌≡◌, ◌+◌, ◌^◌, ◌<◌, ◌≤◌, ℕ, true, is_some, pos, length};
 ghost use Rattle.witx_ast.specs.ValueTests.{in_range as is_in_range, is_below as below, is_within as within};
 ghost use Rattle.witx_layout.specs.Numbers.{builtin_size};
-ghost use Rattle.witx_machine.specs.Words.{wrapped, bits_of_flags};
+ghost use Rattle.witx_machine.specs.Words.{wrapped, cut, with_sign, bits_of_flags};
 ghost use Rattle.witx_bytes.specs.Bytes.{held, written, all_held, AreHeld};
 ghost use Rattle.witx_bytes.specs.Images.{little};
 ghost use Rattle.witx_bytes.specs.Writes.{HasRange, Writes};
@@ -46,6 +46,39 @@ pub(crate) fn number_bits(builtin: BuiltinType, number: i128) -> u64
         (number + modulus(builtin)) as u64
     } else {
         number as u64
+    }
+}
+
+/// The number that a builtin's bytes are.
+pub(crate) fn number_of(ty: BuiltinType, bits: u64) -> i128
+    requires { bits < 256 ^ builtin_size ty }
+    ensures { result ≡ cut ty bits }
+{
+    match ty {
+        BuiltinType::S8 => signed(bits, 1 << 7),
+        BuiltinType::S16 => signed(bits, 1 << 15),
+        BuiltinType::S32 => signed(bits, 1 << 31),
+        BuiltinType::S64 => signed(bits, 1 << 63),
+        BuiltinType::Char => bits as i128,
+        BuiltinType::U8 { lang_c_char: _ } => bits as i128,
+        BuiltinType::U16 => bits as i128,
+        BuiltinType::U32 { lang_ptr_size: _ } => bits as i128,
+        BuiltinType::U64 => bits as i128,
+        BuiltinType::F32 => bits as i128,
+        BuiltinType::F64 => bits as i128,
+    }
+}
+
+/// A number below twice `half`, read with a sign.
+fn signed(bits: u64, half: u64) -> i128
+    requires half { half ≤ 2 ^ 63 }
+    requires bits { bits < half + half }
+    ensures { result ≡ with_sign half bits }
+{
+    if bits < half {
+        bits as i128
+    } else {
+        bits as i128 - 2 * half as i128
     }
 }
 

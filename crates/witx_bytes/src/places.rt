@@ -1,10 +1,11 @@
 ghost use Rattle.std.specs.Prelude.{◌≡◌, ◌^◌, ◌<◌, ◌≤◌};
 ghost use Rattle.witx_ast.specs.Plain.{plain};
-ghost use Rattle.witx_ast.specs.Views.{tree_of};
-ghost use Rattle.witx_layout.specs.Numbers.{size_of, align_of, align_to as rounded};
+ghost use Rattle.witx_ast.specs.Views.{tree_of, cases_plain};
+ghost use Rattle.witx_ast.specs.declared.types.Variant.{out-Variant};
+ghost use Rattle.witx_layout.specs.Numbers.{size_of, align_of, align_to as rounded, payload_offset as begin_of_payload};
 
-use witx_ast::TypeRef;
-use witx_layout::{Layout, SizeAlign, TooLarge};
+use witx_ast::{TypeRef, Variant};
+use witx_layout::{Layout, SizeAlign, TooLarge, VariantOffset};
 
 /// The offset, rounded up to a multiple of the alignment.
 pub(crate) fn rounded_up(offset: u64, alignment: u64) -> u64
@@ -26,4 +27,11 @@ pub(crate) fn layout_of(ty: &TypeRef) -> SizeAlign
         Ok(layout) => layout,
         Err(TooLarge) => unreachable!(),
     }
+}
+
+/// Where the payload of a variant begins, behind its tag.
+pub(crate) fn payload_begin(variant: &Variant) -> u64
+    ensures { result ≡ begin_of_payload (out-Variant variant.now).tag_repr (cases_plain (out-Variant variant.now).cases) }
+{
+    variant.payload_offset() as u64
 }

@@ -18,14 +18,14 @@ ghost use Rattle.witx_bytes.specs.Writes.{CanWriteCase, CanWritePayload, CanWrit
 
 use crate::memory::ByteMemory;
 use crate::numbers::{flag_bits, number_bits, write_number};
-use crate::places::{layout_of, rounded_up};
+use crate::places::{layout_of, payload_begin, rounded_up};
 use crate::value::Value;
 use std::boxed::Box;
 use witx_ast::{
     BuiltinType, Case, Datatype, IntRepr, RecordDatatype, RecordKind, RecordMember, TypeRef,
     Variant,
 };
-use witx_layout::{Layout, VariantOffset};
+use witx_layout::Layout;
 
 /// Sets exactly the bytes of the value's image; takes no memory.
 #[tactic(auto, using(crate::proofs::Parts::scalar_rules))]
@@ -141,7 +141,7 @@ fn write_variant(memory: &mut ByteMemory, at: u64, variant: &Variant, value: &Va
     requires room { HasRange at (size_of (plain (variant_tree variant.now))) (held memory.old) }
     ensures { Writes at (image (plain (variant_tree variant.now)) (seen value.now)) (held memory.old) (held memory.new) }
 {
-    let offset = variant.payload_offset() as u64;
+    let offset = payload_begin(variant);
     write_cases(
         memory,
         at,

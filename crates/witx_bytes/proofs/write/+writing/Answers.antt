@@ -155,7 +155,7 @@ pub write_variant-write_cases-requires : goal.write_variant-write_cases-requires
 write_variant-write_cases-requires t c =
     let r = (out-Variant c.args.variant.now).tag_repr in
     let e = variant-plain c.args.variant.now ∙ ap (λ cs. Plain.variant_of r (cases_plain cs)) (sym c.as_slice.ensures) in
-    (search (rules, the_lemmas), (c.payload_offset-offset.ensures.offset ∙ ap (λ cs. Rattle.witx_layout.specs.Numbers.payload_offset r (cases_plain cs)) (sym c.as_slice.ensures), (can_by _ _ (seen c.args.value.now) e c.requires.value, room_by c.args.at _ (Plain.variant_of r (cases_plain c.as_slice.result.now)) (held c.args.memory.now) e c.requires.room)))
+    (search (rules, the_lemmas), (c.payload_begin-offset.ensures ∙ ap (λ cs. Rattle.witx_layout.specs.Numbers.payload_offset r (cases_plain cs)) (sym c.as_slice.ensures), (can_by _ _ (seen c.args.value.now) e c.requires.value, room_by c.args.at _ (Plain.variant_of r (cases_plain c.as_slice.result.now)) (held c.args.memory.now) e c.requires.room)))
 
 pub write_cases-returns-in-Enum : goal.write_cases-returns-in-Enum
 write_cases-returns-in-Enum t c = enum_written c.args.repr (cases_plain c.args.cases.now) c.args.value.now c.in-Enum.i c.args.at c.mem_align.result (held c.args.memory.now) (held c.write_number.new.memory) c.in-Enum.is c.mem_align.ensures c.write_number.ensures

@@ -1,0 +1,82 @@
+-- Numbers and scalars that are read.
+use Rattle.std.proofs.Common.{◌≡◌, ℕ, zero, suc, ◌+◌, ◌*◌, ◌-◌, ◌^◌, ◌<◌, ◌≤◌, refl, sym, ap, ◌∙◌, arith, ℤ, true, Option, Some, None, option_map, option_and_then, pow-suc}
+use Rattle.witx_ast.specs.declared.types.BuiltinType.{BuiltinType}
+use Rattle.witx_ast.specs.Plain.{Plain}
+use Rattle.witx_ast.specs.Values as plain
+use Rattle.witx_ast.specs.ValueTests.{in_range}
+use Rattle.witx_ast.proofs.Decided.{both-then}
+use Rattle.witx_ast.proofs.AlikeLaws.{builtins-decide}
+use Rattle.witx_layout.specs.Numbers.{builtin_size}
+use Rattle.witx_machine.specs.Words.{cut, checked}
+use Rattle.witx_bytes.specs.Bytes.{Bytes, IsByteMemory}
+use Rattle.witx_bytes.specs.Reading.{number_at, value_at, list_at}
+use Rattle.witx_bytes.specs.Seen.{seen}
+use Rattle.witx_bytes.specs.declared.value.Value.TheVariants as value
+use Rattle.witx_bytes.proofs.Seen.{seen-Num, seen-Handle, seen-Pointer, seen-ConstPointer, seen-List}
+use Rattle.witx_bytes.proofs.ReadBack.{when-true}
+
+pub beyond : (m : Bytes) (at : ℕ) → IsByteMemory m → 2 ^ 32 ≤ at → m at ≡ None
+beyond m at h l = go (m at) refl
+  where
+    go : (o : Option ℕ) → m at ≡ o → m at ≡ None
+    go None e = e
+    go (Some b) e = absurd (omega (arith, l, (h at b e).0))
+
+pub ruleset byte_rules = (beyond)
+
+-- one byte and the rest
+pub number_step : (width rest : ℕ) (m : Bytes) (at next low high : ℕ) → width ≡ rest + 1 → next ≡ at + 1 → m at ≡ Some low → number_at rest m next ≡ Some high → number_at width m at ≡ Some (low + 256 * high)
+number_step width rest m at next low high w n h k =
+    let e : width ≡ suc rest = omega (arith, w) in
+    let f : next ≡ suc at = omega (arith, n) in
+    ap (λ width. number_at width m at) e ∙ ap (option_and_then (λ low. option_map (λ high. low + 256 * high) (number_at rest m (suc at)))) h ∙ ap (option_map (λ high. low + 256 * high)) (ap (number_at rest m) (sym f) ∙ k)
+
+pub number_low : (width : ℕ) (m : Bytes) (at : ℕ) → 0 < width → m at ≡ None → number_at width m at ≡ None
+number_low width m at l h =
+    let e : width ≡ suc (width - 1) = omega (arith, l) in
+    ap (λ width. number_at width m at) e ∙ ap (option_and_then (λ low. option_map (λ high. low + 256 * high) (number_at (width - 1) m (suc at)))) h
+
+pub number_high : (width rest : ℕ) (m : Bytes) (at next low : ℕ) → width ≡ rest + 1 → next ≡ at + 1 → m at ≡ Some low → number_at rest m next ≡ None → number_at width m at ≡ None
+number_high width rest m at next low w n h k =
+    let e : width ≡ suc rest = omega (arith, w) in
+    let f : next ≡ suc at = omega (arith, n) in
+    ap (λ width. number_at width m at) e ∙ ap (option_and_then (λ low. option_map (λ high. low + 256 * high) (number_at rest m (suc at)))) h ∙ ap (option_map (λ high. low + 256 * high)) (ap (number_at rest m) (sym f) ∙ k)
+
+pub number_bound : (width rest low high : ℕ) → width ≡ rest + 1 → low < 256 → high < 256 ^ rest → low + 256 * high < 256 ^ width
+number_bound width rest low high w l h =
+    let e : width ≡ suc rest = omega (arith, w) in
+    let p : 256 ^ width ≡ 256 ^ rest * 256 = ap (λ w. 256 ^ w) e ∙ pow-suc 256 rest in
+    omega (arith, p, l, h)
+
+more_power : (w k : ℕ) → 256 ^ w ≤ 256 ^ (w + k)
+more_power w zero = let none : w + 0 ≡ w = omega arith in let e : 256 ^ (w + 0) ≡ 256 ^ w = ap (λ n. 256 ^ n) none in omega (arith, e)
+more_power w (suc k) =
+    let more : w + suc k ≡ suc (w + k) = omega arith in
+    let e : 256 ^ (w + suc k) ≡ 256 ^ (w + k) * 256 = ap (λ n. 256 ^ n) more ∙ pow-suc 256 (w + k) in
+    omega (arith, e, more_power w k)
+
+pub number_fits : (width n : ℕ) → width ≤ 8 → n < 256 ^ width → n < 2 ^ 64
+number_fits width n l h =
+    let eight : width + (8 - width) ≡ 8 = omega (arith, l) in
+    let e : 256 ^ (width + (8 - width)) ≡ 256 ^ 8 = ap (λ n. 256 ^ n) eight in
+    omega (arith, h, e, more_power width (8 - width))
+
+pub ruleset number_rules = (number_step, number_low, number_high, number_bound, number_fits)
+
+pub handle_read : (m : Bytes) (at n : ℕ) → number_at 4 m at ≡ Some n → value_at Plain.handle m at ≡ Some (seen (value.Handle n))
+handle_read m at n h = ap (option_map plain.handle_number) h ∙ ap Some (sym (seen-Handle n))
+
+pub builtin_read : (b : BuiltinType) (m : Bytes) (at width bits : ℕ) (n : ℤ) → width ≡ builtin_size b → number_at width m at ≡ Some bits → n ≡ cut b bits → in_range b n ≡ true → value_at (Plain.builtin b) m at ≡ Some (seen (value.Num b n))
+builtin_read b m at width bits n w h c r =
+    ap (option_and_then (λ x. checked (Plain.builtin b) (plain.number b (cut b x)))) (ap (λ width. number_at width m at) (sym w) ∙ h)
+    ∙ ap (λ n. checked (Plain.builtin b) (plain.number b n)) (sym c)
+    ∙ when-true _ _ (both-then _ _ ((builtins-decide b b).1 refl) r) ∙ ap Some (sym (seen-Num b n))
+
+pub pointer_read : (t : Plain) (m : Bytes) (at n : ℕ) → number_at 4 m at ≡ Some n → value_at (Plain.pointer_to t) m at ≡ Some (seen (value.Pointer n))
+pointer_read t m at n h = ap (option_map plain.address) h ∙ ap Some (sym (seen-Pointer n))
+
+pub const_read : (t : Plain) (m : Bytes) (at n : ℕ) → number_at 4 m at ≡ Some n → value_at (Plain.const_pointer_to t) m at ≡ Some (seen (value.ConstPointer n))
+const_read t m at n h = ap (option_map plain.const_address) h ∙ ap Some (sym (seen-ConstPointer n))
+
+pub list_read : (t : Plain) (m : Bytes) (at a l : ℕ) → number_at 4 m at ≡ Some a → number_at 4 m (at + 4) ≡ Some l → value_at (Plain.list_of t) m at ≡ Some (seen (value.List a l))
+list_read t m at a l h k = ap (λ x. list_at x (number_at 4 m (at + 4))) h ∙ ap (λ y. list_at (Some a) y) k ∙ ap Some (sym (seen-List a l))

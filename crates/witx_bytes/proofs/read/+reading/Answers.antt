@@ -1,0 +1,184 @@
+use Rattle.std.proofs.Common.{◌≡◌, ◌<◌, ◌+◌, ◌^◌, rules, arith, sym, ap, ◌∙◌, subst, false, Some, Err, length}
+use Rattle.std.proofs.Common.{option_map}
+use Rattle.witx_ast.specs.Plain.{plain, Plain, all_bare}
+use Rattle.witx_ast.specs.Views.{tree_of, datatype_tree, members_plain, cases_plain}
+use Rattle.witx_ast.specs.declared.types.RecordKind.{RecordKind}
+use Rattle.witx_ast.specs.declared.types.RecordDatatype.{out-RecordDatatype}
+use Rattle.witx_ast.specs.declared.types.Variant.{out-Variant}
+use Rattle.witx_ast.specs.declared.types.Datatype.{the_lemmas}
+use Rattle.witx_ast.proofs.Trees.{tree-Name, tree-Value, tree-NamedType, tree-Record, tree-Variant}
+use Rattle.witx_ast.proofs.Parts.{record-plain, variant-plain}
+use Rattle.witx_layout.specs.Numbers.{align_of, size_of, align_to, payload_offset, repr_size}
+use Rattle.witx_layout.proofs.LawProofs.{align-low, align-high}
+use Rattle.witx_bytes.specs.Bytes.{held}
+use Rattle.witx_bytes.specs.Payloads.{payload_at}
+use Rattle.witx_bytes.specs.Reading.{number_at, value_at, members_at}
+use Rattle.witx_bytes.specs.Readings.{CanRead, CanReadCase, Reads, case_number}
+use Rattle.witx_bytes.specs.Seen.{seen, seen_in, values_seen}
+use Rattle.witx_bytes.specs.declared.read_error.ReadError.{ReadError}
+use Rattle.witx_bytes.proofs.ReadParts.{ReadTo, read_first, read_within, read_can, read_next, read_stops, can_read_by, tuple_can_read, record_can_read, case_below, case_read, case_refused, case_can_read, cases_few}
+use Rattle.witx_bytes.proofs.read.+reading.Goals as goal
+
+pub read_type-read_type-requires : goal.read_type-read_type-requires
+read_type-read_type-requires t c =
+    let named = c.in-Name.named in
+    let e = ap (λ t. plain (tree_of t)) c.in-Name.is ∙ ap plain (tree-Name named ∙ tree-NamedType named.value) ∙ ap (λ n. plain (tree_of n.tref)) (sym c.deref.ensures) in
+    (search (rules, the_lemmas), can_read_by c.args.at _ _ e c.requires)
+
+pub read_type-read_datatype-requires : goal.read_type-read_datatype-requires
+read_type-read_datatype-requires t c =
+    let d = c.in-Value.datatype in
+    let e = ap (λ t. plain (tree_of t)) c.in-Value.is ∙ ap plain (tree-Value d) ∙ ap (λ d. plain (datatype_tree d)) (sym c.deref-in-Value.ensures) in
+    (search (rules, the_lemmas), can_read_by c.args.at _ _ e c.requires)
+
+pub read_datatype-read_record-requires : goal.read_datatype-read_record-requires
+read_datatype-read_record-requires t c =
+    let e = ap (λ d. plain (datatype_tree d)) c.in-Record.is ∙ ap plain (tree-Record c.in-Record.record) in
+    (search (rules, the_lemmas), can_read_by c.args.at _ _ e c.requires)
+
+pub read_datatype-read_variant-requires : goal.read_datatype-read_variant-requires
+read_datatype-read_variant-requires t c =
+    let e = ap (λ d. plain (datatype_tree d)) c.in-Variant.is ∙ ap plain (tree-Variant c.in-Variant.variant) in
+    (search (rules, the_lemmas), can_read_by c.args.at _ _ e c.requires)
+
+pub read_datatype-read_handle-requires : goal.read_datatype-read_handle-requires
+read_datatype-read_handle-requires t c = omega (arith, c.requires.end)
+
+pub read_datatype-read_list-requires : goal.read_datatype-read_list-requires
+read_datatype-read_list-requires t c = omega (arith, c.requires.end)
+
+pub read_datatype-read_pointer-requires : goal.read_datatype-read_pointer-requires
+read_datatype-read_pointer-requires t c = omega (arith, c.requires.end)
+
+pub read_datatype-read_const_pointer-requires : goal.read_datatype-read_const_pointer-requires
+read_datatype-read_const_pointer-requires t c = omega (arith, c.requires.end)
+
+pub read_datatype-read_builtin-requires : goal.read_datatype-read_builtin-requires
+read_datatype-read_builtin-requires t c = omega (arith, c.requires.end)
+
+pub read_record-read_flags-requires : goal.read_record-read_flags-requires
+read_record-read_flags-requires t c = omega (arith, c.requires.end)
+
+pub read_record-read_tuple-requires : goal.read_record-read_tuple-requires
+read_record-read_tuple-requires t c =
+    let e = record-plain c.args.record_type.now ∙ ap (λ k. Plain.record_of k (members_plain (out-RecordDatatype c.args.record_type.now).members)) c.in-Tuple.is ∙ ap (λ ms. Plain.record_of RecordKind.Tuple (members_plain ms)) (sym c.as_slice-members.ensures) in
+    (search (rules, the_lemmas), tuple_can_read _ c.args.at (can_read_by c.args.at _ _ e c.requires))
+
+pub read_record-read_other-requires : goal.read_record-read_other-requires
+read_record-read_other-requires t c =
+    let e = record-plain c.args.record_type.now ∙ ap (λ k. Plain.record_of k (members_plain (out-RecordDatatype c.args.record_type.now).members)) c.in-Other.is ∙ ap (λ ms. Plain.record_of RecordKind.Other (members_plain ms)) (sym c.as_slice-members.ensures) in
+    (search (rules, the_lemmas), record_can_read _ c.args.at (can_read_by c.args.at _ _ e c.requires))
+
+pub read_members-rounded_up-start-requires-clause-some : goal.read_members-rounded_up-start-requires-clause-some
+read_members-rounded_up-start-requires-clause-some t c = omega (arith, c.layout_of-layout.ensures.align, align-low (plain (tree_of c.index-members-i.result.tref)))
+
+pub read_members-rounded_up-start-requires-clause-few : goal.read_members-rounded_up-start-requires-clause-few
+read_members-rounded_up-start-requires-clause-few t c = omega (arith, c.layout_of-layout.ensures.align, align-high (plain (tree_of c.index-members-i.result.tref)))
+
+pub read_members-rounded_up-start-requires-clause-small : goal.read_members-rounded_up-start-requires-clause-small
+read_members-rounded_up-start-requires-clause-small t c =
+    let ms = c.args.members.now in
+    let d = c.index-members-i.result in
+    let w = read_within ms c.loop-i.values c.args.at c.loop-i.end c.loop-i.i (held c.args.memory.now) d c.loop-i.invariant c.loop-i-test.true c.index-members-i.is in
+    let small : align_to c.loop-i.end (align_of (plain (tree_of d.tref))) < 2 ^ 64 = omega (arith, w, c.requires.size) in
+    subst (λ a. align_to c.loop-i.end a < 2 ^ 64) (sym c.layout_of-layout.ensures.align) small
+
+pub read_members-layout_of-layout-requires : goal.read_members-layout_of-layout-requires
+read_members-layout_of-layout-requires t c =
+    let w = read_within c.args.members.now c.loop-i.values c.args.at c.loop-i.end c.loop-i.i (held c.args.memory.now) c.index-members-i.result c.loop-i.invariant c.loop-i-test.true c.index-members-i.is in
+    omega (arith, w, c.requires.size)
+
+pub read_members-loop-i-init : goal.read_members-loop-i-init
+read_members-loop-i-init t c = subst (λ vs. ReadTo c.args.members.now vs c.args.at 0 0 (held c.args.memory.now)) (sym c.new-values.ensures) (read_first c.args.members.now c.args.at (held c.args.memory.now) c.requires)
+
+pub read_members-overflow_add-at : goal.read_members-overflow_add-at
+read_members-overflow_add-at t c =
+    let d = c.index-members-i.result in
+    let w = read_within c.args.members.now c.loop-i.values c.args.at c.loop-i.end c.loop-i.i (held c.args.memory.now) d c.loop-i.invariant c.loop-i-test.true c.index-members-i.is in
+    let start : c.rounded_up-start.result ≡ align_to c.loop-i.end (align_of (plain (tree_of d.tref))) = c.rounded_up-start.ensures ∙ ap (align_to c.loop-i.end) c.layout_of-layout.ensures.align in
+    let small : c.args.at + c.rounded_up-start.result < 2 ^ 65 = omega (arith, start, w, c.requires.end) in
+    omega (arith, small)
+
+pub read_members-read_type-requires : goal.read_members-read_type-requires
+read_members-read_type-requires t c =
+    let d = c.index-members-i.result in
+    let start : c.rounded_up-start.result ≡ align_to c.loop-i.end (align_of (plain (tree_of d.tref))) = c.rounded_up-start.ensures ∙ ap (align_to c.loop-i.end) c.layout_of-layout.ensures.align in
+    let can = read_can c.args.members.now c.loop-i.values c.args.at c.loop-i.end c.loop-i.i (held c.args.memory.now) d c.loop-i.invariant c.loop-i-test.true c.index-members-i.is c.requires in
+    (search (rules, the_lemmas), subst (λ s. CanRead (c.args.at + s) (plain (tree_of d.tref))) (sym start) can)
+
+pub read_members-overflow_add-end : goal.read_members-overflow_add-end
+read_members-overflow_add-end t c =
+    let d = c.index-members-i.result in
+    let w = read_within c.args.members.now c.loop-i.values c.args.at c.loop-i.end c.loop-i.i (held c.args.memory.now) d c.loop-i.invariant c.loop-i-test.true c.index-members-i.is in
+    let start : c.rounded_up-start.result ≡ align_to c.loop-i.end (align_of (plain (tree_of d.tref))) = c.rounded_up-start.ensures ∙ ap (align_to c.loop-i.end) c.layout_of-layout.ensures.align in
+    let small : c.rounded_up-start.result + c.layout_of-layout.result.size < 2 ^ 64 = omega (arith, start, w, c.requires.size, c.layout_of-layout.ensures.size) in
+    omega (arith, small)
+
+pub read_variant-read_cases-requires : goal.read_variant-read_cases-requires
+read_variant-read_cases-requires t c =
+    let r = (out-Variant c.args.variant.now).tag_repr in
+    let e = variant-plain c.args.variant.now ∙ ap (λ cs. Plain.variant_of r (cases_plain cs)) (sym c.as_slice-cases.ensures) in
+    (search (rules, the_lemmas), (c.payload_begin-offset.ensures ∙ ap (λ cs. payload_offset r (cases_plain cs)) (sym c.as_slice-cases.ensures), can_read_by c.args.at _ _ e c.requires))
+
+pub read_cases-case_at-requires-clause-few : goal.read_cases-case_at-requires-clause-few
+read_cases-case_at-requires-clause-few t c = omega (arith, cases_few c.args.repr c.args.cases.now c.args.at c.requires.can)
+
+pub read_cases-case_at-requires-clause-low : goal.read_cases-case_at-requires-clause-low
+read_cases-case_at-requires-clause-low t c = omega (arith, c.requires.can.end)
+
+pub read_members-loop-i-preserved : goal.read_members-loop-i-preserved
+read_members-loop-i-preserved t c =
+    let ms = c.args.members.now in
+    let m = held c.args.memory.now in
+    let d = c.index-members-i.result in
+    let v = c.in_ok-value.value in
+    let start : c.rounded_up-start.result ≡ align_to c.loop-i.end (align_of (plain (tree_of d.tref))) = c.rounded_up-start.ensures ∙ ap (align_to c.loop-i.end) c.layout_of-layout.ensures.align in
+    let read : value_at (plain (tree_of d.tref)) (held c.args.memory.now) (c.args.at + align_to c.loop-i.end (align_of (plain (tree_of d.tref)))) ≡ Some (seen c.in_ok-value.value) =
+    subst (λ s. value_at (plain (tree_of d.tref)) (held c.args.memory.now) (c.args.at + s) ≡ Some (seen c.in_ok-value.value)) start c.in_ok-value.ensures
+    in
+    let next = read_next ms c.loop-i.values c.args.at c.loop-i.end c.loop-i.i m d c.loop-i.invariant c.loop-i-test.true c.index-members-i.is v read in
+    let end : align_to c.loop-i.end (align_of (plain (tree_of d.tref))) + size_of (plain (tree_of d.tref)) ≡ c.rounded_up-start.result + c.layout_of-layout.result.size = omega (arith, start, c.layout_of-layout.ensures.size) in
+    subst (λ e. ReadTo ms c.push.new.self c.args.at e (c.loop-i.i + 1) m) end
+    (subst (λ vs. ReadTo ms vs c.args.at (align_to c.loop-i.end (align_of (plain (tree_of d.tref))) + size_of (plain (tree_of d.tref))) (c.loop-i.i + 1) m) (sym c.in_ok-push.ensures) next)
+
+pub read_members-returns-in_err-value : goal.read_members-returns-in_err-value
+read_members-returns-in_err-value t c =
+    let ms = c.args.members.now in
+    let d = c.index-members-i.result in
+    let start : c.rounded_up-start.result ≡ align_to c.loop-i.end (align_of (plain (tree_of d.tref))) = c.rounded_up-start.ensures ∙ ap (align_to c.loop-i.end) c.layout_of-layout.ensures.align in
+    let stops : (e : ReadError) → Reads seen (value_at (plain (tree_of d.tref)) (held c.args.memory.now) (c.args.at + c.rounded_up-start.result)) (Err e) → Reads values_seen (members_at 0 (members_plain c.args.members.now) (held c.args.memory.now) c.args.at) (Err e) =
+    λ e h. read_stops ms c.loop-i.values c.args.at c.loop-i.end c.loop-i.i (held c.args.memory.now) d c.loop-i.invariant c.loop-i-test.true c.index-members-i.is e (subst (λ s. Reads seen (value_at (plain (tree_of d.tref)) (held c.args.memory.now) (c.args.at + s)) (Err e)) start h)
+    in
+    search (rules, stops)
+
+pub read_cases-bounds-cases-i : goal.read_cases-bounds-cases-i
+read_cases-bounds-cases-i t c =
+    let number : case_number (length c.args.cases.now) (number_at (repr_size c.args.repr) (held c.args.memory.now) c.args.at) ≡ Some c.in-Some.i = search rules in
+    case_below c.args.repr c.args.cases.now (held c.args.memory.now) c.args.at c.in-Some.i number
+
+pub read_cases-read_payload-requires : goal.read_cases-read_payload-requires
+read_cases-read_payload-requires t c =
+    let number : case_number (length c.args.cases.now) (number_at (repr_size c.args.repr) (held c.args.memory.now) c.args.at) ≡ Some c.in-Some.i = search rules in
+    let l : c.in-Some.i < length c.args.cases.now = case_below c.args.repr c.args.cases.now (held c.args.memory.now) c.args.at c.in-Some.i number in (
+      search (rules, the_lemmas, l),
+      subst (λ o. CanReadCase (c.args.at + o) c.index-cases-i.result.tref) (sym c.requires.offset)
+          (case_can_read c.args.repr c.args.cases.now (held c.args.memory.now) c.args.at c.in-Some.i number c.index-cases-i.result c.index-cases-i.is c.requires.can),
+    )
+
+pub read_cases-returns-in_err-payload : goal.read_cases-returns-in_err-payload
+read_cases-returns-in_err-payload t c =
+    let cs = cases_plain c.args.cases.now in
+    let number : case_number (length c.args.cases.now) (number_at (repr_size c.args.repr) (held c.args.memory.now) c.args.at) ≡ Some c.in-Some.i = search rules in
+    let carries : all_bare (cases_plain c.args.cases.now) ≡ false = search rules in
+    let refused : (e : ReadError) → Reads (option_map seen_in) (payload_at c.index-cases-i.result.tref (held c.args.memory.now) (c.args.at + c.args.offset)) (Err e) → Reads seen (value_at (Plain.variant_of c.args.repr (cases_plain c.args.cases.now)) (held c.args.memory.now) c.args.at) (Err e) =
+    λ e h. case_refused c.args.repr c.args.cases.now (held c.args.memory.now) c.args.at c.in-Some.i number c.index-cases-i.result c.index-cases-i.is carries e
+    (subst (λ o. Reads (option_map seen_in) (payload_at c.index-cases-i.result.tref (held c.args.memory.now) (c.args.at + o)) (Err e)) c.requires.offset h)
+    in
+    search (rules, refused)
+
+pub read_cases-returns : goal.read_cases-returns
+read_cases-returns t c =
+    let number : case_number (length c.args.cases.now) (number_at (repr_size c.args.repr) (held c.args.memory.now) c.args.at) ≡ Some c.in-Some.i = search rules in
+    let carries : all_bare (cases_plain c.args.cases.now) ≡ false = search rules in
+    case_read c.args.repr c.args.cases.now (held c.args.memory.now) c.args.at c.in-Some.i number c.index-cases-i.result c.index-cases-i.is carries c.in_ok-payload.payload
+    (subst (λ o. payload_at c.index-cases-i.result.tref (held c.args.memory.now) (c.args.at + o) ≡ Some (option_map seen_in c.in_ok-payload.payload)) c.requires.offset c.in_ok-payload.ensures)

@@ -1,0 +1,285 @@
+ghost use Rattle.std.specs.Prelude.{◌≡◌, ◌+◌, ◌^◌, ◌<◌, ◌≤◌, ℕ, true, Err, IfOk, Some, length, option_map};
+ghost use Rattle.witx_ast.specs.Plain.{plain, record_of, variant_of};
+ghost use Rattle.witx_ast.specs.Tags.{fits};
+ghost use Rattle.witx_ast.specs.Values.{Value as PlainValue};
+ghost use Rattle.witx_ast.specs.Views.{tree_of, datatype_tree, record_tree, variant_tree, members_plain, cases_plain};
+ghost use Rattle.witx_ast.specs.declared.types.RecordKind.{RecordKind};
+ghost use Rattle.witx_layout.specs.Numbers.{size_of, repr_size, payload_offset as begin_of_payload};
+ghost use Rattle.witx_bytes.specs.Bytes.{held};
+ghost use Rattle.witx_bytes.specs.Images.{Spells};
+ghost use Rattle.witx_bytes.specs.Payloads.{payload_at};
+ghost use Rattle.witx_bytes.specs.Reading.{number_at, flags_at, value_at, members_at};
+ghost use Rattle.witx_bytes.specs.Readings.{CanRead, CanReadAll, CanReadCase, Reads, case_number};
+ghost use Rattle.witx_bytes.specs.Seen.{seen, seen_in, values_seen};
+
+use crate::membership::are_bare;
+use crate::memory::ByteMemory;
+use crate::places::{layout_of, payload_begin, rounded_up};
+use crate::read_error::ReadError;
+use crate::scalars::{
+    read_builtin, read_const_pointer, read_handle, read_list, read_number, read_pointer,
+};
+use crate::value::{Bools, Value, Values};
+use std::alloc::Global;
+use std::boxed::Box;
+use witx_ast::{
+    Case, Datatype, IntRepr, RecordDatatype, RecordKind, RecordMember, TypeRef, Variant,
+};
+use witx_base::OutOfMemory;
+use witx_layout::Layout;
+
+/// The value that the bytes from an address on spell. There is at most one.
+///
+/// Bytes that aren't held spell nothing, except where the value has padding.
+pub fn read_value(
+    alloc: Global,
+    memory: &ByteMemory,
+    at: u32,
+    ty: &TypeRef,
+) -> Result<Value, ReadError>
+    requires writable { fits (plain (tree_of ty.now)) ≡ true }
+    requires sized { size_of (plain (tree_of ty.now)) < 2 ^ 64 }
+    ensures value { IfOk result (λ value. Spells (held memory.now) at (plain (tree_of ty.now)) (seen value)) }
+    ensures no_value { result ≡ Err ReadError.NoValue → (value : PlainValue) → ¬ (Spells (held memory.now) at (plain (tree_of ty.now)) value) }
+{
+    memory.bounds();
+    read_type(alloc, memory, at as u128, ty)
+}
+
+#[cycle(reading)]
+#[tactic(auto, using(crate::proofs::Members::write_rules))]
+fn read_type(alloc: Global, memory: &ByteMemory, at: u128, ty: &TypeRef) -> Result<Value, ReadError>
+    requires { CanRead at (plain (tree_of ty.now)) }
+    ensures { Reads seen (value_at (plain (tree_of ty.now)) (held memory.now) at) result }
+{
+    match ty {
+        TypeRef::Name(named) => read_type(alloc, memory, at, &named.tref),
+        TypeRef::Value(datatype) => read_datatype(alloc, memory, at, datatype),
+    }
+}
+
+#[cycle(reading)]
+#[tactic(auto, using(crate::proofs::Members::write_rules))]
+fn read_datatype(
+    alloc: Global,
+    memory: &ByteMemory,
+    at: u128,
+    datatype: &Datatype,
+) -> Result<Value, ReadError>
+    requires { CanRead at (plain (datatype_tree datatype.now)) }
+    ensures { Reads seen (value_at (plain (datatype_tree datatype.now)) (held memory.now) at) result }
+{
+    match datatype {
+        Datatype::Record(record) => read_record(alloc, memory, at, record),
+        Datatype::Variant(variant) => read_variant(alloc, memory, at, variant),
+        Datatype::Handle(_) => read_handle(memory, at),
+        Datatype::List(target) => read_list(memory, at, target),
+        Datatype::Pointer(target) => read_pointer(memory, at, target),
+        Datatype::ConstPointer(target) => read_const_pointer(memory, at, target),
+        Datatype::Builtin(builtin) => read_builtin(memory, at, *builtin),
+    }
+}
+
+#[cycle(reading)]
+#[tactic(auto, using(crate::proofs::Members::write_rules))]
+fn read_record(
+    alloc: Global,
+    memory: &ByteMemory,
+    at: u128,
+    record_type: &RecordDatatype,
+) -> Result<Value, ReadError>
+    requires { CanRead at (plain (record_tree record_type.now)) }
+    ensures { Reads seen (value_at (plain (record_tree record_type.now)) (held memory.now) at) result }
+{
+    let members = record_type.members.as_slice();
+    match record_type.kind {
+        RecordKind::Bitflags(repr) => read_flags(alloc, memory, at, repr, members),
+        RecordKind::Tuple => read_tuple(alloc, memory, at, members),
+        RecordKind::Other => read_other(alloc, memory, at, members),
+    }
+}
+
+#[cycle(reading)]
+#[tactic(auto, using(crate::proofs::ReadParts::read_rules))]
+fn read_tuple(
+    alloc: Global,
+    memory: &ByteMemory,
+    at: u128,
+    members: &[RecordMember],
+) -> Result<Value, ReadError>
+    requires { CanReadAll at (members_plain members.now) }
+    ensures { Reads seen (value_at (record_of RecordKind.Tuple (members_plain members.now)) (held memory.now) at) result }
+{
+    let values = read_members(alloc, memory, at, members)?;
+    Ok(Value::Tuple(values))
+}
+
+#[cycle(reading)]
+#[tactic(auto, using(crate::proofs::ReadParts::read_rules))]
+fn read_other(
+    alloc: Global,
+    memory: &ByteMemory,
+    at: u128,
+    members: &[RecordMember],
+) -> Result<Value, ReadError>
+    requires { CanReadAll at (members_plain members.now) }
+    ensures { Reads seen (value_at (record_of RecordKind.Other (members_plain members.now)) (held memory.now) at) result }
+{
+    let values = read_members(alloc, memory, at, members)?;
+    Ok(Value::Rec(values))
+}
+
+/// Members, each at the next multiple of its alignment behind the one before it.
+#[cycle(reading)]
+#[tactic(auto, using(crate::proofs::ReadParts::read_rules))]
+fn read_members(
+    alloc: Global,
+    memory: &ByteMemory,
+    at: u128,
+    members: &[RecordMember],
+) -> Result<Values, ReadError>
+    requires { CanReadAll at (members_plain members.now) }
+    ensures { Reads values_seen (members_at 0 (members_plain members.now) (held memory.now) at) result }
+{
+    let mut values = Values::new(alloc);
+    let mut end = 0;
+    for i in 0..members.len() {
+        let member = &members[i];
+        let layout = layout_of(&member.tref);
+        let start = rounded_up(end, layout.align as u64);
+        let value = read_type(alloc, memory, at + start as u128, &member.tref)?;
+        values.push(value)?;
+        end = start + layout.size as u64;
+    }
+    Ok(values)
+}
+
+#[cycle(reading)]
+#[tactic(auto, using(crate::proofs::Members::write_rules))]
+fn read_variant(
+    alloc: Global,
+    memory: &ByteMemory,
+    at: u128,
+    variant: &Variant,
+) -> Result<Value, ReadError>
+    requires { CanRead at (plain (variant_tree variant.now)) }
+    ensures { Reads seen (value_at (plain (variant_tree variant.now)) (held memory.now) at) result }
+{
+    let offset = payload_begin(variant);
+    let cases = variant.cases.as_slice();
+    read_cases(alloc, memory, at, variant.tag_repr, offset, cases)
+}
+
+/// The case that the tag names, with its payload if it has one.
+#[cycle(reading)]
+#[tactic(auto, using(crate::proofs::ReadParts::read_rules))]
+fn read_cases(
+    alloc: Global,
+    memory: &ByteMemory,
+    at: u128,
+    repr: IntRepr,
+    offset: u64,
+    cases: &[Case],
+) -> Result<Value, ReadError>
+    requires offset { offset ≡ begin_of_payload repr (cases_plain cases.now) }
+    requires can { CanRead at (variant_of repr (cases_plain cases.now)) }
+    ensures { Reads seen (value_at (variant_of repr (cases_plain cases.now)) (held memory.now) at) result }
+{
+    let Some(i) = case_at(memory, at, repr, cases.len()) else {
+        return Err(ReadError::NoValue);
+    };
+    if are_bare(cases) {
+        return Ok(Value::Enum(i));
+    }
+    let payload = read_payload(alloc, memory, at + offset as u128, &cases[i as usize])?;
+    Ok(Value::Case(i, payload))
+}
+
+/// The payload of a case, if it has one.
+#[cycle(reading)]
+#[tactic(auto, using(crate::proofs::ReadParts::read_rules))]
+fn read_payload(
+    alloc: Global,
+    memory: &ByteMemory,
+    at: u128,
+    case: &Case,
+) -> Result<Option<Box<Value>>, ReadError>
+    requires { CanReadCase at case.now.tref }
+    ensures { Reads (option_map seen_in) (payload_at case.now.tref (held memory.now) at) result }
+{
+    match &case.tref {
+        Some(tref) => read_boxed(alloc, memory, at, tref),
+        None => Ok(None),
+    }
+}
+
+#[cycle(reading)]
+#[tactic(auto, using(crate::proofs::ReadParts::read_rules))]
+fn read_boxed(
+    alloc: Global,
+    memory: &ByteMemory,
+    at: u128,
+    ty: &TypeRef,
+) -> Result<Option<Box<Value>>, ReadError>
+    requires { CanRead at (plain (tree_of ty.now)) }
+    ensures { Reads (option_map seen_in) (option_map Some (value_at (plain (tree_of ty.now)) (held memory.now) at)) result }
+{
+    let value = read_type(alloc, memory, at, ty)?;
+    let boxed = boxed(alloc, value)?;
+    Ok(Some(boxed))
+}
+
+fn boxed(alloc: Global, value: Value) -> Result<Box<Value>, OutOfMemory>
+    ensures { IfOk result (λ made. made.value ≡ value) }
+{
+    Ok(Box::new(alloc, value)?)
+}
+
+/// The number of the case that a tag names, where there are so many.
+#[tactic(auto, using(crate::proofs::ReadParts::read_rules))]
+fn case_at(memory: &ByteMemory, at: u128, repr: IntRepr, count: usize) -> Option<u32>
+    requires few { count ≤ 2 ^ 32 }
+    requires low { at < 2 ^ 66 }
+    ensures { result ≡ case_number count (number_at (repr_size repr) (held memory.now) at) }
+{
+    let tag = read_number(memory, at, repr.mem_align() as u64)?;
+    if tag >= count as u64 {
+        return None;
+    }
+    Some(tag as u32)
+}
+
+/// Flags, one for each member: flag k is bit k, and further bits are 0.
+#[tactic(auto, using(crate::proofs::ReadParts::read_rules))]
+fn read_flags(
+    alloc: Global,
+    memory: &ByteMemory,
+    at: u128,
+    repr: IntRepr,
+    members: &[RecordMember],
+) -> Result<Value, ReadError>
+    requires { at < 2 ^ 66 }
+    ensures { Reads seen (value_at (record_of (RecordKind.Bitflags repr) (members_plain members.now)) (held memory.now) at) result }
+{
+    match read_number(memory, at, repr.mem_align() as u64) {
+        Some(bits) => flags_of(alloc, bits, members.len()),
+        None => Err(ReadError::NoValue),
+    }
+}
+
+/// The lowest bits of a number, so many, where all further ones are 0.
+#[tactic(auto, using(crate::proofs::ReadFlags::flag_rules))]
+fn flags_of(alloc: Global, bits: u64, count: usize) -> Result<Value, ReadError>
+    ensures { Reads seen (flags_at count bits) result }
+{
+    let mut flags = Bools::new(alloc);
+    let mut rest = bits;
+    for _made in 0..count {
+        flags.push(rest % 2 == 1)?;
+        rest /= 2;
+    }
+    if rest > 0 {
+        return Err(ReadError::NoValue);
+    }
+    Ok(Value::Flags(flags))
+}

@@ -1,0 +1,118 @@
+ghost use Rattle.std.specs.Prelude.{◌≡◌, ◌+◌, ◌^◌, ◌<◌, ◌≤◌, ℕ, IfSome};
+ghost use Rattle.witx_ast.specs.Plain.{builtin, handle, pointer_to, const_pointer_to, list_of, plain};
+ghost use Rattle.witx_ast.specs.Views.{tree_of};
+ghost use Rattle.witx_bytes.specs.Bytes.{held};
+ghost use Rattle.witx_bytes.specs.Reading.{number_at, value_at};
+ghost use Rattle.witx_bytes.specs.Readings.{Reads};
+ghost use Rattle.witx_bytes.specs.Seen.{seen};
+
+use crate::memory::ByteMemory;
+use crate::numbers::{in_range, number_of};
+use crate::read_error::ReadError;
+use crate::value::Value;
+use witx_ast::{BuiltinType, TypeRef};
+use witx_layout::Layout;
+
+/// The byte at an address; from 2^32 on there is none.
+#[tactic(auto, using(crate::proofs::ReadNumbers::byte_rules))]
+fn byte_at(memory: &ByteMemory, at: u128) -> Option<u8>
+    ensures { result ≡ held memory.now at }
+{
+    memory.bounds();
+    if at < 1 << 32 {
+        memory.byte(at as u32)
+    } else {
+        None
+    }
+}
+
+/// The number in so many bytes, the lowest first.
+#[tactic(auto, using(crate::proofs::ReadNumbers::number_rules))]
+pub(crate) fn read_number(memory: &ByteMemory, at: u128, width: u64) -> Option<u64>
+    requires few { width ≤ 8 }
+    requires low { at + width < 2 ^ 67 }
+    ensures number { result ≡ number_at width (held memory.now) at }
+    ensures bound { IfSome result (λ n. n < 256 ^ width) }
+{
+    if width == 0 {
+        return Some(0);
+    }
+    let low = byte_at(memory, at)?;
+    let high = read_number(memory, at + 1, width - 1)?;
+    Some(low as u64 + 256 * high)
+}
+
+pub(crate) fn read_handle(memory: &ByteMemory, at: u128) -> Result<Value, ReadError>
+    requires { at < 2 ^ 66 }
+    ensures { Reads seen (value_at handle (held memory.now) at) result }
+{
+    match read_number(memory, at, 4) {
+        Some(number) => Ok(Value::Handle(number as u32)),
+        None => Err(ReadError::NoValue),
+    }
+}
+
+/// A builtin's number, in its range.
+pub(crate) fn read_builtin(
+    memory: &ByteMemory,
+    at: u128,
+    ty: BuiltinType,
+) -> Result<Value, ReadError>
+    requires { at < 2 ^ 66 }
+    ensures { Reads seen (value_at (builtin ty) (held memory.now) at) result }
+{
+    let Some(bits) = read_number(memory, at, ty.mem_align() as u64) else {
+        return Err(ReadError::NoValue);
+    };
+    let number = number_of(ty, bits);
+    if in_range(ty, number) {
+        Ok(Value::Num(ty, number))
+    } else {
+        Err(ReadError::NoValue)
+    }
+}
+
+pub(crate) fn read_pointer(
+    memory: &ByteMemory,
+    at: u128,
+    target: &TypeRef,
+) -> Result<Value, ReadError>
+    requires { at < 2 ^ 66 }
+    ensures { Reads seen (value_at (pointer_to (plain (tree_of target.now))) (held memory.now) at) result }
+{
+    match read_number(memory, at, 4) {
+        Some(number) => Ok(Value::Pointer(number as u32)),
+        None => Err(ReadError::NoValue),
+    }
+}
+
+pub(crate) fn read_const_pointer(
+    memory: &ByteMemory,
+    at: u128,
+    target: &TypeRef,
+) -> Result<Value, ReadError>
+    requires { at < 2 ^ 66 }
+    ensures { Reads seen (value_at (const_pointer_to (plain (tree_of target.now))) (held memory.now) at) result }
+{
+    match read_number(memory, at, 4) {
+        Some(number) => Ok(Value::ConstPointer(number as u32)),
+        None => Err(ReadError::NoValue),
+    }
+}
+
+/// A list's address, and its length behind it.
+pub(crate) fn read_list(memory: &ByteMemory, at: u128, target: &TypeRef) -> Result<Value, ReadError>
+    requires { at < 2 ^ 66 }
+    ensures { Reads seen (value_at (list_of (plain (tree_of target.now))) (held memory.now) at) result }
+{
+    let Some(address) = read_number(memory, at, 4) else {
+        return Err(ReadError::NoValue);
+    };
+    let Some(length) = read_number(memory, at + 4, 4) else {
+        return Err(ReadError::NoValue);
+    };
+    Ok(Value::List {
+        address: address as u32,
+        length: length as u32,
+    })
+}
