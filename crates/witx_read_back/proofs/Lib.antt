@@ -1,0 +1,26 @@
+pub mod Tokens
+pub mod Printed
+pub mod Readable
+pub mod Forms
+pub mod Writable
+pub mod TypeReads
+pub mod DocumentReads
+pub mod Lexes
+pub mod Stands
+pub mod Fine
+pub mod Permitted
+pub mod ItemsFine
+pub mod Orders
+pub mod DocumentFine
+pub mod Clean
+pub mod Given
+pub mod ItemsGiven
+pub mod DocumentGiven
+pub mod Declared
+pub mod Entries
+pub mod Identifiers
+pub mod ReadBack
+pub mod Named
+pub mod NamedItems
+pub mod Whole
+mod Examples
