@@ -1,0 +1,22 @@
+-- When a document has no page, and how that is told.
+use Rattle.std.specs.Prelude.{◌≡◌, ◌⊎◌, ℕ, List, Bool, false, Option, Some, None}
+use Rattle.std.proofs.Common.{refl, inl, inr}
+use Rattle.witx_layout.specs.declared.members.LayoutError.{LayoutError}
+use Rattle.witx_layout.specs.declared.members.LayoutError.TheVariants as layout_error
+use Rattle.witx_ast.specs.Definitions.{DefinitionTree}
+use Rattle.witx_docs.specs.declared.error.DocsError.{DocsError}
+use Rattle.witx_docs.specs.declared.error.DocsError.TheVariants as docs_error
+use Rattle.witx_docs.specs.LaidOut.{too_large, document_laid_out, document_refusal, unknown_type, refusal_fits, refusal_of}
+
+pub accepted : (ds : List DefinitionTree) → unknown_type ds ≡ None → too_large (document_laid_out ds) ≡ false → document_refusal ds ≡ None
+accepted ds e f = rw (e, f) refl
+
+pub unknown-refused : (ds : List DefinitionTree) (name : List ℕ) → unknown_type ds ≡ Some name → document_refusal ds ≡ Some (docs_error.UnknownConstantType name)
+unknown-refused ds name e = rw e refl
+
+pub layout-refused : (ds : List DefinitionTree) (e : LayoutError) → unknown_type ds ≡ None → refusal_fits (too_large (document_laid_out ds)) e
+    → (refusal_of e ≡ docs_error.OutOfMemory) ⊎ (document_refusal ds ≡ Some (refusal_of e))
+layout-refused ds layout_error.TooLarge e h = inr (rw (e, h) refl)
+layout-refused ds layout_error.OutOfMemory e h = inl refl
+
+pub ruleset refusal_rules = (accepted, unknown-refused, layout-refused)

@@ -1,0 +1,149 @@
+//! The page of a document.
+ghost use Rattle.std.specs.Prelude.{◌≡◌, ◌⊎◌, ◌++◌, IfErr, IfOk, OnOk, Some, None, map, string_bytes};
+ghost use Rattle.std.specs.Map.{keys_of};
+ghost use Rattle.witx_ast.specs.Definitions.{definition_tree};
+ghost use Rattle.witx_docs.specs.declared.error.DocsError.{DocsError};
+ghost use Rattle.witx_docs.specs.Contents.{content_text, docs_text};
+ghost use Rattle.witx_docs.specs.LaidOut.{Judged, too_large, document_laid_out, document_refusal};
+ghost use Rattle.witx_docs.specs.Links.{linked, missing, with_links, missing_in};
+ghost use Rattle.witx_docs.specs.Pages.{page_contents, page_text, missing_links as links_without_target, text_of_contents, missing_of_contents, text_with, missing_with};
+
+use crate::branch::Branch;
+use crate::content::MdContent;
+use crate::content_text::{put_content, put_func_line, put_named_line};
+use crate::documentation::Documentation;
+use crate::documents::{put_document, unknown_constant_type};
+use crate::error::DocsError;
+use crate::heading::{MdHeading, put};
+use crate::links::{KnownIds, MissingLinks, known_ids, put_linked};
+use crate::place::Place;
+use std::alloc::Global;
+use witx_ast::{Definition, Document};
+use witx_base::{Duplicate, Id, Items, OutOfMemory, Text};
+use witx_layout::LayoutError;
+
+/// The page of a document, and the links of its documentation that lead nowhere.
+///
+/// What stands between two backquotes links to the node whose id it is, with `::` as a dot. Where there
+/// is none it stays, and is among the missing links, which come in the order of the text.
+/// `UnknownConstantType` comes exactly where a constant's type is no typename of the document, for the
+/// first such; `TooLarge` exactly where else a number that the page needs exceeds `usize::MAX`.
+#[tactic(auto, using(crate::proofs::RefusedPages::refusal_rules))]
+pub fn document_md(alloc: Global, document: &Document) -> Result<(Text, MissingLinks), DocsError>
+    ensures text { IfOk result (λ page. page.0 ≡ page_text (map definition_tree document.now.definitions)) }
+    ensures missing { IfOk result (λ page. page.1 ≡ links_without_target (map definition_tree document.now.definitions)) }
+    ensures accepted { OnOk result (document_refusal (map definition_tree document.now.definitions) ≡ None) }
+    ensures refusal { IfErr result (λ refused.
+        (refused ≡ DocsError.OutOfMemory) ⊎ (document_refusal (map definition_tree document.now.definitions) ≡ Some refused)) }
+{
+    if let Some(name) = unknown_constant_type(document) {
+        return Err(unknown_type_refusal(name));
+    }
+    let contents = contents(alloc, document.definitions().as_slice())?;
+    let page = linked_page(alloc, contents.as_slice())?;
+    Ok(page)
+}
+
+/// The refusal that names the unknown type of a constant.
+fn unknown_type_refusal(name: &Id) -> DocsError
+    ensures { (result ≡ DocsError.OutOfMemory) ⊎ (result ≡ DocsError.UnknownConstantType name.now) }
+{
+    match name.copy() {
+        Ok(name) => DocsError::UnknownConstantType { name },
+        Err(OutOfMemory) => DocsError::OutOfMemory,
+    }
+}
+
+/// The contents of a document's page, in the order of the text and without links.
+fn contents(alloc: Global, definitions: &[Definition]) -> Result<Items<MdContent>, LayoutError>
+    ensures contents { IfOk result (λ contents. contents ≡ page_contents (map definition_tree definitions.now)) }
+    ensures refusal { Judged (too_large (document_laid_out (map definition_tree definitions.now))) result }
+{
+    let mut branch = Branch::new(alloc, 1);
+    let root = Place {
+        node: 0,
+        heading: MdHeading::new_header(1),
+        id: None,
+    };
+    put_document(&mut branch, &root, definitions)?;
+    Ok(branch.contents)
+}
+
+/// The text of contents with the links of their documentation, and the links that lead nowhere.
+fn linked_page(alloc: Global, contents: &[MdContent]) -> Result<(Text, MissingLinks), OutOfMemory>
+    ensures text { IfOk result (λ page. page.0 ≡ text_of_contents contents.now) }
+    ensures missing { IfOk result (λ page. page.1 ≡ missing_of_contents contents.now) }
+{
+    let known = known_ids(alloc, contents)?;
+    let mut out = String::new(alloc);
+    let mut missing_links = MissingLinks::new(alloc);
+    put_contents(&mut out, &mut missing_links, &known, contents)?;
+    Ok((Text::from_string(out), missing_links))
+}
+
+fn put_contents(
+    out: &mut String,
+    missing_links: &mut MissingLinks,
+    known: &KnownIds,
+    contents: &[MdContent],
+) -> Result<(), OutOfMemory>
+    ensures text { OnOk result (string_bytes out.new ≡ string_bytes out.old ++ text_with (keys_of known.now) contents.now) }
+    ensures missing { OnOk result (missing_links.new ≡ missing_links.old ++ missing_with (keys_of known.now) contents.now) }
+{
+    for content in contents {
+        put_linked_content(out, missing_links, known, content)?;
+    }
+    Ok(())
+}
+
+/// Appends the text of a content with the links of its documentation.
+fn put_linked_content(
+    out: &mut String,
+    missing_links: &mut MissingLinks,
+    known: &KnownIds,
+    content: &MdContent,
+) -> Result<(), OutOfMemory>
+    ensures text { OnOk result (string_bytes out.new ≡ string_bytes out.old ++ content_text (with_links (keys_of known.now) content.now)) }
+    ensures missing { OnOk result (missing_links.new ≡ missing_links.old ++ missing_in (keys_of known.now) content.now) }
+{
+    match content {
+        MdContent::Named(named) => {
+            put_named_line(out, named)?;
+            put_linked_docs(out, missing_links, known, named.docs.as_str())
+        }
+        MdContent::Func(func) => {
+            put_func_line(out, func)?;
+            put_linked_docs(out, missing_links, known, func.docs.as_str())
+        }
+        MdContent::Root | MdContent::Section(_) => put_content(out, content),
+    }
+}
+
+fn put_linked_docs(
+    out: &mut String,
+    missing_links: &mut MissingLinks,
+    known: &KnownIds,
+    docs: &str,
+) -> Result<(), OutOfMemory>
+    ensures text { OnOk result (string_bytes out.new ≡ string_bytes out.old ++ docs_text (linked (keys_of known.now) docs.now)) }
+    ensures missing { OnOk result (missing_links.new ≡ missing_links.old ++ missing (keys_of known.now) docs.now) }
+{
+    put(out, "\n")?;
+    put_linked(out, missing_links, known, docs)?;
+    put(out, "\n")
+}
+
+impl Documentation for Document {
+    ghost use Rattle.witx_docs.specs.Pages.{page_answer};
+    ghost use Rattle.std.specs.Prelude.{map};
+    ghost use Rattle.witx_ast.specs.Definitions.{definition_tree};
+
+    ghost answer = { λ d. page_answer (map definition_tree d.definitions) };
+
+    fn to_md(&self, alloc: Global) -> Result<Text, DocsError> {
+        match document_md(alloc, self) {
+            Ok((text, _)) => Ok(text),
+            Err(refused) => Err(refused),
+        }
+    }
+}
