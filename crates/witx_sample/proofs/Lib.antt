@@ -1,0 +1,4 @@
+pub mod Numbered
+pub mod SampleBundles
+pub mod Totals
+pub mod Examples

@@ -1,0 +1,121 @@
+-- The bytes of a sample are a bundle: there are few enough, and the first line is a header.
+use Rattle.std.proofs.Common.{◌≡◌, ℕ, zero, suc, ◌+◌, ◌*◌, ◌^◌, ◌<◌, ◌≤◌, List, ◌++◌, length, length-append, refl, IsUtf8, None, Err, arith, codes}
+use Rattle.std.specs.Fmt.{decimal}
+use Rattle.std.specs.List.{flat_map, range_with_len}
+use Rattle.std.proofs.lemmas.Fmt.{length-decimal-le}
+use Rattle.witx_bundle.specs.Bundles.{IsRead, limit, lines_of, stray}
+use Rattle.witx_bundle.specs.declared.error.BundleError.{BundleError}
+use Rattle.witx_bundle.specs.declared.error.BundleError.TheVariants as bundle
+use Rattle.witx_sample.specs.declared.sample.TheConstants.{LARGEST_SAMPLE}
+use Rattle.witx_sample.specs.Samples.{each, enum_line, func_head, func_line, func_params, func_result, header_line, list_case, module_text, record_case, record_line, sample_text, type_lines, types_text, variant_head, variant_line}
+
+-- ---- how long the lines are
+
+few : (xs : List ℕ) (m : ℕ) → length xs ≡ m → length xs ≤ m
+few xs m e = omega (arith, e)
+
+longer : (a b : List ℕ) (m n : ℕ) → length a ≤ m → length b ≤ n → length (a ++ b) ≤ m + n
+longer a b m n p q = omega (arith, length-append a b, p, q)
+
+digits-few : (i : ℕ) → i < 2 ^ 64 → length (decimal i) ≤ 20
+digits-few i h = length-decimal-le 20 i (omega arith) (omega (arith, h)) h
+
+record-few : (i : ℕ) → i < 2 ^ 64 → length (record_line i) ≤ 87
+unfolding record_line
+record-few i h =
+    let d = digits-few i h in
+    let s1 = longer (codes "(typename $r") (decimal i) 12 20 (few (codes "(typename $r") 12 refl) (d) in
+    let s2 = longer (codes "(typename $r" ++ decimal i) (codes " (record (field $a u32) (field $b $e) (field $c u64)))\n") 32 55 s1 (few (codes " (record (field $a u32) (field $b $e) (field $c u64)))\n") 55 refl) in
+    s2
+
+variant_head-few : (i : ℕ) → i < 2 ^ 64 → length (variant_head i) ≤ 56
+unfolding variant_head
+variant_head-few i h =
+    let front = longer (codes "(typename $v") (decimal i) 12 20 (few (codes "(typename $v") 12 refl) (digits-few i h) in
+    longer (codes "(typename $v" ++ decimal i) (codes " (variant (@witx tag u8)") 32 24 front (few (codes " (variant (@witx tag u8)") 24 refl)
+
+record_case-few : (i : ℕ) → i < 2 ^ 64 → length (record_case i) ≤ 33
+unfolding record_case
+record_case-few i h =
+    let front = longer (codes " (case $x $r") (decimal i) 12 20 (few (codes " (case $x $r") 12 refl) (digits-few i h) in
+    longer (codes " (case $x $r" ++ decimal i) (codes ")") 32 1 front (few (codes ")") 1 refl)
+
+list_case-few : (i : ℕ) → i < 2 ^ 64 → length (list_case i) ≤ 53
+unfolding list_case
+list_case-few i h =
+    let front = longer (codes " (case $y (list $r") (decimal i) 18 20 (few (codes " (case $y (list $r") 18 refl) (digits-few i h) in
+    longer (codes " (case $y (list $r" ++ decimal i) (codes ")) (case $z)))\n") 38 15 front (few (codes ")) (case $z)))\n") 15 refl)
+
+func_head-few : (i : ℕ) → i < 2 ^ 64 → length (func_head i) ≤ 49
+unfolding func_head
+func_head-few i h =
+    let front = longer (codes "(@interface func (export \"f") (decimal i) 27 20 (few (codes "(@interface func (export \"f") 27 refl) (digits-few i h) in
+    longer (codes "(@interface func (export \"f" ++ decimal i) (codes "\")") 47 2 front (few (codes "\")") 2 refl)
+
+func_params-few : (i : ℕ) → i < 2 ^ 64 → length (func_params i) ≤ 52
+unfolding func_params
+func_params-few i h =
+    let front = longer (codes " (param $p $v") (decimal i) 13 20 (few (codes " (param $p $v") 13 refl) (digits-few i h) in
+    longer (codes " (param $p $v" ++ decimal i) (codes ") (param $q string)") 33 19 front (few (codes ") (param $q string)") 19 refl)
+
+func_result-few : (i : ℕ) → i < 2 ^ 64 → length (func_result i) ≤ 70
+unfolding func_result
+func_result-few i h =
+    let front = longer (codes " (result $s (expected (tuple $r") (decimal i) 31 20 (few (codes " (result $s (expected (tuple $r") 31 refl) (digits-few i h) in
+    longer (codes " (result $s (expected (tuple $r" ++ decimal i) (codes " $e) (error $e))))\n") 51 19 front (few (codes " $e) (error $e))))\n") 19 refl)
+
+variant-few : (i : ℕ) → i < 2 ^ 64 → length (variant_line i) ≤ 168
+unfolding variant_line
+variant-few i h =
+    let back = longer (record_case i) (list_case i) 33 53 (record_case-few i h) (list_case-few i h) in
+    let all = longer (variant_head i) (record_case i ++ list_case i) 56 86 (variant_head-few i h) back in
+    omega (arith, all)
+
+type-few : (i : ℕ) → i < 2 ^ 64 → length (type_lines i) ≤ 256
+unfolding type_lines
+type-few i h = omega (arith, longer (record_line i) (variant_line i) 87 168 (record-few i h) (variant-few i h))
+
+func-few : (i : ℕ) → i < 2 ^ 64 → length (func_line i) ≤ 256
+unfolding func_line
+func-few i h =
+    let back = longer (func_params i) (func_result i) 52 70 (func_params-few i h) (func_result-few i h) in
+    let all = longer (func_head i) (func_params i ++ func_result i) 49 122 (func_head-few i h) back in
+    omega (arith, all)
+
+each-few : (f : ℕ → List ℕ) → ((i : ℕ) → i < 2 ^ 64 → length (f i) ≤ 256) → (a n : ℕ) → a + n ≤ 2 ^ 64 → length (flat_map f (range_with_len a n)) ≤ 256 * n
+each-few f h a zero l = omega arith
+each-few f h a (suc n) l =
+    let here = h a (omega (arith, l)) in
+    let more = each-few f h (a + 1) n (omega (arith, l)) in
+    omega (arith, length-append (f a) (flat_map f (range_with_len (a + 1) n)), here, more)
+
+sample-few : (n : ℕ) → n ≤ LARGEST_SAMPLE → length (sample_text n) ≤ limit
+unfolding sample_text types_text module_text
+sample-few n h =
+    let types = each-few type_lines type-few 0 n (omega (arith, h)) in
+    let functions = each-few func_line func-few 0 n (omega (arith, h)) in
+    let head = longer enum_line (each type_lines n) 46 (256 * n) (few enum_line 46 refl) types in
+    let tail = longer (each func_line n) (codes ")\n") (256 * n) 2 functions (few (codes ")\n") 2 refl) in
+    let front = longer header_line (enum_line ++ each type_lines n) 23 (46 + 256 * n) (few header_line 23 refl) head in
+    let back = longer (codes "(module $m\n") (each func_line n ++ codes ")\n") 11 (256 * n + 2) (few (codes "(module $m\n") 11 refl) tail in
+    let all = longer (header_line ++ (enum_line ++ each type_lines n)) (codes "(module $m\n" ++ (each func_line n ++ codes ")\n")) (23 + (46 + 256 * n)) (11 + (256 * n + 2)) front back in
+    omega (arith, h, all)
+
+-- ---- nothing stands before the first header
+
+behind-header : (xs : List ℕ) → stray (lines_of (header_line ++ xs)) ≡ None
+behind-header xs = refl
+
+no-stray : (n : ℕ) → stray (lines_of (sample_text n)) ≡ None
+unfolding sample_text types_text
+no-stray n = behind-header ((enum_line ++ each type_lines n) ++ module_text n)
+
+-- ---- so it is refused only for want of memory
+
+pub only-memory : (n : ℕ) (e : BundleError) → n ≤ LARGEST_SAMPLE → IsUtf8 (sample_text n) → IsRead (sample_text n) (Err e) → e ≡ bundle.OutOfMemory
+only-memory n bundle.TooLong h u k = absurd (omega (arith, sample-few n h, k))
+only-memory n (bundle.NotUtf8 at) h u k = absurd (k.1 u)
+only-memory n (bundle.BeforeFirst at) h u k = let a = no-stray n in let b = k.2 in absurd (cc)
+only-memory n bundle.OutOfMemory h u k = refl
+
+pub ruleset bundle_rules = (only-memory)
