@@ -1,5 +1,5 @@
 -- Files that mean a document aren't refused, nor are other files that tell the same texts: there is one verdict.
-use Rattle.std.specs.Prelude.{◌≡◌, ℕ, ◌^◌, ◌<◌, ◌≤◌, List, [], length, All, Any, Option, Some, None, Ok, Err}
+use Rattle.std.specs.Prelude.{◌≡◌, ℕ, ◌^◌, ◌<◌, ◌≤◌, List, [], ◌∷◌, ◌⊎◌, length, All, Any, Option, Some, None, Ok, Err}
 use Rattle.std.proofs.Common.{refl, sym, ap, ◌∙◌, subst, inl, inr, arith, get_or}
 use mathlib.Core.Path.{fun_ext}
 use Rattle.witx_base.specs.Paths.{Path}
@@ -36,8 +36,12 @@ use Rattle.witx.specs.declared.error.AdaptError.TheVariants as adapt_error
 use Rattle.witx.specs.declared.words.Command.{Command}
 use Rattle.witx.specs.declared.words.Command.TheVariants as command
 use Rattle.witx.specs.Adapting.{AdaptRefuses, AdaptRefusesBundle, IsParsed, IsTextRefusal, Parses, defined}
-use Rattle.witx.specs.Reports.{CommandRefuses, IsAdaptReport, IsTextReport}
-use Rattle.witx.specs.Causes.{IsCause, IsOutput, IsValidFor}
+use Rattle.witx_adapt.specs.Listings.{listing_text}
+use Rattle.witx_sample.specs.Samples.{sample_path}
+use Rattle.witx_sample.specs.Summaries.{summary_text}
+use Rattle.witx.specs.Words.{paths_of}
+use Rattle.witx.specs.Reports.{AdaptingFails, CommandRefuses, IsAdaptReport, IsTextReport, ParsingFails, SizesFail}
+use Rattle.witx.specs.Causes.{IsAdaptedText, IsCause, IsOutput, IsValidFor}
 
 -- a refusal where no call failed is the verdict
 refusal-ends : (w : World Fault) (at : Place) (before now : ℕ) (e : WitxError) → (Rose before now → ⊥) → IsTextRefusal e → walk.Refuses w at before now e
@@ -89,8 +93,8 @@ document-excluded ds (document_error.TooLarge n) a i h = let l = a.sizes in let 
 document-excluded ds (document_error.Unlowerable m f p) a i h = let l = a.lowerable in let k = h.2 in cc
 document-excluded ds document_error.OutOfMemory a i h = absurd i
 
-sizes-excluded : (sizes : List ℕ) → All (λ size. size < 2 ^ 64) sizes → Any (λ size. 2 ^ 64 ≤ size) sizes → ⊥
-sizes-excluded sizes a (k, x, l, e, h) = let small : get_or sizes k x < 2 ^ 64 = a k x l in omega (arith, small, e, h)
+no-large : (sizes : List ℕ) → All (λ size. size < 2 ^ 64) sizes → Any (λ size. 2 ^ 64 ≤ size) sizes → ⊥
+no-large sizes a (k, x, l, e, h) = let small : get_or sizes k x < 2 ^ 64 = a k x l in omega (arith, small, e, h)
 
 abbrev world-with : Reading → (Path → Option (List ℕ)) → World Fault
 world-with reading texts = record { text_at = texts; canonical = canonical []; reading = reading; fault_of = fault_behind }
@@ -117,33 +121,50 @@ module _ (reading : Reading) (is : IsReading reading) (fs gs : Files) (same : (q
   meant-excluded : (ds es : List DefinitionTree) (e : DocumentError) → Parses gs handed (Ok ds) → IsAdaptable ds → IsDocumentRefusal e → Parses fs handed (Ok es) → Refuses es e → ⊥
   meant-excluded ds es e p a i h r = document-excluded ds e a i (subst (λ xs. Refuses xs e) (parses-same ds es p h) r)
 
-  adapt-excluded : (ds : List DefinitionTree) → Parses gs handed (Ok ds) → IsAdaptable ds → (e : AdaptError) (report : List ℕ) → IsAdaptReport fs handed e report → AdaptRefusesBundle fs handed e → ⊥
+  report-excluded : (ds : List DefinitionTree) → Parses gs handed (Ok ds) → IsAdaptable ds → (e : AdaptError) (report : List ℕ) → IsAdaptReport fs handed e report → AdaptRefusesBundle fs handed e → ⊥
   unfolding IsDocumentRefusal IsAdaptReport AdaptRefusesBundle
-  adapt-excluded ds p a (adapt_error.Refused e) report i h = text-excluded ds e p h.0 h.1
-  adapt-excluded ds p a (adapt_error.TagTooNarrow t) report i h = meant-excluded ds h.0 (document_error.TagTooNarrow t) p a tt h.1 h.2
-  adapt-excluded ds p a (adapt_error.TooLarge n) report i h = meant-excluded ds h.0 (document_error.TooLarge n) p a tt h.1 h.2
-  adapt-excluded ds p a (adapt_error.Unlowerable m f q) report i h = meant-excluded ds h.0 (document_error.Unlowerable m f q) p a tt h.1 h.2
-  adapt-excluded ds p a adapt_error.OutOfMemory report i h = absurd i
+  report-excluded ds p a (adapt_error.Refused e) report i h = text-excluded ds e p h.0 h.1
+  report-excluded ds p a (adapt_error.TagTooNarrow t) report i h = meant-excluded ds h.0 (document_error.TagTooNarrow t) p a tt h.1 h.2
+  report-excluded ds p a (adapt_error.TooLarge n) report i h = meant-excluded ds h.0 (document_error.TooLarge n) p a tt h.1 h.2
+  report-excluded ds p a (adapt_error.Unlowerable m f q) report i h = meant-excluded ds h.0 (document_error.Unlowerable m f q) p a tt h.1 h.2
+  report-excluded ds p a adapt_error.OutOfMemory report i h = absurd i
 
-  layouts-excluded : (ds : List DefinitionTree) → Parses gs handed (Ok ds) → All (λ size. size < 2 ^ 64) (typename_sizes ds) → (report : List ℕ) → CommandRefuses command.Layouts fs handed report → ⊥
-  unfolding CommandRefuses IsTextReport
-  layouts-excluded ds p a report (inl (e, h, k)) = text-excluded ds e p k.0 h
-  layouts-excluded ds p a report (inr (es, h, k)) =
-      sizes-excluded (typename_sizes ds) a (subst (λ xs. Any (λ size. 2 ^ 64 ≤ size) (typename_sizes xs)) (parses-same ds es p h) k.0)
+  adapting-excluded : (ds : List DefinitionTree) → Parses gs handed (Ok ds) → IsAdaptable ds → (report : List ℕ) → AdaptingFails fs handed report → ⊥
+  adapting-excluded ds p a report (e, h, k) = report-excluded ds p a e report k h
+
+  parsing-excluded : (ds : List DefinitionTree) → Parses gs handed (Ok ds) → (report : List ℕ) → ParsingFails fs handed report → ⊥
+  unfolding IsTextReport
+  parsing-excluded ds p report (e, h, k) = text-excluded ds e p k.0 h
+
+  sizes-excluded : (ds : List DefinitionTree) → Parses gs handed (Ok ds) → All (λ size. size < 2 ^ 64) (typename_sizes ds) → (report : List ℕ) → SizesFail fs handed report → ⊥
+  sizes-excluded ds p a report (es, h, k) =
+      no-large (typename_sizes ds) a (subst (λ xs. Any (λ size. 2 ^ 64 ≤ size) (typename_sizes xs)) (parses-same ds es p h) k.0)
+
+module _ (reading : Reading) (is : IsReading reading) (fs gs : Files) (same : (q : Path) → held fs q ≡ held gs q) where
+  adapted-excluded : (handed : List Path) (text_for : Adapted → List ℕ) (text : List ℕ) (adapted : Option Adapted) (report : List ℕ)
+      → IsAdaptedText text_for gs handed text adapted → AdaptingFails fs handed report → ⊥
+  adapted-excluded handed text_for text None report o h = absurd o
+  adapted-excluded handed text_for text (Some a) report o h = adapting-excluded reading is fs gs same handed (defined a) o.0 o.1.adaptable report h
+
+  layouts-excluded : (handed : List Path) (ds : List DefinitionTree) → Parses gs handed (Ok ds) → All (λ size. size < 2 ^ 64) (typename_sizes ds)
+      → (report : List ℕ) → ParsingFails fs handed report ⊎ SizesFail fs handed report → ⊥
+  layouts-excluded handed ds p a report (inl h) = parsing-excluded reading is fs gs same handed ds p report h
+  layouts-excluded handed ds p a report (inr h) = sizes-excluded reading is fs gs same handed ds p a report h
 
   -- a command that has its output doesn't refuse
-  pub output-excluded : (c : Command) (text : List ℕ) (adapted : Option Adapted) (report : List ℕ) → IsOutput (Some c) gs handed text adapted → CommandRefuses c fs handed report → ⊥
+  pub output-excluded : (arguments : List (List ℕ)) (c : Command) (text : List ℕ) (adapted : Option Adapted) (report : List ℕ)
+      → IsOutput (Some c) gs arguments text adapted → CommandRefuses c fs arguments report → ⊥
   unfolding IsOutput CommandRefuses
-  output-excluded command.Adapt text (Some a) report o (e, h, k) = adapt-excluded (defined a) o.0 o.1.adaptable e report k h
-  output-excluded command.Adapt text None report o h = absurd o
-  output-excluded command.Layouts text (Some a) report o h = absurd o
-  output-excluded command.Layouts text None report (ds, p, all, k) h = layouts-excluded ds p all report h
+  output-excluded arguments command.Adapt text adapted report o h = adapted-excluded (paths_of arguments) listing_text text adapted report o h
+  output-excluded arguments command.Layouts text adapted report (none, (ds, p, all, k)) h = layouts-excluded (paths_of arguments) ds p all report h
+  output-excluded arguments (command.Sample n) text adapted report o h = adapted-excluded (sample_path ∷ []) summary_text text adapted report o h
 
   -- valid input isn't refused
-  pub valid-excluded : (c : Command) (report : List ℕ) → IsValidFor c gs handed → CommandRefuses c fs handed report → ⊥
+  pub valid-excluded : (arguments : List (List ℕ)) (c : Command) (report : List ℕ) → IsValidFor c gs arguments → CommandRefuses c fs arguments report → ⊥
   unfolding CommandRefuses
-  valid-excluded command.Adapt report (ds, p, a) (e, h, k) = adapt-excluded ds p a e report k h
-  valid-excluded command.Layouts report (ds, p, all) h = layouts-excluded ds p all report h
+  valid-excluded arguments command.Adapt report (ds, p, a) h = adapting-excluded reading is fs gs same (paths_of arguments) ds p a report h
+  valid-excluded arguments command.Layouts report (ds, p, all) h = layouts-excluded (paths_of arguments) ds p all report h
+  valid-excluded arguments (command.Sample n) report (ds, p, a) h = adapting-excluded reading is fs gs same (sample_path ∷ []) ds p a report h
 
 -- told files and aliases that mean a document, over any reader
 module _ (reading : Reading) (is : IsReading reading) (files : Files) (aliases : Aliases) (handed : List Path) (ds : List DefinitionTree) where

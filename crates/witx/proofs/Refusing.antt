@@ -1,5 +1,5 @@
 -- What a call below refuses is what the call above it refuses.
-use Rattle.std.specs.Prelude.{◌≡◌, ℕ, List, All, Any, Option, Some, None, [], Result, Ok, Err, OnOk, is_ok, if◌then◌else◌, map, codes, ◌++◌, ◌<◌, ◌≤◌, ◌^◌}
+use Rattle.std.specs.Prelude.{◌≡◌, ℕ, List, All, Any, Option, Some, None, [], ◌∷◌, Result, Ok, Err, IfOk, OnOk, is_ok, if◌then◌else◌, map, codes, ◌++◌, ◌<◌, ◌≤◌, ◌^◌}
 use Rattle.std.proofs.Common.{◌∙◌, ap, append_assoc, inl, inr, subst, sym}
 use Rattle.witx_base.specs.Paths.{Path}
 use Rattle.witx_files.specs.Files.{Files, Aliases}
@@ -17,12 +17,16 @@ use Rattle.witx_adapt.specs.Entries.{IsFaithful, all_functions, entry_for, entry
 use Rattle.witx_adapt.specs.Listings.{listing_text}
 use Rattle.witx_layout.specs.LayoutsText.{layouts_text, typename_sizes}
 use Rattle.witx.specs.declared.words.Command.TheVariants as command
-use Rattle.witx.specs.Causes.{IsOutput}
+use Rattle.witx_sample.specs.Samples.{sample_path}
+use Rattle.witx_sample.specs.Summaries.{summary_text}
+use Rattle.witx.specs.Causes.{IsAdaptedText, IsOutput}
 use Rattle.witx.specs.Stops.{StopsWith}
+use Rattle.witx.specs.declared.commands.Output.{Output}
 use Rattle.witx.specs.declared.refusal.Stop.{Stop}
 use Rattle.witx.specs.declared.refusal.Stop.TheVariants as stop
 use Rattle.witx.specs.declared.refusal.Refusal.TheVariants as refusal
-use Rattle.witx.specs.Reports.{CommandRefuses, IsAdaptReport, IsDocumentReport, IsSizeReport, IsTextReport, IsUnadaptedReport}
+use Rattle.witx.specs.Words.{paths_of}
+use Rattle.witx.specs.Reports.{AdaptingFails, CommandRefuses, ParsingFails, IsAdaptReport, IsDocumentReport, IsSizeReport, IsTextReport, IsUnadaptedReport}
 use Rattle.witx.specs.declared.error.Unadapted.{Unadapted}
 use Rattle.witx.specs.declared.error.Unadapted.TheVariants as unadapted
 use Rattle.witx.specs.Adapting.{AdaptRefuses, HasAdaptCause, IsAdapted, IsMeant, IsParsed, Parses, RefusesBundle, defined, document_refusal, refusal_of, text_refusal}
@@ -67,17 +71,6 @@ adapted-parts a l f t k = record { layouts = l; functions = f; faithful = t; ada
 
 pub ruleset bundle_rules = (adapted-parts)
 
--- what a command answers is its output, or what it refuses
-pub adapt-output : (files : Files) (handed : List Path) (text : List ℕ) (a : Adapted) → Parses files handed (Ok (defined a)) → IsAdapted a → text ≡ listing_text a
-    → IsOutput (Some command.Adapt) files handed text (Some a)
-unfolding IsOutput
-adapt-output files handed text a p k e = (p, k, e)
-
-pub layouts-output : (files : Files) (handed : List Path) (text : List ℕ) (ds : List DefinitionTree) → Parses files handed (Ok ds) → All (λ size. size < 2 ^ 64) (typename_sizes ds)
-    → text ≡ layouts_text ds → IsOutput (Some command.Layouts) files handed text None
-unfolding IsOutput
-layouts-output files handed text ds p l e = (ds, p, l, e)
-
 -- a report of a document that is handed back is that of what is told
 document-told : (files : Files) (handed : List Path) (ds : List DefinitionTree) (e : DocumentError) (report : List ℕ) → Parses files handed (Ok ds) → IsDocumentReport ds e report
     → IsAdaptReport files handed (document_refusal e) report
@@ -102,45 +95,92 @@ unfolding IsUnadaptedReport
 unadapted-told files handed (unadapted.Texts e) report h k = texts-told files handed e report k
 unadapted-told files handed (unadapted.Document r) report h k = document-told files handed (map definition_tree r.document.definitions) r.error report h k
 
--- the same of what ends a run
-pub adapt-stops : (files : Files) (handed : List Path) (u : Unadapted) (s : Stop) → RefusesBundle files handed u → StopsWith (IsUnadaptedReport files u) s
-    → StopsWith (CommandRefuses command.Adapt files handed) s
-unfolding CommandRefuses RefusesBundle
-adapt-stops files handed u (stop.Refused refusal.Usage) h k = k
-adapt-stops files handed u (stop.Refused refusal.Source) h k = k
-adapt-stops files handed u (stop.Refused (refusal.Bundle b)) h k = k
-adapt-stops files handed u (stop.Refused (refusal.Command report)) h k = (refusal_of u, h.0, unadapted-told files handed u report h.1 k)
-adapt-stops files handed u stop.OutOfMemory h k = tt
+-- what ends a run, by its report
+stops-as : (P Q : List ℕ → Type 0) → ((report : List ℕ) → P report → Q report) → (s : Stop) → StopsWith P s → StopsWith Q s
+stops-as P Q f (stop.Refused refusal.Usage) k = k
+stops-as P Q f (stop.Refused refusal.Source) k = k
+stops-as P Q f (stop.Refused (refusal.Bundle b)) k = k
+stops-as P Q f (stop.Refused (refusal.Command report)) k = f report k
+stops-as P Q f stop.OutOfMemory k = tt
 
-pub adapt-memory : (files : Files) (handed : List Path) (s : Stop) → s ≡ stop.OutOfMemory → StopsWith (CommandRefuses command.Adapt files handed) s
-adapt-memory files handed s h = subst (StopsWith (CommandRefuses command.Adapt files handed)) (sym h) tt
+pub memory-stops : (P : List ℕ → Type 0) (s : Stop) → s ≡ stop.OutOfMemory → StopsWith P s
+memory-stops P s h = subst (StopsWith P) (sym h) tt
 
-pub layouts-refused : (files : Files) (handed : List Path) (e : WitxError) (s : Stop) → Parses files handed (Err e) → StopsWith (IsTextReport files e) s
-    → StopsWith (CommandRefuses command.Layouts files handed) s
+-- files that mean no document, or that can't be adapted
+pub parsing-stops : (files : Files) (handed paths : List Path) (e : WitxError) (s : Stop) → handed ≡ paths → Parses files handed (Err e) → StopsWith (IsTextReport files e) s
+    → StopsWith (ParsingFails files paths) s
+parsing-stops files handed paths e s same h k =
+    subst (λ ps. StopsWith (ParsingFails files ps) s) same (stops-as (IsTextReport files e) (ParsingFails files handed) (λ report told. (e, h, told)) s k)
+
+pub adapting-stops : (files : Files) (handed : List Path) (u : Unadapted) (s : Stop) → RefusesBundle files handed u → StopsWith (IsUnadaptedReport files u) s
+    → StopsWith (AdaptingFails files handed) s
+unfolding RefusesBundle
+adapting-stops files handed u s h k =
+    stops-as (IsUnadaptedReport files u) (AdaptingFails files handed) (λ report told. (refusal_of u, h.0, unadapted-told files handed u report h.1 told)) s k
+
+pub parsed-paths : (files : Files) (handed paths : List Path) (ds : List DefinitionTree) → handed ≡ paths → Parses files handed (Ok ds) → Parses files paths (Ok ds)
+parsed-paths files handed paths ds same h = subst (λ ps. Parses files ps (Ok ds)) same h
+
+pub ruleset stop_rules = (memory-stops, parsing-stops, adapting-stops, parsed-paths)
+
+-- the output of each command
+pub adapt-output : (files : Files) (handed : List Path) (arguments : List (List ℕ)) (text : List ℕ) (a : Adapted) (adapted : Option Adapted)
+    → handed ≡ paths_of arguments → Parses files handed (Ok (defined a)) → IsAdapted a → text ≡ listing_text a → adapted ≡ Some a
+    → IsOutput (Some command.Adapt) files arguments text adapted
+unfolding IsOutput
+adapt-output files handed arguments text a adapted same p k e v =
+    subst (IsAdaptedText listing_text files (paths_of arguments) text) (sym v) (subst (λ ps. Parses files ps (Ok (defined a))) same p, k, e)
+
+pub summary-output : (n : ℕ) (files : Files) (path : Path) (arguments : List (List ℕ)) (text : List ℕ) (a : Adapted) (adapted : Option Adapted)
+    → path ≡ sample_path → Parses files (path ∷ []) (Ok (defined a)) → IsAdapted a → text ≡ summary_text a → adapted ≡ Some a
+    → IsOutput (Some (command.Sample n)) files arguments text adapted
+unfolding IsOutput
+summary-output n files path arguments text a adapted same p k e v =
+    subst (IsAdaptedText summary_text files (sample_path ∷ []) text) (sym v) (subst (λ q. Parses files (q ∷ []) (Ok (defined a))) same p, k, e)
+
+pub summary-told : (n : ℕ) (files : Files) (path : Path) (arguments : List (List ℕ)) (a : Adapted) (r : Result Output Stop) → path ≡ sample_path
+    → Parses files (path ∷ []) (Ok (defined a)) → IsAdapted a → IfOk r (λ o. o.text ≡ summary_text a) → IfOk r (λ o. o.adapted ≡ Some a)
+    → IfOk r (λ o. IsOutput (Some (command.Sample n)) files arguments o.text o.adapted)
+summary-told n files path arguments a (Ok o) same p k e v = summary-output n files path arguments o.text a o.adapted same p k e v
+summary-told n files path arguments a (Err s) same p k e v = tt
+
+pub layouts-output : (files : Files) (arguments : List (List ℕ)) (text : List ℕ) (ds : List DefinitionTree) (adapted : Option Adapted)
+    → Parses files (paths_of arguments) (Ok ds) → All (λ size. size < 2 ^ 64) (typename_sizes ds) → text ≡ layouts_text ds → adapted ≡ None
+    → IsOutput (Some command.Layouts) files arguments text adapted
+unfolding IsOutput
+layouts-output files arguments text ds adapted p l e v = (v, (ds, p, l, e))
+
+-- and what each refuses
+pub adapt-refused : (files : Files) (handed : List Path) (arguments : List (List ℕ)) (s : Stop) → handed ≡ paths_of arguments → StopsWith (AdaptingFails files handed) s
+    → StopsWith (CommandRefuses command.Adapt files arguments) s
 unfolding CommandRefuses
-layouts-refused files handed e (stop.Refused refusal.Usage) h k = k
-layouts-refused files handed e (stop.Refused refusal.Source) h k = k
-layouts-refused files handed e (stop.Refused (refusal.Bundle b)) h k = k
-layouts-refused files handed e (stop.Refused (refusal.Command report)) h k = inl (e, h, k)
-layouts-refused files handed e stop.OutOfMemory h k = tt
+adapt-refused files handed arguments s same k =
+    stops-as (AdaptingFails files (paths_of arguments)) (CommandRefuses command.Adapt files arguments) (λ report h. h) s
+    (subst (λ ps. StopsWith (AdaptingFails files ps) s) same k)
 
-pub layouts-large : (files : Files) (handed : List Path) (ds : List DefinitionTree) (s : Stop) → Parses files handed (Ok ds) → StopsWith (IsSizeReport ds) s
-    → StopsWith (CommandRefuses command.Layouts files handed) s
+pub summary-refused : (n : ℕ) (files : Files) (path : Path) (arguments : List (List ℕ)) (s : Stop) → path ≡ sample_path → StopsWith (AdaptingFails files (path ∷ [])) s
+    → StopsWith (CommandRefuses (command.Sample n) files arguments) s
 unfolding CommandRefuses
-layouts-large files handed ds (stop.Refused refusal.Usage) h k = k
-layouts-large files handed ds (stop.Refused refusal.Source) h k = k
-layouts-large files handed ds (stop.Refused (refusal.Bundle b)) h k = k
-layouts-large files handed ds (stop.Refused (refusal.Command report)) h k = inr (ds, h, k)
-layouts-large files handed ds stop.OutOfMemory h k = tt
+summary-refused n files path arguments s same k =
+    stops-as (AdaptingFails files (sample_path ∷ [])) (CommandRefuses (command.Sample n) files arguments) (λ report h. h) s
+    (subst (λ q. StopsWith (AdaptingFails files (q ∷ [])) s) same k)
+
+pub layouts-refused : (files : Files) (arguments : List (List ℕ)) (s : Stop) → StopsWith (ParsingFails files (paths_of arguments)) s
+    → StopsWith (CommandRefuses command.Layouts files arguments) s
+unfolding CommandRefuses
+layouts-refused files arguments s k = stops-as (ParsingFails files (paths_of arguments)) (CommandRefuses command.Layouts files arguments) (λ report h. inl h) s k
+
+pub layouts-large : (files : Files) (arguments : List (List ℕ)) (ds : List DefinitionTree) (s : Stop) → Parses files (paths_of arguments) (Ok ds) → StopsWith (IsSizeReport ds) s
+    → StopsWith (CommandRefuses command.Layouts files arguments) s
+unfolding CommandRefuses
+layouts-large files arguments ds s p k = stops-as (IsSizeReport ds) (CommandRefuses command.Layouts files arguments) (λ report h. inr (ds, p, h)) s k
+
+pub ruleset command_rules = (memory-stops, adapt-output, summary-output, layouts-output, adapt-refused, summary-refused, layouts-refused, layouts-large)
 
 pub size-stops : (ds : List DefinitionTree) (s : Stop) → Any (λ size. 2 ^ 64 ≤ size) (typename_sizes ds) → StopsWith (λ report. report ≡ codes "size too large") s → StopsWith (IsSizeReport ds) s
-size-stops ds (stop.Refused refusal.Usage) h k = k
-size-stops ds (stop.Refused refusal.Source) h k = k
-size-stops ds (stop.Refused (refusal.Bundle b)) h k = k
-size-stops ds (stop.Refused (refusal.Command report)) h k = (h, k)
-size-stops ds stop.OutOfMemory h k = tt
+size-stops ds s h k = stops-as (λ report. report ≡ codes "size too large") (IsSizeReport ds) (λ report e. (h, e)) s k
 
-pub ruleset command_rules = (adapt-output, layouts-output, adapt-stops, adapt-memory, layouts-refused, layouts-large, size-stops)
+pub ruleset size_rules = (size-stops)
 
 -- texts put behind a text
 pub joined-twice : (old a b now after : List ℕ) → now ≡ old ++ a → after ≡ now ++ b → after ≡ old ++ (a ++ b)

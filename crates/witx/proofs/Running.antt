@@ -8,30 +8,35 @@ use Rattle.witx_files.specs.Files.{Files}
 use Rattle.witx_adapt.specs.declared.adapted.Adapted.{Adapted}
 use Rattle.witx_layout.specs.Layouts.{all_layouts}
 use Rattle.witx_adapt.specs.Entries.{IsFaithful, all_functions, entry_for, entry_of}
-use Rattle.witx_adapt.specs.Listings.{listing_text}
 use Rattle.witx.specs.declared.words.Command.{Command}
 use Rattle.witx.specs.declared.words.Command.TheVariants as command
 use Rattle.witx.specs.Adapting.{IsAdapted, Parses, defined}
-use Rattle.witx.specs.Causes.{IsAnswered, IsMeaning, IsOutput, Reads, RunInput}
+use Rattle.witx.specs.Causes.{IsAnswered, IsMeaning, IsOutput, Reads, RunInput, adapted_text, input_bytes}
+use Rattle.witx.specs.Words.{IsAdapting, adapted_paths}
 
 -- the facts of a listed value
-pub record IsListed (form : Option Command) (files : Files) (handed : List Path) (text : List ℕ) (a : Adapted) : Type 0 where
-  pub is_adapt : form ≡ Some command.Adapt
-  pub meant : Parses files handed (Ok (defined a))
+pub record IsListed (form : Option Command) (files : Files) (arguments : List (List ℕ)) (text : List ℕ) (a : Adapted) : Type 0 where
+  pub adapting : IsAdapting form
+  pub meant : Parses files (adapted_paths form arguments) (Ok (defined a))
   pub parts : IsAdapted a
-  pub listed : text ≡ listing_text a
+  pub listed : text ≡ adapted_text form a
 
-listed-output : (form : Option Command) (files : Files) (handed : List Path) (text : List ℕ) (a : Adapted) → IsOutput form files handed text (Some a) → IsListed form files handed text a
+listed-output : (form : Option Command) (files : Files) (arguments : List (List ℕ)) (text : List ℕ) (a : Adapted) → IsOutput form files arguments text (Some a) → IsListed form files arguments text a
 unfolding IsOutput
-listed-output None files handed text a h = absurd h
-listed-output (Some command.Adapt) files handed text a h = record { is_adapt = refl; meant = h.0; parts = h.1; listed = h.2 }
-listed-output (Some command.Layouts) files handed text a h = absurd h
+listed-output None files arguments text a h = absurd h
+listed-output (Some command.Adapt) files arguments text a h = record { adapting = refl; meant = h.0; parts = h.1; listed = h.2 }
+listed-output (Some command.Layouts) files arguments text a h = let none = h.0 in absurd (cc)
+listed-output (Some (command.Sample n)) files arguments text a h = record { adapting = refl; meant = h.0; parts = h.1; listed = h.2 }
 
--- adapt's output has a value
-has-value : (files : Files) (handed : List Path) (text : List ℕ) (adapted : Option Adapted) → IsOutput (Some command.Adapt) files handed text adapted → IsSome adapted
+-- the output of a command that adapts has a value
+has-value : (form : Option Command) (files : Files) (arguments : List (List ℕ)) (text : List ℕ) (adapted : Option Adapted) → IsAdapting form
+    → IsOutput form files arguments text adapted → IsSome adapted
 unfolding IsOutput
-has-value files handed text (Some a) h = refl
-has-value files handed text None h = absurd h
+has-value form files arguments text (Some a) i h = refl
+has-value None files arguments text None i h = absurd h
+has-value (Some command.Adapt) files arguments text None i h = absurd h
+has-value (Some command.Layouts) files arguments text None i h = absurd (cc)
+has-value (Some (command.Sample n)) files arguments text None i h = absurd h
 
 meaning-of : (left : Option (List ℕ)) (files : Files) (handed : List Path) (a : Adapted) → Reads left (Ok files) → Parses files handed (Ok (defined a)) → IsMeaning left handed (defined a)
 meaning-of None files handed a r p = tt
@@ -47,21 +52,23 @@ some-is Q (Some a) i h = h
 some-is Q None i h = absurd (cc)
 
 -- each value of an output is listed in it
-listed-in : (form : Option Command) (files : Files) (handed : List Path) (text : List ℕ) (adapted : Option Adapted) (P : Adapted → Type 0) → IsOutput form files handed text adapted
-    → ((a : Adapted) → IsListed form files handed text a → P a) → IfSome adapted P
-listed-in form files handed text None P o h = tt
-listed-in form files handed text (Some a) P o h = h a (listed-output form files handed text a o)
+listed-in : (form : Option Command) (files : Files) (arguments : List (List ℕ)) (text : List ℕ) (adapted : Option Adapted) (P : Adapted → Type 0)
+    → IsOutput form files arguments text adapted → ((a : Adapted) → IsListed form files arguments text a → P a) → IfSome adapted P
+listed-in form files arguments text None P o h = tt
+listed-in form files arguments text (Some a) P o h = h a (listed-output form files arguments text a o)
 
 module _ (i : RunInput) (text : List ℕ) (adapted r : Option Adapted) (status : ℕ)
     (x : IsAnswered i text adapted) (e : r ≡ (if status == 0 then adapted else None)) where
-  kept : (P : Adapted → Type 0) → (status ≡ 0 → (a : Adapted) → IsListed i.form x.files i.handed text a → P a) → IfSome r P
-  kept P h = kept-if (status == 0) adapted r P e (λ z. listed-in i.form x.files i.handed text adapted P x.output (h (eqb-true status 0 z)))
+  kept : (P : Adapted → Type 0) → (status ≡ 0 → (a : Adapted) → IsListed i.form x.files i.arguments text a → P a) → IfSome r P
+  kept P h = kept-if (status == 0) adapted r P e (λ z. listed-in i.form x.files i.arguments text adapted P x.output (h (eqb-true status 0 z)))
 
-  pub kept-listing : (a b : Option (List ℕ)) → (status ≡ 0 → Appends a b text) → IfSome r (λ v. Appends a b (listing_text v))
-  kept-listing a b h = kept (λ v. Appends a b (listing_text v)) (λ z v l. subst (Appends a b) l.listed (h z))
+  pub kept-listing : (a b : Option (List ℕ)) → (status ≡ 0 → Appends a b text) → IfSome r (λ v. Appends a b (adapted_text i.form v))
+  kept-listing a b h = kept (λ v. Appends a b (adapted_text i.form v)) (λ z v l. subst (Appends a b) l.listed (h z))
 
-  pub kept-document : IfSome r (λ v. IsMeaning i.left i.handed (defined v))
-  kept-document = kept (λ v. IsMeaning i.left i.handed (defined v)) (λ z v l. meaning-of i.left x.files i.handed v x.bundle l.meant)
+  pub kept-document : IfSome r (λ v. IsMeaning (input_bytes i) (adapted_paths i.form i.arguments) (defined v))
+  kept-document =
+      kept (λ v. IsMeaning (input_bytes i) (adapted_paths i.form i.arguments) (defined v))
+      (λ z v l. meaning-of (input_bytes i) x.files (adapted_paths i.form i.arguments) v x.bundle l.meant)
 
   pub kept-functions : IfSome r (λ v. map entry_of v.functions ≡ map entry_for (all_functions (defined v)))
   kept-functions = kept (λ v. map entry_of v.functions ≡ map entry_for (all_functions (defined v))) (λ z v l. l.parts.functions)
@@ -72,11 +79,11 @@ module _ (i : RunInput) (text : List ℕ) (adapted r : Option Adapted) (status :
   pub kept-faithful : IfSome r (λ v. All IsFaithful v.functions)
   kept-faithful = kept (λ v. All IsFaithful v.functions) (λ z v l. l.parts.faithful)
 
-  pub kept-adapted : IsSome r → (status ≡ 0) × (i.form ≡ Some command.Adapt)
-  kept-adapted there = some-is ((status ≡ 0) × (i.form ≡ Some command.Adapt)) r there (kept (λ v. (status ≡ 0) × (i.form ≡ Some command.Adapt)) (λ z v l. (z, l.is_adapt)))
+  pub kept-adapted : IsSome r → (status ≡ 0) × IsAdapting i.form
+  kept-adapted there = some-is ((status ≡ 0) × IsAdapting i.form) r there (kept (λ v. (status ≡ 0) × IsAdapting i.form) (λ z v l. (z, l.adapting)))
 
   pub kept-done : status ≡ 0 → IsAnswered i text r
   kept-done z = subst (IsAnswered i text) (sym (e ∙ ap (λ b. cond b adapted None) (eq-eqb status 0 z))) x
 
-  pub kept-listed : status ≡ 0 → i.form ≡ Some command.Adapt → IsSome r
-  kept-listed z f = let y = kept-done z in has-value y.files i.handed text r (subst (λ o. IsOutput o y.files i.handed text r) f y.output)
+  pub kept-listed : status ≡ 0 → IsAdapting i.form → IsSome r
+  kept-listed z f = let y = kept-done z in has-value i.form y.files i.arguments text r f y.output

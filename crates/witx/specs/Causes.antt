@@ -1,5 +1,5 @@
 -- When a run refuses or has its output, and what the bytes of its source say then, where these are told.
-use Rattle.std.specs.Prelude.{◌≡◌, ℕ, ◌^◌, ◌<◌, List, All, Option, None, Some, Result, Ok, Err, IsSome}
+use Rattle.std.specs.Prelude.{◌≡◌, ℕ, ◌^◌, ◌<◌, List, [], ◌∷◌, All, Option, None, Some, Result, Ok, Err}
 use Rattle.witx_base.specs.Causes.{Rose}
 use Rattle.witx_base.specs.Paths.{Path}
 use Rattle.witx_files.specs.Files.{Files}
@@ -11,6 +11,8 @@ use Rattle.witx_layout.specs.LayoutsText.{layouts_text, typename_sizes}
 use Rattle.witx_adapt.specs.declared.adapted.Adapted.{Adapted}
 use Rattle.witx_adapt.specs.Adaptable.{IsAdaptable}
 use Rattle.witx_adapt.specs.Listings.{listing_text}
+use Rattle.witx_sample.specs.Samples.{sample_path}
+use Rattle.witx_sample.specs.Summaries.{summary_text}
 use Rattle.witx.specs.Adapting.{IsAdapted, Parses, defined}
 use Rattle.witx.specs.Reports.{CommandRefuses}
 use Rattle.witx.specs.declared.words.Command.{Command}
@@ -18,7 +20,7 @@ use Rattle.witx.specs.declared.words.Command.TheVariants as command
 use Rattle.witx.specs.declared.input.InputError.{InputError}
 use Rattle.witx.specs.declared.input.InputError.TheVariants as input
 use Rattle.witx.specs.Streams.{Finished}
-use Rattle.witx.specs.Words.{command_of, handed_by}
+use Rattle.witx.specs.Words.{IsReading, arguments_of, bundle_bytes, command_of, paths_of}
 use Rattle.witx.specs.declared.refusal.Stop.{Stop}
 use Rattle.witx.specs.declared.refusal.Stop.TheVariants as stop
 use Rattle.witx.specs.declared.refusal.Refusal.{Refusal}
@@ -45,61 +47,97 @@ InputCause left before now input.Source = Rose before now
 InputCause left before now (input.Bundle e) = (now ≡ before) × IsCause e × Reads left (Err e)
 InputCause left before now input.OutOfMemory = now ≡ before
 
--- the command of a form refuses
-abbrev pub FormRefuses : Option Command → Files → List Path → List ℕ → Type 0
-FormRefuses None files handed report = ⊥
-FormRefuses (Some c) files handed report = CommandRefuses c files handed report
+-- why there are no files for a command: only one that works on its source's bundle has a cause in it
+abbrev pub FilesCause : Option Command → (left : Option (List ℕ)) → (before now : ℕ) → InputError → Type 0
+FilesCause form left before now input.Source = IsReading form × Rose before now
+FilesCause form left before now (input.Bundle e) = IsReading form × (now ≡ before) × IsCause e × Reads (bundle_bytes form left) (Err e)
+FilesCause form left before now input.OutOfMemory = now ≡ before
 
--- what a run is given: the command of its words, where they have a form, the paths that they hand, and what is told of
+-- the command of a form refuses
+abbrev pub FormRefuses : Option Command → Files → List (List ℕ) → List ℕ → Type 0
+FormRefuses None files arguments report = ⊥
+FormRefuses (Some c) files arguments report = CommandRefuses c files arguments report
+
+-- what a run is given: the command of its words, where they have a form, the words behind the first, and what is told of
 -- its source: which bytes it had left before and has left after, and its count of faults before and now
 pub record RunInput : Type 0 where
   pub form : Option Command
-  pub handed : List Path
+  pub arguments : List (List ℕ)
   pub left : Option (List ℕ)
   pub after : Option (List ℕ)
   pub before : ℕ
   pub now : ℕ
 
 -- with a source, by what is told of it
-abbrev pub run_input : {S : Type 0} → Option Command → List Path → (S → Option (List ℕ)) → (S → ℕ) → (old new : S) → RunInput
-run_input form handed left faults old new =
-    record { form = form; handed = handed; left = left old; after = left new; before = faults old; now = faults new }
+abbrev pub run_input : {S : Type 0} → Option Command → List (List ℕ) → (S → Option (List ℕ)) → (S → ℕ) → (old new : S) → RunInput
+run_input form arguments left faults old new =
+    record { form = form; arguments = arguments; left = left old; after = left new; before = faults old; now = faults new }
 
 -- with words
 abbrev pub input_of : {S : Type 0} → List (List ℕ) → (S → Option (List ℕ)) → (S → ℕ) → (old new : S) → RunInput
-input_of words left faults old new = run_input (command_of words) (handed_by words) left faults old new
+input_of words left faults old new = run_input (command_of words) (arguments_of words) left faults old new
+
+-- the bytes of the bundle that it works on
+abbrev pub input_bytes : RunInput → Option (List ℕ)
+input_bytes i = bundle_bytes i.form i.left
 
 -- what is so where a run refuses
 abbrev pub Cause : RunInput → Refusal → Type 0
 Cause i refusal.Usage = (i.form ≡ None) × (i.now ≡ i.before)
-Cause i refusal.Source = IsSome i.form × Rose i.before i.now
-Cause i (refusal.Bundle e) = IsSome i.form × (i.now ≡ i.before) × IsCause e × Reads i.left (Err e)
-Cause i (refusal.Command report) = (i.now ≡ i.before) × (files : Files) × Reads i.left (Ok files) × FormRefuses i.form files i.handed report
+Cause i refusal.Source = IsReading i.form × Rose i.before i.now
+Cause i (refusal.Bundle e) = IsReading i.form × (i.now ≡ i.before) × IsCause e × Reads (input_bytes i) (Err e)
+Cause i (refusal.Command report) = (i.now ≡ i.before) × (files : Files) × Reads (input_bytes i) (Ok files) × FormRefuses i.form files i.arguments report
 
 -- why a run has no output
 abbrev pub StopCause : RunInput → Stop → Type 0
 StopCause i (stop.Refused r) = Cause i r
 StopCause i stop.OutOfMemory = i.now ≡ i.before
 
--- the text that a command writes over the files of a bundle, and the value that it lists
-unfoldable pub IsOutput : Option Command → Files → List Path → List ℕ → Option Adapted → Type 0
-IsOutput (Some command.Adapt) files handed text (Some a) = Parses files handed (Ok (defined a)) × IsAdapted a × (text ≡ listing_text a)
-IsOutput (Some command.Layouts) files handed text None =
+-- this text of the adapted document that the files at these paths mean
+abbrev pub IsAdaptedText : (Adapted → List ℕ) → Files → List Path → List ℕ → Option Adapted → Type 0
+IsAdaptedText text_for files handed text None = ⊥
+IsAdaptedText text_for files handed text (Some a) = Parses files handed (Ok (defined a)) × IsAdapted a × (text ≡ text_for a)
+
+-- the layouts of the document that they mean
+abbrev pub IsLayoutsText : Files → List Path → List ℕ → Type 0
+IsLayoutsText files handed text =
     (ds : List DefinitionTree) × Parses files handed (Ok ds) × All (λ size. size < 2 ^ 64) (typename_sizes ds) × (text ≡ layouts_text ds)
-IsOutput _ files handed text adapted = ⊥
+
+-- the text that a command writes over the files of a bundle, and the value that it lists: a row for each command, by what
+-- stands behind its word
+unfoldable pub IsOutput : Option Command → Files → List (List ℕ) → List ℕ → Option Adapted → Type 0
+IsOutput None files arguments text adapted = ⊥
+IsOutput (Some command.Adapt) files arguments text adapted = IsAdaptedText listing_text files (paths_of arguments) text adapted
+IsOutput (Some command.Layouts) files arguments text adapted = (adapted ≡ None) × IsLayoutsText files (paths_of arguments) text
+IsOutput (Some (command.Sample n)) files arguments text adapted = IsAdaptedText summary_text files (sample_path ∷ []) text adapted
+
+-- what is written of an adapted document
+abbrev pub adapted_text : Option Command → Adapted → List ℕ
+adapted_text (Some (command.Sample n)) a = summary_text a
+adapted_text _ a = listing_text a
+
+-- the files at these paths mean a document that can be adapted
+abbrev pub CanAdapt : Files → List Path → Type 0
+CanAdapt files handed = (ds : List DefinitionTree) × Parses files handed (Ok ds) × IsAdaptable ds
+
+-- they mean one whose typenames all have a size
+abbrev pub HasSizes : Files → List Path → Type 0
+HasSizes files handed = (ds : List DefinitionTree) × Parses files handed (Ok ds) × All (λ size. size < 2 ^ 64) (typename_sizes ds)
 
 -- the files mean a document of which the command tells everything
-abbrev pub IsValidFor : Command → Files → List Path → Type 0
-IsValidFor command.Adapt files handed = (ds : List DefinitionTree) × Parses files handed (Ok ds) × IsAdaptable ds
-IsValidFor command.Layouts files handed = (ds : List DefinitionTree) × Parses files handed (Ok ds) × All (λ size. size < 2 ^ 64) (typename_sizes ds)
+abbrev pub IsValidFor : Command → Files → List (List ℕ) → Type 0
+IsValidFor command.Adapt files arguments = CanAdapt files (paths_of arguments)
+IsValidFor command.Layouts files arguments = HasSizes files (paths_of arguments)
+IsValidFor (command.Sample n) files arguments = CanAdapt files (sample_path ∷ [])
 
--- what is so where a run has its output: the source was read to its end and gave a bundle, over whose files it is
+-- what is so where a run has its output: the source, if it is read, was read to its end; there is a bundle, and the output is
+-- over its files
 pub record IsAnswered (i : RunInput) (text : List ℕ) (adapted : Option Adapted) : Type 0 where
-  pub finished : Finished i.left i.after
+  pub finished : IsReading i.form → Finished i.left i.after
   pub no_fault : i.now ≡ i.before
   pub files : Files
-  pub bundle : Reads i.left (Ok files)
-  pub output : IsOutput i.form files i.handed text adapted
+  pub bundle : Reads (input_bytes i) (Ok files)
+  pub output : IsOutput i.form files i.arguments text adapted
 
 -- the definitions of the document that the bytes of a bundle mean, where they are told
 abbrev pub IsMeaning : (left : Option (List ℕ)) → (handed : List Path) → List DefinitionTree → Type 0

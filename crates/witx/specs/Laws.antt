@@ -19,13 +19,13 @@ use Rattle.witx.specs.Causes.{IsOutput, IsValidFor}
 -- two readings of one bundle never give an output and a refusal
 abbrev pub OutputOrRefusal : Type 0
 OutputOrRefusal = (bytes : List ℕ) (files others : Files) → IsRead bytes (Ok files) → IsRead bytes (Ok others)
-    → (handed : List Path) (c : Command) (text report : List ℕ) (adapted : Option Adapted)
-    → IsOutput (Some c) others handed text adapted → CommandRefuses c files handed report → ⊥
+    → (arguments : List (List ℕ)) (c : Command) (text report : List ℕ) (adapted : Option Adapted)
+    → IsOutput (Some c) others arguments text adapted → CommandRefuses c files arguments report → ⊥
 
 -- a bundle whose files are valid for a command isn't refused by it
 abbrev pub ValidIsNotRefused : Type 0
 ValidIsNotRefused = (bytes : List ℕ) (files others : Files) → IsRead bytes (Ok files) → IsRead bytes (Ok others)
-    → (handed : List Path) (c : Command) (report : List ℕ) → IsValidFor c others handed → CommandRefuses c files handed report → ⊥
+    → (arguments : List (List ℕ)) (c : Command) (report : List ℕ) → IsValidFor c others arguments → CommandRefuses c files arguments report → ⊥
 
 -- told files that are valid are refused only for want of memory, where no call failed
 abbrev pub ValidFilesAreNotRefused : Type 0

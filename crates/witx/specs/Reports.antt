@@ -1,5 +1,5 @@
 -- The report of a command's refusal, byte for byte. The names in it are those of the document that the files mean.
-use Rattle.std.specs.Prelude.{◌≡◌, ◌⊎◌, ℕ, ◌^◌, ◌≤◌, List, [], ◌++◌, Any, Option, Some, None, Ok, Err, map, slice_get, codes}
+use Rattle.std.specs.Prelude.{◌≡◌, ◌⊎◌, ℕ, ◌^◌, ◌≤◌, List, [], ◌∷◌, ◌++◌, Any, Option, Some, None, Ok, Err, map, slice_get, codes}
 use Rattle.std.specs.Option.{option_and_then}
 use Rattle.std.specs.Fmt.{decimal}
 use Rattle.witx_base.specs.Paths.{Path}
@@ -13,6 +13,7 @@ use Rattle.witx_layout.specs.LayoutsText.{typename_sizes}
 use Rattle.witx_machine.specs.declared.surface.Place.{Place}
 use Rattle.witx_adapt.specs.declared.error.DocumentError.{DocumentError}
 use Rattle.witx_adapt.specs.declared.error.DocumentError.TheVariants as document_error
+use Rattle.witx_sample.specs.Samples.{sample_path}
 use Rattle.witx_walk.specs.declared.error.WitxError.{WitxError}
 use Rattle.witx_walk.specs.ErrorReports.{IsErrorReport}
 use Rattle.witx.specs.declared.words.Command.{Command}
@@ -22,6 +23,7 @@ use Rattle.witx.specs.declared.error.AdaptError.TheVariants as adapt_error
 use Rattle.witx.specs.declared.error.Unadapted.{Unadapted}
 use Rattle.witx.specs.declared.error.Unadapted.TheVariants as unadapted
 use Rattle.witx.specs.Adapting.{AdaptRefusesBundle, IsTextRefusal, Parses}
+use Rattle.witx.specs.Words.{paths_of}
 
 abbrev pub definition_name : DefinitionTree → List ℕ
 definition_name (typename_of name t docs) = name
@@ -114,9 +116,20 @@ IsAdaptReport files handed adapt_error.OutOfMemory report = ⊥
 abbrev pub IsSizeReport : List DefinitionTree → List ℕ → Type 0
 IsSizeReport ds report = Any (λ size. 2 ^ 64 ≤ size) (typename_sizes ds) × (report ≡ codes "size too large")
 
--- the command's call refuses the files of a bundle, with this report
-unfoldable pub CommandRefuses : Command → Files → List Path → List ℕ → Type 0
-CommandRefuses command.Adapt files handed report = (e : AdaptError) × AdaptRefusesBundle files handed e × IsAdaptReport files handed e report
-CommandRefuses command.Layouts files handed report =
-    ((e : WitxError) × Parses files handed (Err e) × IsTextReport files e report)
-    ⊎ ((ds : List DefinitionTree) × Parses files handed (Ok ds) × IsSizeReport ds report)
+-- the files at these paths mean no document, and this is the report
+abbrev pub ParsingFails : Files → List Path → List ℕ → Type 0
+ParsingFails files handed report = (e : WitxError) × Parses files handed (Err e) × IsTextReport files e report
+
+-- they can't be adapted, and this is the report
+abbrev pub AdaptingFails : Files → List Path → List ℕ → Type 0
+AdaptingFails files handed report = (e : AdaptError) × AdaptRefusesBundle files handed e × IsAdaptReport files handed e report
+
+-- they mean a document with a typename that is too large, and this is the report
+abbrev pub SizesFail : Files → List Path → List ℕ → Type 0
+SizesFail files handed report = (ds : List DefinitionTree) × Parses files handed (Ok ds) × IsSizeReport ds report
+
+-- the command's call refuses the files of a bundle, with this report: a row for each command, by what stands behind its word
+unfoldable pub CommandRefuses : Command → Files → List (List ℕ) → List ℕ → Type 0
+CommandRefuses command.Adapt files arguments report = AdaptingFails files (paths_of arguments) report
+CommandRefuses command.Layouts files arguments report = ParsingFails files (paths_of arguments) report ⊎ SizesFail files (paths_of arguments) report
+CommandRefuses (command.Sample n) files arguments report = AdaptingFails files (sample_path ∷ []) report

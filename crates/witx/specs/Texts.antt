@@ -1,5 +1,6 @@
 -- What a run writes on its second sink: the usage text where the words have no form, else the report of the refusal.
-use Rattle.std.specs.Prelude.{◌≡◌, ◌⊎◌, ℕ, List, ◌++◌, codes}
+use Rattle.std.specs.Prelude.{◌≡◌, ◌⊎◌, ℕ, List, [], ◌∷◌, ◌++◌, codes}
+use Rattle.std.specs.List.{flat_map}
 use Rattle.std.specs.Fmt.{decimal}
 use Rattle.witx.specs.declared.refusal.Refusal.{Refusal}
 use Rattle.witx.specs.declared.refusal.Refusal.TheVariants as refusal
@@ -16,8 +17,16 @@ bundle_text (bundle.NotUtf8 at) = codes "bundle is not UTF-8 at byte " ++ decima
 bundle_text (bundle.BeforeFirst at) = codes "text before the first file at byte " ++ decimal at
 bundle_text bundle.OutOfMemory = codes "out of memory"
 
+-- a line for each command
+abbrev pub usage_lines : List (List ℕ)
+usage_lines =
+    codes "usage: witx adapt PATH.."
+    ∷ codes "       witx layouts PATH.."
+    ∷ codes "       witx sample N"
+    ∷ []
+
 abbrev pub text_of : Refusal → List ℕ
-text_of refusal.Usage = line (codes "usage: witx adapt PATH..") ++ line (codes "       witx layouts PATH..")
+text_of refusal.Usage = flat_map line usage_lines
 text_of refusal.Source = line (codes "witx: cannot read input")
 text_of (refusal.Bundle e) = line (codes "witx: " ++ bundle_text e)
 text_of (refusal.Command report) = line (codes "witx: " ++ report)

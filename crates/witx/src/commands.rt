@@ -3,23 +3,26 @@ ghost use Rattle.witx_ast.specs.Definitions.{definition_tree};
 ghost use Rattle.witx_ast.specs.Ordered.{IsOrdered};
 ghost use Rattle.witx_adapt.specs.Listings.{listing_text};
 ghost use Rattle.witx_layout.specs.LayoutsText.{layouts_text as text_of_layouts, typename_sizes};
+ghost use Rattle.witx_sample.specs.Summaries.{summary_text};
 ghost use Rattle.witx.specs.Adapting.{IsAdapted, Parses, RefusesBundle, defined};
 ghost use Rattle.witx.specs.Causes.{IsOutput};
-ghost use Rattle.witx.specs.Reports.{CommandRefuses, IsSizeReport, IsTextReport, IsUnadaptedReport};
+ghost use Rattle.witx.specs.Reports.{AdaptingFails, CommandRefuses, IsSizeReport, IsTextReport, IsUnadaptedReport, ParsingFails};
 ghost use Rattle.witx.specs.Stops.{StopsWith};
+ghost use Rattle.witx.specs.Words.{paths_of};
 
 use crate::adapting::adapted;
 use crate::error::Unadapted;
 use crate::parsing::{parsed_bundle, text_report};
 use crate::refusal::{Refusal, Stop};
 use crate::report::adapt_report;
-use crate::words::Command;
+use crate::words::{Command, paths_of};
 use std::alloc::Global;
 use witx_adapt::{Adapted, listing};
 use witx_ast::Document;
 use witx_base::{Text, WitxPath};
 use witx_files::MockFs;
 use witx_layout::{LayoutError, ordered_layouts_text};
+use witx_sample::summary;
 use witx_walk::WitxError;
 
 /// What a command is to write, and the value that it lists.
@@ -29,19 +32,94 @@ pub struct Output {
     pub adapted: Option<Adapted>,
 }
 
-/// The output of a command over the files of a bundle.
+/// The output of a command over the files of a bundle, by the words behind its own: a row for each
+/// command.
 pub fn perform(
     alloc: Global,
     command: Command,
-    paths: &[WitxPath],
+    arguments: &[Text],
     files: &mut MockFs,
 ) -> Result<Output, Stop>
-    ensures output { IfOk result (λ o. IsOutput (Some command) files.old paths.now o.text o.adapted) }
-    ensures stopped { IfErr result (StopsWith (CommandRefuses command files.old paths.now)) }
+    ensures output { IfOk result (λ o. IsOutput (Some command) files.old arguments.now o.text o.adapted) }
+    ensures stopped { IfErr result (StopsWith (CommandRefuses command files.old arguments.now)) }
 {
     match command {
-        Command::Adapt => adapt_files(alloc, paths, files),
-        Command::Layouts => layouts_of_files(alloc, paths, files),
+        Command::Adapt => adapt_files(alloc, arguments, files),
+        Command::Layouts => layouts_of_files(alloc, arguments, files),
+        Command::Sample { functions } => summary_of_files(alloc, functions, arguments, files),
+    }
+}
+
+/// The listing of the document that the files at these paths mean.
+#[tactic(auto, using(crate::proofs::Refusing::command_rules))]
+fn adapt_files(alloc: Global, arguments: &[Text], files: &mut MockFs) -> Result<Output, Stop>
+    ensures output { IfOk result (λ o. IsOutput (Some Command.Adapt) files.old arguments.now o.text o.adapted) }
+    ensures stopped { IfErr result (StopsWith (CommandRefuses Command.Adapt files.old arguments.now)) }
+{
+    let paths = paths_of(alloc, arguments)?;
+    match adapted_or_stop(alloc, paths.as_slice(), files) {
+        Ok(adapted) => listed(alloc, adapted),
+        Err(stop) => Err(stop),
+    }
+}
+
+/// The layouts of the typenames of the document that the files at these paths mean.
+#[tactic(auto, using(crate::proofs::Refusing::command_rules))]
+fn layouts_of_files(alloc: Global, arguments: &[Text], files: &mut MockFs) -> Result<Output, Stop>
+    ensures output { IfOk result (λ o. IsOutput (Some Command.Layouts) files.old arguments.now o.text o.adapted) }
+    ensures stopped { IfErr result (StopsWith (CommandRefuses Command.Layouts files.old arguments.now)) }
+{
+    match parsed_or_stop(alloc, arguments, files) {
+        Ok(document) => document_layouts(alloc, &document),
+        Err(stop) => Err(stop),
+    }
+}
+
+/// The summary of the document that the file of the sample means.
+#[tactic(auto, using(crate::proofs::Refusing::command_rules))]
+fn summary_of_files(
+    alloc: Global,
+    functions: usize,
+    arguments: &[Text],
+    files: &mut MockFs,
+) -> Result<Output, Stop>
+    ensures output { IfOk result (λ o. IsOutput (Some (Command.Sample functions)) files.old arguments.now o.text o.adapted) }
+    ensures stopped { IfErr result (StopsWith (CommandRefuses (Command.Sample functions) files.old arguments.now)) }
+{
+    let path = WitxPath::new(alloc, "/sample.witx")?;
+    match adapted_or_stop(alloc, &[path], files) {
+        Ok(adapted) => summarized(alloc, adapted),
+        Err(stop) => Err(stop),
+    }
+}
+
+/// The document that the files at the paths of these words mean, or the end of a run over files that
+/// mean none.
+#[tactic(auto, using(crate::proofs::Refusing::stop_rules))]
+fn parsed_or_stop(alloc: Global, arguments: &[Text], files: &mut MockFs) -> Result<Document, Stop>
+    ensures document { IfOk result (λ d. Parses files.old (paths_of arguments.now) (Ok (map definition_tree d.definitions))) }
+    ensures ordered { IfOk result (λ d. IsOrdered (map definition_tree d.definitions)) }
+    ensures stopped { IfErr result (StopsWith (ParsingFails files.old (paths_of arguments.now))) }
+    ensures kept { OnOk result (files.new ≡ files.old) }
+{
+    let paths = paths_of(alloc, arguments)?;
+    match parsed_bundle(alloc, paths.as_slice(), files) {
+        Ok(document) => Ok(document),
+        Err(error) => Err(text_stop(alloc, files, &error)),
+    }
+}
+
+/// The adapted document that the files at these paths mean, or the end of a run over files that can't
+/// be adapted.
+#[tactic(auto, using(crate::proofs::Refusing::stop_rules))]
+fn adapted_or_stop(alloc: Global, paths: &[WitxPath], files: &mut MockFs) -> Result<Adapted, Stop>
+    ensures document { IfOk result (λ a. Parses files.old paths.now (Ok (defined a))) }
+    ensures parts { IfOk result IsAdapted }
+    ensures stopped { IfErr result (StopsWith (AdaptingFails files.old paths.now)) }
+{
+    match adapted_bundle(alloc, paths, files) {
+        Ok(adapted) => Ok(adapted),
+        Err(unadapted) => Err(adapt_stop(alloc, files, &unadapted)),
     }
 }
 
@@ -60,15 +138,23 @@ fn adapted_bundle(
     adapted(alloc, paths, files)
 }
 
-/// The listing of the adapted document that the files mean.
-#[tactic(auto, using(crate::proofs::Refusing::command_rules))]
-fn adapt_files(alloc: Global, paths: &[WitxPath], files: &mut MockFs) -> Result<Output, Stop>
-    ensures output { IfOk result (λ o. IsOutput (Some Command.Adapt) files.old paths.now o.text o.adapted) }
-    ensures stopped { IfErr result (StopsWith (CommandRefuses Command.Adapt files.old paths.now)) }
+/// The end of a run whose files can't be adapted.
+fn adapt_stop(alloc: Global, files: &mut MockFs, unadapted: &Unadapted) -> Stop
+    ensures { StopsWith (IsUnadaptedReport files.old unadapted.now) result }
 {
-    match adapted_bundle(alloc, paths, files) {
-        Ok(adapted) => listed(alloc, adapted),
-        Err(unadapted) => Err(adapt_stop(alloc, files, &unadapted)),
+    match adapt_report(alloc, files, unadapted) {
+        Ok(report) => Stop::Refused(Refusal::Command(report)),
+        Err(_) => Stop::OutOfMemory,
+    }
+}
+
+/// The end of a run whose files mean no document.
+fn text_stop(alloc: Global, files: &mut MockFs, error: &WitxError) -> Stop
+    ensures { StopsWith (IsTextReport files.old error.now) result }
+{
+    match text_report(alloc, files, error) {
+        Ok(report) => Stop::Refused(Refusal::Command(report)),
+        Err(_) => Stop::OutOfMemory,
     }
 }
 
@@ -87,30 +173,23 @@ fn listed(alloc: Global, adapted: Adapted) -> Result<Output, Stop>
     }
 }
 
-/// The end of a run whose files can't be adapted.
-fn adapt_stop(alloc: Global, files: &mut MockFs, unadapted: &Unadapted) -> Stop
-    ensures { StopsWith (IsUnadaptedReport files.old unadapted.now) result }
+/// An adapted document with its summary.
+fn summarized(alloc: Global, adapted: Adapted) -> Result<Output, Stop>
+    ensures text { IfOk result (λ o. o.text ≡ summary_text adapted) }
+    ensures value { IfOk result (λ o. o.adapted ≡ Some adapted) }
+    ensures memory { IfErr result (λ e. e ≡ Stop.OutOfMemory) }
 {
-    match adapt_report(alloc, files, unadapted) {
-        Ok(report) => Stop::Refused(Refusal::Command(report)),
-        Err(_) => Stop::OutOfMemory,
-    }
-}
-
-/// The layouts of the typenames of the document that the files mean.
-#[tactic(auto, using(crate::proofs::Refusing::command_rules))]
-fn layouts_of_files(alloc: Global, paths: &[WitxPath], files: &mut MockFs) -> Result<Output, Stop>
-    ensures output { IfOk result (λ o. IsOutput (Some Command.Layouts) files.old paths.now o.text o.adapted) }
-    ensures stopped { IfErr result (StopsWith (CommandRefuses Command.Layouts files.old paths.now)) }
-{
-    match parsed_bundle(alloc, paths, files) {
-        Ok(document) => document_layouts(alloc, &document),
-        Err(error) => Err(text_stop(alloc, files, &error)),
+    match summary(alloc, &adapted) {
+        Ok(text) => Ok(Output {
+            text,
+            adapted: Some(adapted),
+        }),
+        Err(_) => Err(Stop::OutOfMemory),
     }
 }
 
 /// The layouts of an ordered document.
-#[tactic(auto, using(crate::proofs::Refusing::command_rules))]
+#[tactic(auto, using(crate::proofs::Refusing::size_rules))]
 fn document_layouts(alloc: Global, document: &Document) -> Result<Output, Stop>
     requires { IsOrdered (map definition_tree document.now.definitions) }
     ensures text { IfOk result (λ o. o.text ≡ text_of_layouts (map definition_tree document.now.definitions)) }
@@ -132,16 +211,6 @@ fn too_large(alloc: Global) -> Stop
     ensures { StopsWith (λ report. report ≡ codes "size too large") result }
 {
     match Text::new(alloc, "size too large") {
-        Ok(report) => Stop::Refused(Refusal::Command(report)),
-        Err(_) => Stop::OutOfMemory,
-    }
-}
-
-/// The end of a run whose files mean no document.
-fn text_stop(alloc: Global, files: &mut MockFs, error: &WitxError) -> Stop
-    ensures { StopsWith (IsTextReport files.old error.now) result }
-{
-    match text_report(alloc, files, error) {
         Ok(report) => Stop::Refused(Refusal::Command(report)),
         Err(_) => Stop::OutOfMemory,
     }

@@ -76,6 +76,8 @@ pub use witx_abi::{
     words_back, words_in,
 };
 #[rattlefmt::skip]
+pub use witx_sample::{LARGEST_SAMPLE, sample_bundle, sample_files, summary};
+#[rattlefmt::skip]
 pub use witx_adapt::{
     Adapted, AdaptedFunc, AdaptedFuncs, DocumentError, RefusedDocument, adapt_document, listing,
 };

@@ -1,20 +1,19 @@
-ghost use Rattle.std.specs.Prelude.{◌≡◌, ◌<◌, ◌≤◌, ◌+◌, ◌⊎◌, ℕ, List, Option, All, None, Some, Ok, Err, IfErr, IfOk, IfSome, IsSome, map, ◌==◌, if◌then◌else◌};
+ghost use Rattle.std.specs.Prelude.{◌≡◌, ◌<◌, ◌≤◌, ◌+◌, ◌⊎◌, ℕ, List, Option, All, None, Some, Ok, Err, IfErr, IfOk, IfSome, OnOk, IsSome, map, false, ◌==◌, if◌then◌else◌};
 ghost use Rattle.std.specs.Io.KnownBytes.{Appends};
 ghost use Rattle.witx_base.specs.Causes.{Rose};
 ghost use Rattle.witx_bundle.specs.Bundles.{IsRead};
 ghost use Rattle.witx_bundle.specs.declared.error.BundleError.{BundleError};
 ghost use Rattle.witx_adapt.specs.Entries.{IsFaithful, all_functions, entry_for, entry_of};
 ghost use Rattle.witx_layout.specs.Layouts.{all_layouts};
-ghost use Rattle.witx_adapt.specs.Listings.{listing_text};
 ghost use Rattle.witx_adapt.specs.declared.adapted.Adapted.{Adapted};
-ghost use Rattle.witx.specs.Words.{command_of, handed_by};
-ghost use Rattle.witx.specs.Streams.{TookPrefix};
+ghost use Rattle.witx.specs.Words.{IsAdapting, IsBounded, IsReading, adapted_paths, arguments_of, bundle_bytes, command_of, reads_source};
+ghost use Rattle.witx.specs.Streams.{Finished, TookPrefix};
 ghost use Rattle.witx.specs.Texts.{IsRefused, status_of, text_of};
 ghost use Rattle.witx.specs.Adapting.{defined};
 ghost use Rattle.witx.specs.Reports.{CommandRefuses};
 ghost use Rattle.witx_files.specs.Files.{Files};
 ghost use Rattle.witx.specs.declared.words.Command.{Command};
-ghost use Rattle.witx.specs.Causes.{Cause, IsAnswered, IsCause, IsMeaning, IsTold, IsValidFor, StopCause, input_of, run_input};
+ghost use Rattle.witx.specs.Causes.{Cause, FilesCause, IsAnswered, IsCause, IsMeaning, IsTold, IsValidFor, Reads, StopCause, adapted_text, input_of, run_input};
 
 use crate::commands::{Output, perform};
 use crate::input::{InputError, READS, read_bundle};
@@ -23,23 +22,25 @@ use crate::output::put_text;
 use crate::refusal::{Refusal, Stop};
 use crate::refused::put_refusal;
 use crate::status::{DONE, NO_MEMORY, UNWRITTEN};
-use crate::words::{Command, command_of, handed_by};
+use crate::words::{Command, arguments_of, command_of};
 use std::alloc::Global;
 use witx_adapt::Adapted;
 use witx_base::{Sink, Source, Text};
+use witx_files::MockFs;
+use witx_sample::sample_files;
 
 /// How a run ended.
 #[derive(Drop)]
 pub struct Ran {
     /// 0 done, 1 refused, 2 no form, 3 the source failed, 4 a sink failed, 5 no memory, 6 no bundle.
     pub status: u8,
-    /// The value whose listing was written; there exactly where the status is 0 and the command is
-    /// `adapt`.
+    /// The value whose listing or summary was written; there exactly where the status is 0 and the
+    /// command is `adapt` or `sample`.
     pub adapted: Option<Adapted>,
 }
 
-/// The program: reads the words, then the source, and writes what the command asks for on `out` or
-/// what is refused on `err`.
+/// The program: reads the words, then the source where the command works on it, and writes what the
+/// command asks for on `out` or what is refused on `err`.
 ///
 /// With `adapt` it ends with status 0 only having written the listing of the document that the texts
 /// mean and each function's caller and callee traces. On the machine, given unused nonzero addresses,
@@ -56,26 +57,28 @@ pub fn run<S: Source, O: Sink, E: Sink>(
     ensures done { result.status ≡ 0 → (text : List ℕ)
         × IsAnswered (input_of words.now S.left S.faults source.old source.new) text result.adapted
         × Appends (O.taken out.old) (O.taken out.new) text × (err.new ≡ err.old) }
-    ensures listing { IfSome result.adapted (λ a. Appends (O.taken out.old) (O.taken out.new) (listing_text a)) }
-    ensures document { IfSome result.adapted (λ a. IsMeaning (S.left source.old) (handed_by words.now) (defined a)) }
+    ensures listing { IfSome result.adapted (λ a. Appends (O.taken out.old) (O.taken out.new) (adapted_text (command_of words.now) a)) }
+    ensures document { let form = command_of words.now in
+        IfSome result.adapted (λ a. IsMeaning (bundle_bytes form (S.left source.old)) (adapted_paths form (arguments_of words.now)) (defined a)) }
     ensures functions { IfSome result.adapted (λ a. map entry_of a.functions ≡ map entry_for (all_functions (defined a))) }
     ensures layouts { IfSome result.adapted (λ a. a.layouts ≡ all_layouts (defined a)) }
     ensures faithful { IfSome result.adapted (λ a. All IsFaithful a.functions) }
-    ensures adapted { IsSome result.adapted → (result.status ≡ 0) × (command_of words.now ≡ Some Command.Adapt) }
-    ensures listed { result.status ≡ 0 → command_of words.now ≡ Some Command.Adapt → IsSome result.adapted }
+    ensures adapted { IsSome result.adapted → (result.status ≡ 0) × IsAdapting (command_of words.now) }
+    ensures listed { result.status ≡ 0 → IsAdapting (command_of words.now) → IsSome result.adapted }
     ensures usage { command_of words.now ≡ None → IsRefused 2 result.status }
-    ensures nothing_read { command_of words.now ≡ None → source.new ≡ source.old }
+    ensures nothing_read { reads_source (command_of words.now) ≡ false → source.new ≡ source.old }
     ensures told { IsTold result.status → (r : Refusal) × (status_of r ≡ result.status)
         × Cause (input_of words.now S.left S.faults source.old source.new) r
         × Appends (E.taken err.old) (E.taken err.new) (text_of r) × (out.new ≡ out.old) }
-    ensures no_bundle { (bytes : List ℕ) (e : BundleError) → IsSome (command_of words.now) → S.left source.old ≡ Some bytes → IsCause e → IsRead bytes (Err e)
+    ensures no_bundle { (bytes : List ℕ) (e : BundleError) → IsReading (command_of words.now) → S.left source.old ≡ Some bytes → IsCause e → IsRead bytes (Err e)
         → (Rose (S.faults source.old) (S.faults source.new) → ⊥) → IsRefused 6 result.status }
-    ensures complete { (bytes : List ℕ) (files : Files) (c : Command) → S.left source.old ≡ Some bytes → IsRead bytes (Ok files) → command_of words.now ≡ Some c
-        → IsValidFor c files (handed_by words.now) → (Rose (S.faults source.old) (S.faults source.new) → ⊥) → (Rose (O.faults out.old) (O.faults out.new) → ⊥)
+    ensures complete { (bytes : List ℕ) (files : Files) (c : Command) → bundle_bytes (command_of words.now) (S.left source.old) ≡ Some bytes
+        → IsRead bytes (Ok files) → command_of words.now ≡ Some c → IsValidFor c files (arguments_of words.now)
+        → (Rose (S.faults source.old) (S.faults source.new) → ⊥) → (Rose (O.faults out.old) (O.faults out.new) → ⊥)
         → (result.status ≡ 0) ⊎ (result.status ≡ 5) }
     ensures refused { (bytes : List ℕ) (files : Files) (c : Command) (report : List ℕ)
-        → S.left source.old ≡ Some bytes → IsRead bytes (Ok files) → command_of words.now ≡ Some c
-        → CommandRefuses c files (handed_by words.now) report → (Rose (S.faults source.old) (S.faults source.new) → ⊥) → IsRefused 1 result.status }
+        → bundle_bytes (command_of words.now) (S.left source.old) ≡ Some bytes → IsRead bytes (Ok files) → command_of words.now ≡ Some c
+        → CommandRefuses c files (arguments_of words.now) report → (Rose (S.faults source.old) (S.faults source.new) → ⊥) → IsRefused 1 result.status }
     ensures source_failed { S.faults source.old < S.faults source.new → IsRefused 3 result.status }
     ensures unwritten { result.status ≡ 4 →
         (Rose (O.faults out.old) (O.faults out.new) × (err.new ≡ err.old) × (text : List ℕ) × (adapted : Option Adapted)
@@ -112,36 +115,61 @@ fn prepare<S: Source>(alloc: Global, words: &[Text], source: &mut S) -> Result<O
     ensures answered { IfOk result (λ o. IsAnswered (input_of words.now S.left S.faults source.old source.new) o.text o.adapted) }
     ensures stopped { IfErr result (StopCause (input_of words.now S.left S.faults source.old source.new)) }
     ensures usage { command_of words.now ≡ None → result ≡ Err (Stop.Refused Refusal.Usage) }
-    ensures nothing_read { command_of words.now ≡ None → source.new ≡ source.old }
+    ensures nothing_read { reads_source (command_of words.now) ≡ false → source.new ≡ source.old }
     ensures later { S.faults source.old ≤ S.faults source.new }
     ensures reads { S.reads source.new ≤ S.reads source.old + READS }
 {
     match command_of(words) {
-        Some(command) => prepare_command(alloc, command, words, source),
+        Some(command) => prepare_command(alloc, command, arguments_of(words), source),
         None => Err(Stop::Refused(Refusal::Usage)),
     }
 }
 
-#[tactic(auto, using(crate::proofs::Refusing::command_rules))]
 fn prepare_command<S: Source>(
     alloc: Global,
     command: Command,
-    words: &[Text],
+    arguments: &[Text],
     source: &mut S,
 ) -> Result<Output, Stop>
-    ensures answered { IfOk result (λ o. IsAnswered (run_input (Some command) (handed_by words.now) S.left S.faults source.old source.new) o.text o.adapted) }
-    ensures stopped { IfErr result (StopCause (run_input (Some command) (handed_by words.now) S.left S.faults source.old source.new)) }
+    requires { IsBounded command }
+    ensures answered { IfOk result (λ o. IsAnswered (run_input (Some command) arguments.now S.left S.faults source.old source.new) o.text o.adapted) }
+    ensures stopped { IfErr result (StopCause (run_input (Some command) arguments.now S.left S.faults source.old source.new)) }
+    ensures nothing_read { reads_source (Some command) ≡ false → source.new ≡ source.old }
     ensures later { S.faults source.old ≤ S.faults source.new }
     ensures reads { S.reads source.new ≤ S.reads source.old + READS }
 {
-    match read_bundle(alloc, source) {
-        Ok(mut files) => {
-            let paths = handed_by(alloc, words)?;
-            perform(alloc, command, paths.as_slice(), &mut files)
-        }
+    match files_for(alloc, command, source) {
+        Ok(mut files) => perform(alloc, command, arguments, &mut files),
         Err(InputError::Source) => Err(Stop::Refused(Refusal::Source)),
         Err(InputError::Bundle(error)) => Err(Stop::Refused(Refusal::Bundle(error))),
         Err(InputError::OutOfMemory) => Err(Stop::OutOfMemory),
+    }
+}
+
+/// The files that a command works on: those of its source's bundle, or those of the sample's, for which
+/// the source isn't read.
+#[tactic(auto, using(crate::proofs::Preparing::file_rules))]
+fn files_for<S: Source>(
+    alloc: Global,
+    command: Command,
+    source: &mut S,
+) -> Result<MockFs, InputError>
+    requires { IsBounded command }
+    ensures files { IfOk result (λ files. Reads (bundle_bytes (Some command) (S.left source.old)) (Ok files)) }
+    ensures finished { OnOk result (IsReading (Some command) → Finished (S.left source.old) (S.left source.new)) }
+    ensures nothing_read { reads_source (Some command) ≡ false → source.new ≡ source.old }
+    ensures no_fault { OnOk result (S.faults source.new ≡ S.faults source.old) }
+    ensures refused { IfErr result (FilesCause (Some command) (S.left source.old) (S.faults source.old) (S.faults source.new)) }
+    ensures later { S.faults source.old ≤ S.faults source.new }
+    ensures reads { S.reads source.new ≤ S.reads source.old + READS }
+{
+    match command {
+        Command::Adapt => read_bundle(alloc, source),
+        Command::Layouts => read_bundle(alloc, source),
+        Command::Sample { functions } => match sample_files(alloc, functions) {
+            Ok(files) => Ok(files),
+            Err(_) => Err(InputError::OutOfMemory),
+        },
     }
 }
 

@@ -39,7 +39,7 @@ impl Refusal {
         match self {
             Refusal::Usage => Text::new(
                 alloc,
-                "usage: witx adapt PATH..\n       witx layouts PATH..\n",
+                "usage: witx adapt PATH..\n       witx layouts PATH..\n       witx sample N\n",
             ),
             Refusal::Source => Text::new(alloc, "witx: cannot read input\n"),
             Refusal::Bundle(error) => bundle_text(alloc, *error),

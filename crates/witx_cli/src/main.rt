@@ -4,6 +4,7 @@
 use std::alloc::Global;
 use std::env;
 use std::io::ErrorKind;
+use std::mem::forget;
 use std::process::ExitCode;
 use witx::run;
 use witx_base::{Items, OutOfMemory, Reading, Text, Writing};
@@ -20,7 +21,10 @@ fn main(rt: HostRuntime) -> ExitCode {
     let mut out = Writing::new(rt.stdout());
     let mut err = Writing::new(rt.stderr());
     let ran = run(alloc, words.as_slice(), &mut source, &mut out, &mut err);
-    ExitCode::from(ran.status)
+    let status = ran.status;
+    // The process ends here, and gives all memory back at once.
+    forget(ran);
+    ExitCode::from(status)
 }
 
 /// The words of the command line after the program's name. Where one isn't UTF-8 there are none, so
