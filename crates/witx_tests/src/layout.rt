@@ -1,13 +1,19 @@
 //! Sizes, alignments and offsets of types, the text of layouts, and tags.
 
+ghost use Rattle.std.specs.Prelude.{◌≡◌, ◌<◌, IfSome, map};
+ghost use Rattle.witx_ast.specs.Definitions.{definition_tree};
+ghost use Rattle.witx_ast.specs.Ordered.{IsOrdered};
+
 use crate::declared::typename_of;
 use crate::fixtures::built_text;
 use std::alloc::Global;
+use std::marker::Brand;
+use std::sync::ledger::{Blank, Ledger};
 use witx::parse;
 use witx_ast::{Datatype, Document, NamedType, RecordDatatype};
 use witx_layout::{
-    Layout, LayoutError, RecordMembers, SizeAlign, TagTooNarrow, VariantOffset, fits_tags,
-    layouts_text,
+    Layout, LayoutError, LayoutsError, RecordMembers, SizeAlign, SizeAligns, Steps, TagTooNarrow,
+    VariantOffset, fits_tags, layouts, layouts_text,
 };
 
 /// A record of an enum on u32, twice a u64, and flags on u16.
@@ -106,6 +112,82 @@ fn all_have(alloc: Global) -> bool {
 #[test]
 fn sizes(rt: HostRuntime) {
     assert!(rt; all_have(rt.alloc()));
+}
+
+/// Texts, how many typenames they have, and the size and the alignment of the last one.
+static COUNTED: &[(&str, usize, usize, usize)] = &[
+    (CLOCK, 3, 32, 8),
+    (EVENT, 6, 40, 8),
+    (TEN_DOUBLINGS, 10, 8192, 8),
+    ("(module $m)", 0, 0, 0),
+];
+
+/// The document of a text, which is ordered.
+fn ordered_document(alloc: Global, text: &str) -> Option<Document>
+    ensures { IfSome result (λ document. IsOrdered (map definition_tree document.definitions)) }
+{
+    match parse(alloc, text) {
+        Ok(document) => Some(document),
+        Err(_) => None,
+    }
+}
+
+/// The layouts of an ordered document, whose steps a new ledger counts.
+fn counted_layouts<L: Ledger>(
+    alloc: Global,
+    document: &Document,
+    blank: Blank,
+) -> Result<SizeAligns, LayoutsError>
+    requires ordered { IsOrdered (map definition_tree document.now.definitions) }
+    requires name { blank.name ≡ L.name }
+    requires parts { blank.parts ≡ L.parts }
+    requires some { 0 < blank.parts }
+{
+    let mut steps = Steps::<L>::new(blank);
+    layouts(alloc, document, &mut steps)
+}
+
+fn end_with(layouts: &[SizeAlign], len: usize, size: usize, align: usize) -> bool {
+    match layouts.last() {
+        Some(last) => layouts.len() == len && last.size == size && last.align == align,
+        None => len == 0,
+    }
+}
+
+fn document_is_counted(
+    alloc: Global,
+    document: &Document,
+    len: usize,
+    size: usize,
+    align: usize,
+) -> bool
+    requires { IsOrdered (map definition_tree document.now.definitions) }
+{
+    match counted_layouts::<Brand>(alloc, document, Blank::new(1)) {
+        Ok(layouts) => end_with(layouts.as_slice(), len, size, align),
+        Err(_) => false,
+    }
+}
+
+fn text_is_counted(alloc: Global, text: &str, len: usize, size: usize, align: usize) -> bool {
+    match ordered_document(alloc, text) {
+        Some(document) => document_is_counted(alloc, &document, len, size, align),
+        None => false,
+    }
+}
+
+fn all_counted(alloc: Global) -> bool {
+    for (text, len, size, align) in COUNTED {
+        if !text_is_counted(alloc, text, *len, *size, *align) {
+            return false;
+        }
+    }
+    true
+}
+
+#[test]
+fn layouts_are_counted(rt: HostRuntime) {
+    assert!(rt; all_counted(rt.alloc()));
 }
 
 /// So many bytes, what follows them, and where that begins.

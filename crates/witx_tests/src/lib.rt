@@ -17,9 +17,13 @@ mod base;
 #[cfg(test)]
 mod bundle;
 #[cfg(test)]
+mod bytes;
+#[cfg(test)]
 mod check;
 #[cfg(test)]
 mod comments;
+#[cfg(test)]
+mod compat;
 #[cfg(test)]
 mod constants;
 #[cfg(test)]
@@ -43,7 +47,11 @@ mod lex;
 #[cfg(test)]
 mod limits;
 #[cfg(test)]
+mod render;
+#[cfg(test)]
 mod run;
+#[cfg(test)]
+mod run_sample;
 #[cfg(test)]
 mod stored;
 #[cfg(test)]

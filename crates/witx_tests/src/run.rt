@@ -76,6 +76,7 @@ callee
 pub const USAGE: &str = "\
 usage: witx adapt PATH..
        witx layouts PATH..
+       witx sample N
 ";
 
 const DOUBLINGS: &str = "\
@@ -566,9 +567,10 @@ pub struct Gave {
 }
 
 impl Gave {
-    /// Whether the run ended so, with a value exactly where `adapt` is done.
+    /// Whether the run ended so, with a value exactly where `adapt` or `sample` is done.
     fn ended(&self, line: &str, status: u8) -> bool {
-        self.status == status && self.has_value == (status == 0 && line.starts_with("adapt"))
+        let is_adapting = line.starts_with("adapt") || line.starts_with("sample");
+        self.status == status && self.has_value == (status == 0 && is_adapting)
     }
 
     /// Whether the run ended so, with these texts written.

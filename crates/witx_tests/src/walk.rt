@@ -630,7 +630,6 @@ const CHAINS: &[Built] = &[
     ),
 ];
 
-/// This needs more stack than there is where the program is compiled with checks.
 #[test]
 fn long_chains(rt: HostRuntime) {
     let wanted = "more than 1024 files at \"/f1024\"";
