@@ -228,3 +228,8 @@ parse_reads_back same ds text r e v o m p =
     of_answer : (x : Result (Held Definition Entry) WitxError) → IfErr x IsOfOneFile → IfErr (answer_of x) IsOfOneFile
     of_answer (Ok d) h = h
     of_answer (Err f) h = h
+
+-- the verdict of a text that is the printed one
+pub printed_verdict : (ds : List DefinitionTree) (text : List ℕ) (r : Result (Held Definition Entry) WitxError) → text ≡ document_text ds
+    → IsSourceVerdict text (answer_of r) → IsSourceVerdict (document_text ds) (answer_of r)
+printed_verdict ds text r e v = subst (λ (t : List ℕ). IsSourceVerdict t (answer_of r)) e v

@@ -1,6 +1,8 @@
 ghost use Rattle.std.specs.Prelude.{map};
 ghost use Rattle.witx_ast.specs.Definitions.{definition_tree};
+ghost use Rattle.witx_render.specs.DocumentTexts as printed;
 ghost use Rattle.witx_walk.specs.Answers.{answer_of};
+ghost use Rattle.witx_walk.specs.OneFile.{IsSourceVerdict};
 ghost use Rattle.witx_read_back.specs.Plain.{IsPlain};
 ghost use Rattle.witx_read_back.specs.ReadBack.{IsMeant, IsReadBack};
 
@@ -10,10 +12,12 @@ use witx_ast::Document;
 use witx_render::document_text;
 use witx_walk::{WitxError, parse};
 
-/// What `parse` makes of the document's printed text. Where some files mean the document and it is plain,
-/// that is a document with equal entries once all documentation is emptied, or want of memory.
+/// What `parse` makes of the document's printed text: its verdict, as that of any text. Where some files mean
+/// the document and it is plain, that is a document with equal entries once all documentation is emptied,
+/// or want of memory.
 pub fn print_and_parse(alloc: Global, document: &Document) -> Result<Document, WitxError>
-    ensures { IsMeant (map definition_tree document.now.definitions) → IsPlain (map definition_tree document.now.definitions)
+    ensures verdict { IsSourceVerdict (printed.document_text (map definition_tree document.now.definitions)) (answer_of result) }
+    ensures reads_back { IsMeant (map definition_tree document.now.definitions) → IsPlain (map definition_tree document.now.definitions)
         → IsReadBack (map definition_tree document.now.definitions) (answer_of result) }
 {
     printed_texts_mean_the_same();
