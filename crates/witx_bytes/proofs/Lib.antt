@@ -4,12 +4,16 @@ pub mod NumberLaws
 pub mod ReadBack
 pub mod Spelled
 pub mod Ranges
+pub mod Blocks
 pub mod Seen
 pub mod Writing
 pub mod Fits
 pub mod RangeLaws
 pub mod BytesFollow
 pub mod WholeRuns
+pub mod TakenFit
+pub mod GoodTraces
+pub mod TracesOverBytes
 pub mod FlagBits
 pub mod Parts
 pub mod Members

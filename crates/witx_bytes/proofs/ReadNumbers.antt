@@ -1,5 +1,5 @@
 -- Numbers and scalars that are read.
-use Rattle.std.proofs.Common.{◌≡◌, ℕ, zero, suc, ◌+◌, ◌*◌, ◌-◌, ◌^◌, ◌<◌, ◌≤◌, refl, sym, ap, ◌∙◌, arith, ℤ, true, Option, Some, None, option_map, option_and_then, pow-suc}
+use Rattle.std.proofs.Common.{◌≡◌, ℕ, zero, suc, ◌+◌, ◌*◌, ◌-◌, ◌^◌, ◌<◌, ◌≤◌, refl, sym, ap, ◌∙◌, arith, ℤ, true, Option, Some, None, option_map, option_and_then, pow-suc, List, [], ◌∷◌, length}
 use Rattle.witx_ast.specs.declared.types.BuiltinType.{BuiltinType}
 use Rattle.witx_ast.specs.Plain.{Plain}
 use Rattle.witx_ast.specs.Values as plain
@@ -8,7 +8,7 @@ use Rattle.witx_ast.proofs.Decided.{both-then}
 use Rattle.witx_ast.proofs.AlikeLaws.{builtins-decide}
 use Rattle.witx_layout.specs.Numbers.{builtin_size}
 use Rattle.witx_machine.specs.Words.{cut, checked}
-use Rattle.witx_bytes.specs.Bytes.{Bytes, IsByteMemory}
+use Rattle.witx_bytes.specs.Bytes.{Bytes, IsByteMemory, Stands, RunAt}
 use Rattle.witx_bytes.specs.Reading.{number_at, value_at, list_at}
 use Rattle.witx_bytes.specs.Seen.{seen}
 use Rattle.witx_bytes.specs.declared.value.Value.TheVariants as value
@@ -22,7 +22,24 @@ beyond m at h l = go (m at) refl
     go None e = e
     go (Some b) e = absurd (omega (arith, l, (h at b e).0))
 
-pub ruleset byte_rules = (beyond)
+-- a run, and where it is empty none at the address
+pub no_run : (at : ℕ) (m : Bytes) → Stands [] at m
+no_run at m i l = absurd (omega (arith, l))
+
+pub run_stands : (at : ℕ) (run : List (Option ℕ)) (m : Bytes) → RunAt at run m → Stands run at m
+run_stands at run m h = h.stands
+
+pub run_none_at : (at : ℕ) (run : List (Option ℕ)) (m : Bytes) → RunAt at run m → length run ≡ 0 → m at ≡ None
+run_none_at at run m h e = ap m (omega arith) ∙ h.free e 0 (omega arith)
+
+pub ruleset byte_rules = (beyond, no_run, run_stands, run_none_at)
+
+-- the first byte of a run, and the rest
+pub run_first : (at : ℕ) (b : Option ℕ) (rest : List (Option ℕ)) (m : Bytes) → Stands (b ∷ rest) at m → m at ≡ b
+run_first at b rest m h = ap m (omega arith) ∙ h 0 (omega arith)
+
+pub run_rest : (at next : ℕ) (b : Option ℕ) (rest : List (Option ℕ)) (m : Bytes) → Stands (b ∷ rest) at m → next ≡ at + 1 → Stands rest next m
+run_rest at next b rest m h e i l = ap m (omega (arith, e)) ∙ h (suc i) (omega (arith, l))
 
 -- one byte and the rest
 pub number_step : (width rest : ℕ) (m : Bytes) (at next low high : ℕ) → width ≡ rest + 1 → next ≡ at + 1 → m at ≡ Some low → number_at rest m next ≡ Some high → number_at width m at ≡ Some (low + 256 * high)
@@ -61,7 +78,7 @@ number_fits width n l h =
     let e : 256 ^ (width + (8 - width)) ≡ 256 ^ 8 = ap (λ n. 256 ^ n) eight in
     omega (arith, h, e, more_power width (8 - width))
 
-pub ruleset number_rules = (number_step, number_low, number_high, number_bound, number_fits)
+pub ruleset number_rules = (number_step, number_low, number_high, number_bound, number_fits, run_first, run_rest)
 
 pub handle_read : (m : Bytes) (at n : ℕ) → number_at 4 m at ≡ Some n → value_at Plain.handle m at ≡ Some (seen (value.Handle n))
 handle_read m at n h = ap (option_map plain.handle_number) h ∙ ap Some (sym (seen-Handle n))

@@ -5,7 +5,7 @@ use Rattle.witx_ast.proofs.Decided.{decides-eq, decides-lt}
 use Rattle.witx_bytes.specs.Bytes.{Bytes, Image, written, AreHeld}
 use Rattle.witx_bytes.specs.Images.{little, gap, padded_to}
 use Rattle.witx_bytes.specs.Writes.{HasRange, Writes}
-use Rattle.witx_bytes.proofs.Agreement.{step, written-outside, written-holds, gap-length}
+use Rattle.witx_bytes.proofs.Agreement.{step, self_eq, written-outside, written-holds, gap-length}
 
 -- what is written at an address rests on that byte of the memory alone
 pub written-same : (at : ℕ) (xs : Image) (m k : Bytes) (x : ℕ) → m x ≡ k x → written at xs m x ≡ written at xs k x
@@ -27,13 +27,12 @@ byte-then at b x xs m k here else = go (nat_eq x at) refl
 -- so many bytes of a number are left
 pub record NumberLeft (at end x rest number : ℕ) (m k : Bytes) : Type 0 where
   pub same : (y : ℕ) → written x (little (end - x) rest) k y ≡ written at (little (end - at) number) m y
-  pub still : AreHeld at end k
 
-pub number_first : (at width end x number : ℕ) (m : Bytes) → x ≡ at → end ≡ at + width → AreHeld at (at + width) m → NumberLeft at end x number number m m
-number_first at width end x number m e is h = record { same = λ y. ap (λ x. written x (little (end - x) number) m y) e; still = subst (λ end. AreHeld at end m) (sym is) h }
+pub number_first : (at end x number : ℕ) (m : Bytes) → x ≡ at → NumberLeft at end x number number m m
+number_first at end x number m e = record { same = λ y. ap (λ x. written x (little (end - x) number) m y) e }
 
-pub number_next : (at end x z rest more number : ℕ) (m k n : Bytes) → NumberLeft at end x rest number m k → at ≤ x → x < end → n x ≡ Some (rest % 256) → ((y : ℕ) → y ≢ x → n y ≡ k y) → z ≡ x + 1 → more ≡ rest / 256 → NumberLeft at end z more number m n
-number_next at end x z rest more number m k n f l u here else z_is more_is = record {
+pub number_next : (at end x z rest more number : ℕ) (m k n : Bytes) → NumberLeft at end x rest number m k → x < end → n x ≡ Some (rest % 256) → ((y : ℕ) → y ≢ x → n y ≡ k y) → z ≡ x + 1 → more ≡ rest / 256 → NumberLeft at end z more number m n
+number_next at end x z rest more number m k n f u here else z_is more_is = record {
   same = λ y.
       let next : z ≡ suc x = omega (arith, z_is) in
       let long : end - x ≡ suc (end - z) = omega (arith, u, z_is) in
@@ -42,12 +41,7 @@ number_next at end x z rest more number m k n f l u here else z_is more_is = rec
       ∙ byte-then x (rest % 256) y (little (end - z) (rest / 256)) k n here else
       ∙ ap (λ w. written x (little w rest) k y) (sym long)
       ∙ f.same y;
-  still = λ y lo hi. go y lo hi (nat_eq y x) refl;
 }
-  where
-    go : (y : ℕ) → at ≤ y → y < end → (c : Bool) → nat_eq y x ≡ c → is_some (n y) ≡ true
-    go y lo hi true e = ap is_some (ap n ((decides-eq y x).0 e) ∙ here)
-    go y lo hi false e = let differs : y ≢ x = λ s. false-true (sym e ∙ (decides-eq y x).1 s) in ap is_some (else y differs) ∙ f.still y lo hi
 
 pub number_last : (at width end x rest number : ℕ) (m k : Bytes) → NumberLeft at end x rest number m k → end ≡ at + width → end ≤ x → (y : ℕ) → k y ≡ written at (little width number) m y
 number_last at width end x rest number m k f is over y =
@@ -55,10 +49,33 @@ number_last at width end x rest number m k f is over y =
     let all : end - at ≡ width = omega (arith, is) in
     ap (λ w. written x (little w rest) k y) none ∙ f.same y ∙ ap (λ w. written at (little w number) m y) all
 
-pub number_held : (at end x rest number : ℕ) (m k : Bytes) → NumberLeft at end x rest number m k → at ≤ x → x < end → is_some (k x) ≡ true
-number_held at end x rest number m k f l u = f.still x l u
+pub ruleset number_rules = (number_first, number_next, number_last)
 
-pub ruleset number_rules = (number_first, number_next, number_last, number_held)
+-- the same where the bytes are held, and stay so
+pub record HeldLeft (at end x rest number : ℕ) (m k : Bytes) : Type 0 where
+  pub left : NumberLeft at end x rest number m k
+  pub still : AreHeld at end k
+
+pub held_first : (at width end x number : ℕ) (m : Bytes) → x ≡ at → end ≡ at + width → HasRange at width m → HeldLeft at end x number number m m
+held_first at width end x number m e is h = record { left = number_first at end x number m e; still = subst (λ end. AreHeld at end m) (sym is) h.held }
+
+pub held_next : (at end x z rest more number : ℕ) (m k n : Bytes) → HeldLeft at end x rest number m k → x < end → Writes x (little 1 rest) k n → z ≡ x + 1 → more ≡ rest / 256 → HeldLeft at end z more number m n
+held_next at end x z rest more number m k n f u w z_is more_is = record {
+  left = number_next at end x z rest more number m k n f.left u (w x ∙ ap (λ c. cond c (Some (rest % 256)) (k x)) (self_eq x)) (λ y d. w y ∙ ap (λ c. cond c (Some (rest % 256)) (k y)) (differ y x d)) z_is more_is;
+  still = λ y lo hi. ap is_some (w y) ∙ written-holds x (little 1 rest) k y (f.still y lo hi);
+}
+  where
+    differ : (y x : ℕ) → y ≢ x → nat_eq y x ≡ false
+    differ y x d = go (nat_eq y x) refl
+      where
+        go : (c : Bool) → nat_eq y x ≡ c → nat_eq y x ≡ false
+        go false e = e
+        go true e = absurd (d ((decides-eq y x).0 e))
+
+pub held_last : (at width end x rest number : ℕ) (m k : Bytes) → HeldLeft at end x rest number m k → end ≡ at + width → end ≤ x → (y : ℕ) → k y ≡ written at (little width number) m y
+held_last at width end x rest number m k f is over = number_last at width end x rest number m k f.left is over
+
+pub ruleset held_rules = (held_first, held_next, held_last)
 
 -- one image behind another
 pub written-both : (at : ℕ) (xs ys : Image) (m : Bytes) (x : ℕ) → written at (xs ++ ys) m x ≡ written at xs (written (at + length xs) ys m) x

@@ -1,6 +1,6 @@
 -- A memory of bytes: which byte stands at an address, if one does.
 -- A range of it is held where each of its bytes stands, and free where none does; ranges begin above 0 and end within 2^32.
-use Rattle.std.specs.Prelude.{◌≡◌, ℕ, zero, suc, ◌+◌, ◌^◌, ◌<◌, ◌≤◌, List, [], ◌∷◌, Bool, true, ◌&&◌, cond, Option, Some, None, is_some, is_none, nat_eq, nat_lt, nat_le}
+use Rattle.std.specs.Prelude.{◌≡◌, ℕ, zero, suc, ◌+◌, ◌/◌, ◌%◌, ◌^◌, ◌<◌, ◌≤◌, List, [], ◌∷◌, Bool, true, ◌&&◌, cond, ◌⊎◌, length, Option, Some, None, is_some, is_none, slice_index_or, nat_eq, nat_lt, nat_le}
 use Rattle.std.specs.Ordering.{nat_cmp}
 use Rattle.std.specs.Map.{lookup}
 use Rattle.std.specs.BTreeMap.{is_at}
@@ -51,9 +51,46 @@ holds at len m = in_bounds at len && all_held at len m
 abbrev pub is_free : ℕ → ℕ → Bytes → Bool
 is_free at len m = in_bounds at len && none_held at len m
 
--- the memory with these entries
-abbrev pub held : List (ℕ × ℕ) → Bytes
-held entries at = lookup (is_at (nat_cmp at)) entries
+-- what stands at the places of a block, from 0 on; past its end stands nothing
+abbrev pub place : List (Option ℕ) → Bytes
+place bytes i = slice_index_or bytes i None
+
+-- blocks of 256 places, each with its number
+abbrev pub Blocks : Type 0
+Blocks = List (ℕ × List (Option ℕ))
+
+abbrev pub block_of : ℕ → Blocks → Option (List (Option ℕ))
+block_of number blocks = lookup (is_at (nat_cmp number)) blocks
+
+abbrev pub HasBlock : ℕ → Blocks → Type 0
+HasBlock number blocks = is_some (block_of number blocks) ≡ true
+
+-- each block with a number from the first up to another is there
+abbrev pub HasBlocks : ℕ → ℕ → Blocks → Type 0
+HasBlocks first end blocks = (n : ℕ) → first ≤ n → n < end → HasBlock n blocks
+
+abbrev pub in_block : ℕ → Option (List (Option ℕ)) → Option ℕ
+in_block i None = None
+in_block i (Some bytes) = place bytes i
+
+-- the memory of these blocks: an address lies in the block whose number is a 256th of it, at the place that is left
+abbrev pub held : Blocks → Bytes
+held blocks at = in_block (at % 256) (block_of (at / 256) blocks)
+
+-- this is what stands from an address on, as far as it reaches
+abbrev pub Stands : List (Option ℕ) → ℕ → Bytes → Type 0
+Stands run at m = (i : ℕ) → i < length run → m (at + i) ≡ place run i
+
+-- what stands from an address to the end of its block, or nothing where no byte of that block is held
+pub record RunAt (at : ℕ) (run : List (Option ℕ)) (m : Bytes) : Type 0 where
+  pub stands : Stands run at m
+  pub free : length run ≡ 0 → (i : ℕ) → at % 256 + i < 256 → m (at + i) ≡ None
+  pub long : 0 < length run → at % 256 + length run ≡ 256
+
+-- from m, the bytes from an address up to another are what is given, and all others are as they were
+pub record Filled (from end : ℕ) (o : Option ℕ) (m k : Bytes) : Type 0 where
+  pub inside : (y : ℕ) → from ≤ y → y < end → k y ≡ o
+  pub outside : (y : ℕ) → (y < from) ⊎ (end ≤ y) → k y ≡ m y
 
 -- each byte from an address up to another is held
 abbrev pub AreHeld : ℕ → ℕ → Bytes → Type 0

@@ -1,15 +1,18 @@
 -- When the addresses that a run over cells takes are fit for a memory of bytes, and what the run over bytes then is.
-use Rattle.std.specs.Prelude.{◌≡◌, ℕ, ◌+◌, ◌<◌, ◌≤◌, ◌⊎◌, List, [], ◌∷◌, true, Option, Some, is_some, IsTrue}
+use Rattle.std.specs.Prelude.{◌≡◌, ℕ, ◌+◌, ◌<◌, ◌≤◌, ◌⊎◌, List, [], ◌∷◌, true, Option, Some, is_some, IsTrue, IsFalse, length}
 use Rattle.witx_ast.specs.Tree.{Tree}
 use Rattle.witx_ast.specs.Plain.{plain}
 use Rattle.witx_ast.specs.Values.{Value}
-use Rattle.witx_ast.specs.Tags.{AllFit}
+use Rattle.witx_ast.specs.Functions.{FunctionTree}
+use Rattle.witx_ast.specs.Tags.{AllFit, function_fits}
 use Rattle.witx_machine.specs.Words.{Word}
 use Rattle.witx_machine.specs.Events.{Event}
-use Rattle.witx_machine.specs.Functions.{Function}
+use Rattle.witx_machine.specs.Functions.{Function, function_of}
+use Rattle.witx_machine.specs.Lowerable.{lowerable}
+use Rattle.witx_machine.specs.Traces.{caller_events, callee_events}
 use Rattle.witx_machine.specs.Run.{Outcome}
-use Rattle.witx_machine.specs.Cells.{Memory, Taken, run_cells}
-use Rattle.witx_machine.specs.Faithful.{are_arguments, is_reply}
+use Rattle.witx_machine.specs.Cells.{Cells, Memory, Taken, run_cells}
+use Rattle.witx_machine.specs.Faithful.{are_arguments, is_reply, zero_error, AreFree}
 use Rattle.witx_bytes.specs.Bytes.{Bytes, is_free}
 use Rattle.witx_bytes.specs.ByteMachine.{Store, range_size, run_bytes}
 
@@ -62,3 +65,27 @@ BytesFollowCells =
     run_cells m f caller callee arguments reply [] addresses ≡ Some o →
     IsFit memory o.memory.taken → AreWritable o.memory.taken →
     (p : Outcome Value Word Store) × (run_bytes m f caller callee arguments reply memory addresses ≡ Some p) × SameOutcome memory o p
+
+-- THE TRACES OF A FUNCTION OVER BYTES: with any distinct addresses, as many as both traces have events, the run over cells from an
+-- empty memory has an outcome; and over each memory of bytes for which what it takes is fit, the run has the same outcome
+abbrev pub RunOverBytes : List ℕ → Function → (caller callee : List Event) → Type 0
+RunOverBytes m f caller callee =
+    (arguments : List Value) (reply : Option Value) (addresses : List ℕ) →
+    IsTrue (are_arguments f.params arguments) → IsTrue (is_reply f.results reply) → IsFalse (zero_error f reply) →
+    AreFree [] addresses → length addresses ≡ length caller + length callee →
+    (o : Outcome Value Word Memory) × (run_cells m f caller callee arguments reply [] addresses ≡ Some o) ×
+    ((memory : Bytes) → IsFit memory o.memory.taken →
+    (p : Outcome Value Word Store) × (run_bytes m f caller callee arguments reply memory addresses ≡ Some p) × SameOutcome memory o p)
+
+abbrev pub TracesOverBytes : Type 0
+TracesOverBytes =
+    (m : List ℕ) (func : FunctionTree) → IsTrue (lowerable (function_of func)) → IsTrue (function_fits func) →
+    RunOverBytes m (function_of func) (caller_events m (function_of func)) (callee_events m (function_of func))
+
+-- what the two traces of a function that fits its tags take is writable, in any run of them
+abbrev pub TakeWritable : Type 0
+TakeWritable =
+    (m : List ℕ) (func : FunctionTree) → IsTrue (function_fits func) →
+    (arguments : List Value) (reply : Option Value) (memory : Cells) (addresses : List ℕ) (o : Outcome Value Word Memory) →
+    run_cells m (function_of func) (caller_events m (function_of func)) (callee_events m (function_of func)) arguments reply memory addresses ≡ Some o →
+    AreWritable o.memory.taken

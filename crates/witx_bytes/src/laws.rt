@@ -6,7 +6,7 @@ ghost use Rattle.witx_layout.specs.Numbers.{size_of};
 ghost use Rattle.witx_bytes.specs.Bytes.{Bytes, AreBytes};
 ghost use Rattle.witx_bytes.specs.Images.{image, Spells};
 ghost use Rattle.witx_bytes.specs.Reading.{value_at};
-ghost use Rattle.witx_bytes.specs.Follow.{BytesFollowCells};
+ghost use Rattle.witx_bytes.specs.Follow.{BytesFollowCells, TakeWritable, TracesOverBytes};
 ghost use Rattle.witx_bytes.specs.Writes.{Writes};
 
 use witx_layout::Layout;
@@ -44,4 +44,17 @@ pub fn alike_images<A: Layout, B: Layout>(a: &A, b: &B)
 /// and returned values, and the given bytes are unchanged.
 pub fn bytes_follow_cells()
     ensures { BytesFollowCells }
+{}
+
+/// What the two traces of a function take, in any run of them, is writable where its types fit their
+/// tags.
+pub fn traces_take_writable()
+    ensures { TakeWritable }
+{}
+
+/// Where a function can be lowered and its types fit their tags, its two traces run over cells, from
+/// an empty memory and with any distinct addresses; and over every memory of bytes for which what they
+/// take is fit they run to the same outcome.
+pub fn traces_run_over_bytes()
+    ensures { TracesOverBytes }
 {}

@@ -1,6 +1,7 @@
 //! A memory of bytes, and the images of values in it.
 #![tactic(auto)]
 
+mod block;
 mod fitting;
 mod laws;
 mod membership;
@@ -16,7 +17,7 @@ mod write;
 pub use fitting::writable;
 pub use laws::{
     alike_images, at_most_one_value, bytes_follow_cells, image_has_the_size, reading_is_spelling,
-    writing_is_spelling,
+    traces_run_over_bytes, traces_take_writable, writing_is_spelling,
 };
 pub use membership::is_value;
 pub use memory::{ByteMemory, PlaceError};

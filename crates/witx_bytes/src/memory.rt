@@ -1,6 +1,9 @@
-ghost use Rattle.std.specs.Prelude.{◌≡◌, ◌≢◌, ◌+◌, ◌^◌, ◌<◌, ◌≤◌, ℕ, [], Some, None, Ok, Err, OnOk, OnErr, ◌↔◌, ◌⊎◌, true, false, is_some};
-ghost use Rattle.witx_bytes.specs.Bytes.{IsByteMemory, held, placed, all_held as are_held, none_held as none_are_held, holds as holds_range};
+ghost use Rattle.std.specs.Prelude.{◌≡◌, ◌≢◌, ◌+◌, ◌-◌, ◌/◌, ◌%◌, ◌^◌, ◌<◌, ◌≤◌, ℕ, [], Some, None, Ok, Err, OnOk, OnErr, ◌↔◌, ◌⊎◌, true, false, is_some};
+ghost use Rattle.witx_bytes.specs.Bytes.{IsByteMemory, held, placed, all_held as are_held_at, none_held as none_are_held, holds as holds_range, HasBlock, HasBlocks, block_of, Filled, RunAt};
+ghost use Rattle.witx_bytes.specs.Images.{little};
+ghost use Rattle.witx_bytes.specs.Writes.{Writes};
 
+use crate::block::{Block, SIZE, are_free, are_held};
 use std::alloc::Global;
 use std::collections::BTreeMap;
 use std::marker::Model;
@@ -9,22 +12,22 @@ use witx_base::OutOfMemory;
 /// Where addresses end.
 const END: u64 = 1 << 32;
 
-/// A memory of bytes, which contracts see as its entries, addresses with their bytes, in the order of
-/// the addresses.
+/// A memory of bytes, which contracts see as its blocks, each with its number.
 #[derive(Debug, Drop)]
 pub struct ByteMemory {
-    bytes: BTreeMap<u32, u8>,
+    alloc: Global,
+    blocks: BTreeMap<u32, Block>,
 }
 
 impl Model for ByteMemory {
-    ghost use Rattle.std.specs.Prelude.{List, ℕ};
+    ghost use Rattle.std.specs.Prelude.{List, Option, ℕ};
     ghost use Rattle.witx_bytes.specs.Bytes.{held, IsByteMemory};
 
-    ghost Value = { List (ℕ × ℕ) };
+    ghost Value = { List (ℕ × List (Option ℕ)) };
 
-    ghost view = { λ m. m.bytes.entries };
+    ghost view = { λ m. m.blocks.entries };
 
-    ghost invariant = { λ m. IsByteMemory (held m.bytes.entries) };
+    ghost invariant = { λ m. IsByteMemory (held m.blocks.entries) };
 }
 
 /// Why a range isn't placed.
@@ -32,6 +35,7 @@ impl Model for ByteMemory {
 pub enum PlaceError {
     /// A byte of the range is held already.
     Taken,
+    /// Want of memory.
     OutOfMemory,
 }
 
@@ -41,7 +45,8 @@ impl ByteMemory {
         ensures { result ≡ [] }
     {
         ByteMemory {
-            bytes: BTreeMap::new(alloc),
+            alloc,
+            blocks: BTreeMap::new(alloc),
         }
     }
 
@@ -49,14 +54,28 @@ impl ByteMemory {
     pub(crate) fn bounds(&self)
         ensures { IsByteMemory (held self.now) }
     {
-        let _ = &self.bytes;
+        let _ = &self.blocks;
     }
 
     /// The byte at an address, if it is held.
     pub fn byte(&self, at: u32) -> Option<u8>
         ensures { result ≡ held self.now at }
     {
-        self.bytes.get(&at).copied()
+        match self.run(at) {
+            [byte, ..] => *byte,
+            [] => None,
+        }
+    }
+
+    /// What stands from an address to the end of its block; nothing where no byte of the block is held.
+    #[tactic(auto, using(crate::proofs::Blocks::run_rules))]
+    pub(crate) fn run(&self, at: u32) -> &[Option<u8>]
+        ensures { RunAt at result.now (held self.now) }
+    {
+        match self.blocks.get(&(at / SIZE)) {
+            Some(block) => block.bytes_from(at % SIZE),
+            None => &[],
+        }
     }
 
     /// Whether `at` is above 0, the range ends within 2^32, and all its bytes are held.
@@ -66,30 +85,65 @@ impl ByteMemory {
         at > 0 && len <= END - at as u64 && self.all_held(at, len)
     }
 
-    #[tactic(auto, using(crate::proofs::Ranges::range_rules))]
+    #[tactic(auto, using(crate::proofs::Ranges::span_rules))]
     fn all_held(&self, at: u32, len: u64) -> bool
         requires { at + len ≤ 2 ^ 32 }
-        ensures { result ≡ are_held at len (held self.now) }
+        ensures { result ≡ are_held_at at len (held self.now) }
     {
-        for x in at as u64..at as u64 + len {
-            if self.byte(x as u32).is_none() {
+        let end = at as u64 + len;
+        let mut x = at as u64;
+        while x < end {
+            let stop = part_end(x, end);
+            if !self.part_is_held(x as u32, (stop - x) as usize) {
                 return false;
             }
+            x = stop;
         }
         true
     }
 
-    #[tactic(auto, using(crate::proofs::Ranges::range_rules))]
+    /// The same of a range in one block.
+    #[tactic(auto, using(crate::proofs::Blocks::part_rules))]
+    fn part_is_held(&self, at: u32, len: usize) -> bool
+        requires some { 0 < len }
+        requires inside { at % 256 + len ≤ 256 }
+        ensures { result ≡ are_held_at at len (held self.now) }
+    {
+        let run = self.run(at);
+        if run.is_empty() {
+            return false;
+        }
+        are_held(&run[..len])
+    }
+
+    #[tactic(auto, using(crate::proofs::Ranges::span_rules))]
     fn none_held(&self, at: u32, len: u64) -> bool
         requires { at + len ≤ 2 ^ 32 }
         ensures { result ≡ none_are_held at len (held self.now) }
     {
-        for x in at as u64..at as u64 + len {
-            if self.byte(x as u32).is_some() {
+        let end = at as u64 + len;
+        let mut x = at as u64;
+        while x < end {
+            let stop = part_end(x, end);
+            if !self.part_is_free(x as u32, (stop - x) as usize) {
                 return false;
             }
+            x = stop;
         }
         true
+    }
+
+    /// The same of a range in one block.
+    #[tactic(auto, using(crate::proofs::Blocks::part_rules))]
+    fn part_is_free(&self, at: u32, len: usize) -> bool
+        requires { at % 256 + len ≤ 256 }
+        ensures { result ≡ none_are_held at len (held self.now) }
+    {
+        let run = self.run(at);
+        if run.is_empty() {
+            return true;
+        }
+        are_free(&run[..len])
     }
 
     /// Holds zeros in the range, besides all that it held; a refusal changes nothing.
@@ -105,56 +159,101 @@ impl ByteMemory {
         if !self.none_held(at, len as u64) {
             return Err(PlaceError::Taken);
         }
+        // All blocks come first: one that is new holds no byte, so a refusal has nothing to take back.
         let end = at as u64 + len as u64;
-        for x in at as u64..end {
-            if self.set(x as u32, 0).is_err() {
-                self.forget_range(at as u64, x);
-                return Err(PlaceError::OutOfMemory);
-            }
+        if self
+            .make_blocks(at / SIZE, ((end + 255) / 256) as u32)
+            .is_err()
+        {
+            return Err(PlaceError::OutOfMemory);
+        }
+        self.fill(at as u64, end);
+        Ok(())
+    }
+
+    /// Makes all blocks with numbers from `first` up to `end` that aren't there; no byte changes.
+    #[tactic(auto, using(crate::proofs::Blocks::made_rules))]
+    fn make_blocks(&mut self, first: u32, end: u32) -> Result<(), OutOfMemory>
+        ensures made { OnOk result (HasBlocks first end self.new) }
+        ensures same { (x : ℕ) → held self.new x ≡ held self.old x }
+    {
+        for number in first..end {
+            self.make_block(number)?;
         }
         Ok(())
     }
 
-    /// Forgets the bytes from `from` up to `end`.
+    /// Makes a block with that number if there is none; no byte changes.
+    fn make_block(&mut self, number: u32) -> Result<(), OutOfMemory>
+        ensures made { OnOk result (HasBlock number self.new) }
+        ensures kept { (n : ℕ) → HasBlock n self.old → HasBlock n self.new }
+        ensures same { (x : ℕ) → held self.new x ≡ held self.old x }
+    {
+        if self.has_block(number) {
+            return Ok(());
+        }
+        let block = Block::new(self.alloc)?;
+        self.blocks.insert(number, block)?;
+        Ok(())
+    }
+
+    fn has_block(&self, number: u32) -> bool
+        ensures { result ≡ is_some (block_of number self.now) }
+    {
+        self.blocks.contains_key(&number)
+    }
+
+    /// Holds zeros from an address up to another, in blocks that are there.
     #[tactic(auto, using(crate::proofs::Ranges::fill_rules))]
-    fn forget_range(&mut self, from: u64, end: u64)
-        requires order { from ≤ end }
+    fn fill(&mut self, at: u64, end: u64)
+        requires blocks { HasBlocks (at / 256) ((end + 255) / 256) self.old }
+        requires order { at ≤ end }
         requires within { end ≤ 2 ^ 32 }
-        ensures inside { (x : ℕ) → from ≤ x → x < end → held self.new x ≡ None }
-        ensures outside { (x : ℕ) → (x < from) ⊎ (end ≤ x) → held self.new x ≡ held self.old x }
+        ensures { Filled at end (Some 0) (held self.old) (held self.new) }
     {
-        for x in from..end {
-            self.forget(x as u32);
+        let mut x = at;
+        while x < end {
+            let stop = part_end(x, end);
+            self.fill_part(x as u32, (stop - x) as u32);
+            x = stop;
         }
     }
 
-    /// Sets the byte at an address; it takes no memory where a byte is held there.
-    fn set(&mut self, at: u32, byte: u8) -> Result<(), OutOfMemory>
-        ensures there { OnOk result (held self.new at ≡ Some byte) }
-        ensures elsewhere { (x : ℕ) → x ≢ at → held self.new x ≡ held self.old x }
-        ensures absent { OnErr result (held self.old at ≡ None) }
-        ensures unchanged { OnErr result (self.new ≡ self.old) }
+    /// The same in one block.
+    #[tactic(auto, using(crate::proofs::Blocks::change_rules))]
+    fn fill_part(&mut self, at: u32, len: u32)
+        requires block { HasBlock (at / 256) self.old }
+        requires inside { at % 256 + len ≤ 256 }
+        ensures filled { Filled at (at + len) (Some 0) (held self.old) (held self.new) }
+        ensures kept { (n : ℕ) → HasBlock n self.old → HasBlock n self.new }
     {
-        self.bytes.insert(at, byte)?;
-        Ok(())
-    }
-
-    /// Sets a byte that is held; takes no memory.
-    pub(crate) fn put(&mut self, at: u32, byte: u8)
-        requires { is_some (held self.old at) ≡ true }
-        ensures there { held self.new at ≡ Some byte }
-        ensures elsewhere { (x : ℕ) → x ≢ at → held self.new x ≡ held self.old x }
-    {
-        if self.set(at, byte).is_err() {
-            unreachable!();
+        match self.blocks.get_mut(&(at / SIZE)) {
+            Some(block) => block.fill(at % SIZE, len),
+            None => unreachable!(),
         }
     }
 
-    /// Forgets the byte at an address.
-    fn forget(&mut self, at: u32)
-        ensures there { held self.new at ≡ None }
-        ensures elsewhere { (x : ℕ) → x ≢ at → held self.new x ≡ held self.old x }
+    /// Writes a number into so many bytes of one block, the lowest first; takes no memory.
+    #[tactic(auto, using(crate::proofs::Blocks::change_rules))]
+    pub(crate) fn write_part(&mut self, at: u32, width: u32, number: u64)
+        requires block { HasBlock (at / 256) self.old }
+        requires inside { at % 256 + width ≤ 256 }
+        ensures { Writes at (little width number) (held self.old) (held self.new) }
     {
-        self.bytes.remove(&at);
+        match self.blocks.get_mut(&(at / SIZE)) {
+            Some(block) => block.write(at % SIZE, width, number),
+            None => unreachable!(),
+        }
     }
+}
+
+/// Where the part of a range ends that lies in the block of its first address.
+fn part_end(at: u64, end: u64) -> u64
+    requires some { at < end }
+    requires within { end ≤ 2 ^ 32 }
+    ensures after { at < result }
+    ensures within { result ≤ end }
+    ensures inside { at % 256 + (result - at) ≤ 256 }
+{
+    (at - at % 256 + 256).min(end)
 }

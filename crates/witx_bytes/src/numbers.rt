@@ -2,7 +2,7 @@ ghost use Rattle.std.specs.Prelude.{◌≡◌, ◌+◌, ◌^◌, ◌<◌, ◌≤
 ghost use Rattle.witx_ast.specs.ValueTests.{in_range as is_in_range, is_below as below, is_within as within};
 ghost use Rattle.witx_layout.specs.Numbers.{builtin_size};
 ghost use Rattle.witx_machine.specs.Words.{wrapped, cut, with_sign, bits_of_flags};
-ghost use Rattle.witx_bytes.specs.Bytes.{held, written, all_held, AreHeld};
+ghost use Rattle.witx_bytes.specs.Bytes.{held};
 ghost use Rattle.witx_bytes.specs.Images.{little};
 ghost use Rattle.witx_bytes.specs.Writes.{HasRange, Writes};
 
@@ -10,14 +10,27 @@ use crate::memory::ByteMemory;
 use witx_ast::BuiltinType;
 
 /// Writes a number in so many bytes, the lowest first.
-#[tactic(auto, using(crate::proofs::Writing::number_rules))]
+#[tactic(auto, using(crate::proofs::Blocks::range_block_rules))]
 pub(crate) fn write_number(memory: &mut ByteMemory, at: u64, width: u64, number: u64)
+    requires { HasRange at width (held memory.old) }
+    ensures { Writes at (little width number) (held memory.old) (held memory.new) }
+{
+    if width > 0 && width <= 256 - at % 256 {
+        memory.write_part(at as u32, width as u32, number);
+    } else {
+        write_bytes(memory, at, width, number);
+    }
+}
+
+/// The same, byte by byte.
+#[tactic(auto, using(crate::proofs::Writing::held_rules))]
+fn write_bytes(memory: &mut ByteMemory, at: u64, width: u64, number: u64)
     requires { HasRange at width (held memory.old) }
     ensures { Writes at (little width number) (held memory.old) (held memory.new) }
 {
     let mut rest = number;
     for x in at..at + width {
-        memory.put(x as u32, (rest % 256) as u8);
+        memory.write_part(x as u32, 1, rest);
         rest /= 256;
     }
 }

@@ -7,6 +7,7 @@ use witx_base::OutOfMemory;
 pub enum ReadError {
     /// The bytes spell no value of the type.
     NoValue,
+    /// Want of memory.
     OutOfMemory,
 }
 

@@ -1,7 +1,7 @@
-ghost use Rattle.std.specs.Prelude.{◌≡◌, ◌+◌, ◌^◌, ◌<◌, ◌≤◌, ℕ, IfSome};
+ghost use Rattle.std.specs.Prelude.{◌≡◌, ◌+◌, ◌^◌, ◌<◌, ◌≤◌, ℕ, None, IfSome, length};
 ghost use Rattle.witx_ast.specs.Plain.{builtin, handle, pointer_to, const_pointer_to, list_of, plain};
 ghost use Rattle.witx_ast.specs.Views.{tree_of};
-ghost use Rattle.witx_bytes.specs.Bytes.{held};
+ghost use Rattle.witx_bytes.specs.Bytes.{held, Stands};
 ghost use Rattle.witx_bytes.specs.Reading.{number_at, value_at};
 ghost use Rattle.witx_bytes.specs.Readings.{Reads};
 ghost use Rattle.witx_bytes.specs.Seen.{seen};
@@ -13,33 +13,52 @@ use crate::value::Value;
 use witx_ast::{BuiltinType, TypeRef};
 use witx_layout::Layout;
 
-/// The byte at an address; from 2^32 on there is none.
-#[tactic(auto, using(crate::proofs::ReadNumbers::byte_rules))]
-fn byte_at(memory: &ByteMemory, at: u128) -> Option<u8>
-    ensures { result ≡ held memory.now at }
-{
-    memory.bounds();
-    if at < 1 << 32 {
-        memory.byte(at as u32)
-    } else {
-        None
-    }
-}
-
 /// The number in so many bytes, the lowest first.
-#[tactic(auto, using(crate::proofs::ReadNumbers::number_rules))]
 pub(crate) fn read_number(memory: &ByteMemory, at: u128, width: u64) -> Option<u64>
     requires few { width ≤ 8 }
     requires low { at + width < 2 ^ 67 }
     ensures number { result ≡ number_at width (held memory.now) at }
     ensures bound { IfSome result (λ n. n < 256 ^ width) }
 {
+    number_from(memory, at, width, &[])
+}
+
+/// The same, where this is left of a block from the address on.
+#[tactic(auto, using(crate::proofs::ReadNumbers::number_rules))]
+fn number_from(memory: &ByteMemory, at: u128, width: u64, left: &[Option<u8>]) -> Option<u64>
+    requires few { width ≤ 8 }
+    requires low { at + width < 2 ^ 67 }
+    requires left { Stands left.now at (held memory.now) }
+    ensures number { result ≡ number_at width (held memory.now) at }
+    ensures bound { IfSome result (λ n. n < 256 ^ width) }
+{
     if width == 0 {
         return Some(0);
     }
-    let low = byte_at(memory, at)?;
-    let high = read_number(memory, at + 1, width - 1)?;
+    let [byte, rest @ ..] = run_from(memory, at, left) else {
+        return None;
+    };
+    let low = (*byte)?;
+    let high = number_from(memory, at + 1, width - 1, rest)?;
     Some(low as u64 + 256 * high)
+}
+
+/// What is left of a block from an address on; where nothing is left, what the address's own block has.
+#[tactic(auto, using(crate::proofs::ReadNumbers::byte_rules))]
+fn run_from<'a>(memory: &'a ByteMemory, at: u128, left: &'a [Option<u8>]) -> &'a [Option<u8>]
+    requires { Stands left.now at (held memory.now) }
+    ensures stands { Stands result.now at (held memory.now) }
+    ensures none { length result.now ≡ 0 → held memory.now at ≡ None }
+{
+    if !left.is_empty() {
+        return left;
+    }
+    memory.bounds();
+    if at < 1 << 32 {
+        memory.run(at as u32)
+    } else {
+        &[]
+    }
 }
 
 pub(crate) fn read_handle(memory: &ByteMemory, at: u128) -> Result<Value, ReadError>

@@ -2,23 +2,34 @@ use std::boxed::Box;
 use witx_ast::BuiltinType;
 use witx_base::Items;
 
-/// A value of a type.
+/// A value of a type. Equal where all parts are.
 #[cycle(values)]
-#[derive(Debug, Drop)]
+#[derive(PartialEq, Eq, Debug, Drop)]
 pub enum Value {
-    /// A number; a float is its bit pattern.
+    /// A number of a builtin; a character is its scalar value, a float its bit pattern.
     Num(BuiltinType, i128),
+    /// A handle's number.
     Handle(u32),
+    /// The address that a pointer is.
     Pointer(u32),
+    /// The address that a pointer to what isn't changed is.
     ConstPointer(u32),
-    List { address: u32, length: u32 },
-    /// One truth value per member.
+    /// A list: where its items begin, and how many there are.
+    List {
+        /// The address of the first item.
+        address: u32,
+        /// The number of items.
+        length: u32,
+    },
+    /// Flags: one truth value per member.
     Flags(Bools),
+    /// A tuple: one value per member.
     Tuple(Values),
+    /// A record that is neither flags nor a tuple: one value per member.
     Rec(Values),
-    /// A case of a variant without payloads.
+    /// A case of a variant without payloads, by its number from 0.
     Enum(u32),
-    /// A case of another variant, with its payload if it has one.
+    /// A case of another variant, by its number from 0, with its payload if it has one.
     Case(u32, Option<Box<Value>>),
 }
 

@@ -1,0 +1,105 @@
+ghost use Rattle.std.specs.Prelude.{◌≡◌, ◌≢◌, ◌<◌, ◌≤◌, ◌+◌, ◌-◌, ℕ, None, Some, IfOk, length, drop};
+ghost use Rattle.witx_bytes.specs.Bytes.{place, all_held, none_held, Filled};
+ghost use Rattle.witx_bytes.specs.Images.{little};
+ghost use Rattle.witx_bytes.specs.Writes.{Writes};
+
+use std::alloc::Global;
+use std::marker::Model;
+use witx_base::OutOfMemory;
+
+/// How many addresses share a block.
+pub(crate) const SIZE: u32 = 256;
+
+/// What stands at so many addresses in a row: at each a byte, or none.
+#[derive(Debug, Drop)]
+pub(crate) struct Block {
+    bytes: Vec<Option<u8>>,
+}
+
+impl Model for Block {
+    ghost use Rattle.std.specs.Prelude.{◌≡◌, List, Option, ℕ, length};
+
+    ghost Value = { List (Option ℕ) };
+
+    ghost view = { λ b. b.bytes.items };
+
+    ghost invariant = { λ b. length b.bytes.items ≡ 256 };
+}
+
+impl Block {
+    /// The block in which no byte is held.
+    pub(crate) fn new(alloc: Global) -> Result<Block, OutOfMemory>
+        ensures { IfOk result (λ made. (i : ℕ) → place made i ≡ None) }
+    {
+        let bytes = Vec::from_elem(alloc, None, SIZE as usize)?;
+        Ok(Block { bytes })
+    }
+
+    /// What stands from a place on.
+    pub(crate) fn bytes_from(&self, i: u32) -> &[Option<u8>]
+        requires { i < 256 }
+        ensures bytes { result.now ≡ drop i self.now }
+        ensures long { length result.now ≡ 256 - i }
+    {
+        &self.bytes.as_slice()[i as usize..]
+    }
+
+    /// Holds a byte at a place.
+    fn set(&mut self, i: u32, byte: u8)
+        requires { i < 256 }
+        ensures there { place self.new i ≡ Some byte }
+        ensures elsewhere { (j : ℕ) → j ≢ i → place self.new j ≡ place self.old j }
+    {
+        self.bytes[i as usize] = Some(byte);
+    }
+
+    /// Holds zeros at so many places.
+    #[tactic(auto, using(crate::proofs::Ranges::fill_rules))]
+    pub(crate) fn fill(&mut self, i: u32, len: u32)
+        requires { i + len ≤ 256 }
+        ensures { Filled i (i + len) (Some 0) (place self.old) (place self.new) }
+    {
+        for j in i..i + len {
+            self.set(j, 0);
+        }
+    }
+
+    /// Holds a number in so many bytes, the lowest first.
+    #[tactic(auto, using(crate::proofs::Writing::number_rules))]
+    pub(crate) fn write(&mut self, i: u32, width: u32, number: u64)
+        requires { i + width ≤ 256 }
+        ensures { Writes i (little width number) (place self.old) (place self.new) }
+    {
+        let mut rest = number;
+        for j in i..i + width {
+            self.set(j, (rest % 256) as u8);
+            rest /= 256;
+        }
+    }
+}
+
+/// Whether a byte is held at each place.
+#[tactic(auto, using(crate::proofs::Ranges::range_rules))]
+pub(crate) fn are_held(run: &[Option<u8>]) -> bool
+    ensures { result ≡ all_held 0 (length run.now) (place run.now) }
+{
+    for byte in run {
+        if byte.is_none() {
+            return false;
+        }
+    }
+    true
+}
+
+/// Whether no byte is held at any place.
+#[tactic(auto, using(crate::proofs::Ranges::range_rules))]
+pub(crate) fn are_free(run: &[Option<u8>]) -> bool
+    ensures { result ≡ none_held 0 (length run.now) (place run.now) }
+{
+    for byte in run {
+        if byte.is_some() {
+            return false;
+        }
+    }
+    true
+}
