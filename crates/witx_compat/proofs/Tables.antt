@@ -48,7 +48,7 @@ pub there-already : (old : List (List ℕ × Bor InterfaceFuncParam)) (name q : 
     → named old q ≡ earlier (named old q) (prefer (same_bytes name q) f None)
 there-already old name q f h = already old name q f _ refl h
 
-key-bytes : (a q : List ℕ) → is_eq (slice_cmp nat_cmp a q) ≡ same_bytes a q
+pub key-bytes : (a q : List ℕ) → is_eq (slice_cmp nat_cmp a q) ≡ same_bytes a q
 key-bytes a q = one_answer _ _ (key-decides a q) (λ h. bytes-to a q h, λ e. self-bytes a q e)
   where
     self-bytes : (x y : List ℕ) → x ≡ y → same_bytes x y ≡ true

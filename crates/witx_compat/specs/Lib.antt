@@ -7,4 +7,6 @@ pub mod Halves
 pub mod Gathered
 pub mod Once
 pub mod Views
+pub mod Written
+pub mod ConversionHashes
 pub mod Seen

@@ -16,6 +16,7 @@ mod part;
 mod places;
 mod representable;
 mod table;
+mod written;
 
 pub use answer::RepEquality;
 pub use conversion::{

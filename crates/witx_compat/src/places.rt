@@ -8,12 +8,25 @@ use std::alloc::Global;
 use witx_ast::Case;
 use witx_base::{Duplicate, Id, NameMap, OutOfMemory};
 
-/// A table of the places, where memory lasts.
-pub type Places = Result<NameMap<usize>, OutOfMemory>;
+/// A table of the places, where cases are many and memory lasts.
+pub type Places = Option<NameMap<usize>>;
+
+/// From how many cases on a table is quicker than a search.
+const MANY: usize = 16;
+
+/// The last place of each name, where a table is worth its memory.
+pub fn places_of(alloc: Global, cases: &[Case]) -> Places
+    ensures { IfSome result (λ places. (name : List ℕ) → found places name ≡ last_place name (cases_plain cases.now)) }
+{
+    if cases.len() < MANY {
+        return None;
+    }
+    last_places(alloc, cases).ok()
+}
 
 /// The last place of each name.
 #[tactic(auto, using(crate::proofs::Steps::place_rules))]
-pub fn last_places(alloc: Global, cases: &[Case]) -> Places
+fn last_places(alloc: Global, cases: &[Case]) -> Result<NameMap<usize>, OutOfMemory>
     ensures { IfOk result (λ places. (name : List ℕ) → found places name ≡ last_place name (cases_plain cases.now)) }
 {
     let mut places = NameMap::new(alloc);
@@ -26,13 +39,13 @@ pub fn last_places(alloc: Global, cases: &[Case]) -> Places
 /// The last place of a name, by the table; without one the cases are gone through.
 #[tactic(auto, using(crate::proofs::Steps::place_rules))]
 pub fn place_of(places: &Places, cases: &[Case], name: &Id) -> Option<usize>
-    requires { IfOk places.now (λ table. (name : List ℕ) → found table name ≡ last_place name (cases_plain cases.now)) }
+    requires { IfSome places.now (λ table. (name : List ℕ) → found table name ≡ last_place name (cases_plain cases.now)) }
     ensures place { result ≡ last_place name.now (cases_plain cases.now) }
     ensures within { IfSome result (λ i. i < length cases.now) }
 {
     match places {
-        Ok(table) => table.get(name).copied(),
-        Err(_) => searched(cases, name),
+        Some(table) => table.get(name).copied(),
+        None => searched(cases, name),
     }
 }
 

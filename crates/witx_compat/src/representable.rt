@@ -1,4 +1,4 @@
-ghost use Rattle.std.specs.Prelude.{◌≡◌, option_map, ◌&&◌, IfSome, IfOk, ◌<◌, length, ℕ, List};
+ghost use Rattle.std.specs.Prelude.{◌≡◌, option_map, ◌&&◌, IfSome, ◌<◌, length, ℕ, List};
 ghost use Rattle.witx_ast.specs.Plain.{plain};
 ghost use Rattle.witx_ast.specs.Same.{same_bytes};
 ghost use Rattle.witx_ast.specs.Views.{tree_of, datatype_tree, named_tree, record_tree, variant_tree, members_plain, cases_plain};
@@ -8,7 +8,7 @@ ghost use Rattle.witx_compat.specs.Answers.{builtin_by, repr_by, is_same};
 ghost use Rattle.witx_compat.specs.Represents.{represented, fields_same, cases_by, case_by, payload_by, last_case, last_place, count_by};
 
 use crate::answer::RepEquality;
-use crate::places::{Places, last_places, place_of};
+use crate::places::{Places, place_of, places_of};
 use std::alloc::Global;
 use witx_ast::{
     BuiltinType, Case, Datatype, IntRepr, NamedType, RecordDatatype, RecordMember, TypeRef, Variant,
@@ -198,7 +198,7 @@ fn member_same(member: &RecordMember, by: &RecordMember) -> bool
 fn each_case(alloc: Global, cases: &[Case], by: &[Case]) -> RepEquality
     ensures { result ≡ cases_by 0 (cases_plain cases.now) (cases_plain by.now) }
 {
-    let places = last_places(alloc, by);
+    let places = places_of(alloc, by);
     worst_case(&places, cases, by)
 }
 
@@ -207,7 +207,7 @@ fn each_case(alloc: Global, cases: &[Case], by: &[Case]) -> RepEquality
 #[cycle(compat)]
 #[tactic(auto, using(crate::proofs::Steps::compat_rules))]
 fn worst_case(places: &Places, cases: &[Case], by: &[Case]) -> RepEquality
-    requires { IfOk places.now (λ table. (name : List ℕ) → found table name ≡ last_place name (cases_plain by.now)) }
+    requires { IfSome places.now (λ table. (name : List ℕ) → found table name ≡ last_place name (cases_plain by.now)) }
     ensures { result ≡ cases_by 0 (cases_plain cases.now) (cases_plain by.now) }
 {
     let mut answer = RepEquality::Eq;
