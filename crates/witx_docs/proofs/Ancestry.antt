@@ -67,7 +67,7 @@ count-end ps n count all k e = let f = rw (no-ancestors ps n k) at e in omega (a
 pub ruleset ancestor_rules = (parent-before, one-more, no-more, count-more, count-end)
 
 -- further nodes, whose parents stand before them
-have-append : (i : ℕ) (ps qs : List (Option ℕ)) → HaveParents i ps → HaveParents (i + length ps) qs → HaveParents i (ps ++ qs)
+pub have-append : (i : ℕ) (ps qs : List (Option ℕ)) → HaveParents i ps → HaveParents (i + length ps) qs → HaveParents i (ps ++ qs)
 have-append i [] qs h k = let e : i + 0 ≡ i = omega arith in rw e at k
 have-append i (None ∷ ps) qs h k = absurd h
 have-append i (Some p ∷ ps) qs h k =

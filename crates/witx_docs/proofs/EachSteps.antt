@@ -1,6 +1,6 @@
 -- One more of many: its nodes stand before those of the others, and so do its numbers.
 use Rattle.std.specs.Prelude.{◌≡◌, ℕ, ◌+◌, ◌≤◌, ◌<◌, List, ◌++◌, Bool, true, false, length, drop, map}
-use Rattle.std.specs.List.{flat_map}
+use Rattle.std.specs.List.{AllByRecursion, flat_map}
 use Rattle.std.proofs.Common.{get_or, refl, sym, ◌∙◌}
 use Rattle.std.proofs.lemmas.List.{drop_more, drop_all}
 use Rattle.witx_docs.specs.declared.branch.Branch.{Branch}
@@ -27,5 +27,14 @@ one-large f g all ys i y s q e h = next-large (f (g y)) (flat_map f (map g (drop
 
 pub all-fit : {X Y : Type 0} (f : X → List ℕ) (g : Y → X) (all : Bool) (ys : List Y) (i : ℕ) → length ys ≤ i → too_large (flat_map f (map g (drop i ys))) ≡ all → all ≡ false
 all-fit f g all ys i s e = sym (rw (drop_all i ys s) at e) ∙ large-none
+
+-- what holds of each holds of the next one, and of those left
+pub this-holds : {X Y : Type 0} (P : X → Type 0) (g : Y → X) (ys : List Y) (i : ℕ) (y : Y) → i < length ys → y ≡ get_or ys i y
+    → AllByRecursion P (map g (drop i ys)) → P (g y)
+this-holds P g ys i y s q h = (rw (drop_more ys i y s, ← q) at h).0
+
+pub left-hold : {X Y : Type 0} (P : X → Type 0) (g : Y → X) (ys : List Y) (i : ℕ) (y : Y) → i < length ys → y ≡ get_or ys i y
+    → AllByRecursion P (map g (drop i ys)) → AllByRecursion P (map g (drop (i + 1) ys))
+left-hold P g ys i y s q h = (rw (drop_more ys i y s) at h).1
 
 pub ruleset each_rules = (next-each, all-each, next-fit, one-large, all-fit)

@@ -12,8 +12,10 @@ use Rattle.witx_docs.specs.declared.heading.MdHeading.{MdHeading}
 use Rattle.witx_docs.specs.declared.branch.Branch.{Branch}
 use Rattle.witx_docs.specs.Forests.{sprouted}
 use Rattle.witx_docs.specs.Parts.{typed_node, param_node, param_nodes, import_node, import_nodes, func_node, func_nodes, inputs_of, outputs_of}
+use Rattle.witx_docs.specs.declared.named_layouts.NamedLayouts.{NamedLayouts}
+use Rattle.witx_docs.specs.NamesKnown.{NamesKnown, InParams, InItem, InItems}
 use Rattle.witx_docs.specs.LaidOut.{too_large, laid_out, params_laid_out, items_laid_out, item_laid_out}
-use Rattle.witx_docs.proofs.EachSteps.{next-each, all-each, next-fit, one-large, all-fit}
+use Rattle.witx_docs.proofs.EachSteps.{next-each, all-each, next-fit, one-large, all-fit, this-holds, left-hold}
 use Rattle.witx_docs.proofs.Grown.{grown_rules}
 use Rattle.witx_docs.proofs.Judging.{judging_rules}
 
@@ -38,7 +40,15 @@ param-large all ps i x l q e h = one-large (λ p. laid_out p.tree) param_field a
 pub params-fit : (all : Bool) (ps : List InterfaceFuncParam) (i : ℕ) → length ps ≤ i → too_large (params_laid_out (map param_field (drop i ps))) ≡ all → all ≡ false
 params-fit all ps i l e = all-fit (λ p. laid_out p.tree) param_field all ps i l e
 
-pub ruleset param_rules = (next-param, all-params, param-fits, param-large, params-fit)
+pub param-in : (names : NamedLayouts) (ps : List InterfaceFuncParam) (i : ℕ) (x : InterfaceFuncParam) → i < length ps → x ≡ get_or ps i x
+    → InParams (NamesKnown names) (map param_field (drop i ps)) → NamesKnown names (tree_of x.tref)
+param-in names ps i x l q h = this-holds (λ p. NamesKnown names p.tree) param_field ps i x l q h
+
+pub params-left : (names : NamedLayouts) (ps : List InterfaceFuncParam) (i : ℕ) (x : InterfaceFuncParam) → i < length ps → x ≡ get_or ps i x
+    → InParams (NamesKnown names) (map param_field (drop i ps)) → InParams (NamesKnown names) (map param_field (drop (i + 1) ps))
+params-left names ps i x l q h = left-hold (λ p. NamesKnown names p.tree) param_field ps i x l q h
+
+pub ruleset param_rules = (param-in, params-left, next-param, all-params, param-fits, param-large, params-fit)
 
 -- a function's own line
 pub next-in : (ps : List InterfaceFuncParam) (i : ℕ) (x : InterfaceFuncParam) (before all : List (List ℕ × List ℕ)) → i < length ps → x ≡ get_or ps i x
@@ -90,4 +100,12 @@ item-large all ds i d l q e h = one-large item_laid_out item_tree all ds i d l q
 pub items-fit : (all : Bool) (ds : List ModuleDefinition) (i : ℕ) → length ds ≤ i → too_large (items_laid_out (map item_tree (drop i ds))) ≡ all → all ≡ false
 items-fit all ds i l e = all-fit item_laid_out item_tree all ds i l e
 
-pub ruleset item_rules = (grown_rules, judging_rules, next-import, all-imports, next-func, all-funcs, item-fits, item-large, items-fit)
+pub item-in : (names : NamedLayouts) (ds : List ModuleDefinition) (i : ℕ) (d : ModuleDefinition) → i < length ds → d ≡ get_or ds i d
+    → InItems (NamesKnown names) (map item_tree (drop i ds)) → InItem (NamesKnown names) (item_tree d)
+item-in names ds i d l q h = this-holds (InItem (NamesKnown names)) item_tree ds i d l q h
+
+pub items-left : (names : NamedLayouts) (ds : List ModuleDefinition) (i : ℕ) (d : ModuleDefinition) → i < length ds → d ≡ get_or ds i d
+    → InItems (NamesKnown names) (map item_tree (drop i ds)) → InItems (NamesKnown names) (map item_tree (drop (i + 1) ds))
+items-left names ds i d l q h = left-hold (InItem (NamesKnown names)) item_tree ds i d l q h
+
+pub ruleset item_rules = (item-in, items-left, grown_rules, judging_rules, next-import, all-imports, next-func, all-funcs, item-fits, item-large, items-fit)

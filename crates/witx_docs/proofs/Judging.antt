@@ -1,16 +1,13 @@
 -- Whether some number is too large, of numbers that are looked at one after the other.
-use Rattle.std.specs.Prelude.{◌≡◌, ℕ, ◌^◌, ◌<◌, ◌≤◌, List, [], ◌∷◌, ◌++◌, zero, suc, Bool, true, false, ◌||◌, nat_le, All, Any, OnOk, Result, Ok, Err}
-use Rattle.std.proofs.Common.{arith, refl, sym, ap, ◌∙◌}
+use Rattle.std.specs.Prelude.{◌≡◌, ◌⊎◌, ℕ, ◌^◌, ◌<◌, ◌≤◌, List, [], ◌∷◌, ◌++◌, zero, suc, Bool, true, false, ◌||◌, nat_le, All, Any, OnOk, Result, Ok, Err}
+use Rattle.std.proofs.Common.{arith, refl, sym, ap, ◌∙◌, inl, inr}
 use Rattle.witx_layout.specs.declared.members.LayoutError.{LayoutError}
 use Rattle.witx_layout.specs.declared.members.LayoutError.TheVariants as layout_error
 use Rattle.witx_ast.specs.declared.types.RecordKind.{RecordKind}
 use Rattle.witx_ast.specs.declared.types.IntRepr.{IntRepr}
 use Rattle.witx_ast.specs.Tree.{Fields}
-use Rattle.witx_ast.specs.Plain as plain
 use Rattle.witx_ast.specs.Plain.{plain_fields}
-use Rattle.witx_layout.specs.Numbers.{align_to, size_of, members_end, members_align, offsets, repr_size}
-use Rattle.witx_layout.proofs.Onward.{above}
-use Rattle.witx_layout.proofs.Written.{any-within}
+use Rattle.witx_layout.specs.Numbers.{align_to, members_end, members_align, offsets}
 use Rattle.witx_docs.specs.LaidOut.{too_large, refusal_fits, Judged, record_numbers}
 
 or-assoc : (a b c : Bool) → (a || b) || c ≡ a || (b || c)
@@ -35,7 +32,7 @@ judged-first xs ys layout_error.OutOfMemory h = tt
 pub judged-then : {A : Type 0} (xs ys : List ℕ) (r : Result A LayoutError) → too_large xs ≡ false → Judged (too_large ys) r → Judged (too_large (xs ++ ys)) r
 judged-then xs ys r k h = rw (large-append xs ys, k) h
 
-or-true : (b : Bool) → b || true ≡ true
+pub or-true : (b : Bool) → b || true ≡ true
 or-true true = refl
 or-true false = refl
 
@@ -60,49 +57,35 @@ pub large-one : (n : ℕ) → 2 ^ 64 ≤ n → too_large (n ∷ []) ≡ true
 unfolding too_large
 large-one n l = rw (big n l) refl
 
+pub large-head : (n : ℕ) (ns : List ℕ) → 2 ^ 64 ≤ n → too_large (n ∷ ns) ≡ true
+unfolding too_large
+large-head n ns l = rw (big n l) refl
+
 pub small-one : (n : ℕ) → n < 2 ^ 64 → too_large (n ∷ []) ≡ false
 unfolding too_large
 small-one n l = rw (small n l) refl
 
--- the numbers of a record: its size, or of flags the offsets of their members
-end-size : (ms : plain.Fields) → members_end 0 ms ≤ align_to (members_end 0 ms) (members_align ms)
-end-size ms = above (members_end 0 ms) (members_align ms)
-
-pub record-fits : (kind : RecordKind) (ms : Fields) → size_of (plain.record_of kind (plain_fields ms)) < 2 ^ 64
-    → All (λ o. o < 2 ^ 64) (offsets 0 (plain_fields ms)) → too_large (record_numbers kind ms) ≡ false
-record-fits (RecordKind.Bitflags r) ms l h = large-all (offsets 0 (plain_fields ms)) h
-record-fits RecordKind.Tuple ms l h = small-one (size_of (plain.record_of RecordKind.Tuple (plain_fields ms))) l
-record-fits RecordKind.Other ms l h = small-one (size_of (plain.record_of RecordKind.Other (plain_fields ms))) l
-
-pub record-large : (kind : RecordKind) (ms : Fields) → size_of (plain.record_of kind (plain_fields ms)) < 2 ^ 64
-    → Any (λ o. 2 ^ 64 ≤ o) (offsets 0 (plain_fields ms)) → too_large (record_numbers kind ms) ≡ true
-record-large (RecordKind.Bitflags r) ms l h = large-any (offsets 0 (plain_fields ms)) h
-record-large RecordKind.Tuple ms l h = absurd (omega (arith, l, any-within (plain_fields ms) h, end-size (plain_fields ms)))
-record-large RecordKind.Other ms l h = absurd (omega (arith, l, any-within (plain_fields ms) h, end-size (plain_fields ms)))
-
-repr-small : (r : IntRepr) → repr_size r < 2 ^ 64
-repr-small IntRepr.U8 = omega arith
-repr-small IntRepr.U16 = omega arith
-repr-small IntRepr.U32 = omega arith
-repr-small IntRepr.U64 = omega arith
-
-pub size-large : (kind : RecordKind) (ms : Fields) → 2 ^ 64 ≤ size_of (plain.record_of kind (plain_fields ms)) → too_large (record_numbers kind ms) ≡ true
-size-large (RecordKind.Bitflags r) ms l = absurd (omega (arith, l, repr-small r))
-size-large RecordKind.Tuple ms l = large-one (size_of (plain.record_of RecordKind.Tuple (plain_fields ms))) l
-size-large RecordKind.Other ms l = large-one (size_of (plain.record_of RecordKind.Other (plain_fields ms))) l
-
-pub below : (n : ℕ) → (2 ^ 64 ≤ n → ⊥) → n < 2 ^ 64
-below n h = omega (arith, h)
-
-pub refuted : {P : Type 0} → (P → false ≡ true) → P → ⊥
-refuted f p = let e : false ≡ true = f p in cc
-
-pub record-judged : {A : Type 0} (kind : RecordKind) (ms : Fields) (r : Result A LayoutError) → (2 ^ 64 ≤ size_of (plain.record_of kind (plain_fields ms)) → ⊥)
+-- the numbers of flags, which are the offsets of their members
+pub flags-judged : {A : Type 0} (kind : RecordKind) (repr : IntRepr) (ms : Fields) (r : Result A LayoutError) → kind ≡ RecordKind.Bitflags repr
     → OnOk r (All (λ o. o < 2 ^ 64) (offsets 0 (plain_fields ms))) → (r ≡ Err layout_error.TooLarge → Any (λ o. 2 ^ 64 ≤ o) (offsets 0 (plain_fields ms)))
     → Judged (too_large (record_numbers kind ms)) r
-record-judged kind ms (Ok x) l h k = record-fits kind ms (below (size_of (plain.record_of kind (plain_fields ms))) l) h
-record-judged kind ms (Err layout_error.TooLarge) l h k = record-large kind ms (below (size_of (plain.record_of kind (plain_fields ms))) l) (k refl)
-record-judged kind ms (Err layout_error.OutOfMemory) l h k = tt
+flags-judged kind repr ms (Ok x) e h k = rw e (large-all (offsets 0 (plain_fields ms)) h)
+flags-judged kind repr ms (Err layout_error.TooLarge) e h k = rw e (large-any (offsets 0 (plain_fields ms)) (k refl))
+flags-judged kind repr ms (Err layout_error.OutOfMemory) e h k = tt
+
+-- the number of any other record, which is its size
+abbrev pub whole_of : Fields → ℕ
+whole_of ms = align_to (members_end 0 (plain_fields ms)) (members_align (plain_fields ms))
+
+whole-number : (kind : RecordKind) (ms : Fields) → (kind ≡ RecordKind.Tuple) ⊎ (kind ≡ RecordKind.Other) → record_numbers kind ms ≡ whole_of ms ∷ []
+whole-number kind ms (inl e) = rw e refl
+whole-number kind ms (inr e) = rw e refl
+
+pub whole-judged : {A : Type 0} (kind : RecordKind) (ms : Fields) (r : Result A LayoutError) → (kind ≡ RecordKind.Tuple) ⊎ (kind ≡ RecordKind.Other)
+    → OnOk r (whole_of ms < 2 ^ 64) → (r ≡ Err layout_error.TooLarge → 2 ^ 64 ≤ whole_of ms) → Judged (too_large (record_numbers kind ms)) r
+whole-judged kind ms (Ok x) e h k = rw (whole-number kind ms e) (small-one (whole_of ms) h)
+whole-judged kind ms (Err layout_error.TooLarge) e h k = rw (whole-number kind ms e) (large-one (whole_of ms) (k refl))
+whole-judged kind ms (Err layout_error.OutOfMemory) e h k = tt
 
 -- one more of many: what is told of the one, and of those left
 pub next-fits : (xs ys : List ℕ) (all : Bool) → too_large (xs ++ ys) ≡ all → too_large xs ≡ false → too_large ys ≡ all

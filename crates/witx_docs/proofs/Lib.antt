@@ -12,7 +12,11 @@ mod EachSteps
 mod FunctionNodes
 mod Ids
 mod Linking
+mod NameSteps
+mod Knowing
+mod Standing
 mod PartSteps
 mod DocumentParts
 mod Paging
 mod RefusedPages
+mod Generated

@@ -23,6 +23,7 @@ use Rattle.witx_docs.specs.Parts.{section, type_parts, member_node, case_node, c
 use Rattle.witx_docs.specs.LaidOut.{too_large, laid_out, members_laid_out, cases_laid_out, case_laid_out, payload_laid_out, payload_numbers}
 use Rattle.witx_docs.proofs.Grown.{grown_rules, sprouted-followed, sprouted-none}
 use Rattle.witx_docs.proofs.Judging.{judging_rules, next-fits, next-large, large-none}
+use Rattle.witx_docs.proofs.NameSteps.{name_steps}
 
 placed-drop : (h : MdHeading) (id : Option (List ℕ)) (kind : RecordKind) (ls : List RecordMemberLayout) (i : ℕ) (l : RecordMemberLayout) → i < length ls → l ≡ get_or ls i l
     → placed_nodes h id kind (drop i ls) ≡ followed_by (member_node h id kind (member_field l.member.now) l.offset) (placed_nodes h id kind (drop (i + 1) ls))
@@ -154,4 +155,4 @@ pub variant-all-numbers : (v : Variant) → is_bool_arms (map case_arm (out-Vari
     → laid_out (variant_tree v) ≡ payload_numbers (out-Variant v).tag_repr (arms_of (map case_arm (out-Variant v).cases)) ++ cases_laid_out (arms_of (map case_arm (out-Variant v).cases))
 variant-all-numbers v e = rw (tree-VariantDatatype v, arms-listed (map case_arm (out-Variant v).cases), e) refl
 
-pub ruleset part_rules = (tree_rules, bool-parts, variant-parts, bool-numbers, variant-all-numbers, grown_rules, judging_rules, next-member, all-members, next-number-fits, next-number-large, all-numbers-fit, next-case, all-cases, next-case-fits, next-case-large, all-cases-fit)
+pub ruleset part_rules = (name_steps, tree_rules, bool-parts, variant-parts, bool-numbers, variant-all-numbers, grown_rules, judging_rules, next-member, all-members, next-number-fits, next-number-large, all-numbers-fit, next-case, all-cases, next-case-fits, next-case-large, all-cases-fit)

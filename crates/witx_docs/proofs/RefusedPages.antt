@@ -6,7 +6,8 @@ use Rattle.witx_layout.specs.declared.members.LayoutError.TheVariants as layout_
 use Rattle.witx_ast.specs.Definitions.{DefinitionTree}
 use Rattle.witx_docs.specs.declared.error.DocsError.{DocsError}
 use Rattle.witx_docs.specs.declared.error.DocsError.TheVariants as docs_error
-use Rattle.witx_docs.specs.LaidOut.{too_large, document_laid_out, document_refusal, unknown_type, refusal_fits, refusal_of}
+use Rattle.witx_docs.proofs.DocumentParts.{looked-through}
+use Rattle.witx_docs.specs.LaidOut.{too_large, document_laid_out, document_refusal, number_refusal, unknown_type, refusal_fits, refusal_of}
 
 pub accepted : (ds : List DefinitionTree) → unknown_type ds ≡ None → too_large (document_laid_out ds) ≡ false → document_refusal ds ≡ None
 accepted ds e f = rw (e, f) refl
@@ -19,4 +20,7 @@ pub layout-refused : (ds : List DefinitionTree) (e : LayoutError) → unknown_ty
 layout-refused ds layout_error.TooLarge e h = inr (rw (e, h) refl)
 layout-refused ds layout_error.OutOfMemory e h = inl refl
 
-pub ruleset refusal_rules = (accepted, unknown-refused, layout-refused)
+pub document-refused : (ds : List DefinitionTree) (o : Option DocsError) → unknown_type ds ≡ None → number_refusal (document_laid_out ds) ≡ o → document_refusal ds ≡ o
+document-refused ds o e h = rw e h
+
+pub ruleset refusal_rules = (document-refused, accepted, unknown-refused, layout-refused, looked-through)

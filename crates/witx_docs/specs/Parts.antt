@@ -208,10 +208,14 @@ typename_shown name t docs size align =
 abbrev pub typename_content : List ℕ → Tree → List ℕ → MdContent
 typename_content name t docs = typename_shown name t docs (size_of (plain t)) (align_of (plain t))
 
--- a typename with its constants, which are among all constants, and its parts
+-- a typename with its own constants and its parts
+abbrev pub typename_with : MdHeading → List Constant → List ℕ → Tree → List ℕ → Forest
+typename_with h own name t docs = node (typename_content name t docs)
+    (followed_by (constants_part (level_down h) own) (type_parts (level_down h) (Some name) t)) no_nodes
+
+-- its constants are among all constants
 abbrev pub typename_part : MdHeading → List Constant → List ℕ → Tree → List ℕ → Forest
-typename_part h cs name t docs = node (typename_content name t docs)
-    (followed_by (constants_part (level_down h) (constants_of name cs)) (type_parts (level_down h) (Some name) t)) no_nodes
+typename_part h cs name t docs = typename_with h (constants_of name cs) name t docs
 
 abbrev pub typename_node : MdHeading → List Constant → DefinitionTree → Forest
 typename_node h cs (typename_of name t docs) = typename_part h cs name t docs

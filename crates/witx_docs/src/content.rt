@@ -107,9 +107,13 @@ impl MdFunc {
 /// What a node of a page holds.
 #[derive(Debug, Drop)]
 pub enum MdContent {
+    /// The page itself, which has no text of its own.
     Root,
+    /// A heading over what stands below it.
     Section(MdSection),
+    /// What has a name and perhaps a type.
     Named(MdNamedType),
+    /// A function.
     Func(MdFunc),
 }
 

@@ -5,19 +5,24 @@ ghost use Rattle.witx_ast.specs.Views.{tree_of};
 ghost use Rattle.witx_ast.specs.Definitions.{definition_tree, module_tree, typename_of, module_of};
 ghost use Rattle.witx_layout.specs.Numbers.{align_of, size_of};
 ghost use Rattle.witx_docs.specs.Forests.{each, no_nodes, node, sprouted};
-ghost use Rattle.witx_docs.specs.Parts.{section as section_of, document_parts, typename_node, typename_nodes, typename_part, typename_docs, layout_lines, number_line, typename_shown, module_node, module_nodes, module_content, constants_of, constants_part, constant_node, constants_in};
-ghost use Rattle.witx_docs.specs.LaidOut.{Judged, too_large, document_laid_out, typenames_laid_out, typename_laid_out, modules_laid_out, module_laid_out, laid_out, items_laid_out, unknown_type};
+ghost use Rattle.witx_docs.specs.Parts.{section as section_of, document_parts, typename_nodes, typename_with, typename_docs, layout_lines, number_line, typename_shown, module_node, module_nodes, module_content, constants_part, constant_node, constants_in};
+ghost use Rattle.witx_docs.specs.NamesKnown.{NamesKnown, InDefinition, InDefinitions, InItems};
+ghost use Rattle.witx_docs.specs.ByType.{StandByType, standing};
+ghost use Rattle.witx_docs.specs.LaidOut.{Judged, too_large, document_laid_out, typenames_laid_out, modules_laid_out, module_laid_out, laid_out, items_laid_out, unknown_type};
 
 use crate::branch::Branch;
+use crate::constants::{ConstantsByType, constants_by_type};
 use crate::content::{MdContent, MdNamedType, MdSection};
 use crate::functions::put_module;
 use crate::heading::{MdHeading, put};
+use crate::known_layout::type_layout;
+use crate::named_layouts::NamedLayouts;
 use crate::parts::{bullet, put_group, put_section, put_type, shown};
 use crate::place::{Place, dotted_name};
 use std::alloc::Global;
 use witx_ast::{Constant, Definition, Document, Module, NamedType};
-use witx_base::{Id, Items, OutOfMemory, Text};
-use witx_layout::{Layout, LayoutError, SizeAlign, TooLarge};
+use witx_base::{Id, OutOfMemory, Text};
+use witx_layout::{LayoutError, SizeAlign, TooLarge};
 
 /// The first constant's type that is no typename of the document.
 #[tactic(auto, using(crate::proofs::DocumentParts::unknown_rules))]
@@ -40,88 +45,62 @@ pub fn unknown_constant_type(document: &Document) -> Option<&Id>
 pub fn put_document(
     branch: &mut Branch,
     at: &Place,
+    names: NamedLayouts,
     definitions: &[Definition],
 ) -> Result<(), LayoutError>
+    requires { InDefinitions (NamesKnown names) (map definition_tree definitions.now) }
     ensures nodes { OnOk result (branch.new ≡ sprouted branch.old at.now.node (document_parts at.now.heading (map definition_tree definitions.now))) }
     ensures refusal { Judged (too_large (document_laid_out (map definition_tree definitions.now))) result }
 {
     let inner = at.heading.new_level_down();
-    let constants = all_constants(branch.allocator(), definitions)?;
+    let constants = constants_by_type(branch.allocator(), definitions)?;
     let types = put_group(branch, at.node, MdHeading::new_header(1), "Types")?;
-    put_typenames(branch, types, inner, constants.as_slice(), definitions)?;
+    put_typenames(branch, types, inner, names, &constants, definitions)?;
     let modules = put_group(branch, at.node, MdHeading::new_header(1), "Modules")?;
-    put_modules(branch, modules, inner, definitions)
+    put_modules(branch, modules, inner, names, definitions)
 }
 
-/// The constants among definitions.
-#[tactic(auto, using(crate::proofs::DocumentParts::constant_rules))]
-fn all_constants<'a>(
-    alloc: Global,
-    definitions: &'a [Definition],
-) -> Result<Items<&'a Constant>, OutOfMemory>
-    ensures { IfOk result (λ constants. map (λ c. c.now) constants ≡ constants_in (map definition_tree definitions.now)) }
-{
-    let mut constants = Items::new(alloc);
-    for definition in definitions {
-        let Definition::Constant(constant) = definition else {
-            continue;
-        };
-        constants.push(constant)?;
-    }
-    Ok(constants)
-}
-
-/// Adds the typenames among definitions.
+/// Adds the typenames among definitions, all of whose constants stand under the names of their types.
 #[tactic(auto, using(crate::proofs::DocumentParts::definition_rules))]
 fn put_typenames(
     branch: &mut Branch,
     parent: usize,
     heading: MdHeading,
-    constants: &[&Constant],
+    names: NamedLayouts,
+    constants: &ConstantsByType,
     definitions: &[Definition],
 ) -> Result<(), LayoutError>
+    requires known { InDefinitions (NamesKnown names) (map definition_tree definitions.now) }
+    requires constants { StandByType constants.now.entries (constants_in (map definition_tree definitions.now)) }
     ensures nodes { OnOk result (branch.new ≡ sprouted branch.old parent
-        (typename_nodes heading (map (λ c. c.now) constants.now) (map definition_tree definitions.now))) }
+        (typename_nodes heading (constants_in (map definition_tree definitions.now)) (map definition_tree definitions.now))) }
     ensures refusal { Judged (too_large (typenames_laid_out (map definition_tree definitions.now))) result }
 {
     for definition in definitions {
-        put_typename_if(branch, parent, heading, constants, definition)?;
+        let Definition::Typename(named) = definition else {
+            continue;
+        };
+        put_typename(branch, parent, heading, names, constants, named)?;
     }
     Ok(())
 }
 
-#[tactic(auto, using(crate::proofs::DocumentParts::definition_rules))]
-fn put_typename_if(
-    branch: &mut Branch,
-    parent: usize,
-    heading: MdHeading,
-    constants: &[&Constant],
-    definition: &Definition,
-) -> Result<(), LayoutError>
-    ensures nodes { OnOk result (branch.new ≡ sprouted branch.old parent
-        (typename_node heading (map (λ c. c.now) constants.now) (definition_tree definition.now))) }
-    ensures refusal { Judged (too_large (typename_laid_out (definition_tree definition.now))) result }
-{
-    match definition {
-        Definition::Typename(named) => put_typename(branch, parent, heading, constants, named),
-        Definition::Module(_) | Definition::Constant(_) => Ok(()),
-    }
-}
-
-/// Adds a typename with its constants, which are among all constants, and the parts of its type.
+/// Adds a typename with its constants and the parts of its type.
 #[tactic(auto, using(crate::proofs::DocumentParts::definition_rules))]
 fn put_typename(
     branch: &mut Branch,
     parent: usize,
     heading: MdHeading,
-    constants: &[&Constant],
+    names: NamedLayouts,
+    constants: &ConstantsByType,
     named: &NamedType,
 ) -> Result<(), LayoutError>
+    requires { NamesKnown names (tree_of named.now.tref) }
     ensures nodes { OnOk result (branch.new ≡ sprouted branch.old parent
-        (typename_part heading (map (λ c. c.now) constants.now) named.now.name (tree_of named.now.tref) named.now.docs)) }
+        (typename_with heading (standing constants.now.entries named.now.name) named.now.name (tree_of named.now.tref) named.now.docs)) }
     ensures refusal { Judged (too_large (size_of (plain (tree_of named.now.tref)) ∷ laid_out (tree_of named.now.tref))) result }
 {
-    let numbers = typename_layout(named)?;
+    let numbers = typename_layout(names, named)?;
     let content = typename_content(branch.allocator(), named, numbers)?;
     let node = branch.push(parent, content)?;
     let at = Place {
@@ -129,16 +108,17 @@ fn put_typename(
         heading: heading.new_level_down(),
         id: Some(named.name.as_str()),
     };
-    put_constants(branch, &at, &named.name, constants)?;
-    put_type(branch, &at, &named.tref)
+    put_constants(branch, &at, constants, &named.name)?;
+    put_type(branch, &at, names, &named.tref)
 }
 
 /// The layout of a typename.
-fn typename_layout(named: &NamedType) -> Result<SizeAlign, LayoutError>
+fn typename_layout(names: NamedLayouts, named: &NamedType) -> Result<SizeAlign, LayoutError>
+    requires { NamesKnown names (tree_of named.now.tref) }
     ensures exact { IfOk result (λ v. (v.size ≡ size_of (plain (tree_of named.now.tref))) × (v.align ≡ align_of (plain (tree_of named.now.tref)))) }
     ensures refusal { Judged (too_large (size_of (plain (tree_of named.now.tref)) ∷ [])) result }
 {
-    match named.tref.mem_size_align() {
+    match type_layout(names, &named.tref) {
         Ok(layout) => Ok(layout),
         Err(TooLarge) => Err(LayoutError::TooLarge),
     }
@@ -185,20 +165,20 @@ fn put_number_line(out: &mut String, word: &str, number: usize) -> Result<(), Ou
     Ok(())
 }
 
-/// Adds the constants of a typename, under a section of their own where there are some.
+/// Adds the constants of the typename of this name, under a section of their own where there are some.
 #[tactic(auto, using(crate::proofs::DocumentParts::definition_rules))]
 fn put_constants(
     branch: &mut Branch,
     at: &Place,
+    constants: &ConstantsByType,
     name: &Id,
-    constants: &[&Constant],
 ) -> Result<(), OutOfMemory>
-    ensures { OnOk result (branch.new ≡ sprouted branch.old at.now.node
-        (constants_part at.now.heading (constants_of name.now (map (λ c. c.now) constants.now)))) }
+    ensures { OnOk result (branch.new ≡ sprouted branch.old at.now.node (constants_part at.now.heading (standing constants.now.entries name.now))) }
 {
-    let own = own_constants(branch.allocator(), name, constants)?;
-    put_constants_part(branch, at, own.as_slice())?;
-    Ok(())
+    match constants.get(name) {
+        Some(own) => put_constants_part(branch, at, own.as_slice()),
+        None => Ok(()),
+    }
 }
 
 /// Adds constants under a section of their own, where there are some.
@@ -228,24 +208,6 @@ fn put_constants_section(
     put_section(branch, at, "Constants")?;
     put_each_constant(branch, at.node, constants)?;
     Ok(())
-}
-
-/// The constants of the typename of this name.
-#[tactic(auto, using(crate::proofs::DocumentParts::constant_rules))]
-fn own_constants<'a>(
-    alloc: Global,
-    name: &Id,
-    constants: &[&'a Constant],
-) -> Result<Items<&'a Constant>, OutOfMemory>
-    ensures { IfOk result (λ own. map (λ c. c.now) own ≡ constants_of name.now (map (λ c. c.now) constants.now)) }
-{
-    let mut own = Items::new(alloc);
-    for constant in constants {
-        if name.is(constant.ty.as_str()) {
-            own.push(*constant)?;
-        }
-    }
-    Ok(own)
 }
 
 #[tactic(auto, using(crate::proofs::DocumentParts::definition_rules))]
@@ -284,13 +246,15 @@ fn put_modules(
     branch: &mut Branch,
     parent: usize,
     heading: MdHeading,
+    names: NamedLayouts,
     definitions: &[Definition],
 ) -> Result<(), LayoutError>
+    requires { InDefinitions (NamesKnown names) (map definition_tree definitions.now) }
     ensures nodes { OnOk result (branch.new ≡ sprouted branch.old parent (module_nodes heading (map definition_tree definitions.now))) }
     ensures refusal { Judged (too_large (modules_laid_out (map definition_tree definitions.now))) result }
 {
     for definition in definitions {
-        put_module_if(branch, parent, heading, definition)?;
+        put_module_if(branch, parent, heading, names, definition)?;
     }
     Ok(())
 }
@@ -300,13 +264,15 @@ fn put_module_if(
     branch: &mut Branch,
     parent: usize,
     heading: MdHeading,
+    names: NamedLayouts,
     definition: &Definition,
 ) -> Result<(), LayoutError>
+    requires { InDefinition (NamesKnown names) (definition_tree definition.now) }
     ensures nodes { OnOk result (branch.new ≡ sprouted branch.old parent (module_node heading (definition_tree definition.now))) }
     ensures refusal { Judged (too_large (module_laid_out (definition_tree definition.now))) result }
 {
     match definition {
-        Definition::Module(module) => put_named_module(branch, parent, heading, module),
+        Definition::Module(module) => put_named_module(branch, parent, heading, names, module),
         Definition::Typename(_) | Definition::Constant(_) => Ok(()),
     }
 }
@@ -317,8 +283,10 @@ fn put_named_module(
     branch: &mut Branch,
     parent: usize,
     heading: MdHeading,
+    names: NamedLayouts,
     module: &Module,
 ) -> Result<(), LayoutError>
+    requires { InItems (NamesKnown names) (module_tree module.now).items }
     ensures nodes { OnOk result (branch.new ≡ sprouted branch.old parent (module_node heading (module_of (module_tree module.now)))) }
     ensures refusal { Judged (too_large (items_laid_out (module_tree module.now).items)) result }
 {
@@ -329,7 +297,7 @@ fn put_named_module(
         heading: heading.new_level_down(),
         id: Some(module.name.as_str()),
     };
-    put_module(branch, &at, module)
+    put_module(branch, &at, names, module)
 }
 
 /// A module as its own node shows it.

@@ -6,11 +6,13 @@ ghost use Rattle.witx_ast.specs.Definitions.{module_tree};
 ghost use Rattle.witx_docs.specs.Contents.{level_down};
 ghost use Rattle.witx_docs.specs.Forests.{leaf, sprouted, no_nodes, node};
 ghost use Rattle.witx_docs.specs.Parts.{section as section_of, param_nodes, function_parts, function_content, inputs_of, outputs_of, import_nodes, func_nodes, module_parts, func_node, import_node};
+ghost use Rattle.witx_docs.specs.NamesKnown.{NamesKnown, InFunction, InItem, InItems, InParams};
 ghost use Rattle.witx_docs.specs.LaidOut.{Judged, too_large, params_laid_out, function_laid_out, items_laid_out, item_laid_out};
 
 use crate::branch::Branch;
 use crate::content::{MdContent, MdFunc, MdInputs, MdOutputs};
 use crate::heading::MdHeading;
+use crate::named_layouts::NamedLayouts;
 use crate::parts::{put_group, put_section, put_typed};
 use crate::place::Place;
 use std::alloc::Global;
@@ -23,16 +25,18 @@ use witx_layout::LayoutError;
 pub fn put_function(
     branch: &mut Branch,
     at: &Place,
+    names: NamedLayouts,
     func: &InterfaceFunc,
 ) -> Result<(), LayoutError>
+    requires { InFunction (NamesKnown names) (func_tree func.now) }
     ensures nodes { OnOk result (branch.new ≡ sprouted branch.old at.now.node
         (function_parts at.now.heading (option_map (λ id. id.now) at.now.id) (func_tree func.now))) }
     ensures refusal { Judged (too_large (function_laid_out (func_tree func.now))) result }
 {
     put_section(branch, at, "Params")?;
-    put_params(branch, at, func.params.as_slice())?;
+    put_params(branch, at, names, func.params.as_slice())?;
     put_section(branch, at, "Results")?;
-    put_params(branch, at, func.results.as_slice())
+    put_params(branch, at, names, func.results.as_slice())
 }
 
 /// Adds parameters, or results, each with the parts of its type.
@@ -40,8 +44,10 @@ pub fn put_function(
 fn put_params(
     branch: &mut Branch,
     at: &Place,
+    names: NamedLayouts,
     params: &[InterfaceFuncParam],
 ) -> Result<(), LayoutError>
+    requires { InParams (NamesKnown names) (map param_field params.now) }
     ensures nodes { OnOk result (branch.new ≡ sprouted branch.old at.now.node
         (param_nodes at.now.heading (option_map (λ id. id.now) at.now.id) (map param_field params.now))) }
     ensures refusal { Judged (too_large (params_laid_out (map param_field params.now))) result }
@@ -50,6 +56,7 @@ fn put_params(
         put_typed(
             branch,
             at,
+            names,
             param.name.as_str(),
             param.docs.as_str(),
             &param.tref,
@@ -85,7 +92,13 @@ pub fn outputs(alloc: Global, results: &[InterfaceFuncParam]) -> Result<MdOutput
 
 /// Adds the imports and the functions of a module.
 #[tactic(auto, using(crate::proofs::FunctionNodes::item_rules))]
-pub fn put_module(branch: &mut Branch, at: &Place, module: &Module) -> Result<(), LayoutError>
+pub fn put_module(
+    branch: &mut Branch,
+    at: &Place,
+    names: NamedLayouts,
+    module: &Module,
+) -> Result<(), LayoutError>
+    requires { InItems (NamesKnown names) (map item_tree module.now.contents.definitions) }
     ensures nodes { OnOk result (branch.new ≡ sprouted branch.old at.now.node (module_parts at.now.heading (module_tree module.now))) }
     ensures refusal { Judged (too_large (items_laid_out (map item_tree module.now.contents.definitions))) result }
 {
@@ -93,7 +106,13 @@ pub fn put_module(branch: &mut Branch, at: &Place, module: &Module) -> Result<()
     let imports = put_group(branch, at.node, at.heading, "Imports")?;
     put_imports(branch, imports, inner, module.definitions().as_slice())?;
     let functions = put_group(branch, at.node, at.heading, "Functions")?;
-    put_funcs(branch, functions, inner, module.definitions().as_slice())
+    put_funcs(
+        branch,
+        functions,
+        inner,
+        names,
+        module.definitions().as_slice(),
+    )
 }
 
 /// Adds the imports among definitions.
@@ -141,13 +160,15 @@ fn put_funcs(
     branch: &mut Branch,
     parent: usize,
     heading: MdHeading,
+    names: NamedLayouts,
     definitions: &[ModuleDefinition],
 ) -> Result<(), LayoutError>
+    requires { InItems (NamesKnown names) (map item_tree definitions.now) }
     ensures nodes { OnOk result (branch.new ≡ sprouted branch.old parent (func_nodes heading (map item_tree definitions.now))) }
     ensures refusal { Judged (too_large (items_laid_out (map item_tree definitions.now))) result }
 {
     for definition in definitions {
-        put_item(branch, parent, heading, definition)?;
+        put_item(branch, parent, heading, names, definition)?;
     }
     Ok(())
 }
@@ -157,13 +178,15 @@ fn put_item(
     branch: &mut Branch,
     parent: usize,
     heading: MdHeading,
+    names: NamedLayouts,
     definition: &ModuleDefinition,
 ) -> Result<(), LayoutError>
+    requires { InItem (NamesKnown names) (item_tree definition.now) }
     ensures nodes { OnOk result (branch.new ≡ sprouted branch.old parent (func_node heading (item_tree definition.now))) }
     ensures refusal { Judged (too_large (item_laid_out (item_tree definition.now))) result }
 {
     match definition {
-        ModuleDefinition::Func(func) => put_func(branch, parent, heading, func),
+        ModuleDefinition::Func(func) => put_func(branch, parent, heading, names, func),
         ModuleDefinition::Import(_) => Ok(()),
     }
 }
@@ -174,8 +197,10 @@ fn put_func(
     branch: &mut Branch,
     parent: usize,
     heading: MdHeading,
+    names: NamedLayouts,
     func: &InterfaceFunc,
 ) -> Result<(), LayoutError>
+    requires { InFunction (NamesKnown names) (func_tree func.now) }
     ensures nodes { OnOk result (branch.new ≡ sprouted branch.old parent
         (node (function_content heading (func_tree func.now)) (function_parts (level_down heading) (Some func.now.name) (func_tree func.now)) no_nodes)) }
     ensures refusal { Judged (too_large (function_laid_out (func_tree func.now))) result }
@@ -187,7 +212,7 @@ fn put_func(
         heading: heading.new_level_down(),
         id: Some(func.name.as_str()),
     };
-    put_function(branch, &at, func)
+    put_function(branch, &at, names, func)
 }
 
 /// A function as its own node shows it.

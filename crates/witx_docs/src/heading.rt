@@ -26,6 +26,7 @@ impl MdHeading {
         }
     }
 
+    /// The bullet, which has no level.
     pub fn new_bullet() -> Self
         ensures { result ≡ MdHeading.Bullet }
     {

@@ -2,9 +2,11 @@
 ghost use Rattle.std.specs.Prelude.{◌≡◌, ◌⊎◌, ◌++◌, IfErr, IfOk, OnOk, Some, None, map, string_bytes};
 ghost use Rattle.std.specs.Map.{keys_of};
 ghost use Rattle.witx_ast.specs.Definitions.{definition_tree};
+ghost use Rattle.witx_ast.specs.Closed.{IsClosed};
 ghost use Rattle.witx_docs.specs.declared.error.DocsError.{DocsError};
 ghost use Rattle.witx_docs.specs.Contents.{content_text, docs_text};
 ghost use Rattle.witx_docs.specs.LaidOut.{Judged, too_large, document_laid_out, document_refusal};
+ghost use Rattle.witx_docs.specs.NamesKnown.{NamesKnown, InDefinitions};
 ghost use Rattle.witx_docs.specs.Links.{linked, missing, with_links, missing_in};
 ghost use Rattle.witx_docs.specs.Pages.{page_contents, page_text, missing_links as links_without_target, text_of_contents, missing_of_contents, text_with, missing_with};
 
@@ -15,7 +17,9 @@ use crate::documentation::Documentation;
 use crate::documents::{put_document, unknown_constant_type};
 use crate::error::DocsError;
 use crate::heading::{MdHeading, put};
+use crate::kept_layouts::kept_layouts;
 use crate::links::{KnownIds, MissingLinks, known_ids, put_linked};
+use crate::named_layouts::NamedLayouts;
 use crate::place::Place;
 use std::alloc::Global;
 use witx_ast::{Definition, Document};
@@ -39,13 +43,39 @@ pub fn document_md(alloc: Global, document: &Document) -> Result<(Text, MissingL
     if let Some(name) = unknown_constant_type(document) {
         return Err(unknown_type_refusal(name));
     }
-    let contents = contents(alloc, document.definitions().as_slice())?;
+    let names = NamedLayouts::LookedThrough;
+    let contents = contents(alloc, names, document.definitions().as_slice())?;
+    let page = linked_page(alloc, contents.as_slice())?;
+    Ok(page)
+}
+
+/// The same for a closed document, in which each name is that of a typename that stands before it, as a
+/// parsed one is. It is made in one pass: the layout of each typename is kept by its name, so that no type
+/// is laid out again where its name stands.
+#[tactic(auto, using(crate::proofs::RefusedPages::refusal_rules))]
+pub fn closed_document_md(
+    alloc: Global,
+    document: &Document,
+) -> Result<(Text, MissingLinks), DocsError>
+    requires closed { IsClosed (map definition_tree document.now.definitions) }
+    ensures text { IfOk result (λ page. page.0 ≡ page_text (map definition_tree document.now.definitions)) }
+    ensures missing { IfOk result (λ page. page.1 ≡ links_without_target (map definition_tree document.now.definitions)) }
+    ensures accepted { OnOk result (document_refusal (map definition_tree document.now.definitions) ≡ None) }
+    ensures refusal { IfErr result (λ refused.
+        (refused ≡ DocsError.OutOfMemory) ⊎ (document_refusal (map definition_tree document.now.definitions) ≡ Some refused)) }
+{
+    if let Some(name) = unknown_constant_type(document) {
+        return Err(unknown_type_refusal(name));
+    }
+    let layouts = kept_layouts(alloc, document)?;
+    let names = NamedLayouts::Kept(&layouts);
+    let contents = contents(alloc, names, document.definitions().as_slice())?;
     let page = linked_page(alloc, contents.as_slice())?;
     Ok(page)
 }
 
 /// The refusal that names the unknown type of a constant.
-fn unknown_type_refusal(name: &Id) -> DocsError
+pub fn unknown_type_refusal(name: &Id) -> DocsError
     ensures { (result ≡ DocsError.OutOfMemory) ⊎ (result ≡ DocsError.UnknownConstantType name.now) }
 {
     match name.copy() {
@@ -55,7 +85,12 @@ fn unknown_type_refusal(name: &Id) -> DocsError
 }
 
 /// The contents of a document's page, in the order of the text and without links.
-fn contents(alloc: Global, definitions: &[Definition]) -> Result<Items<MdContent>, LayoutError>
+fn contents(
+    alloc: Global,
+    names: NamedLayouts,
+    definitions: &[Definition],
+) -> Result<Items<MdContent>, LayoutError>
+    requires { InDefinitions (NamesKnown names) (map definition_tree definitions.now) }
     ensures contents { IfOk result (λ contents. contents ≡ page_contents (map definition_tree definitions.now)) }
     ensures refusal { Judged (too_large (document_laid_out (map definition_tree definitions.now))) result }
 {
@@ -65,7 +100,7 @@ fn contents(alloc: Global, definitions: &[Definition]) -> Result<Items<MdContent
         heading: MdHeading::new_header(1),
         id: None,
     };
-    put_document(&mut branch, &root, definitions)?;
+    put_document(&mut branch, &root, names, definitions)?;
     Ok(branch.contents)
 }
 

@@ -10,11 +10,14 @@ ghost use Rattle.witx_ast.specs.Views.{tree_of, datatype_tree, record_tree, vari
 ghost use Rattle.witx_layout.specs.Numbers.{align_of, offsets, size_of};
 ghost use Rattle.witx_docs.specs.Forests.{leaf, next_number, sprouted};
 ghost use Rattle.witx_docs.specs.Parts.{section as section_of, item, inner_id, type_shown, type_parts, typed_node, placed_fields, placed_nodes, member_docs, number_section, layout_nodes, variant_layout, case_nodes, member_node, case_node};
+ghost use Rattle.witx_docs.specs.NamesKnown.{NamesKnown, FieldNamesKnown, ArmNamesKnown, PayloadKnown};
 ghost use Rattle.witx_docs.specs.LaidOut.{Judged, too_large, laid_out, record_numbers, payload_numbers, members_laid_out, cases_laid_out, case_laid_out};
 
 use crate::branch::Branch;
 use crate::content::{MdContent, MdNamedType, MdSection};
 use crate::heading::{MdHeading, put};
+use crate::known_layout::{placed, variant_layout};
+use crate::named_layouts::NamedLayouts;
 use crate::place::Place;
 use std::alloc::Global;
 use witx_ast::{Case, Datatype, RecordDatatype, RecordKind, RecordMember, TypeRef, Variant};
@@ -26,28 +29,40 @@ use witx_layout::{
 /// Adds the parts of a type: a name has none, since it leads to its typename.
 #[cycle(parts)]
 #[tactic(auto, using(crate::proofs::PartSteps::part_rules))]
-pub fn put_type(branch: &mut Branch, at: &Place, tref: &TypeRef) -> Result<(), LayoutError>
+pub fn put_type(
+    branch: &mut Branch,
+    at: &Place,
+    names: NamedLayouts,
+    tref: &TypeRef,
+) -> Result<(), LayoutError>
+    requires { NamesKnown names (tree_of tref.now) }
     ensures nodes { OnOk result (branch.new ≡ sprouted branch.old at.now.node
         (type_parts at.now.heading (option_map (λ id. id.now) at.now.id) (tree_of tref.now))) }
     ensures refusal { Judged (too_large (laid_out (tree_of tref.now))) result }
 {
     match tref {
         TypeRef::Name(_) => Ok(()),
-        TypeRef::Value(datatype) => put_datatype(branch, at, datatype),
+        TypeRef::Value(datatype) => put_datatype(branch, at, names, datatype),
     }
 }
 
 /// Adds the parts of a type that is written out; targets of lists and pointers aren't entered.
 #[cycle(parts)]
 #[tactic(auto, using(crate::proofs::PartSteps::part_rules))]
-pub fn put_datatype(branch: &mut Branch, at: &Place, datatype: &Datatype) -> Result<(), LayoutError>
+pub fn put_datatype(
+    branch: &mut Branch,
+    at: &Place,
+    names: NamedLayouts,
+    datatype: &Datatype,
+) -> Result<(), LayoutError>
+    requires { NamesKnown names (datatype_tree datatype.now) }
     ensures nodes { OnOk result (branch.new ≡ sprouted branch.old at.now.node
         (type_parts at.now.heading (option_map (λ id. id.now) at.now.id) (datatype_tree datatype.now))) }
     ensures refusal { Judged (too_large (laid_out (datatype_tree datatype.now))) result }
 {
     match datatype {
-        Datatype::Record(record) => put_record(branch, at, record),
-        Datatype::Variant(variant) => put_variant(branch, at, variant),
+        Datatype::Record(record) => put_record(branch, at, names, record),
+        Datatype::Variant(variant) => put_variant(branch, at, names, variant),
         Datatype::Handle(_) => put_handle(branch, at),
         Datatype::List(_)
         | Datatype::Pointer(_)
@@ -70,29 +85,38 @@ pub fn put_handle(branch: &mut Branch, at: &Place) -> Result<(), LayoutError>
 pub fn put_record(
     branch: &mut Branch,
     at: &Place,
+    names: NamedLayouts,
     record_type: &RecordDatatype,
 ) -> Result<(), LayoutError>
+    requires { NamesKnown names (record_tree record_type.now) }
     ensures nodes { OnOk result (branch.new ≡ sprouted branch.old at.now.node
         (type_parts at.now.heading (option_map (λ id. id.now) at.now.id) (record_tree record_type.now))) }
     ensures refusal { Judged (too_large (laid_out (record_tree record_type.now))) result }
 {
-    let layouts = begins(branch.allocator(), record_type)?;
+    let layouts = begins(branch.allocator(), names, record_type)?;
     put_section(branch, at, "Record members")?;
-    put_members(branch, at, record_type.kind, layouts.as_slice())
+    put_members(branch, at, names, record_type.kind, layouts.as_slice())
 }
 
 /// The offsets of a record's members, where all that is shown of them fits: the size of a record, and
 /// of flags the offsets of their members as a plain record.
 #[tactic(auto, using(crate::proofs::Judging::judging_rules))]
-fn begins(alloc: Global, record_type: &RecordDatatype) -> Result<MemberLayouts<'_>, LayoutError>
+fn begins<'a>(
+    alloc: Global,
+    names: NamedLayouts,
+    record_type: &'a RecordDatatype,
+) -> Result<MemberLayouts<'a>, LayoutError>
+    requires { NamesKnown names (record_tree record_type.now) }
     ensures members { IfOk result (λ layouts. map (λ m. m.member.now) layouts ≡ (out-RecordDatatype record_type.now).members) }
     ensures begins { IfOk result (λ layouts. map (λ m. m.offset) layouts ≡ offsets 0 (members_plain (out-RecordDatatype record_type.now).members)) }
     ensures refusal { Judged (too_large (record_numbers (out-RecordDatatype record_type.now).kind
         (fields_of (map member_field (out-RecordDatatype record_type.now).members)))) result }
 {
-    match record_type.mem_size() {
-        Ok(_) => record_type.member_layout(alloc),
-        Err(TooLarge) => Err(LayoutError::TooLarge),
+    match record_type.kind {
+        RecordKind::Bitflags(_) => record_type.member_layout(alloc),
+        RecordKind::Tuple | RecordKind::Other => {
+            placed(alloc, names, record_type.members.as_slice())
+        }
     }
 }
 
@@ -101,15 +125,17 @@ fn begins(alloc: Global, record_type: &RecordDatatype) -> Result<MemberLayouts<'
 fn put_members(
     branch: &mut Branch,
     at: &Place,
+    names: NamedLayouts,
     kind: RecordKind,
     layouts: &[RecordMemberLayout],
 ) -> Result<(), LayoutError>
+    requires { FieldNamesKnown names (placed_fields layouts.now) }
     ensures nodes { OnOk result (branch.new ≡ sprouted branch.old at.now.node
         (placed_nodes at.now.heading (option_map (λ id. id.now) at.now.id) kind layouts.now)) }
     ensures refusal { Judged (too_large (members_laid_out (placed_fields layouts.now))) result }
 {
     for layout in layouts {
-        put_member(branch, at, kind, layout.member, layout.offset)?;
+        put_member(branch, at, names, kind, layout.member, layout.offset)?;
     }
     Ok(())
 }
@@ -120,10 +146,12 @@ fn put_members(
 fn put_member(
     branch: &mut Branch,
     at: &Place,
+    names: NamedLayouts,
     kind: RecordKind,
     member: &RecordMember,
     offset: usize,
 ) -> Result<(), LayoutError>
+    requires { NamesKnown names (tree_of member.now.tref) }
     ensures nodes { OnOk result (branch.new ≡ sprouted branch.old at.now.node
         (member_node at.now.heading (option_map (λ id. id.now) at.now.id) kind (member_field member.now) offset)) }
     ensures refusal { Judged (too_large (laid_out (tree_of member.now.tref))) result }
@@ -132,6 +160,7 @@ fn put_member(
     put_typed(
         branch,
         at,
+        names,
         member.name.as_str(),
         docs.as_str(),
         &member.tref,
@@ -169,10 +198,12 @@ fn with_number(alloc: Global, docs: &str, word: &str, number: usize) -> Result<T
 pub fn put_typed(
     branch: &mut Branch,
     at: &Place,
+    names: NamedLayouts,
     name: &str,
     docs: &str,
     tref: &TypeRef,
 ) -> Result<(), LayoutError>
+    requires { NamesKnown names (tree_of tref.now) }
     ensures nodes { OnOk result (branch.new ≡ sprouted branch.old at.now.node
         (typed_node at.now.heading (option_map (λ id. id.now) at.now.id) name.now docs.now (tree_of tref.now))) }
     ensures refusal { Judged (too_large (laid_out (tree_of tref.now))) result }
@@ -186,7 +217,7 @@ pub fn put_typed(
         heading: at.heading.new_level_down(),
         id: Some(id.as_str()),
     };
-    put_type(branch, &inner, tref)
+    put_type(branch, &inner, names, tref)
 }
 
 /// A bullet with an id, a name, documentation and perhaps a type.
@@ -254,7 +285,13 @@ pub fn put_group(
 /// nothing.
 #[cycle(parts)]
 #[tactic(auto, using(crate::proofs::PartSteps::part_rules))]
-pub fn put_variant(branch: &mut Branch, at: &Place, variant: &Variant) -> Result<(), LayoutError>
+pub fn put_variant(
+    branch: &mut Branch,
+    at: &Place,
+    names: NamedLayouts,
+    variant: &Variant,
+) -> Result<(), LayoutError>
+    requires { NamesKnown names (variant_tree variant.now) }
     ensures nodes { OnOk result (branch.new ≡ sprouted branch.old at.now.node
         (type_parts at.now.heading (option_map (λ id. id.now) at.now.id) (variant_tree variant.now))) }
     ensures refusal { Judged (too_large (laid_out (variant_tree variant.now))) result }
@@ -262,14 +299,20 @@ pub fn put_variant(branch: &mut Branch, at: &Place, variant: &Variant) -> Result
     if variant.is_bool() {
         return Ok(());
     }
-    put_layout_if(branch, at, variant)?;
+    put_layout_if(branch, at, names, variant)?;
     put_section(branch, at, "Variant cases")?;
-    put_cases(branch, at, variant.cases.as_slice())
+    put_cases(branch, at, names, variant.cases.as_slice())
 }
 
 /// Adds the layout of a variant, where some case has a payload.
 #[tactic(auto, using(crate::proofs::Judging::judging_rules))]
-fn put_layout_if(branch: &mut Branch, at: &Place, variant: &Variant) -> Result<(), LayoutError>
+fn put_layout_if(
+    branch: &mut Branch,
+    at: &Place,
+    names: NamedLayouts,
+    variant: &Variant,
+) -> Result<(), LayoutError>
+    requires { NamesKnown names (variant_tree variant.now) }
     ensures nodes { OnOk result (branch.new ≡ sprouted branch.old at.now.node
         (variant_layout at.now.heading (out-Variant variant.now).tag_repr (arms_of (map case_arm (out-Variant variant.now).cases)))) }
     ensures refusal { Judged (too_large (payload_numbers (out-Variant variant.now).tag_repr (arms_of (map case_arm (out-Variant variant.now).cases)))) result }
@@ -277,17 +320,18 @@ fn put_layout_if(branch: &mut Branch, at: &Place, variant: &Variant) -> Result<(
     if variant.is_enum() {
         return Ok(());
     }
-    let whole = whole_layout(variant)?;
+    let whole = whole_layout(names, variant)?;
     put_layout(branch, at, whole, variant.tag_repr.mem_align())?;
     Ok(())
 }
 
 /// The layout of a variant.
-fn whole_layout(variant: &Variant) -> Result<SizeAlign, LayoutError>
+fn whole_layout(names: NamedLayouts, variant: &Variant) -> Result<SizeAlign, LayoutError>
+    requires { NamesKnown names (variant_tree variant.now) }
     ensures exact { IfOk result (λ v. (v.size ≡ size_of (plain (variant_tree variant.now))) × (v.align ≡ align_of (plain (variant_tree variant.now)))) }
     ensures refusal { Judged (too_large (size_of (plain (variant_tree variant.now)) ∷ [])) result }
 {
-    match variant.mem_size_align() {
+    match variant_layout(names, variant) {
         Ok(whole) => Ok(whole),
         Err(TooLarge) => Err(LayoutError::TooLarge),
     }
@@ -326,13 +370,19 @@ fn put_number(
 
 #[cycle(parts)]
 #[tactic(auto, using(crate::proofs::PartSteps::part_rules))]
-fn put_cases(branch: &mut Branch, at: &Place, cases: &[Case]) -> Result<(), LayoutError>
+fn put_cases(
+    branch: &mut Branch,
+    at: &Place,
+    names: NamedLayouts,
+    cases: &[Case],
+) -> Result<(), LayoutError>
+    requires { ArmNamesKnown names (arms_of (map case_arm cases.now)) }
     ensures nodes { OnOk result (branch.new ≡ sprouted branch.old at.now.node
         (case_nodes at.now.heading (option_map (λ id. id.now) at.now.id) (arms_of (map case_arm cases.now)))) }
     ensures refusal { Judged (too_large (cases_laid_out (arms_of (map case_arm cases.now)))) result }
 {
     for case in cases {
-        put_case(branch, at, case)?;
+        put_case(branch, at, names, case)?;
     }
     Ok(())
 }
@@ -340,13 +390,26 @@ fn put_cases(branch: &mut Branch, at: &Place, cases: &[Case]) -> Result<(), Layo
 /// Adds a case, and the parts of its payload's type.
 #[cycle(parts)]
 #[tactic(auto, using(crate::proofs::PartSteps::part_rules))]
-fn put_case(branch: &mut Branch, at: &Place, case: &Case) -> Result<(), LayoutError>
+fn put_case(
+    branch: &mut Branch,
+    at: &Place,
+    names: NamedLayouts,
+    case: &Case,
+) -> Result<(), LayoutError>
+    requires { PayloadKnown names (case_arm case.now).payload }
     ensures nodes { OnOk result (branch.new ≡ sprouted branch.old at.now.node
         (case_node at.now.heading (option_map (λ id. id.now) at.now.id) (case_arm case.now))) }
     ensures refusal { Judged (too_large (case_laid_out (case_arm case.now))) result }
 {
     match &case.tref {
-        Some(tref) => put_typed(branch, at, case.name.as_str(), case.docs.as_str(), tref),
+        Some(tref) => put_typed(
+            branch,
+            at,
+            names,
+            case.name.as_str(),
+            case.docs.as_str(),
+            tref,
+        ),
         None => Ok(put_untyped(branch, at, case.name.as_str(), case.docs.as_str())?),
     }
 }

@@ -10,8 +10,6 @@ returns-clause-nodes c =
       c.in_ok-put_typenames.ensures.nodes,
       c.in_ok-types.ensures.number,
       c.in_ok-types.ensures.node,
-      c.as_slice.ensures,
-      c.in_ok-constants.ensures,
       c.new_level_down-inner.ensures,
       c.new_header.ensures,
       c.new_header-2.ensures,

@@ -1,13 +1,15 @@
 use Rattle.std.proofs.Common.{◌≡◌, drop, map}
 use Rattle.witx_ast.specs.Definitions.{definition_tree}
 use Rattle.witx_docs.specs.Forests.{sprouted}
-use Rattle.witx_docs.specs.Parts.{typename_nodes}
+use Rattle.witx_docs.specs.Parts.{constants_in, typename_nodes}
 use Rattle.witx_docs.specs.LaidOut.{too_large, typenames_laid_out}
+use Rattle.witx_docs.proofs.DocumentParts.{LeftKnown}
 use Rattle.witx_docs.proofs.documents.put_typenames.Given as goal
 
 abbrev pub invariant-loop-definition : goal.invariant-loop-definition
 invariant-loop-definition l = record {
-  nodes : sprouted l.branch l.parent (typename_nodes l.heading (map (λ c. c.now) l.constants) (map definition_tree (drop l.definition-index l.definitions)))
-      ≡ sprouted l.initial.branch l.parent (typename_nodes l.heading (map (λ c. c.now) l.constants) (map definition_tree l.definitions));
+  nodes : sprouted l.branch l.parent (typename_nodes l.heading (constants_in (map definition_tree l.definitions)) (map definition_tree (drop l.definition-index l.definitions)))
+      ≡ sprouted l.initial.branch l.parent (typename_nodes l.heading (constants_in (map definition_tree l.definitions)) (map definition_tree l.definitions));
   numbers : too_large (typenames_laid_out (map definition_tree (drop l.definition-index l.definitions))) ≡ too_large (typenames_laid_out (map definition_tree l.definitions));
+  known : LeftKnown l.names l.definitions l.definition-index;
 }

@@ -1,9 +1,9 @@
-use Rattle.std.proofs.Common.{refl}
-use Rattle.witx_docs.proofs.Judging.{below, large-one, refuted, small-one}
+use Rattle.std.proofs.Common.{arith}
+use Rattle.witx_docs.proofs.Judging.{large-one, small-one}
 use Rattle.witx_docs.proofs.documents.typename_layout.Goals as goal
 
 pub returns-in-Ok-clause-refusal : goal.returns-in-Ok-clause-refusal
-returns-in-Ok-clause-refusal c = small-one _ (below _ (refuted c.in-Ok.ensures.too_large.1))
+returns-in-Ok-clause-refusal c = small-one _ (omega (arith, c.in-Ok.ensures.0))
 
 pub returns-in-Err-clause-refusal : goal.returns-in-Err-clause-refusal
-returns-in-Err-clause-refusal c = large-one _ (c.in-Err.ensures.too_large.0 refl)
+returns-in-Err-clause-refusal c = large-one _ c.in-Err.ensures

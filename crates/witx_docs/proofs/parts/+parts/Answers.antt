@@ -5,16 +5,19 @@ use Rattle.witx_ast.specs.Words.{is_bool_arms}
 use Rattle.witx_ast.specs.declared.types.Variant.{out-Variant}
 use Rattle.witx_ast.proofs.Trees.{tree-RecordDatatype}
 use Rattle.witx_docs.proofs.Grown.{sprouted-followed, sprouted-three, then-sprouted}
+use Rattle.witx_docs.proofs.NameSteps.{case-in, placed-in}
 use Rattle.witx_docs.proofs.PartSteps.{all-cases, all-members, case-few, member-few, variant-parts}
 use Rattle.witx_docs.proofs.parts.+parts.Goals as goal
 
 pub put_cases-put_case-requires : goal.put_cases-put_case-requires
 put_cases-put_case-requires t c =
-    let few = case-few c.args.cases.now c.loop-case.case-index c.case-item.result c.loop-case-test.true c.case-item.is in omega arith
+    let few = case-few c.args.cases.now c.loop-case.case-index c.case-item.result c.loop-case-test.true c.case-item.is in
+    (omega arith, case-in c.args.names c.args.cases.now c.loop-case.case-index c.case-item.result c.loop-case-test.true c.case-item.is c.loop-case.invariant.known)
 
 pub put_members-put_member-requires : goal.put_members-put_member-requires
 put_members-put_member-requires t c =
-    let few = member-few c.args.layouts.now c.loop-layout.layout-index c.layout-item.result c.loop-layout-test.true c.layout-item.is in omega arith
+    let few = member-few c.args.layouts.now c.loop-layout.layout-index c.layout-item.result c.loop-layout-test.true c.layout-item.is in
+    (omega arith, placed-in c.args.names c.args.layouts.now c.loop-layout.layout-index c.layout-item.result c.loop-layout-test.true c.layout-item.is c.loop-layout.invariant.known)
 
 pub put_cases-returns-clause-nodes : goal.put_cases-returns-clause-nodes
 put_cases-returns-clause-nodes t c =

@@ -5,6 +5,8 @@ use Rattle.witx_layout.specs.Nodes.{type_nodes, field_nodes, arm_nodes}
 use Rattle.witx_docs.specs.Forests.{sprouted}
 use Rattle.witx_docs.specs.Parts.{placed_fields, placed_nodes, case_nodes}
 use Rattle.witx_docs.specs.LaidOut.{too_large, members_laid_out, cases_laid_out}
+use Rattle.witx_docs.specs.NamesKnown.{FieldNamesKnown}
+use Rattle.witx_docs.proofs.NameSteps.{LeftCasesKnown}
 use Rattle.witx_docs.proofs.PartSteps.{payload_nodes}
 use Rattle.witx_docs.proofs.parts.+parts.Given as goal
 
@@ -13,6 +15,7 @@ invariant-put_members-loop-layout l = record {
   nodes : sprouted l.branch l.at.node (placed_nodes l.at.heading (option_map (λ id. id.now) l.at.id) l.kind (drop l.layout-index l.layouts))
       ≡ sprouted l.initial.branch l.at.node (placed_nodes l.at.heading (option_map (λ id. id.now) l.at.id) l.kind l.layouts);
   numbers : too_large (members_laid_out (placed_fields (drop l.layout-index l.layouts))) ≡ too_large (members_laid_out (placed_fields l.layouts));
+  known : FieldNamesKnown l.names (placed_fields (drop l.layout-index l.layouts));
 }
 
 abbrev pub invariant-put_cases-loop-case : goal.invariant-put_cases-loop-case
@@ -20,6 +23,7 @@ invariant-put_cases-loop-case l = record {
   nodes : sprouted l.branch l.at.node (case_nodes l.at.heading (option_map (λ id. id.now) l.at.id) (arms_of (map case_arm (drop l.case-index l.cases))))
       ≡ sprouted l.initial.branch l.at.node (case_nodes l.at.heading (option_map (λ id. id.now) l.at.id) (arms_of (map case_arm l.cases)));
   numbers : too_large (cases_laid_out (arms_of (map case_arm (drop l.case-index l.cases)))) ≡ too_large (cases_laid_out (arms_of (map case_arm l.cases)));
+  known : LeftCasesKnown l.names l.cases l.case-index;
 }
 
 abbrev pub decreases-put_type : goal.decreases-put_type

@@ -1,0 +1,7 @@
+use Rattle.std.proofs.Common.{map}
+use Rattle.witx_ast.specs.Definitions.{definition_tree}
+use Rattle.witx_docs.proofs.DocumentParts.{looked-through}
+use Rattle.witx_docs.proofs.page.document_md.Goals as goal
+
+pub contents-requires : goal.contents-requires
+contents-requires c = looked-through (map definition_tree c.as_slice.result.now)

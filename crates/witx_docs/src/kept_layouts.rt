@@ -1,0 +1,59 @@
+//! The layouts of a closed document's typenames.
+ghost use Rattle.std.specs.Prelude.{◌≡◌, IfErr, IfOk, OnOk, map};
+ghost use Rattle.std.specs.List.{IsDistinct};
+ghost use Rattle.std.specs.Map.{keys_of};
+ghost use Rattle.witx_base.specs.Texts.{same_text};
+ghost use Rattle.witx_ast.specs.Entries.{by_name};
+ghost use Rattle.witx_ast.specs.Definitions.{definition_tree, introduced};
+ghost use Rattle.witx_ast.specs.Closed.{IsClosed};
+ghost use Rattle.witx_layout.specs.Known.{Knows, KnowsDefinition, IsEntered};
+ghost use Rattle.witx_docs.specs.LaidOut.{refusal_fits, too_large, document_laid_out, typename_laid_out};
+ghost use Rattle.witx_docs.specs.NamesKnown.{InDefinitions};
+
+use crate::known_layout::type_layout;
+use crate::named_layouts::NamedLayouts;
+use std::alloc::Global;
+use witx_ast::{Definition, Document, names_are_distinct};
+use witx_base::{Duplicate, NameMap};
+use witx_layout::{LayoutError, SizeAlign};
+
+/// The layouts of the typenames of a closed document, by their names: one pass, in which a name is looked
+/// up and not looked through.
+pub fn kept_layouts(alloc: Global, document: &Document) -> Result<NameMap<SizeAlign>, LayoutError>
+    requires { IsClosed (map definition_tree document.now.definitions) }
+    ensures known { IfOk result (λ table. InDefinitions (Knows table) (map definition_tree document.now.definitions)) }
+    ensures refusal { IfErr result (refusal_fits (too_large (document_laid_out (map definition_tree document.now.definitions)))) }
+{
+    names_are_distinct(document);
+    layouts_of(alloc, document.definitions().as_slice())
+}
+
+/// The same of definitions, whose names are distinct.
+#[tactic(auto, using(crate::proofs::Knowing::knowing_rules))]
+fn layouts_of(alloc: Global, definitions: &[Definition]) -> Result<NameMap<SizeAlign>, LayoutError>
+    requires closed { IsClosed (map definition_tree definitions.now) }
+    requires distinct { IsDistinct same_text (keys_of (by_name introduced (map definition_tree definitions.now))) }
+    ensures known { IfOk result (λ table. InDefinitions (Knows table) (map definition_tree definitions.now)) }
+    ensures refusal { IfErr result (refusal_fits (too_large (document_laid_out (map definition_tree definitions.now)))) }
+{
+    let mut table = NameMap::new(alloc);
+    for definition in definitions {
+        keep_layout(&mut table, definition)?;
+    }
+    Ok(table)
+}
+
+/// Keeps the layout of a typename under its name; other definitions have none.
+#[tactic(auto, using(crate::proofs::Knowing::keeping_rules))]
+fn keep_layout(table: &mut NameMap<SizeAlign>, definition: &Definition) -> Result<(), LayoutError>
+    requires { KnowsDefinition table.old (definition_tree definition.now) }
+    ensures kept { OnOk result (IsEntered table.old (definition_tree definition.now) table.new) }
+    ensures refusal { IfErr result (refusal_fits (too_large (typename_laid_out (definition_tree definition.now)))) }
+{
+    let Definition::Typename(named) = definition else {
+        return Ok(());
+    };
+    let layout = type_layout(NamedLayouts::Kept(table), &named.tref)?;
+    table.insert(named.name.copy()?, layout)?;
+    Ok(())
+}
