@@ -19,11 +19,17 @@ pub type SExprs = Items<SExpr>;
 /// are written as they are, nothing is escaped.
 #[derive(PartialEq, Eq, Debug, Drop)]
 pub enum SExpr {
+    /// Expressions in parentheses, with one blank between them.
     Vec(SExprs),
+    /// A word, written as it is.
     Word(Text),
+    /// A name, written behind `$`.
     Ident(Text),
+    /// A text, written in double quotes.
     Quote(Text),
+    /// An annotation, written behind `@`.
     Annot(Text),
+    /// Documentation, written between `(;; ` and ` ;) `, and the expression that it stands before.
     Docs(Text, Box<SExpr>),
 }
 

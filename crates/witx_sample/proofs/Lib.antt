@@ -1,4 +1,5 @@
 pub mod Numbered
+pub mod Sizes
 pub mod SampleBundles
 pub mod Totals
 pub mod Examples

@@ -1,9 +1,13 @@
 -- The bundle of the sample of a number n: the header of its one file, an enumeration, a record and a variant for each number
 -- below n in turn, and a module with a function for each. A line that holds a number stands once for each, in rising order.
-use Rattle.std.specs.Prelude.{ℕ, List, ◌++◌, codes}
+use Rattle.std.specs.Prelude.{ℕ, List, ◌++◌, Bool, ◌&&◌, nat_le, codes}
 use Rattle.std.specs.Fmt.{decimal}
 use Rattle.std.specs.List.{flat_map, range_with_len}
 use Rattle.witx_base.specs.Paths.{Path, path_of}
+
+-- how many functions a sample can have
+abbrev pub is_size : ℕ → Bool
+is_size n = nat_le 1 n && nat_le n 4096
 
 -- the path of the one file
 abbrev pub sample_path : Path

@@ -4,5 +4,5 @@
 mod sample;
 mod summaries;
 
-pub use sample::{LARGEST_SAMPLE, sample_bundle, sample_files};
+pub use sample::{LARGEST_SAMPLE, largest_sample, sample_bundle, sample_files};
 pub use summaries::summary;

@@ -1,6 +1,6 @@
-ghost use Rattle.std.specs.Prelude.{◌≡◌, ◌≤◌, ◌++◌, IfOk, Ok, OnOk, string_bytes};
+ghost use Rattle.std.specs.Prelude.{◌≡◌, ◌↔◌, ◌≤◌, ◌++◌, ℕ, true, IfOk, Ok, OnOk, string_bytes};
 ghost use Rattle.witx_bundle.specs.Bundles.{IsRead};
-ghost use Rattle.witx_sample.specs.Samples.{each, func_head, func_line, func_params, func_result, list_case, module_text, record_case, record_line, sample_text, type_lines, types_text, variant_head, variant_line};
+ghost use Rattle.witx_sample.specs.Samples.{each, func_head, func_line, func_params, func_result, is_size, list_case, module_text, record_case, record_line, sample_text, type_lines, types_text, variant_head, variant_line};
 
 use std::alloc::{AllocError, Global};
 use std::fmt::Write;
@@ -10,6 +10,13 @@ use witx_files::MockFs;
 
 /// How many functions the largest sample has.
 pub const LARGEST_SAMPLE: usize = 4096;
+
+/// A sample can have 1 to 4,096 functions, and no other number.
+#[tactic(auto, using(crate::proofs::Sizes::size_rules))]
+pub fn largest_sample()
+    ensures limit { LARGEST_SAMPLE ≡ 4096 }
+    ensures sizes { (n : ℕ) → is_size n ≡ true ↔ ((1 ≤ n) × (n ≤ 4096)) }
+{}
 
 /// The bundle of the sample of `n` functions, in one file, `/sample.witx`: an enumeration, `n` records
 /// and variants, and a module of `n` functions over them. A sample has 1 to [`LARGEST_SAMPLE`].
