@@ -1,0 +1,55 @@
+-- The grammar of lists of imports, production by production: which nonterminal it writes, and by what.
+-- An optional part is two productions, and a repetition is a nonterminal that ends with its closing parenthesis.
+use Rattle.std.specs.Prelude.{List, [], ◌∷◌, map}
+use Rattle.witx_grammar.specs.Grammar.{Rewrite, Wants}
+use Rattle.witx_grammar.specs.declared.table.Symbol.TheVariants.{Terminal as T, Nonterminal as N}
+use Rattle.witx_imports.specs.declared.token_kind.TokenKind.{TokenKind}
+use Rattle.witx_imports.specs.declared.token_kind.TokenKind.TheVariants.{Left, Right, Id, Quoted, ImportWord, FuncWord, ParamWord, ResultWord, I32Word, I64Word, F32Word, F64Word, End}
+use Rattle.witx_imports.specs.declared.nonterminal.Nonterminal.{Nonterminal}
+use Rattle.witx_imports.specs.declared.nonterminal.Nonterminal.TheVariants as n
+use Rattle.witx_imports.specs.declared.production.ProductionName.{ProductionName}
+use Rattle.witx_imports.specs.declared.production.ProductionName.TheVariants as p
+
+-- a nonterminal, and what is wanted in its place
+pub record Written : Type 0 where
+  pub nonterminal : Nonterminal
+  pub symbols : Wants TokenKind Nonterminal
+
+abbrev write : Nonterminal → Wants TokenKind Nonterminal → Written
+write f w = record { nonterminal = f; symbols = w }
+
+abbrev pub written : ProductionName → Written
+-- a text: imports up to its end
+written p.NoImports = write n.Text (T End ∷ [])
+written p.MoreImports = write n.Text (N n.Import ∷ N n.Text ∷ [])
+-- ( import "m" "f" ( func .. ) )
+written p.Import = write n.Import (T Left ∷ T ImportWord ∷ T Quoted ∷ T Quoted ∷ T Left ∷ T FuncWord ∷ N n.Func ∷ T Right ∷ [])
+-- an identifier or none
+written p.NamedFunc = write n.Func (T Id ∷ N n.Params ∷ [])
+written p.BareFunc = write n.Func (N n.Params ∷ [])
+-- groups of parameters, and then groups of results, up to the ) of func
+written p.NoParams = write n.Params (T Right ∷ [])
+written p.MoreParams = write n.Params (T Left ∷ T ParamWord ∷ N n.Param ∷ N n.Params ∷ [])
+written p.FirstResults = write n.Params (T Left ∷ T ResultWord ∷ N n.Types ∷ N n.Results ∷ [])
+-- one type behind an identifier, or types
+written p.NamedParam = write n.Param (T Id ∷ N n.Type ∷ T Right ∷ [])
+written p.BareParams = write n.Param (N n.Types ∷ [])
+written p.NoResults = write n.Results (T Right ∷ [])
+written p.MoreResults = write n.Results (T Left ∷ T ResultWord ∷ N n.Types ∷ N n.Results ∷ [])
+written p.NoTypes = write n.Types (T Right ∷ [])
+written p.MoreTypes = write n.Types (N n.Type ∷ N n.Types ∷ [])
+written p.I32 = write n.Type (T I32Word ∷ [])
+written p.I64 = write n.Type (T I64Word ∷ [])
+written p.F32 = write n.Type (T F32Word ∷ [])
+written p.F64 = write n.Type (T F64Word ∷ [])
+
+abbrev pub production : ProductionName → Rewrite TokenKind Nonterminal ProductionName
+production x = record { nonterminal = (written x).nonterminal; name = x; symbols = (written x).symbols }
+
+abbrev pub the_names : List ProductionName
+the_names =
+    p.NoImports ∷ p.MoreImports ∷ p.Import ∷ p.NamedFunc ∷ p.BareFunc ∷ p.NoParams ∷ p.MoreParams ∷ p.FirstResults ∷ p.NamedParam ∷ p.BareParams
+    ∷ p.NoResults ∷ p.MoreResults ∷ p.NoTypes ∷ p.MoreTypes ∷ p.I32 ∷ p.I64 ∷ p.F32 ∷ p.F64 ∷ []
+
+abbrev pub the_grammar : List (Rewrite TokenKind Nonterminal ProductionName)
+the_grammar = map production the_names

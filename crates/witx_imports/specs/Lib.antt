@@ -1,0 +1,9 @@
+pub mod Actions
+pub mod Exact
+pub mod Faults
+pub mod Grammar
+pub mod Kinds
+pub mod Reads
+pub mod Stack
+pub mod TokenKinds
+pub mod Values

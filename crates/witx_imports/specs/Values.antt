@@ -1,0 +1,34 @@
+-- What tokens and nonterminals stand for while a list is read.
+use Rattle.std.specs.Prelude.{ℕ, List, [], ◌∷◌, slice_index_or}
+use Rattle.witx_lex.specs.Tokens.{Token, left, right, id, word, annot, int, quoted, Lexed}
+use Rattle.witx_machine.specs.declared.surface.WasmType.{WasmType}
+use Rattle.witx_imports.specs.declared.import.WasmImport.{WasmImport}
+
+pub data Val : Type 0 where
+  a_name : List ℕ → Val
+  a_type : WasmType → Val
+  some_types : List WasmType → Val
+  a_signature : List WasmType → List WasmType → Val
+  an_import : WasmImport → Val
+  some_imports : List WasmImport → Val
+
+abbrev pub no_lexed : Lexed
+no_lexed = record { token = right; start = 0; end = 0; comments = [] }
+
+-- the token at a place
+abbrev pub token_at : List Lexed → ℕ → Lexed
+token_at ts at = slice_index_or ts at no_lexed
+
+-- A string stands for its text; other tokens, identifiers among them, for nothing.
+abbrev pub token_values : Token → List Val
+token_values left = []
+token_values right = []
+token_values (id t) = []
+token_values (quoted t) = a_name t ∷ []
+token_values (int t) = []
+token_values (word t) = []
+token_values (annot t) = []
+
+-- what a token of the text stands for
+abbrev pub leaf : Lexed → List Val
+leaf l = token_values l.token

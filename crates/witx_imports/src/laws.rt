@@ -1,0 +1,66 @@
+//! What holds of every text, as functions that do nothing: each contract is a theorem.
+
+ghost use Rattle.std.specs.Prelude.{◌≡◌, ◌⊎◌, ◌<◌, ℕ, List};
+ghost use Rattle.witx_imports.specs.declared.import.WasmImport.{WasmImport};
+ghost use Rattle.witx_imports.specs.declared.fault.ImportFault.{ImportFault};
+ghost use Rattle.std.specs.List.{AllPairs};
+ghost use Rattle.witx_grammar.specs.Grammar.{In};
+ghost use Rattle.witx_imports.specs.Exact.{IsFaultAmong, import_number};
+ghost use Rattle.witx_imports.specs.Faults.{import_faults};
+ghost use Rattle.witx_imports.specs.Reads.{IsFaultOf, Place, Reads};
+
+use crate::grammar::the_table;
+use crate::nonterminal::Nonterminal;
+use crate::production::ProductionName;
+use crate::token_kind::TokenKind;
+use witx_grammar::{
+    at_most_one_derivation, at_most_one_fault, derivation_or_fault, no_fault_where_derived,
+};
+use witx_lex::{
+    a_fault_is_unique, a_text_has_pieces_or_a_fault, pieces_exclude_a_fault, tokens_are_unique,
+};
+
+/// A text is at most one list of imports.
+pub fn at_most_one_import_list()
+    ensures { (text : List ℕ) (d e : List WasmImport) → Reads text d → Reads text e → d ≡ e }
+{
+    tokens_are_unique();
+    at_most_one_derivation::<TokenKind, Nonterminal, ProductionName>();
+    let _table = the_table();
+}
+
+/// A text that is a list of imports has no fault.
+pub fn no_fault_where_imports_are_read()
+    ensures { (text : List ℕ) (d : List WasmImport) (place : Place) → Reads text d → IsFaultOf text place → ⊥ }
+{
+    tokens_are_unique();
+    pieces_exclude_a_fault();
+    no_fault_where_derived::<TokenKind, Nonterminal, ProductionName>();
+}
+
+/// A text is a list of imports or has a fault.
+pub fn an_import_list_or_a_fault()
+    ensures { (text : List ℕ) → ((d : List WasmImport) × Reads text d) ⊎ ((place : Place) × IsFaultOf text place) }
+{
+    a_text_has_pieces_or_a_fault();
+    derivation_or_fault::<TokenKind, Nonterminal, ProductionName>();
+    let _table = the_table();
+}
+
+/// A text has at most one fault: one line and one column.
+pub fn at_most_one_import_list_fault()
+    ensures { (text : List ℕ) (place other : Place) → IsFaultOf text place → IsFaultOf text other → place ≡ other }
+{
+    a_fault_is_unique();
+    pieces_exclude_a_fault();
+    tokens_are_unique();
+    at_most_one_fault::<TokenKind, Nonterminal, ProductionName>();
+}
+
+/// The faults of imports are exactly those that one of the imports has, in the order of the imports,
+/// one at most for each: nothing that is offered has its names, or the first that does is another one.
+pub fn import_faults_are_exact()
+    ensures only { (offered imports : List WasmImport) (f : ImportFault) → In f (import_faults offered imports) → IsFaultAmong offered imports f }
+    ensures all { (offered imports : List WasmImport) (f : ImportFault) → IsFaultAmong offered imports f → In f (import_faults offered imports) }
+    ensures ordered { (offered imports : List WasmImport) → AllPairs (λ f g. import_number f < import_number g) (import_faults offered imports) }
+{}

@@ -1,0 +1,71 @@
+//! From a text to its imports.
+
+ghost use Rattle.std.specs.Prelude.{◌≡◌, IfOk, IfErr};
+ghost use Rattle.witx_lex.specs.Meaning.{HasTokens};
+ghost use Rattle.witx_lex.specs.Views.{tokens_view};
+ghost use Rattle.witx_imports.specs.Reads.{BadPlace, IsFaultOf, Reads, start_of, told_at};
+
+use crate::builder::build;
+use crate::error::ImportsError;
+use crate::grammar::the_table;
+use crate::import::WasmImports;
+use crate::nonterminal::Nonterminal;
+use crate::words::token_kinds;
+use std::alloc::Global;
+use witx_grammar::{Parsed, parse};
+use witx_lex::{LexError, Lexed, lex, line_column};
+
+/// The fault at an offset.
+fn fault_at(text: &str, offset: usize) -> ImportsError
+    ensures { BadPlace result (λ place. place ≡ told_at text.now offset) }
+{
+    let (line, column) = line_column(text, offset);
+    ImportsError::Bad { line, column }
+}
+
+/// Where the token with the number starts; behind the last token it is the end of the text.
+fn start_of_token(text: &str, tokens: &[Lexed], at: usize) -> usize
+    ensures { result ≡ start_of text.now (tokens_view tokens.now) at }
+{
+    match tokens.get(at) {
+        Some(lexed) => lexed.span.start,
+        None => text.len(),
+    }
+}
+
+/// The imports that the tokens of a text spell, or their fault.
+fn read_tokens(alloc: Global, text: &str, tokens: &[Lexed]) -> Result<WasmImports, ImportsError>
+    requires { HasTokens text.now (tokens_view tokens.now) }
+    ensures imports { IfOk result (λ imports. Reads text.now imports) }
+    ensures fault { IfErr result (λ e. BadPlace e (λ place. IsFaultOf text.now place)) }
+{
+    let kinds = token_kinds(alloc, tokens)?;
+    let table = the_table();
+    match parse(alloc, &table, Nonterminal::Text, kinds.as_slice())? {
+        Parsed::Derivation(steps) => {
+            let imports = build(alloc, steps.as_slice(), tokens)?;
+            Ok(imports)
+        }
+        Parsed::Fault(fault) => Err(fault_at(text, start_of_token(text, tokens, fault.at))),
+    }
+}
+
+/// The imports that a list spells, or the place at which the text is no such list.
+///
+/// The list is any number of `(import "m" "f" (func ..))`. Behind `func` stand an identifier or none,
+/// groups of parameters, `(param W..)` or `(param $n W)`, and groups of results, `(result W..)`; W is
+/// `i32`, `i64`, `f32` or `f64`, and groups are joined in order. Other forms, among them type uses
+/// `(type ..)` and imports of memories, tables and globals, are refused.
+///
+/// `Bad` is the place of the text's lexical fault, else of the first token that cannot stand behind
+/// those before it, or the end of the text where a form is still open.
+pub fn read_imports(alloc: Global, text: &str) -> Result<WasmImports, ImportsError>
+    ensures imports { IfOk result (λ imports. Reads text.now imports) }
+    ensures fault { IfErr result (λ e. BadPlace e (λ place. IsFaultOf text.now place)) }
+{
+    match lex(alloc, text) {
+        Ok(tokens) => read_tokens(alloc, text, tokens.as_slice()),
+        Err(LexError::Bad(fault)) => Err(fault_at(text, fault.at)),
+        Err(LexError::OutOfMemory) => Err(ImportsError::OutOfMemory),
+    }
+}
