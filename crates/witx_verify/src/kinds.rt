@@ -1,0 +1,184 @@
+ghost use Rattle.std.specs.Prelude.{◌≡◌};
+ghost use Rattle.witx_ast.specs.Plain as plain_tree;
+ghost use Rattle.witx_ast.specs.Plain.{plain};
+ghost use Rattle.witx_ast.specs.Views.{tree_of, datatype_tree, record_tree};
+ghost use Rattle.witx_ast.specs.Alike.{same_plain};
+ghost use Rattle.witx_machine.specs.Words.{same_type, builtin_word_type, word_type};
+ghost use Rattle.witx_verify.specs.Symbolic.{has_kind, converts};
+ghost use Rattle.witx_verify.specs.SymbolViews.{symbol_of};
+ghost use Rattle.witx_verify.specs.WordViews.{scalar_of};
+ghost use Rattle.witx_verify.specs.Typing.{is_list_type, is_pointer_type, is_const_pointer_type, is_handle_type, is_flags_type, is_enum_type};
+
+use crate::symbol::Symbol;
+use crate::types::alike;
+use witx_ast::{BuiltinType, Datatype, NamedType, RecordDatatype, RecordKind, TypeRef};
+use witx_machine::WasmType;
+
+/// A conversion between a value and its one word; of a handle, of flags and of a variant without payloads
+/// under the named type.
+pub enum Conversion<'a> {
+    Number(BuiltinType),
+    Pointer,
+    ConstPointer,
+    Handle(&'a NamedType),
+    /// Flags that a word of this type holds.
+    Flags(WasmType, &'a NamedType),
+    Enum(&'a NamedType),
+}
+
+impl Conversion<'_> {
+    /// The type of the word.
+    #[tactic(auto, using(crate::proofs::KindLemmas::kind_rules))]
+    pub fn word_type(&self) -> WasmType
+        ensures { result ≡ word_type (scalar_of self.now) }
+    {
+        match self {
+            Conversion::Number(builtin) => builtin_word(*builtin),
+            Conversion::Flags(word, _) => *word,
+            Conversion::Pointer
+            | Conversion::ConstPointer
+            | Conversion::Handle(_)
+            | Conversion::Enum(_) => WasmType::I32,
+        }
+    }
+
+    /// Whether a type has the conversion: it is the builtin, a pointer, or alike to the named type, which
+    /// is of the kind.
+    #[tactic(auto, using(crate::proofs::KindLemmas::kind_rules))]
+    pub fn fits(&self, ty: &TypeRef) -> bool
+        ensures { result ≡ has_kind (scalar_of self.now) (plain (tree_of ty.now)) }
+    {
+        match self {
+            Conversion::Number(builtin) => is_builtin(*builtin, ty.type_()),
+            Conversion::Pointer => is_pointer(ty.type_()),
+            Conversion::ConstPointer => is_const_pointer(ty.type_()),
+            Conversion::Handle(named) => is_handle(named.tref.type_()) && alike(ty, &named.tref),
+            Conversion::Flags(word, named) => {
+                is_flags(*word, named.tref.type_()) && alike(ty, &named.tref)
+            }
+            Conversion::Enum(named) => is_enum(named.tref.type_()) && alike(ty, &named.tref),
+        }
+    }
+
+    /// Whether a symbol is of a type that has the conversion.
+    #[tactic(auto, using(crate::proofs::KindLemmas::kind_rules))]
+    pub fn converts(&self, symbol: &Symbol) -> bool
+        ensures { result ≡ converts (scalar_of self.now) (symbol_of symbol.now) }
+    {
+        match symbol {
+            Symbol::Atom { source: _, ty } => self.fits(ty),
+            Symbol::Tuple(_)
+            | Symbol::Made {
+                case: _,
+                payload: _,
+            }
+            | Symbol::BareMade { case: _ } => false,
+        }
+    }
+}
+
+fn builtin_word(builtin: BuiltinType) -> WasmType
+    ensures { result ≡ builtin_word_type builtin }
+{
+    match builtin {
+        BuiltinType::U64 | BuiltinType::S64 => WasmType::I64,
+        BuiltinType::F32 => WasmType::F32,
+        BuiltinType::F64 => WasmType::F64,
+        BuiltinType::Char
+        | BuiltinType::U8 { .. }
+        | BuiltinType::U16
+        | BuiltinType::U32 { .. }
+        | BuiltinType::S8
+        | BuiltinType::S16
+        | BuiltinType::S32 => WasmType::I32,
+    }
+}
+
+/// Whether two words are of one type.
+pub(crate) fn same_type(a: WasmType, b: WasmType) -> bool
+    ensures { result ≡ same_type a b }
+{
+    match (a, b) {
+        (WasmType::I32, WasmType::I32)
+        | (WasmType::I64, WasmType::I64)
+        | (WasmType::F32, WasmType::F32)
+        | (WasmType::F64, WasmType::F64) => true,
+        _ => false,
+    }
+}
+
+#[tactic(auto, using(crate::proofs::KindLemmas::kind_rules))]
+fn is_builtin(builtin: BuiltinType, datatype: &Datatype) -> bool
+    ensures { result ≡ same_plain (plain (datatype_tree datatype.now)) (plain_tree.builtin builtin) }
+{
+    match datatype {
+        Datatype::Builtin(own) => *own == builtin,
+        _ => false,
+    }
+}
+
+#[tactic(auto, using(crate::proofs::KindLemmas::kind_rules))]
+fn is_pointer(datatype: &Datatype) -> bool
+    ensures { result ≡ is_pointer_type (plain (datatype_tree datatype.now)) }
+{
+    matches!(datatype, Datatype::Pointer(_))
+}
+
+#[tactic(auto, using(crate::proofs::KindLemmas::kind_rules))]
+fn is_const_pointer(datatype: &Datatype) -> bool
+    ensures { result ≡ is_const_pointer_type (plain (datatype_tree datatype.now)) }
+{
+    matches!(datatype, Datatype::ConstPointer(_))
+}
+
+#[tactic(auto, using(crate::proofs::KindLemmas::kind_rules))]
+fn is_handle(datatype: &Datatype) -> bool
+    ensures { result ≡ is_handle_type (plain (datatype_tree datatype.now)) }
+{
+    matches!(datatype, Datatype::Handle(_))
+}
+
+/// Whether a type is a list, names looked through.
+#[tactic(auto, using(crate::proofs::KindLemmas::kind_rules))]
+pub(crate) fn is_list(ty: &TypeRef) -> bool
+    ensures { result ≡ is_list_type (plain (tree_of ty.now)) }
+{
+    is_list_datatype(ty.type_())
+}
+
+#[tactic(auto, using(crate::proofs::KindLemmas::kind_rules))]
+fn is_list_datatype(datatype: &Datatype) -> bool
+    ensures { result ≡ is_list_type (plain (datatype_tree datatype.now)) }
+{
+    matches!(datatype, Datatype::List(_))
+}
+
+#[tactic(auto, using(crate::proofs::KindLemmas::kind_rules))]
+fn is_flags(word: WasmType, datatype: &Datatype) -> bool
+    ensures { result ≡ is_flags_type word (plain (datatype_tree datatype.now)) }
+{
+    match datatype {
+        Datatype::Record(record) => is_flags_record(word, record),
+        _ => false,
+    }
+}
+
+#[tactic(auto, using(crate::proofs::KindLemmas::kind_rules))]
+fn is_flags_record(word: WasmType, record: &RecordDatatype) -> bool
+    ensures { result ≡ is_flags_type word (plain (record_tree record.now)) }
+{
+    match record.kind {
+        RecordKind::Bitflags(repr) => same_type(word, WasmType::from(repr)),
+        RecordKind::Tuple | RecordKind::Other => false,
+    }
+}
+
+#[tactic(auto, using(crate::proofs::KindLemmas::kind_rules))]
+fn is_enum(datatype: &Datatype) -> bool
+    ensures { result ≡ is_enum_type (plain (datatype_tree datatype.now)) }
+{
+    match datatype {
+        Datatype::Variant(variant) => variant.is_enum(),
+        _ => false,
+    }
+}
