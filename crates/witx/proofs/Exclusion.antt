@@ -1,5 +1,5 @@
 -- Files that mean a document aren't refused, nor are other files that tell the same texts: there is one verdict.
-use Rattle.std.specs.Prelude.{◌≡◌, ℕ, ◌^◌, ◌<◌, ◌≤◌, List, [], ◌∷◌, ◌⊎◌, length, All, Any, Option, Some, None, Ok, Err}
+use Rattle.std.specs.Prelude.{◌≡◌, ℕ, ◌^◌, ◌<◌, ◌≤◌, List, [], ◌∷◌, ◌⊎◌, length, All, Any, Option, Some, None, Ok, Err, true}
 use Rattle.std.proofs.Common.{refl, sym, ap, ◌∙◌, subst, inl, inr, arith, get_or}
 use mathlib.Core.Path.{fun_ext}
 use Rattle.witx_base.specs.Paths.{Path}
@@ -39,9 +39,18 @@ use Rattle.witx.specs.Adapting.{AdaptRefuses, AdaptRefusesBundle, IsParsed, IsTe
 use Rattle.witx_adapt.specs.Listings.{listing_text}
 use Rattle.witx_sample.specs.Samples.{sample_path}
 use Rattle.witx_sample.specs.Summaries.{summary_text}
-use Rattle.witx.specs.Words.{paths_of}
-use Rattle.witx.specs.Reports.{AdaptingFails, CommandRefuses, IsAdaptReport, IsTextReport, ParsingFails, SizesFail}
-use Rattle.witx.specs.Causes.{IsAdaptedText, IsCause, IsOutput, IsValidFor}
+use Rattle.witx_compat.specs.Polyfills.{MappedModule, polyfill_answer}
+use Rattle.witx_docs.specs.LaidOut.{document_refusal}
+use Rattle.witx.specs.MeantPages.{IsPage, IsPageReport}
+use Rattle.witx.specs.Mappings.{IsAbsentReport, IsPolyfillText, MeansBoth, mapping_of, module_names, new_file, old_file}
+use Rattle.witx.specs.Words.{bundle_bytes, paths_of, reads_source}
+use Rattle.witx.specs.Reports.{AdaptingFails, BothFail, CommandRefuses, IsAdaptReport, MappingFails, IsTextReport, PageFails, ParsingFails, SizesFail}
+use Rattle.witx.specs.declared.refusal.Refusal as refusals
+use Rattle.witx.specs.declared.refusal.Stop.{Stop}
+use Rattle.witx.specs.declared.refusal.Stop.TheVariants as stop
+use Rattle.witx.specs.declared.refusal.Refusal.TheVariants as refusal
+use Rattle.witx.specs.Texts.{IsRefused, status_of}
+use Rattle.witx.specs.Causes.{Cause, IsAdaptedText, IsCause, IsMeantPage, IsOutput, IsPolyfill, IsValidFor, Reads, RunInput, StopCause}
 
 -- a refusal where no call failed is the verdict
 refusal-ends : (w : World Fault) (at : Place) (before now : ℕ) (e : WitxError) → (Rose before now → ⊥) → IsTextRefusal e → walk.Refuses w at before now e
@@ -151,19 +160,59 @@ module _ (reading : Reading) (is : IsReading reading) (fs gs : Files) (same : (q
   layouts-excluded handed ds p a report (inl h) = parsing-excluded reading is fs gs same handed ds p report h
   layouts-excluded handed ds p a report (inr h) = sizes-excluded reading is fs gs same handed ds p a report h
 
+  unrefused : (ds : List DefinitionTree) → document_refusal ds ≡ None → (report : List ℕ) → IsPageReport ds report → ⊥
+  unfolding IsPageReport
+  unrefused ds r report (e, k, t) = cc
+
+  pages-excluded : (handed : List Path) (ds : List DefinitionTree) → Parses gs handed (Ok ds) → document_refusal ds ≡ None
+      → (report : List ℕ) → ParsingFails fs handed report ⊎ PageFails fs handed report → ⊥
+  pages-excluded handed ds p r report (inl h) = parsing-excluded reading is fs gs same handed ds p report h
+  pages-excluded handed ds p r report (inr (es, h, k)) =
+      unrefused ds r report (subst (λ xs. IsPageReport xs report) (parses-same reading is fs gs same handed ds es p h) k)
+
+  page-excluded : (handed : List Path) (text notes report : List ℕ) → IsMeantPage gs handed text notes → ParsingFails fs handed report ⊎ PageFails fs handed report → ⊥
+  unfolding IsPage
+  page-excluded handed text notes report (ds, p, (r, t, n)) h = pages-excluded handed ds p r report h
+
+  absent-excluded : (names : List (List ℕ)) (new old : List DefinitionTree) (modules : List MappedModule) (report : List ℕ)
+      → polyfill_answer new old (mapping_of names) ≡ Ok modules → IsAbsentReport new old names report → ⊥
+  unfolding IsAbsentReport
+  absent-excluded names new old modules report e (absent, h, k) = cc
+
+  mapping-excluded : (arguments : List (List ℕ)) (new old : List DefinitionTree) → MeansBoth gs arguments new old → (modules : List MappedModule)
+      → polyfill_answer new old (mapping_of (module_names arguments)) ≡ Ok modules → (report : List ℕ) → BothFail fs arguments report ⊎ MappingFails fs arguments report → ⊥
+  mapping-excluded arguments new old both modules e report (inl (inl h)) = parsing-excluded reading is fs gs same (paths_of (new_file arguments)) new both.0 report h
+  mapping-excluded arguments new old both modules e report (inl (inr (ns, p, h))) =
+      parsing-excluded reading is fs gs same (paths_of (old_file arguments)) old both.1 report h
+  mapping-excluded arguments new old both modules e report (inr (ns, os, others, k)) =
+      let n : ns ≡ new = parses-same reading is fs gs same (paths_of (new_file arguments)) new ns both.0 others.0 in
+      let o : os ≡ old = parses-same reading is fs gs same (paths_of (old_file arguments)) old os both.1 others.1 in
+      absent-excluded (module_names arguments) new old modules report e
+      (subst (λ ds. IsAbsentReport new ds (module_names arguments) report) o (subst (λ ds. IsAbsentReport ds os (module_names arguments) report) n k))
+
+  polyfill-excluded : (arguments : List (List ℕ)) (text report : List ℕ) → IsPolyfill gs arguments text → BothFail fs arguments report ⊎ MappingFails fs arguments report → ⊥
+  unfolding IsPolyfillText
+  polyfill-excluded arguments text report (new, old, both, (modules, e, t)) h = mapping-excluded arguments new old both modules e report h
+
   -- a command that has its output doesn't refuse
-  pub output-excluded : (arguments : List (List ℕ)) (c : Command) (text : List ℕ) (adapted : Option Adapted) (report : List ℕ)
-      → IsOutput (Some c) gs arguments text adapted → CommandRefuses c fs arguments report → ⊥
+  pub output-excluded : (arguments : List (List ℕ)) (c : Command) (text notes : List ℕ) (adapted : Option Adapted) (report : List ℕ)
+      → IsOutput (Some c) gs arguments text notes adapted → CommandRefuses c fs arguments report → ⊥
   unfolding IsOutput CommandRefuses
-  output-excluded arguments command.Adapt text adapted report o h = adapted-excluded (paths_of arguments) listing_text text adapted report o h
-  output-excluded arguments command.Layouts text adapted report (none, (ds, p, all, k)) h = layouts-excluded (paths_of arguments) ds p all report h
-  output-excluded arguments (command.Sample n) text adapted report o h = adapted-excluded (sample_path ∷ []) summary_text text adapted report o h
+  output-excluded arguments command.Adapt text notes adapted report (n, o) h = adapted-excluded (paths_of arguments) listing_text text adapted report o h
+  output-excluded arguments command.Print text notes adapted report (n, none, (ds, p, k)) h = parsing-excluded reading is fs gs same (paths_of arguments) ds p report h
+  output-excluded arguments command.Layouts text notes adapted report (n, none, (ds, p, all, k)) h = layouts-excluded (paths_of arguments) ds p all report h
+  output-excluded arguments command.Docs text notes adapted report (none, o) h = page-excluded (paths_of arguments) text notes report o h
+  output-excluded arguments command.Polyfill text notes adapted report (n, none, o) h = polyfill-excluded arguments text report o h
+  output-excluded arguments (command.Sample n) text notes adapted report (none, o) h = adapted-excluded (sample_path ∷ []) summary_text text adapted report o h
 
   -- valid input isn't refused
   pub valid-excluded : (arguments : List (List ℕ)) (c : Command) (report : List ℕ) → IsValidFor c gs arguments → CommandRefuses c fs arguments report → ⊥
   unfolding CommandRefuses
   valid-excluded arguments command.Adapt report (ds, p, a) h = adapting-excluded reading is fs gs same (paths_of arguments) ds p a report h
+  valid-excluded arguments command.Print report (ds, p) h = parsing-excluded reading is fs gs same (paths_of arguments) ds p report h
   valid-excluded arguments command.Layouts report (ds, p, all) h = layouts-excluded (paths_of arguments) ds p all report h
+  valid-excluded arguments command.Docs report (ds, p, r) h = pages-excluded (paths_of arguments) ds p r report h
+  valid-excluded arguments command.Polyfill report (new, old, both, modules, e) h = mapping-excluded arguments new old both modules e report h
   valid-excluded arguments (command.Sample n) report (ds, p, a) h = adapting-excluded reading is fs gs same (sample_path ∷ []) ds p a report h
 
 -- told files and aliases that mean a document, over any reader
@@ -201,3 +250,33 @@ bundle-excluded bytes files bundle.TooLong h i k = let small : length bytes ≤ 
 bundle-excluded bytes files (bundle.NotUtf8 at) h i k = k.1 h.1
 bundle-excluded bytes files (bundle.BeforeFirst at) h i k = let a = h.2 in let b = k.2 in cc
 bundle-excluded bytes files bundle.OutOfMemory h i k = absurd i
+
+-- a command that works on its source's bundle works on the bytes that are told
+abbrev WorksOnSource : Option Command → Type 0
+WorksOnSource form = reads_source form ≡ true
+
+reading-bytes : (form : Option Command) (left : Option (List ℕ)) → WorksOnSource form → bundle_bytes form left ≡ left
+reading-bytes None left i = absurd (cc)
+reading-bytes (Some command.Adapt) left i = refl
+reading-bytes (Some command.Print) left i = refl
+reading-bytes (Some command.Layouts) left i = refl
+reading-bytes (Some command.Docs) left i = refl
+reading-bytes (Some command.Polyfill) left i = refl
+reading-bytes (Some (command.Sample n)) left i = absurd (cc)
+
+pub no-bundle-answered : (form : Option Command) (left : Option (List ℕ)) (bytes : List ℕ) (files : Files) (e : BundleError) → WorksOnSource form → left ≡ Some bytes
+    → IsCause e → IsRead bytes (Err e) → Reads (bundle_bytes form left) (Ok files) → ⊥
+no-bundle-answered form left bytes files e i told c h r =
+    bundle-excluded bytes files e (subst (λ l. Reads l (Ok files)) (reading-bytes form left i ∙ told) r) c h
+
+no-bundle-refused : (i : RunInput) (bytes : List ℕ) (e : BundleError) (r : refusals.Refusal) (status : ℕ) → WorksOnSource i.form → i.left ≡ Some bytes
+    → IsCause e → IsRead bytes (Err e) → (Rose i.before i.now → ⊥) → Cause i r → IsRefused (status_of r) status → IsRefused 6 status
+no-bundle-refused i bytes e refusal.Usage status reads told c h none k s = absurd (let form = k.0 in cc)
+no-bundle-refused i bytes e refusal.Source status reads told c h none k s = absurd (none k.1)
+no-bundle-refused i bytes e (refusal.Bundle b) status reads told c h none k s = s
+no-bundle-refused i bytes e (refusal.Command report) status reads told c h none k s =
+    absurd (no-bundle-answered i.form i.left bytes k.1 e reads told c h k.2)
+
+pub no-bundle-stopped : (i : RunInput) (bytes : List ℕ) (e : BundleError) (s : Stop) (r : refusals.Refusal) (status : ℕ) → WorksOnSource i.form → i.left ≡ Some bytes
+    → IsCause e → IsRead bytes (Err e) → (Rose i.before i.now → ⊥) → s ≡ stop.Refused r → StopCause i s → IsRefused (status_of r) status → IsRefused 6 status
+no-bundle-stopped i bytes e s r status reads told c h none same k t = no-bundle-refused i bytes e r status reads told c h none (subst (StopCause i) same k) t

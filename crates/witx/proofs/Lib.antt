@@ -1,4 +1,7 @@
+pub mod Mapping
+pub mod Noting
 pub mod Paths
+pub mod ConstantTypes
 pub mod Exclusion
 pub mod ReadThrough
 pub mod Refusing

@@ -15,13 +15,14 @@ use Rattle.witx_adapt.specs.declared.adapted.Adapted.{Adapted}
 use Rattle.witx_layout.specs.Layouts.{all_layouts}
 use Rattle.witx_adapt.specs.Entries.{IsFaithful, all_functions, entry_for, entry_of}
 use Rattle.witx_adapt.specs.Listings.{listing_text}
+use Rattle.witx_render.specs.DocumentTexts.{document_text}
 use Rattle.witx_layout.specs.LayoutsText.{layouts_text, typename_sizes}
 use Rattle.witx.specs.declared.words.Command.TheVariants as command
 use Rattle.witx_sample.specs.Samples.{sample_path}
 use Rattle.witx_sample.specs.Summaries.{summary_text}
 use Rattle.witx.specs.Causes.{IsAdaptedText, IsOutput}
 use Rattle.witx.specs.Stops.{StopsWith}
-use Rattle.witx.specs.declared.commands.Output.{Output}
+use Rattle.witx.specs.declared.output.Output.{Output}
 use Rattle.witx.specs.declared.refusal.Stop.{Stop}
 use Rattle.witx.specs.declared.refusal.Stop.TheVariants as stop
 use Rattle.witx.specs.declared.refusal.Refusal.TheVariants as refusal
@@ -96,7 +97,7 @@ unadapted-told files handed (unadapted.Texts e) report h k = texts-told files ha
 unadapted-told files handed (unadapted.Document r) report h k = document-told files handed (map definition_tree r.document.definitions) r.error report h k
 
 -- what ends a run, by its report
-stops-as : (P Q : List ℕ → Type 0) → ((report : List ℕ) → P report → Q report) → (s : Stop) → StopsWith P s → StopsWith Q s
+pub stops-as : (P Q : List ℕ → Type 0) → ((report : List ℕ) → P report → Q report) → (s : Stop) → StopsWith P s → StopsWith Q s
 stops-as P Q f (stop.Refused refusal.Usage) k = k
 stops-as P Q f (stop.Refused refusal.Source) k = k
 stops-as P Q f (stop.Refused (refusal.Bundle b)) k = k
@@ -124,31 +125,36 @@ parsed-paths files handed paths ds same h = subst (λ ps. Parses files ps (Ok ds
 pub ruleset stop_rules = (memory-stops, parsing-stops, adapting-stops, parsed-paths)
 
 -- the output of each command
-pub adapt-output : (files : Files) (handed : List Path) (arguments : List (List ℕ)) (text : List ℕ) (a : Adapted) (adapted : Option Adapted)
-    → handed ≡ paths_of arguments → Parses files handed (Ok (defined a)) → IsAdapted a → text ≡ listing_text a → adapted ≡ Some a
-    → IsOutput (Some command.Adapt) files arguments text adapted
+pub adapt-output : (files : Files) (handed : List Path) (arguments : List (List ℕ)) (text notes : List ℕ) (a : Adapted) (adapted : Option Adapted)
+    → handed ≡ paths_of arguments → Parses files handed (Ok (defined a)) → IsAdapted a → text ≡ listing_text a → (notes ≡ []) × (adapted ≡ Some a)
+    → IsOutput (Some command.Adapt) files arguments text notes adapted
 unfolding IsOutput
-adapt-output files handed arguments text a adapted same p k e v =
-    subst (IsAdaptedText listing_text files (paths_of arguments) text) (sym v) (subst (λ ps. Parses files ps (Ok (defined a))) same p, k, e)
+adapt-output files handed arguments text notes a adapted same p k e (n, v) =
+    (n, subst (IsAdaptedText listing_text files (paths_of arguments) text) (sym v) (subst (λ ps. Parses files ps (Ok (defined a))) same p, k, e))
 
-pub summary-output : (n : ℕ) (files : Files) (path : Path) (arguments : List (List ℕ)) (text : List ℕ) (a : Adapted) (adapted : Option Adapted)
-    → path ≡ sample_path → Parses files (path ∷ []) (Ok (defined a)) → IsAdapted a → text ≡ summary_text a → adapted ≡ Some a
-    → IsOutput (Some (command.Sample n)) files arguments text adapted
+pub summary-output : (n : ℕ) (files : Files) (path : Path) (arguments : List (List ℕ)) (text notes : List ℕ) (a : Adapted) (adapted : Option Adapted)
+    → path ≡ sample_path → Parses files (path ∷ []) (Ok (defined a)) → IsAdapted a → text ≡ summary_text a → (notes ≡ []) × (adapted ≡ Some a)
+    → IsOutput (Some (command.Sample n)) files arguments text notes adapted
 unfolding IsOutput
-summary-output n files path arguments text a adapted same p k e v =
-    subst (IsAdaptedText summary_text files (sample_path ∷ []) text) (sym v) (subst (λ q. Parses files (q ∷ []) (Ok (defined a))) same p, k, e)
+summary-output n files path arguments text notes a adapted same p k e (none, v) =
+    (none, subst (IsAdaptedText summary_text files (sample_path ∷ []) text) (sym v) (subst (λ q. Parses files (q ∷ []) (Ok (defined a))) same p, k, e))
 
 pub summary-told : (n : ℕ) (files : Files) (path : Path) (arguments : List (List ℕ)) (a : Adapted) (r : Result Output Stop) → path ≡ sample_path
-    → Parses files (path ∷ []) (Ok (defined a)) → IsAdapted a → IfOk r (λ o. o.text ≡ summary_text a) → IfOk r (λ o. o.adapted ≡ Some a)
-    → IfOk r (λ o. IsOutput (Some (command.Sample n)) files arguments o.text o.adapted)
-summary-told n files path arguments a (Ok o) same p k e v = summary-output n files path arguments o.text a o.adapted same p k e v
+    → Parses files (path ∷ []) (Ok (defined a)) → IsAdapted a → IfOk r (λ o. o.text ≡ summary_text a) → IfOk r (λ o. (o.notes ≡ []) × (o.adapted ≡ Some a))
+    → IfOk r (λ o. IsOutput (Some (command.Sample n)) files arguments o.text o.notes o.adapted)
+summary-told n files path arguments a (Ok o) same p k e v = summary-output n files path arguments o.text o.notes a o.adapted same p k e v
 summary-told n files path arguments a (Err s) same p k e v = tt
 
-pub layouts-output : (files : Files) (arguments : List (List ℕ)) (text : List ℕ) (ds : List DefinitionTree) (adapted : Option Adapted)
-    → Parses files (paths_of arguments) (Ok ds) → All (λ size. size < 2 ^ 64) (typename_sizes ds) → text ≡ layouts_text ds → adapted ≡ None
-    → IsOutput (Some command.Layouts) files arguments text adapted
+pub print-output : (files : Files) (arguments : List (List ℕ)) (text notes : List ℕ) (ds : List DefinitionTree) (adapted : Option Adapted)
+    → Parses files (paths_of arguments) (Ok ds) → text ≡ document_text ds → (notes ≡ []) × (adapted ≡ None) → IsOutput (Some command.Print) files arguments text notes adapted
 unfolding IsOutput
-layouts-output files arguments text ds adapted p l e v = (v, (ds, p, l, e))
+print-output files arguments text notes ds adapted p e (n, v) = (n, v, (ds, p, e))
+
+pub layouts-output : (files : Files) (arguments : List (List ℕ)) (text notes : List ℕ) (ds : List DefinitionTree) (adapted : Option Adapted)
+    → Parses files (paths_of arguments) (Ok ds) → All (λ size. size < 2 ^ 64) (typename_sizes ds) → text ≡ layouts_text ds → (notes ≡ []) × (adapted ≡ None)
+    → IsOutput (Some command.Layouts) files arguments text notes adapted
+unfolding IsOutput
+layouts-output files arguments text notes ds adapted p l e (n, v) = (n, v, (ds, p, l, e))
 
 -- and what each refuses
 pub adapt-refused : (files : Files) (handed : List Path) (arguments : List (List ℕ)) (s : Stop) → handed ≡ paths_of arguments → StopsWith (AdaptingFails files handed) s
@@ -165,6 +171,11 @@ summary-refused n files path arguments s same k =
     stops-as (AdaptingFails files (sample_path ∷ [])) (CommandRefuses (command.Sample n) files arguments) (λ report h. h) s
     (subst (λ q. StopsWith (AdaptingFails files (q ∷ [])) s) same k)
 
+pub print-refused : (files : Files) (arguments : List (List ℕ)) (s : Stop) → StopsWith (ParsingFails files (paths_of arguments)) s
+    → StopsWith (CommandRefuses command.Print files arguments) s
+unfolding CommandRefuses
+print-refused files arguments s k = stops-as (ParsingFails files (paths_of arguments)) (CommandRefuses command.Print files arguments) (λ report h. h) s k
+
 pub layouts-refused : (files : Files) (arguments : List (List ℕ)) (s : Stop) → StopsWith (ParsingFails files (paths_of arguments)) s
     → StopsWith (CommandRefuses command.Layouts files arguments) s
 unfolding CommandRefuses
@@ -175,7 +186,7 @@ pub layouts-large : (files : Files) (arguments : List (List ℕ)) (ds : List Def
 unfolding CommandRefuses
 layouts-large files arguments ds s p k = stops-as (IsSizeReport ds) (CommandRefuses command.Layouts files arguments) (λ report h. inr (ds, p, h)) s k
 
-pub ruleset command_rules = (memory-stops, adapt-output, summary-output, layouts-output, adapt-refused, summary-refused, layouts-refused, layouts-large)
+pub ruleset command_rules = (memory-stops, adapt-output, summary-output, print-output, layouts-output, adapt-refused, summary-refused, print-refused, layouts-refused, layouts-large)
 
 pub size-stops : (ds : List DefinitionTree) (s : Stop) → Any (λ size. 2 ^ 64 ≤ size) (typename_sizes ds) → StopsWith (λ report. report ≡ codes "size too large") s → StopsWith (IsSizeReport ds) s
 size-stops ds s h k = stops-as (λ report. report ≡ codes "size too large") (IsSizeReport ds) (λ report e. (h, e)) s k

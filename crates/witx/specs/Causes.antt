@@ -7,6 +7,8 @@ use Rattle.witx_bundle.specs.Bundles.{IsRead}
 use Rattle.witx_bundle.specs.declared.error.BundleError.{BundleError}
 use Rattle.witx_bundle.specs.declared.error.BundleError.TheVariants as bundle
 use Rattle.witx_ast.specs.Definitions.{DefinitionTree}
+use Rattle.witx_compat.specs.Polyfills.{MappedModule, polyfill_answer}
+use Rattle.witx_render.specs.DocumentTexts.{document_text}
 use Rattle.witx_layout.specs.LayoutsText.{layouts_text, typename_sizes}
 use Rattle.witx_adapt.specs.declared.adapted.Adapted.{Adapted}
 use Rattle.witx_adapt.specs.Adaptable.{IsAdaptable}
@@ -14,6 +16,9 @@ use Rattle.witx_adapt.specs.Listings.{listing_text}
 use Rattle.witx_sample.specs.Samples.{sample_path}
 use Rattle.witx_sample.specs.Summaries.{summary_text}
 use Rattle.witx.specs.Adapting.{IsAdapted, Parses, defined}
+use Rattle.witx_docs.specs.LaidOut.{document_refusal}
+use Rattle.witx.specs.MeantPages.{IsPage}
+use Rattle.witx.specs.Mappings.{IsPolyfillText, MeansBoth, mapping_of, module_names}
 use Rattle.witx.specs.Reports.{CommandRefuses}
 use Rattle.witx.specs.declared.words.Command.{Command}
 use Rattle.witx.specs.declared.words.Command.TheVariants as command
@@ -98,25 +103,45 @@ abbrev pub IsAdaptedText : (Adapted → List ℕ) → Files → List Path → Li
 IsAdaptedText text_for files handed text None = ⊥
 IsAdaptedText text_for files handed text (Some a) = Parses files handed (Ok (defined a)) × IsAdapted a × (text ≡ text_for a)
 
+-- the document that they mean, printed
+abbrev pub IsPrinted : Files → List Path → List ℕ → Type 0
+IsPrinted files handed text = (ds : List DefinitionTree) × Parses files handed (Ok ds) × (text ≡ document_text ds)
+
 -- the layouts of the document that they mean
 abbrev pub IsLayoutsText : Files → List Path → List ℕ → Type 0
 IsLayoutsText files handed text =
     (ds : List DefinitionTree) × Parses files handed (Ok ds) × All (λ size. size < 2 ^ 64) (typename_sizes ds) × (text ≡ layouts_text ds)
 
--- the text that a command writes over the files of a bundle, and the value that it lists: a row for each command, by what
--- stands behind its word
-unfoldable pub IsOutput : Option Command → Files → List (List ℕ) → List ℕ → Option Adapted → Type 0
-IsOutput None files arguments text adapted = ⊥
-IsOutput (Some command.Adapt) files arguments text adapted = IsAdaptedText listing_text files (paths_of arguments) text adapted
-IsOutput (Some command.Layouts) files arguments text adapted = (adapted ≡ None) × IsLayoutsText files (paths_of arguments) text
-IsOutput (Some (command.Sample n)) files arguments text adapted = IsAdaptedText summary_text files (sample_path ∷ []) text adapted
+-- the page of the document that they mean, and its notes
+abbrev pub IsMeantPage : Files → List Path → (text notes : List ℕ) → Type 0
+IsMeantPage files handed text notes = (ds : List DefinitionTree) × Parses files handed (Ok ds) × IsPage ds text notes
+
+-- the report on the modules of the old file in terms of those of the new one
+abbrev pub IsPolyfill : Files → List (List ℕ) → List ℕ → Type 0
+IsPolyfill files arguments text =
+    (new : List DefinitionTree) × (old : List DefinitionTree) × MeansBoth files arguments new old × IsPolyfillText new old (module_names arguments) text
+
+-- the text that a command writes over the files of a bundle, its notes, and the value that it lists: a row for each command, by
+-- what stands behind its word
+unfoldable pub IsOutput : Option Command → Files → List (List ℕ) → (text notes : List ℕ) → Option Adapted → Type 0
+IsOutput None files arguments text notes adapted = ⊥
+IsOutput (Some command.Adapt) files arguments text notes adapted = (notes ≡ []) × IsAdaptedText listing_text files (paths_of arguments) text adapted
+IsOutput (Some command.Print) files arguments text notes adapted = (notes ≡ []) × (adapted ≡ None) × IsPrinted files (paths_of arguments) text
+IsOutput (Some command.Layouts) files arguments text notes adapted = (notes ≡ []) × (adapted ≡ None) × IsLayoutsText files (paths_of arguments) text
+IsOutput (Some command.Docs) files arguments text notes adapted = (adapted ≡ None) × IsMeantPage files (paths_of arguments) text notes
+IsOutput (Some command.Polyfill) files arguments text notes adapted = (notes ≡ []) × (adapted ≡ None) × IsPolyfill files arguments text
+IsOutput (Some (command.Sample n)) files arguments text notes adapted = (notes ≡ []) × IsAdaptedText summary_text files (sample_path ∷ []) text adapted
 
 -- what is written of an adapted document
 abbrev pub adapted_text : Option Command → Adapted → List ℕ
 adapted_text (Some (command.Sample n)) a = summary_text a
 adapted_text _ a = listing_text a
 
--- the files at these paths mean a document that can be adapted
+-- the files at these paths mean a document
+abbrev pub HasMeaning : Files → List Path → Type 0
+HasMeaning files handed = (ds : List DefinitionTree) × Parses files handed (Ok ds)
+
+-- they mean one that can be adapted
 abbrev pub CanAdapt : Files → List Path → Type 0
 CanAdapt files handed = (ds : List DefinitionTree) × Parses files handed (Ok ds) × IsAdaptable ds
 
@@ -124,20 +149,32 @@ CanAdapt files handed = (ds : List DefinitionTree) × Parses files handed (Ok ds
 abbrev pub HasSizes : Files → List Path → Type 0
 HasSizes files handed = (ds : List DefinitionTree) × Parses files handed (Ok ds) × All (λ size. size < 2 ^ 64) (typename_sizes ds)
 
+-- they mean one that has a page
+abbrev pub HasPage : Files → List Path → Type 0
+HasPage files handed = (ds : List DefinitionTree) × Parses files handed (Ok ds) × (document_refusal ds ≡ None)
+
+-- the new file and the old one mean documents whose modules and functions are all there
+abbrev pub CanMap : Files → List (List ℕ) → Type 0
+CanMap files arguments = (new : List DefinitionTree) × (old : List DefinitionTree) × MeansBoth files arguments new old
+    × (modules : List MappedModule) × (polyfill_answer new old (mapping_of (module_names arguments)) ≡ Ok modules)
+
 -- the files mean a document of which the command tells everything
 abbrev pub IsValidFor : Command → Files → List (List ℕ) → Type 0
 IsValidFor command.Adapt files arguments = CanAdapt files (paths_of arguments)
+IsValidFor command.Print files arguments = HasMeaning files (paths_of arguments)
 IsValidFor command.Layouts files arguments = HasSizes files (paths_of arguments)
+IsValidFor command.Docs files arguments = HasPage files (paths_of arguments)
+IsValidFor command.Polyfill files arguments = CanMap files arguments
 IsValidFor (command.Sample n) files arguments = CanAdapt files (sample_path ∷ [])
 
 -- what is so where a run has its output: the source, if it is read, was read to its end; there is a bundle, and the output is
 -- over its files
-pub record IsAnswered (i : RunInput) (text : List ℕ) (adapted : Option Adapted) : Type 0 where
+pub record IsAnswered (i : RunInput) (text notes : List ℕ) (adapted : Option Adapted) : Type 0 where
   pub finished : IsReading i.form → Finished i.left i.after
   pub no_fault : i.now ≡ i.before
   pub files : Files
   pub bundle : Reads (input_bytes i) (Ok files)
-  pub output : IsOutput i.form files i.arguments text adapted
+  pub output : IsOutput i.form files i.arguments text notes adapted
 
 -- the definitions of the document that the bytes of a bundle mean, where they are told
 abbrev pub IsMeaning : (left : Option (List ℕ)) → (handed : List Path) → List DefinitionTree → Type 0

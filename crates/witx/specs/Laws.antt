@@ -19,8 +19,8 @@ use Rattle.witx.specs.Causes.{IsOutput, IsValidFor}
 -- two readings of one bundle never give an output and a refusal
 abbrev pub OutputOrRefusal : Type 0
 OutputOrRefusal = (bytes : List ℕ) (files others : Files) → IsRead bytes (Ok files) → IsRead bytes (Ok others)
-    → (arguments : List (List ℕ)) (c : Command) (text report : List ℕ) (adapted : Option Adapted)
-    → IsOutput (Some c) others arguments text adapted → CommandRefuses c files arguments report → ⊥
+    → (arguments : List (List ℕ)) (c : Command) (text notes report : List ℕ) (adapted : Option Adapted)
+    → IsOutput (Some c) others arguments text notes adapted → CommandRefuses c files arguments report → ⊥
 
 -- a bundle whose files are valid for a command isn't refused by it
 abbrev pub ValidIsNotRefused : Type 0

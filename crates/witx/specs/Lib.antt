@@ -1,3 +1,4 @@
+pub mod ConstantTypes
 pub mod Words
 pub mod Streams
 pub mod Adapting
@@ -6,3 +7,5 @@ pub mod Causes
 pub mod Laws
 pub mod Stops
 pub mod Texts
+pub mod Mappings
+pub mod MeantPages

@@ -23,6 +23,8 @@ use Rattle.witx.specs.declared.error.AdaptError.TheVariants as adapt_error
 use Rattle.witx.specs.declared.error.Unadapted.{Unadapted}
 use Rattle.witx.specs.declared.error.Unadapted.TheVariants as unadapted
 use Rattle.witx.specs.Adapting.{AdaptRefusesBundle, IsTextRefusal, Parses}
+use Rattle.witx.specs.MeantPages.{IsPageReport}
+use Rattle.witx.specs.Mappings.{IsAbsentReport, MeansBoth, module_names, new_file, old_file}
 use Rattle.witx.specs.Words.{paths_of}
 
 abbrev pub definition_name : DefinitionTree → List ℕ
@@ -128,8 +130,25 @@ AdaptingFails files handed report = (e : AdaptError) × AdaptRefusesBundle files
 abbrev pub SizesFail : Files → List Path → List ℕ → Type 0
 SizesFail files handed report = (ds : List DefinitionTree) × Parses files handed (Ok ds) × IsSizeReport ds report
 
+-- the new file means no document, or it does and the old file doesn't, and this is the report
+abbrev pub BothFail : Files → List (List ℕ) → List ℕ → Type 0
+BothFail files arguments report = ParsingFails files (paths_of (new_file arguments)) report
+    ⊎ ((new : List DefinitionTree) × Parses files (paths_of (new_file arguments)) (Ok new) × ParsingFails files (paths_of (old_file arguments)) report)
+
+-- both do, a module or a function is absent, and this is the report
+abbrev pub MappingFails : Files → List (List ℕ) → List ℕ → Type 0
+MappingFails files arguments report =
+    (new : List DefinitionTree) × (old : List DefinitionTree) × MeansBoth files arguments new old × IsAbsentReport new old (module_names arguments) report
+
+-- they mean a document that has no page, and this is the report
+abbrev pub PageFails : Files → List Path → List ℕ → Type 0
+PageFails files handed report = (ds : List DefinitionTree) × Parses files handed (Ok ds) × IsPageReport ds report
+
 -- the command's call refuses the files of a bundle, with this report: a row for each command, by what stands behind its word
 unfoldable pub CommandRefuses : Command → Files → List (List ℕ) → List ℕ → Type 0
 CommandRefuses command.Adapt files arguments report = AdaptingFails files (paths_of arguments) report
+CommandRefuses command.Print files arguments report = ParsingFails files (paths_of arguments) report
 CommandRefuses command.Layouts files arguments report = ParsingFails files (paths_of arguments) report ⊎ SizesFail files (paths_of arguments) report
+CommandRefuses command.Docs files arguments report = ParsingFails files (paths_of arguments) report ⊎ PageFails files (paths_of arguments) report
+CommandRefuses command.Polyfill files arguments report = BothFail files arguments report ⊎ MappingFails files arguments report
 CommandRefuses (command.Sample n) files arguments report = AdaptingFails files (sample_path ∷ []) report

@@ -6,6 +6,8 @@ use Rattle.witx.specs.declared.refusal.Refusal.{Refusal}
 use Rattle.witx.specs.declared.refusal.Refusal.TheVariants as refusal
 use Rattle.witx_bundle.specs.declared.error.BundleError.{BundleError}
 use Rattle.witx_bundle.specs.declared.error.BundleError.TheVariants as bundle
+use Rattle.witx_compat.specs.Polyfills.{no_module, no_function}
+use Rattle.witx_compat.specs.Polyfills as polyfill
 
 -- a text and a line feed
 abbrev pub line : List ℕ → List ℕ
@@ -17,11 +19,25 @@ bundle_text (bundle.NotUtf8 at) = codes "bundle is not UTF-8 at byte " ++ decima
 bundle_text (bundle.BeforeFirst at) = codes "text before the first file at byte " ++ decimal at
 bundle_text bundle.OutOfMemory = codes "out of memory"
 
+abbrev pub absent_module : List ℕ → List ℕ
+absent_module name = codes "Module not present: `" ++ name ++ codes "`"
+
+abbrev pub absent_function : List ℕ → List ℕ
+absent_function name = codes "Function not present: `" ++ name ++ codes "`"
+
+-- a module that a document lacks, or a function that the new module lacks
+abbrev pub absent_text : polyfill.Refusal → List ℕ
+absent_text (no_module name) = absent_module name
+absent_text (no_function owner name) = absent_function name
+
 -- a line for each command
 abbrev pub usage_lines : List (List ℕ)
 usage_lines =
     codes "usage: witx adapt PATH.."
+    ∷ codes "       witx print PATH.."
     ∷ codes "       witx layouts PATH.."
+    ∷ codes "       witx docs PATH.."
+    ∷ codes "       witx polyfill NEW OLD [NEWMODULE OLDMODULE].."
     ∷ codes "       witx sample N"
     ∷ []
 

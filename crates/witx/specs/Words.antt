@@ -1,18 +1,15 @@
--- The forms of a command line that are built, each with what stands behind its first word: `adapt` and `layouts` with any
--- number of paths, and `sample` with a number from 1 to 4096, written in decimal without a sign and without a zero in front.
-use Rattle.std.specs.Prelude.{◌≡◌, ℕ, ◌≤◌, List, [], ◌∷◌, map, Bool, true, false, ◌&&◌, nat_le, Option, Some, None, codes, if◌then◌else◌}
+-- The forms of a command line that are built, each with what stands behind its first word: `adapt`, `print`, `layouts` and
+-- `docs` with any number of paths; `polyfill` with a new file, an old one, and any number of pairs of names of modules; and `sample` with a
+-- number from 1 to 4096, written in decimal without a sign and without a zero in front.
+use Rattle.std.specs.Prelude.{◌≡◌, ◌==◌, ℕ, ◌≤◌, ◌%◌, List, [], ◌∷◌, map, length, Bool, true, false, ◌&&◌, nat_le, Option, Some, None, codes, if◌then◌else◌}
 use Rattle.std.specs.Fmt.{decimal}
 use Rattle.std.specs.Str.Parse.{digits_value}
 use Rattle.witx_base.specs.Paths.{Path, path_of}
 use Rattle.witx_base.specs.Texts.{same_text}
 use Rattle.witx_sample.specs.declared.sample.TheConstants.{LARGEST_SAMPLE}
-use Rattle.witx_sample.specs.Samples.{sample_path, sample_text}
+use Rattle.witx_sample.specs.Samples.{is_size, sample_path, sample_text}
 use Rattle.witx.specs.declared.words.Command.{Command}
 use Rattle.witx.specs.declared.words.Command.TheVariants as command
-
--- how many functions a sample can have
-abbrev pub is_size : ℕ → Bool
-is_size n = nat_le 1 n && nat_le n LARGEST_SAMPLE
 
 -- a word is the number of its digits, as numbers are printed
 abbrev pub is_printed_size : List ℕ → Bool
@@ -27,11 +24,18 @@ sample_of [] = None
 sample_of (word ∷ []) = sample_called word
 sample_of (word ∷ _ ∷ more) = None
 
+-- the report on two files: two words, and then words in pairs
+abbrev pub polyfill_of : List (List ℕ) → Option Command
+polyfill_of arguments = if nat_le 2 (length arguments) && (length arguments % 2 == 0) then Some command.Polyfill else None
+
 abbrev pub command_called : List ℕ → List (List ℕ) → Option Command
 command_called word arguments =
     if same_text word (codes "adapt") then Some command.Adapt
+    else (if same_text word (codes "print") then Some command.Print
     else (if same_text word (codes "layouts") then Some command.Layouts
-    else (if same_text word (codes "sample") then sample_of arguments else None))
+    else (if same_text word (codes "docs") then Some command.Docs
+    else (if same_text word (codes "polyfill") then polyfill_of arguments
+    else (if same_text word (codes "sample") then sample_of arguments else None)))))
 
 -- the command of a form, where the words have one
 abbrev pub command_of : List (List ℕ) → Option Command
@@ -51,7 +55,10 @@ paths_of words = map path_of words
 abbrev pub reads_source : Option Command → Bool
 reads_source None = false
 reads_source (Some command.Adapt) = true
+reads_source (Some command.Print) = true
 reads_source (Some command.Layouts) = true
+reads_source (Some command.Docs) = true
+reads_source (Some command.Polyfill) = true
 reads_source (Some (command.Sample n)) = false
 
 abbrev pub IsReading : Option Command → Type 0
@@ -61,6 +68,11 @@ IsReading form = reads_source form ≡ true
 abbrev pub bundle_bytes : Option Command → Option (List ℕ) → Option (List ℕ)
 bundle_bytes (Some (command.Sample n)) left = Some (sample_text n)
 bundle_bytes _ left = left
+
+-- a command that notes on the second sink what its output lacks
+abbrev pub IsNoting : Option Command → Type 0
+IsNoting (Some command.Docs) = Unit {0}
+IsNoting _ = ⊥
 
 -- a command that writes what it makes of an adapted document
 abbrev pub is_adapting : Option Command → Bool

@@ -1,7 +1,8 @@
-ghost use Rattle.std.specs.Prelude.{◌≡◌, ◌^◌, ◌<◌, All, IfErr, IfOk, None, Ok, OnOk, Some, codes, map};
+ghost use Rattle.std.specs.Prelude.{◌≡◌, ◌^◌, ◌<◌, [], All, IfErr, IfOk, None, Ok, OnOk, Some, codes, map};
 ghost use Rattle.witx_ast.specs.Definitions.{definition_tree};
 ghost use Rattle.witx_ast.specs.Ordered.{IsOrdered};
 ghost use Rattle.witx_adapt.specs.Listings.{listing_text};
+ghost use Rattle.witx_render.specs.DocumentTexts.{document_text};
 ghost use Rattle.witx_layout.specs.LayoutsText.{layouts_text as text_of_layouts, typename_sizes};
 ghost use Rattle.witx_sample.specs.Summaries.{summary_text};
 ghost use Rattle.witx.specs.Adapting.{IsAdapted, Parses, RefusesBundle, defined};
@@ -12,8 +13,11 @@ ghost use Rattle.witx.specs.Words.{paths_of};
 
 use crate::adapting::adapted;
 use crate::error::Unadapted;
-use crate::parsing::{parsed_bundle, text_report};
-use crate::refusal::{Refusal, Stop};
+use crate::output::{Output, no_notes};
+use crate::pages::page_of_files;
+use crate::parsing::parsed_or_stop;
+use crate::polyfill::polyfill_files;
+use crate::refusal::{Refusal, Stop, too_large};
 use crate::report::adapt_report;
 use crate::words::{Command, paths_of};
 use std::alloc::Global;
@@ -22,15 +26,9 @@ use witx_ast::Document;
 use witx_base::{Text, WitxPath};
 use witx_files::MockFs;
 use witx_layout::{LayoutError, ordered_layouts_text};
+use witx_render::document_text;
 use witx_sample::summary;
 use witx_walk::WitxError;
-
-/// What a command is to write, and the value that it lists.
-#[derive(Drop)]
-pub struct Output {
-    pub text: Text,
-    pub adapted: Option<Adapted>,
-}
 
 /// The output of a command over the files of a bundle, by the words behind its own: a row for each
 /// command.
@@ -40,12 +38,15 @@ pub fn perform(
     arguments: &[Text],
     files: &mut MockFs,
 ) -> Result<Output, Stop>
-    ensures output { IfOk result (λ o. IsOutput (Some command) files.old arguments.now o.text o.adapted) }
+    ensures output { IfOk result (λ o. IsOutput (Some command) files.old arguments.now o.text o.notes o.adapted) }
     ensures stopped { IfErr result (StopsWith (CommandRefuses command files.old arguments.now)) }
 {
     match command {
         Command::Adapt => adapt_files(alloc, arguments, files),
+        Command::Print => print_files(alloc, arguments, files),
         Command::Layouts => layouts_of_files(alloc, arguments, files),
+        Command::Docs => page_of_files(alloc, arguments, files),
+        Command::Polyfill => polyfill_files(alloc, arguments, files),
         Command::Sample { functions } => summary_of_files(alloc, functions, arguments, files),
     }
 }
@@ -53,7 +54,7 @@ pub fn perform(
 /// The listing of the document that the files at these paths mean.
 #[tactic(auto, using(crate::proofs::Refusing::command_rules))]
 fn adapt_files(alloc: Global, arguments: &[Text], files: &mut MockFs) -> Result<Output, Stop>
-    ensures output { IfOk result (λ o. IsOutput (Some Command.Adapt) files.old arguments.now o.text o.adapted) }
+    ensures output { IfOk result (λ o. IsOutput (Some Command.Adapt) files.old arguments.now o.text o.notes o.adapted) }
     ensures stopped { IfErr result (StopsWith (CommandRefuses Command.Adapt files.old arguments.now)) }
 {
     let paths = paths_of(alloc, arguments)?;
@@ -63,10 +64,22 @@ fn adapt_files(alloc: Global, arguments: &[Text], files: &mut MockFs) -> Result<
     }
 }
 
+/// The printed document that the files at these paths mean.
+#[tactic(auto, using(crate::proofs::Refusing::command_rules))]
+fn print_files(alloc: Global, arguments: &[Text], files: &mut MockFs) -> Result<Output, Stop>
+    ensures output { IfOk result (λ o. IsOutput (Some Command.Print) files.old arguments.now o.text o.notes o.adapted) }
+    ensures stopped { IfErr result (StopsWith (CommandRefuses Command.Print files.old arguments.now)) }
+{
+    match parsed_or_stop(alloc, arguments, files) {
+        Ok(document) => printed(alloc, &document),
+        Err(stop) => Err(stop),
+    }
+}
+
 /// The layouts of the typenames of the document that the files at these paths mean.
 #[tactic(auto, using(crate::proofs::Refusing::command_rules))]
 fn layouts_of_files(alloc: Global, arguments: &[Text], files: &mut MockFs) -> Result<Output, Stop>
-    ensures output { IfOk result (λ o. IsOutput (Some Command.Layouts) files.old arguments.now o.text o.adapted) }
+    ensures output { IfOk result (λ o. IsOutput (Some Command.Layouts) files.old arguments.now o.text o.notes o.adapted) }
     ensures stopped { IfErr result (StopsWith (CommandRefuses Command.Layouts files.old arguments.now)) }
 {
     match parsed_or_stop(alloc, arguments, files) {
@@ -83,29 +96,13 @@ fn summary_of_files(
     arguments: &[Text],
     files: &mut MockFs,
 ) -> Result<Output, Stop>
-    ensures output { IfOk result (λ o. IsOutput (Some (Command.Sample functions)) files.old arguments.now o.text o.adapted) }
+    ensures output { IfOk result (λ o. IsOutput (Some (Command.Sample functions)) files.old arguments.now o.text o.notes o.adapted) }
     ensures stopped { IfErr result (StopsWith (CommandRefuses (Command.Sample functions) files.old arguments.now)) }
 {
     let path = WitxPath::new(alloc, "/sample.witx")?;
     match adapted_or_stop(alloc, &[path], files) {
         Ok(adapted) => summarized(alloc, adapted),
         Err(stop) => Err(stop),
-    }
-}
-
-/// The document that the files at the paths of these words mean, or the end of a run over files that
-/// mean none.
-#[tactic(auto, using(crate::proofs::Refusing::stop_rules))]
-fn parsed_or_stop(alloc: Global, arguments: &[Text], files: &mut MockFs) -> Result<Document, Stop>
-    ensures document { IfOk result (λ d. Parses files.old (paths_of arguments.now) (Ok (map definition_tree d.definitions))) }
-    ensures ordered { IfOk result (λ d. IsOrdered (map definition_tree d.definitions)) }
-    ensures stopped { IfErr result (StopsWith (ParsingFails files.old (paths_of arguments.now))) }
-    ensures kept { OnOk result (files.new ≡ files.old) }
-{
-    let paths = paths_of(alloc, arguments)?;
-    match parsed_bundle(alloc, paths.as_slice(), files) {
-        Ok(document) => Ok(document),
-        Err(error) => Err(text_stop(alloc, files, &error)),
     }
 }
 
@@ -148,25 +145,16 @@ fn adapt_stop(alloc: Global, files: &mut MockFs, unadapted: &Unadapted) -> Stop
     }
 }
 
-/// The end of a run whose files mean no document.
-fn text_stop(alloc: Global, files: &mut MockFs, error: &WitxError) -> Stop
-    ensures { StopsWith (IsTextReport files.old error.now) result }
-{
-    match text_report(alloc, files, error) {
-        Ok(report) => Stop::Refused(Refusal::Command(report)),
-        Err(_) => Stop::OutOfMemory,
-    }
-}
-
 /// An adapted document with its listing.
 fn listed(alloc: Global, adapted: Adapted) -> Result<Output, Stop>
     ensures text { IfOk result (λ o. o.text ≡ listing_text adapted) }
-    ensures value { IfOk result (λ o. o.adapted ≡ Some adapted) }
+    ensures value { IfOk result (λ o. (o.notes ≡ []) × (o.adapted ≡ Some adapted)) }
     ensures memory { IfErr result (λ e. e ≡ Stop.OutOfMemory) }
 {
     match listing(alloc, &adapted) {
         Ok(text) => Ok(Output {
             text,
+            notes: no_notes(alloc),
             adapted: Some(adapted),
         }),
         Err(_) => Err(Stop::OutOfMemory),
@@ -176,13 +164,30 @@ fn listed(alloc: Global, adapted: Adapted) -> Result<Output, Stop>
 /// An adapted document with its summary.
 fn summarized(alloc: Global, adapted: Adapted) -> Result<Output, Stop>
     ensures text { IfOk result (λ o. o.text ≡ summary_text adapted) }
-    ensures value { IfOk result (λ o. o.adapted ≡ Some adapted) }
+    ensures value { IfOk result (λ o. (o.notes ≡ []) × (o.adapted ≡ Some adapted)) }
     ensures memory { IfErr result (λ e. e ≡ Stop.OutOfMemory) }
 {
     match summary(alloc, &adapted) {
         Ok(text) => Ok(Output {
             text,
+            notes: no_notes(alloc),
             adapted: Some(adapted),
+        }),
+        Err(_) => Err(Stop::OutOfMemory),
+    }
+}
+
+/// A document, printed.
+fn printed(alloc: Global, document: &Document) -> Result<Output, Stop>
+    ensures text { IfOk result (λ o. o.text ≡ document_text (map definition_tree document.now.definitions)) }
+    ensures value { IfOk result (λ o. (o.notes ≡ []) × (o.adapted ≡ None)) }
+    ensures memory { IfErr result (λ e. e ≡ Stop.OutOfMemory) }
+{
+    match document_text(alloc, document) {
+        Ok(text) => Ok(Output {
+            text,
+            notes: no_notes(alloc),
+            adapted: None,
         }),
         Err(_) => Err(Stop::OutOfMemory),
     }
@@ -194,24 +199,16 @@ fn document_layouts(alloc: Global, document: &Document) -> Result<Output, Stop>
     requires { IsOrdered (map definition_tree document.now.definitions) }
     ensures text { IfOk result (λ o. o.text ≡ text_of_layouts (map definition_tree document.now.definitions)) }
     ensures sizes { OnOk result (All (λ size. size < 2 ^ 64) (typename_sizes (map definition_tree document.now.definitions))) }
-    ensures value { IfOk result (λ o. o.adapted ≡ None) }
+    ensures value { IfOk result (λ o. (o.notes ≡ []) × (o.adapted ≡ None)) }
     ensures too_large { IfErr result (StopsWith (IsSizeReport (map definition_tree document.now.definitions))) }
 {
     match ordered_layouts_text(alloc, document) {
         Ok(text) => Ok(Output {
             text,
+            notes: no_notes(alloc),
             adapted: None,
         }),
         Err(LayoutError::TooLarge) => Err(too_large(alloc)),
         Err(LayoutError::OutOfMemory) => Err(Stop::OutOfMemory),
-    }
-}
-
-fn too_large(alloc: Global) -> Stop
-    ensures { StopsWith (λ report. report ≡ codes "size too large") result }
-{
-    match Text::new(alloc, "size too large") {
-        Ok(report) => Stop::Refused(Refusal::Command(report)),
-        Err(_) => Stop::OutOfMemory,
     }
 }

@@ -1,5 +1,6 @@
 //! What the bytes of a bundle and the words decide, and what told files do, as functions that do
 //! nothing: each contract is a theorem.
+ghost use Rattle.witx.specs.ConstantTypes.{ConstantsHaveTypenames};
 ghost use Rattle.witx.specs.Laws.{OutputOrRefusal, ValidFilesAreNotRefused, ValidIsNotRefused};
 
 use witx_walk::one_reading;
@@ -11,8 +12,8 @@ pub fn output_or_refusal()
     one_reading();
 }
 
-/// A bundle whose files are valid for a command isn't refused by it: they mean a document that can be
-/// adapted, or whose layouts can be told.
+/// A bundle whose files are valid for a command isn't refused by it: they mean a document of which the
+/// command tells everything.
 pub fn valid_is_not_refused()
     ensures { ValidIsNotRefused }
 {
@@ -26,3 +27,9 @@ pub fn valid_files_are_not_refused()
 {
     one_reading();
 }
+
+/// The type of each constant of a document that texts mean is a typename of it, so a page of such a
+/// document is never refused for a constant of an unknown type.
+pub fn constants_have_typenames()
+    ensures { ConstantsHaveTypenames }
+{}

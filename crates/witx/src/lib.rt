@@ -9,7 +9,9 @@ mod error;
 mod input;
 mod laws;
 mod output;
+mod pages;
 mod parsing;
+mod polyfill;
 mod program;
 mod refusal;
 mod refused;
@@ -20,12 +22,14 @@ mod words;
 pub use adapting::adapt;
 pub use error::AdaptError;
 pub use input::{InputError, read_bundle};
-pub use laws::{output_or_refusal, valid_files_are_not_refused, valid_is_not_refused};
+pub use laws::{
+    constants_have_typenames, output_or_refusal, valid_files_are_not_refused, valid_is_not_refused,
+};
 pub use output::put_text;
 pub use program::{Ran, run};
 pub use refusal::Refusal;
 pub use status::NO_MEMORY;
-pub use words::{Command, command_of};
+pub use words::{Command, command_of, has_form};
 // By hand, since more than a hundred names would be laid out one a line.
 #[rattlefmt::skip]
 pub use witx_base::{
@@ -74,6 +78,26 @@ pub use witx_abi::{
     AbiError, AbiFunc, Bindgen, BindgenError, Event, Events, FailingBindgen, Instruction, Place,
     SignatureError, Step, Trace, WasmType, WasmTypes, callee_trace, caller_trace, lowerable,
     words_back, words_in,
+};
+#[rattlefmt::skip]
+pub use witx_render::{SExpr, SExprs, ToSExpr, document_text};
+#[rattlefmt::skip]
+pub use witx_read_back::print_and_parse;
+#[rattlefmt::skip]
+pub use witx_compat::{
+    FuncPolyfill, FuncPolyfills, ModuleMap, ModulePolyfill, ModulePolyfills, ParamPolyfill,
+    ParamPolyfills, ParamUnknown, ParamUnknowns, Polyfill, PolyfillError, RepEquality,
+    Representable, TypePolyfill, TypePolyfills,
+};
+#[rattlefmt::skip]
+pub use witx_docs::{
+    DocsError, Documentation, MdContent, MdFunc, MdHeading, MdInputs, MdNamedType, MdOutputs,
+    MdSection, MdTree, MissingLinks, Numbers, ToMarkdown, closed_document_md, document_md,
+};
+#[rattlefmt::skip]
+pub use witx_bytes::{
+    Bools, ByteMemory, PlaceError, ReadError, Value, Values, is_value, read_value, writable,
+    write_value,
 };
 #[rattlefmt::skip]
 pub use witx_sample::{LARGEST_SAMPLE, sample_bundle, sample_files, summary};

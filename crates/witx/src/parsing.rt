@@ -5,8 +5,12 @@ ghost use Rattle.witx_ast.specs.Definitions.{definition_tree};
 ghost use Rattle.witx_ast.specs.Ordered.{IsOrdered};
 ghost use Rattle.witx_walk.specs.Answers.{HasCause};
 ghost use Rattle.witx.specs.Adapting.{IsParsed, Parses};
-ghost use Rattle.witx.specs.Reports.{IsTextReport};
+ghost use Rattle.witx.specs.Reports.{IsTextReport, ParsingFails};
+ghost use Rattle.witx.specs.Stops.{StopsWith};
+ghost use Rattle.witx.specs.Words.{paths_of};
 
+use crate::refusal::{Refusal, Stop};
+use crate::words::paths_of;
 use std::alloc::Global;
 use witx_ast::Document;
 use witx_base::{OutOfMemory, Text, WitxPath};
@@ -41,6 +45,7 @@ pub fn parsed_bundle(
 ) -> Result<Document, WitxError>
     ensures document { IfOk result (λ d. Parses files.old paths.now (Ok (map definition_tree d.definitions))) }
     ensures ordered { IfOk result (λ d. IsOrdered (map definition_tree d.definitions)) }
+    ensures closed { IfOk result (λ d. IsClosed (map definition_tree d.definitions)) }
     ensures refused { IfErr result (λ e. Parses files.old paths.now (Err e)) }
     ensures kept { files.new ≡ files.old }
 {
@@ -63,5 +68,36 @@ pub fn text_report(
         | WitxError::BadPath(_)
         | WitxError::TooManyFiles(_) => error.report_with(alloc, files),
         WitxError::OutOfMemory => Err(OutOfMemory),
+    }
+}
+
+/// The document that the files at the paths of these words mean, or the end of a run over files that
+/// mean none.
+#[tactic(auto, using(crate::proofs::Refusing::stop_rules))]
+pub fn parsed_or_stop(
+    alloc: Global,
+    arguments: &[Text],
+    files: &mut MockFs,
+) -> Result<Document, Stop>
+    ensures document { IfOk result (λ d. Parses files.old (paths_of arguments.now) (Ok (map definition_tree d.definitions))) }
+    ensures ordered { IfOk result (λ d. IsOrdered (map definition_tree d.definitions)) }
+    ensures closed { IfOk result (λ d. IsClosed (map definition_tree d.definitions)) }
+    ensures stopped { IfErr result (StopsWith (ParsingFails files.old (paths_of arguments.now))) }
+    ensures kept { OnOk result (files.new ≡ files.old) }
+{
+    let paths = paths_of(alloc, arguments)?;
+    match parsed_bundle(alloc, paths.as_slice(), files) {
+        Ok(document) => Ok(document),
+        Err(error) => Err(text_stop(alloc, files, &error)),
+    }
+}
+
+/// The end of a run whose files mean no document.
+fn text_stop(alloc: Global, files: &mut MockFs, error: &WitxError) -> Stop
+    ensures { StopsWith (IsTextReport files.old error.now) result }
+{
+    match text_report(alloc, files, error) {
+        Ok(report) => Stop::Refused(Refusal::Command(report)),
+        Err(_) => Stop::OutOfMemory,
     }
 }

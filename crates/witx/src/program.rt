@@ -1,4 +1,4 @@
-ghost use Rattle.std.specs.Prelude.{◌≡◌, ◌<◌, ◌≤◌, ◌+◌, ◌⊎◌, ℕ, List, Option, All, None, Some, Ok, Err, IfErr, IfOk, IfSome, OnOk, IsSome, map, false, ◌==◌, if◌then◌else◌};
+ghost use Rattle.std.specs.Prelude.{◌≡◌, ◌<◌, ◌≤◌, ◌+◌, ◌⊎◌, ℕ, List, [], Option, All, None, Some, Ok, Err, IfErr, IfOk, IfSome, OnOk, IsSome, map, false, ◌==◌, if◌then◌else◌};
 ghost use Rattle.std.specs.Io.KnownBytes.{Appends};
 ghost use Rattle.witx_base.specs.Causes.{Rose};
 ghost use Rattle.witx_bundle.specs.Bundles.{IsRead};
@@ -6,7 +6,7 @@ ghost use Rattle.witx_bundle.specs.declared.error.BundleError.{BundleError};
 ghost use Rattle.witx_adapt.specs.Entries.{IsFaithful, all_functions, entry_for, entry_of};
 ghost use Rattle.witx_layout.specs.Layouts.{all_layouts};
 ghost use Rattle.witx_adapt.specs.declared.adapted.Adapted.{Adapted};
-ghost use Rattle.witx.specs.Words.{IsAdapting, IsBounded, IsReading, adapted_paths, arguments_of, bundle_bytes, command_of, reads_source};
+ghost use Rattle.witx.specs.Words.{IsAdapting, IsBounded, IsNoting, IsReading, adapted_paths, arguments_of, bundle_bytes, command_of, reads_source};
 ghost use Rattle.witx.specs.Streams.{Finished, TookPrefix};
 ghost use Rattle.witx.specs.Texts.{IsRefused, status_of, text_of};
 ghost use Rattle.witx.specs.Adapting.{defined};
@@ -15,13 +15,13 @@ ghost use Rattle.witx_files.specs.Files.{Files};
 ghost use Rattle.witx.specs.declared.words.Command.{Command};
 ghost use Rattle.witx.specs.Causes.{Cause, FilesCause, IsAnswered, IsCause, IsMeaning, IsTold, IsValidFor, Reads, StopCause, adapted_text, input_of, run_input};
 
-use crate::commands::{Output, perform};
+use crate::commands::perform;
 use crate::input::{InputError, READS, read_bundle};
 use crate::laws::{output_or_refusal, valid_is_not_refused};
-use crate::output::put_text;
+use crate::output::{Output, put_both};
 use crate::refusal::{Refusal, Stop};
 use crate::refused::put_refusal;
-use crate::status::{DONE, NO_MEMORY, UNWRITTEN};
+use crate::status::{DONE, NO_MEMORY};
 use crate::words::{Command, arguments_of, command_of};
 use std::alloc::Global;
 use witx_adapt::Adapted;
@@ -40,7 +40,8 @@ pub struct Ran {
 }
 
 /// The program: reads the words, then the source where the command works on it, and writes what the
-/// command asks for on `out` or what is refused on `err`.
+/// command asks for on `out` or what is refused on `err`; `docs` then notes on `err` which links of the
+/// page lead nowhere.
 ///
 /// With `adapt` it ends with status 0 only having written the listing of the document that the texts
 /// mean and each function's caller and callee traces. On the machine, given unused nonzero addresses,
@@ -54,9 +55,9 @@ pub fn run<S: Source, O: Sink, E: Sink>(
     out: &mut O,
     err: &mut E,
 ) -> Ran
-    ensures done { result.status ≡ 0 → (text : List ℕ)
-        × IsAnswered (input_of words.now S.left S.faults source.old source.new) text result.adapted
-        × Appends (O.taken out.old) (O.taken out.new) text × (err.new ≡ err.old) }
+    ensures done { result.status ≡ 0 → (text : List ℕ) × (notes : List ℕ)
+        × IsAnswered (input_of words.now S.left S.faults source.old source.new) text notes result.adapted
+        × Appends (O.taken out.old) (O.taken out.new) text × Appends (E.taken err.old) (E.taken err.new) notes × (notes ≡ [] → err.new ≡ err.old) }
     ensures listing { IfSome result.adapted (λ a. Appends (O.taken out.old) (O.taken out.new) (adapted_text (command_of words.now) a)) }
     ensures document { let form = command_of words.now in
         IfSome result.adapted (λ a. IsMeaning (bundle_bytes form (S.left source.old)) (adapted_paths form (arguments_of words.now)) (defined a)) }
@@ -75,15 +76,18 @@ pub fn run<S: Source, O: Sink, E: Sink>(
     ensures complete { (bytes : List ℕ) (files : Files) (c : Command) → bundle_bytes (command_of words.now) (S.left source.old) ≡ Some bytes
         → IsRead bytes (Ok files) → command_of words.now ≡ Some c → IsValidFor c files (arguments_of words.now)
         → (Rose (S.faults source.old) (S.faults source.new) → ⊥) → (Rose (O.faults out.old) (O.faults out.new) → ⊥)
-        → (result.status ≡ 0) ⊎ (result.status ≡ 5) }
+        → (IsNoting (command_of words.now) → Rose (E.faults err.old) (E.faults err.new) → ⊥) → (result.status ≡ 0) ⊎ (result.status ≡ 5) }
     ensures refused { (bytes : List ℕ) (files : Files) (c : Command) (report : List ℕ)
         → bundle_bytes (command_of words.now) (S.left source.old) ≡ Some bytes → IsRead bytes (Ok files) → command_of words.now ≡ Some c
         → CommandRefuses c files (arguments_of words.now) report → (Rose (S.faults source.old) (S.faults source.new) → ⊥) → IsRefused 1 result.status }
     ensures source_failed { S.faults source.old < S.faults source.new → IsRefused 3 result.status }
     ensures unwritten { result.status ≡ 4 →
-        (Rose (O.faults out.old) (O.faults out.new) × (err.new ≡ err.old) × (text : List ℕ) × (adapted : Option Adapted)
-        × IsAnswered (input_of words.now S.left S.faults source.old source.new) text adapted
-        × TookPrefix (O.taken out.old) (O.taken out.new) text)
+        (Rose (O.faults out.old) (O.faults out.new) × (err.new ≡ err.old) × (text : List ℕ) × (notes : List ℕ) × (adapted : Option Adapted)
+        × IsAnswered (input_of words.now S.left S.faults source.old source.new) text notes adapted
+        × (TookPrefix (O.taken out.old) (O.taken out.new) text × (text ≡ [] → ⊥)))
+        ⊎ (Rose (E.faults err.old) (E.faults err.new) × (text : List ℕ) × (notes : List ℕ) × (adapted : Option Adapted) × (notes ≡ [] → ⊥)
+        × IsAnswered (input_of words.now S.left S.faults source.old source.new) text notes adapted
+        × Appends (O.taken out.old) (O.taken out.new) text × TookPrefix (E.taken err.old) (E.taken err.new) notes)
         ⊎ (Rose (E.faults err.old) (E.faults err.new) × (out.new ≡ out.old) × (r : Refusal)
         × Cause (input_of words.now S.left S.faults source.old source.new) r
         × TookPrefix (E.taken err.old) (E.taken err.new) (text_of r)) }
@@ -98,7 +102,7 @@ pub fn run<S: Source, O: Sink, E: Sink>(
     output_or_refusal();
     valid_is_not_refused();
     match prepare(alloc, words, source) {
-        Ok(output) => put_output(output, out),
+        Ok(output) => put_output(output, out, err),
         Err(Stop::Refused(refusal)) => Ran {
             status: put_refusal(alloc, &refusal, err),
             adapted: None,
@@ -112,7 +116,7 @@ pub fn run<S: Source, O: Sink, E: Sink>(
 
 /// What a run is to write, by its words and its source.
 fn prepare<S: Source>(alloc: Global, words: &[Text], source: &mut S) -> Result<Output, Stop>
-    ensures answered { IfOk result (λ o. IsAnswered (input_of words.now S.left S.faults source.old source.new) o.text o.adapted) }
+    ensures answered { IfOk result (λ o. IsAnswered (input_of words.now S.left S.faults source.old source.new) o.text o.notes o.adapted) }
     ensures stopped { IfErr result (StopCause (input_of words.now S.left S.faults source.old source.new)) }
     ensures usage { command_of words.now ≡ None → result ≡ Err (Stop.Refused Refusal.Usage) }
     ensures nothing_read { reads_source (command_of words.now) ≡ false → source.new ≡ source.old }
@@ -132,7 +136,7 @@ fn prepare_command<S: Source>(
     source: &mut S,
 ) -> Result<Output, Stop>
     requires { IsBounded command }
-    ensures answered { IfOk result (λ o. IsAnswered (run_input (Some command) arguments.now S.left S.faults source.old source.new) o.text o.adapted) }
+    ensures answered { IfOk result (λ o. IsAnswered (run_input (Some command) arguments.now S.left S.faults source.old source.new) o.text o.notes o.adapted) }
     ensures stopped { IfErr result (StopCause (run_input (Some command) arguments.now S.left S.faults source.old source.new)) }
     ensures nothing_read { reads_source (Some command) ≡ false → source.new ≡ source.old }
     ensures later { S.faults source.old ≤ S.faults source.new }
@@ -165,7 +169,10 @@ fn files_for<S: Source>(
 {
     match command {
         Command::Adapt => read_bundle(alloc, source),
+        Command::Print => read_bundle(alloc, source),
         Command::Layouts => read_bundle(alloc, source),
+        Command::Docs => read_bundle(alloc, source),
+        Command::Polyfill => read_bundle(alloc, source),
         Command::Sample { functions } => match sample_files(alloc, functions) {
             Ok(files) => Ok(files),
             Err(_) => Err(InputError::OutOfMemory),
@@ -174,30 +181,24 @@ fn files_for<S: Source>(
 }
 
 /// Writes an output, and keeps its value where it was written whole.
-fn put_output<O: Sink>(output: Output, out: &mut O) -> Ran
+fn put_output<O: Sink, E: Sink>(output: Output, out: &mut O, err: &mut E) -> Ran
     ensures status { (result.status ≡ 0) ⊎ (result.status ≡ 4) }
-    ensures done { result.status ≡ 0 → Appends (O.taken out.old) (O.taken out.new) output.text }
+    ensures done { result.status ≡ 0 → Appends (O.taken out.old) (O.taken out.new) output.text × Appends (E.taken err.old) (E.taken err.new) output.notes }
     ensures adapted { result.adapted ≡ (if result.status == 0 then output.adapted else None) }
-    ensures unwritten { result.status ≡ 4 → Rose (O.faults out.old) (O.faults out.new) × TookPrefix (O.taken out.old) (O.taken out.new) output.text }
-    ensures failed { O.faults out.old < O.faults out.new → result.status ≡ 4 }
-    ensures later { O.faults out.old ≤ O.faults out.new }
+    ensures unwritten { result.status ≡ 4 →
+        (Rose (O.faults out.old) (O.faults out.new) × (TookPrefix (O.taken out.old) (O.taken out.new) output.text × (output.text ≡ [] → ⊥))
+        × (err.new ≡ err.old))
+        ⊎ (Rose (E.faults err.old) (E.faults err.new) × TookPrefix (E.taken err.old) (E.taken err.new) output.notes × (output.notes ≡ [] → ⊥)
+        × Appends (O.taken out.old) (O.taken out.new) output.text) }
+    ensures untouched { output.notes ≡ [] → err.new ≡ err.old }
+    ensures out_failed { O.faults out.old < O.faults out.new → result.status ≡ 4 }
+    ensures err_failed { E.faults err.old < E.faults err.new → result.status ≡ 4 }
+    ensures out_later { O.faults out.old ≤ O.faults out.new }
+    ensures err_later { E.faults err.old ≤ E.faults err.new }
 {
-    let status = put_whole(out, output.text.as_str());
+    let status = put_both(out, err, output.text.as_str(), output.notes.as_str());
     Ran {
         status,
         adapted: if status == DONE { output.adapted } else { None },
-    }
-}
-
-/// Writes a text, and answers 0, or 4 where the sink failed.
-fn put_whole<O: Sink>(out: &mut O, text: &str) -> u8
-    ensures status { (result ≡ 0) ⊎ (result ≡ 4) }
-    ensures done { result ≡ 0 → Appends (O.taken out.old) (O.taken out.new) text.now × (O.faults out.new ≡ O.faults out.old) }
-    ensures unwritten { result ≡ 4 → Rose (O.faults out.old) (O.faults out.new) × TookPrefix (O.taken out.old) (O.taken out.new) text.now }
-    ensures later { O.faults out.old ≤ O.faults out.new }
-{
-    match put_text(out, text) {
-        Ok(()) => DONE,
-        Err(_) => UNWRITTEN,
     }
 }

@@ -1,4 +1,5 @@
 ghost use Rattle.std.specs.Prelude.{◌≡◌, ◌++◌, IfOk, codes};
+ghost use Rattle.witx.specs.Stops.{StopsWith};
 ghost use Rattle.witx.specs.Texts.{line, status_of, text_of};
 
 use crate::status::{NO_BUNDLE, NO_FORM, REFUSED, UNREAD};
@@ -39,7 +40,14 @@ impl Refusal {
         match self {
             Refusal::Usage => Text::new(
                 alloc,
-                "usage: witx adapt PATH..\n       witx layouts PATH..\n       witx sample N\n",
+                "\
+usage: witx adapt PATH..
+       witx print PATH..
+       witx layouts PATH..
+       witx docs PATH..
+       witx polyfill NEW OLD [NEWMODULE OLDMODULE]..
+       witx sample N
+",
             ),
             Refusal::Source => Text::new(alloc, "witx: cannot read input\n"),
             Refusal::Bundle(error) => bundle_text(alloc, *error),
@@ -83,5 +91,15 @@ impl From<OutOfMemory> for Stop {
 
     fn from(_: OutOfMemory) -> Stop {
         Stop::OutOfMemory
+    }
+}
+
+/// The end of a run where a number is too large to be shown.
+pub fn too_large(alloc: Global) -> Stop
+    ensures { StopsWith (λ report. report ≡ codes "size too large") result }
+{
+    match Text::new(alloc, "size too large") {
+        Ok(report) => Stop::Refused(Refusal::Command(report)),
+        Err(_) => Stop::OutOfMemory,
     }
 }

@@ -1,6 +1,6 @@
-ghost use Rattle.std.specs.Prelude.{◌≡◌, IfOk, IfSome, slice_index, true, false};
+ghost use Rattle.std.specs.Prelude.{◌≡◌, IfOk, IfSome, is_some, slice_index, take, true, false};
 ghost use Rattle.std.specs.Int.{IsInRange};
-ghost use Rattle.witx.specs.Words.{IsBounded, arguments_of, command_called, command_of, paths_of, sample_called, sample_of};
+ghost use Rattle.witx.specs.Words.{IsBounded, arguments_of, command_called, command_of, paths_of, polyfill_of, sample_called, sample_of};
 
 use std::alloc::Global;
 use witx_base::{Items, OutOfMemory, Text, WitxPath};
@@ -11,8 +11,14 @@ use witx_sample::LARGEST_SAMPLE;
 pub enum Command {
     /// The listing of the adapted document.
     Adapt,
+    /// The printed document.
+    Print,
     /// The layouts of the typenames.
     Layouts,
+    /// The page of the document, in Markdown, and a note for each of its missing links.
+    Docs,
+    /// The report on the modules of an old file in terms of those of a new one.
+    Polyfill,
     /// The summary of the sample of so many functions.
     Sample { functions: usize },
 }
@@ -28,6 +34,13 @@ pub fn command_of(words: &[Text]) -> Option<Command>
     command_called(words[0].as_str(), &words[1..])
 }
 
+/// Whether the words of a command line have a form.
+pub fn has_form(words: &[Text]) -> bool
+    ensures { result ≡ is_some (command_of words.now) }
+{
+    command_of(words).is_some()
+}
+
 #[tactic(auto, unfolding(witx_base::specs::Texts::same_text))]
 fn command_called(word: &str, arguments: &[Text]) -> Option<Command>
     ensures command { result ≡ command_called word.now arguments.now }
@@ -36,11 +49,31 @@ fn command_called(word: &str, arguments: &[Text]) -> Option<Command>
     if word == "adapt" {
         return Some(Command::Adapt);
     }
+    if word == "print" {
+        return Some(Command::Print);
+    }
     if word == "layouts" {
         return Some(Command::Layouts);
     }
+    if word == "docs" {
+        return Some(Command::Docs);
+    }
+    if word == "polyfill" {
+        return polyfill_of(arguments);
+    }
     if word == "sample" {
         return sample_of(arguments);
+    }
+    None
+}
+
+/// The report on two files, by the pairs of names behind them.
+fn polyfill_of(arguments: &[Text]) -> Option<Command>
+    ensures command { result ≡ polyfill_of arguments.now }
+    ensures bounded { IfSome result IsBounded }
+{
+    if 2 <= arguments.len() && arguments.len() % 2 == 0 {
+        return Some(Command::Polyfill);
     }
     None
 }
@@ -93,6 +126,13 @@ pub fn arguments_of(words: &[Text]) -> &[Text]
         return words;
     }
     &words[1..]
+}
+
+/// The first word, where there is one.
+pub fn first_of(words: &[Text]) -> &[Text]
+    ensures { result.now ≡ take 1 words.now }
+{
+    &words[..words.len().min(1)]
 }
 
 /// The paths that words spell.

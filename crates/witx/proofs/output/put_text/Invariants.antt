@@ -1,4 +1,4 @@
-use Rattle.std.proofs.Common.{length, ◌-◌, ◌≡◌, ◌≤◌, take}
+use Rattle.std.proofs.Common.{length, ◌-◌, ◌≡◌, ◌≤◌, [], take}
 use Rattle.std.specs.Io.KnownBytes.{Appends}
 use Rattle.witx.proofs.output.put_text.Given as goal
 
@@ -7,6 +7,7 @@ invariant-loop-at g l = record {
   wrote : Appends (g.K.Sink.taken l.initial.sink) (g.K.Sink.taken l.sink) (take l.at l.bytes);
   within : l.at ≤ length l.bytes;
   no_fault : g.K.Sink.faults l.sink ≡ g.K.Sink.faults l.initial.sink;
+  untouched : l.bytes ≡ [] → l.sink ≡ l.initial.sink;
 }
 
 abbrev pub decreases-loop-at : goal.decreases-loop-at
