@@ -11,6 +11,14 @@ use witx_layout::Layout;
 /// A byte of an image that stands for padding.
 const PAD: u16 = 256;
 
+/// Where images are read, and where copies are written and read: across an address that is a multiple of
+/// 256, behind a byte of which nothing is copied.
+const IMAGE: u32 = 16;
+
+const BEFORE: u32 = 510;
+
+const COPY: u32 = 511;
+
 /// A variant of five bytes, and of a word.
 const UNEVEN: &str = "\
 (typename $bytes (record (field $a u8) (field $b u8) (field $c u8) (field $d u8) (field $e u8)))
@@ -251,28 +259,35 @@ fn has_no_value(alloc: Global, memory: &ByteMemory, at: u32, ty: &TypeRef) -> bo
     matches!(found(alloc, memory, at, ty), Some(Err(ReadError::NoValue)))
 }
 
-/// Writes at 80 what is read at 16, where two ranges were filled with other bytes.
+fn reads_again(alloc: Global, memory: &ByteMemory, ty: &TypeRef, value: &Value) -> bool {
+    match found(alloc, memory, COPY, ty) {
+        Some(Ok(again)) => again == *value,
+        _ => false,
+    }
+}
+
+/// Writes at `COPY` what is read at `IMAGE`, where two ranges were filled with other bytes.
 fn is_copied(alloc: Global, memory: &mut ByteMemory, ty: &TypeRef, image: &[u16]) -> bool {
-    let Some(Ok(value)) = found(alloc, memory, 16, ty) else {
+    let Some(Ok(value)) = found(alloc, memory, IMAGE, ty) else {
         return false;
     };
-    if !written(memory, 80, ty, &value) {
+    if !written(memory, COPY, ty, &value) || !reads_again(alloc, memory, ty, &value) {
         return false;
     }
-    match end_of(memory, 80, image, 0x55) {
-        Some(end) => memory.byte(79) == Some(0x55) && memory.byte(end) == Some(0x55),
+    match end_of(memory, COPY, image, 0x55) {
+        Some(end) => memory.byte(BEFORE) == Some(0x55) && memory.byte(end) == Some(0x55),
         None => false,
     }
 }
 
-/// A memory with one image at 16, and 0x55 at the bytes from 79 on.
+/// A memory with one image at `IMAGE`, and 0x55 at the bytes around `COPY`.
 fn prepared(alloc: Global, image: &[u16]) -> Option<ByteMemory> {
     let unit = typename_of(alloc, "(typename $t u8)")?;
     let mut memory = ByteMemory::new(alloc);
-    memory.place(16, 20).ok()?;
-    memory.place(79, 20).ok()?;
-    if fill(&mut memory, &unit.tref, 16, image, 0xEE)
-        && fill(&mut memory, &unit.tref, 79, &[PAD; 20], 0x55)
+    memory.place(IMAGE, 20).ok()?;
+    memory.place(BEFORE, 20).ok()?;
+    if fill(&mut memory, &unit.tref, IMAGE, image, 0xEE)
+        && fill(&mut memory, &unit.tref, BEFORE, &[PAD; 20], 0x55)
     {
         Some(memory)
     } else {
@@ -284,9 +299,9 @@ fn is_image(alloc: Global, text: &str, image: &[u16], wanted: &str) -> Option<bo
     let named = typename_of(alloc, text)?;
     let mut memory = prepared(alloc, image)?;
     Some(
-        reads(alloc, &memory, 16, &named.tref, wanted)
+        reads(alloc, &memory, IMAGE, &named.tref, wanted)
             && is_copied(alloc, &mut memory, &named.tref, image)
-            && end_of(&memory, 16, image, 0xEE).is_some(),
+            && end_of(&memory, IMAGE, image, 0xEE).is_some(),
     )
 }
 
@@ -337,7 +352,7 @@ static NO_VALUES: &[(&str, &[u16])] = &[
 fn spells_nothing(alloc: Global, text: &str, image: &[u16]) -> Option<bool> {
     let named = typename_of(alloc, text)?;
     let memory = prepared(alloc, image)?;
-    Some(has_no_value(alloc, &memory, 16, &named.tref))
+    Some(has_no_value(alloc, &memory, IMAGE, &named.tref))
 }
 
 fn none_spelled(alloc: Global) -> bool {
@@ -507,6 +522,13 @@ static NUMBERS: &[(&str, BuiltinType, i128, bool)] = &[
     ("(typename $t (handle))", BuiltinType::U16, 1, false),
 ];
 
+/// Values are told apart by what they are, and not by their number alone.
+fn are_told_apart() -> bool {
+    Value::Handle(1) == Value::Handle(1)
+        && Value::Handle(1) != Value::Pointer(1)
+        && Value::Handle(1) != Value::Handle(2)
+}
+
 fn all_are_values(alloc: Global) -> bool {
     for (text, kind, number, wanted) in NUMBERS {
         let value = Value::Num(*kind, *number);
@@ -519,5 +541,5 @@ fn all_are_values(alloc: Global) -> bool {
 
 #[test]
 fn values_of_types(rt: HostRuntime) {
-    assert!(rt; all_are_values(rt.alloc()));
+    assert!(rt; all_are_values(rt.alloc()) && are_told_apart());
 }

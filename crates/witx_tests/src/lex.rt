@@ -243,6 +243,49 @@ fn reads_long_texts(rt: HostRuntime) {
     assert!(rt; all_end(rt.alloc(), LONG));
 }
 
+/// A block comment in another, and a string with each kind of escape.
+const CUT: &str = "(;a(;b;)c;)\"x\\t\\u{1f}\\41\"";
+
+/// How many fronts of that text, from the empty one on, have which fault, if they have one.
+static FRONTS: &[(usize, &str)] = &[
+    (2, ""),
+    (9, "UnterminatedComment 0"),
+    (1, ""),
+    (2, "UnterminatedString 11"),
+    (1, "BadEscape 13"),
+    (1, "UnterminatedString 11"),
+    (5, "BadEscape 15"),
+    (1, "UnterminatedString 11"),
+    (2, "BadEscape 21"),
+    (1, "UnterminatedString 11"),
+    (1, ""),
+];
+
+fn front_ends_as(alloc: Global, len: usize, fault: &str) -> bool {
+    match CUT.get(..len) {
+        Some(front) => ends_as(alloc, front, fault),
+        None => false,
+    }
+}
+
+fn all_fronts_end(alloc: Global) -> bool {
+    let mut len = 0usize;
+    for (times, fault) in FRONTS {
+        for _ in 0..*times {
+            if !front_ends_as(alloc, len, fault) {
+                return false;
+            }
+            len = len.saturating_add(1);
+        }
+    }
+    len > CUT.len()
+}
+
+#[test]
+fn cut_at_each_byte(rt: HostRuntime) {
+    assert!(rt; all_fronts_end(rt.alloc()));
+}
+
 /// A text, the place of a byte, and its line and column.
 static PLACES: &[(&str, usize, (usize, usize))] = &[
     ("", 0, (1, 1)),

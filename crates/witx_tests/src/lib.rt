@@ -39,7 +39,15 @@ mod files;
 #[cfg(test)]
 mod fixtures;
 #[cfg(test)]
+mod generated;
+#[cfg(test)]
 mod grammar;
+#[cfg(test)]
+mod hostile;
+#[cfg(test)]
+mod import_faults;
+#[cfg(test)]
+mod imports;
 #[cfg(test)]
 mod layout;
 #[cfg(test)]
@@ -47,11 +55,25 @@ mod lex;
 #[cfg(test)]
 mod limits;
 #[cfg(test)]
+mod pages;
+#[cfg(test)]
+mod read_back;
+#[cfg(test)]
+mod refused;
+#[cfg(test)]
 mod render;
 #[cfg(test)]
 mod run;
 #[cfg(test)]
+mod run_docs;
+#[cfg(test)]
+mod run_polyfill;
+#[cfg(test)]
+mod run_print;
+#[cfg(test)]
 mod run_sample;
+#[cfg(test)]
+mod shim;
 #[cfg(test)]
 mod stored;
 #[cfg(test)]
@@ -62,5 +84,7 @@ mod surface;
 mod syntax;
 #[cfg(test)]
 mod tree;
+#[cfg(test)]
+mod verify;
 #[cfg(test)]
 mod walk;

@@ -9,7 +9,7 @@ use witx_render::{SExpr, document_text};
 
 /// Texts, and what their documents print as.
 #[rattlefmt::skip]
-const PRINTED: [(&str, &str); 18] = [
+const PRINTED: [(&str, &str); 20] = [
     (
         "",
         "",
@@ -112,6 +112,15 @@ const PRINTED: [(&str, &str); 18] = [
         (typename $r (variant (@witx tag u32) (case $ok) (case $err $e)))\n\
         (module $m (@interface func (export \"f\") (param $x u8) (param $y (list char)) (result $r $r) \
         (@witx noreturn) (@witx stored)))\n",
+    ),
+    // A variant without payloads prints as an enum, whatever its names.
+    (
+        "(typename $v (variant (@witx tag u8) (case $x) (case $y)))",
+        "(typename $v (enum (@witx tag u8) $x $y))\n",
+    ),
+    (
+        "(typename $x (expected (error)))",
+        "(typename $x (enum (@witx tag u32) $ok $err))\n",
     ),
     // Imports stand before functions, typenames before modules; constants are not printed.
     (

@@ -75,7 +75,10 @@ callee
 
 pub const USAGE: &str = "\
 usage: witx adapt PATH..
+       witx print PATH..
        witx layouts PATH..
+       witx docs PATH..
+       witx polyfill NEW OLD [NEWMODULE OLDMODULE]..
        witx sample N
 ";
 

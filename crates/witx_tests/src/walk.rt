@@ -388,6 +388,23 @@ const READINGS: &[Reading] = &[
         &["/a", "/a", "/b", "/b", "/d", "/d", "/c", "/c", "/d"],
         "1 definitions",
     ),
+    (
+        &[
+            ("/root.witx", "(use \"subdir/child.witx\")"),
+            ("/subdir/child.witx", "(use \"sibling.witx\")(typename $b_float f64)"),
+            ("/subdir/sibling.witx", "(typename $c_int u32)"),
+        ],
+        &["/root.witx"],
+        &[
+            "/root.witx",
+            "/root.witx",
+            "/subdir/child.witx",
+            "/subdir/child.witx",
+            "/subdir/sibling.witx",
+            "/subdir/sibling.witx",
+        ],
+        "2 definitions",
+    ),
 ];
 
 /// Whether the failure of a call is told with its path.

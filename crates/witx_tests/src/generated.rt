@@ -1,0 +1,162 @@
+//! What is shown of each type of an interface, added to a tree by hand: the ids of all nodes, in the order
+//! of their numbers.
+
+use crate::pages::add;
+use std::alloc::{AllocError, Global};
+use witx::parse;
+use witx_ast::{Datatype, Document, InterfaceFunc, Module, NamedType};
+use witx_base::OutOfMemory;
+use witx_docs::{MdContent, MdFunc, MdHeading, MdNamedType, MdSection, MdTree, ToMarkdown};
+
+const TEXT: &str = r#"
+(typename $r (record (field $x u8) (field $pair (tuple u8 u8))))
+(typename $v (variant (case $a u8) (case $b)))
+(typename $h (handle))
+(module $m
+    (import "memory" (memory))
+    (@interface func (export "f")
+        ;;; In.
+        (param $p $r)
+        (result $q u8)))"#;
+
+const OF_RECORD: &str = " - n - n.x n.pair - n.pair.0 n.pair.1";
+
+const OF_VARIANT: &str = " - n - - - - - n.a n.b";
+
+const OF_HANDLE: &str = " - n -";
+
+const OF_IMPORT: &str = " - -";
+
+const OF_FUNC: &str = " - f - f.p - f.q";
+
+const OF_PARAM: &str = " - n";
+
+const OF_MODULE: &str = " - - - - - f - f.p - f.q";
+
+const OF_DOCUMENT: &str =
+    " - - - r - r.x r.pair - r.pair.0 r.pair.1 v - - - - - v.a v.b h - - m - - - f - f.p - f.q";
+
+fn section(alloc: Global) -> Result<MdContent, OutOfMemory> {
+    let section = MdSection::new(alloc, MdHeading::new_header(1), "Part")?;
+    Ok(MdContent::Section(section))
+}
+
+fn named(alloc: Global) -> Result<MdContent, OutOfMemory> {
+    let named = MdNamedType::new(alloc, MdHeading::new_bullet(), "n", "n", "Was.\n")?;
+    Ok(MdContent::Named(named))
+}
+
+fn func(alloc: Global) -> Result<MdContent, OutOfMemory> {
+    let func = MdFunc::new(alloc, MdHeading::new_header(1), "f", "f", "")?;
+    Ok(MdContent::Func(func))
+}
+
+fn put_ids(out: &mut String, tree: &MdTree) -> Result<(), AllocError> {
+    for node in 0..tree.len() {
+        out.push(' ')?;
+        out.push_str(tree.content(node).id().unwrap_or("-"))?;
+    }
+    Ok(())
+}
+
+fn has_ids(alloc: Global, tree: &MdTree, wanted: &str) -> bool {
+    let mut out = String::new(alloc);
+    put_ids(&mut out, tree).is_ok() && out.as_str() == wanted
+}
+
+/// A tree of a root and this content, with what is shown of a type.
+fn grown<M: ToMarkdown>(alloc: Global, shown: &M, content: MdContent) -> Option<MdTree> {
+    let mut tree = MdTree::new(alloc).ok()?;
+    add(&mut tree, 0, content).ok()?;
+    if tree.len() != 2 {
+        return None;
+    }
+    shown.generate(&mut tree, 1).ok()?;
+    Some(tree)
+}
+
+fn shows<M: ToMarkdown>(
+    alloc: Global,
+    shown: &M,
+    content: Result<MdContent, OutOfMemory>,
+    wanted: &str,
+) -> bool {
+    let Ok(content) = content else {
+        return false;
+    };
+    match grown(alloc, shown, content) {
+        Some(tree) => has_ids(alloc, &tree, wanted),
+        None => false,
+    }
+}
+
+fn parts_show(alloc: Global, datatype: &Datatype, wanted: &str) -> bool {
+    match datatype {
+        Datatype::Record(record) => shows(alloc, record, named(alloc), wanted),
+        Datatype::Variant(variant) => shows(alloc, variant, named(alloc), wanted),
+        Datatype::Handle(handle) => shows(alloc, handle, named(alloc), wanted),
+        _ => false,
+    }
+}
+
+fn type_shows(alloc: Global, typename: &NamedType, wanted: &str) -> bool {
+    shows(alloc, typename, named(alloc), wanted)
+        && shows(alloc, &typename.tref, named(alloc), wanted)
+        && shows(alloc, &**typename.type_(), named(alloc), wanted)
+        && parts_show(alloc, typename.type_(), wanted)
+}
+
+fn types_show(alloc: Global, document: &Document) -> bool {
+    let wanted = [OF_RECORD, OF_VARIANT, OF_HANDLE];
+    for (typename, wanted) in document.typenames().zip(wanted.iter()) {
+        if !type_shows(alloc, typename, wanted) {
+            return false;
+        }
+    }
+    true
+}
+
+fn func_shows(alloc: Global, function: &InterfaceFunc) -> bool {
+    shows(alloc, function, func(alloc), OF_FUNC)
+        && function
+            .params
+            .get(0)
+            .is_some_and(|param| shows(alloc, param, named(alloc), OF_PARAM))
+}
+
+fn import_shows(alloc: Global, module: &Module) -> bool {
+    match module.imports().next() {
+        Some(import) => shows(alloc, &**import, section(alloc), OF_IMPORT),
+        None => false,
+    }
+}
+
+fn module_shows(alloc: Global, module: &Module) -> bool {
+    let func_shows = match module.funcs().next() {
+        Some(function) => func_shows(alloc, function),
+        None => false,
+    };
+    func_shows && import_shows(alloc, module) && shows(alloc, module, section(alloc), OF_MODULE)
+}
+
+fn document_shows(alloc: Global, document: &Document) -> bool {
+    let module_shows = match document.modules().next() {
+        Some(module) => module_shows(alloc, module),
+        None => false,
+    };
+    module_shows
+        && types_show(alloc, document)
+        && shows(alloc, document, section(alloc), OF_DOCUMENT)
+}
+
+fn all_show(alloc: Global) -> bool {
+    let Ok(document) = parse(alloc, TEXT) else {
+        return false;
+    };
+    document_shows(alloc, &document)
+}
+
+#[test]
+fn what_is_shown_of_each_type(rt: HostRuntime) {
+    assert!(rt; all_show(rt.alloc()));
+}
