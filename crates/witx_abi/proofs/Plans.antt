@@ -49,10 +49,6 @@ length-events : (plan : List Planned) → length (planned_events plan) ≡ lengt
 length-events [] = refl
 length-events (p ∷ plan) = ap suc (length-events plan)
 
--- all events of the plan were told
-pub told-all : (plan : List Planned) (i : ℕ) (before now : Option (List Event)) → length plan ≤ i → now ≡ after before (take i (planned_events plan)) → now ≡ after before (planned_events plan)
-told-all plan i before now l n = let e = length-events plan in n ∙ ap (after before) (take-all i (planned_events plan) (omega arith))
-
 take-none : (k : ℕ) (es : List Event) → es ≡ [] → take k es ≡ []
 take-none zero [] e = refl
 take-none (suc k) [] e = refl
@@ -68,20 +64,6 @@ front-next plan i p before now later l e n h = go h.0 h.1
     go : (k : ℕ) → later ≡ after now (take k (planned_event p ∷ [])) → TellsFront (planned_events plan) before later
     go zero m = (i, m ∙ sym (told-none now) ∙ n)
     go (suc k) m = (i + 1, told-next plan i p before now later l e n (m ∙ ap (λ es. after now (planned_event p ∷ es)) (take-none k [] refl)))
-
--- the operands of the next event are at hand
-pub ready-now : (plan : List Planned) (i n : ℕ) (p : Planned) → i < length plan → p ≡ get_or plan i p → IsSome (heights (planned_events (drop i plan)) n) → IsSome (height_after (planned_event p) n)
-ready-now plan i n p l e h = go (height_after (planned_event p) n) (subst (λ ps. IsSome (heights (planned_events ps) n)) (drop-is plan i p l e) h)
-  where
-    go : (o : Option ℕ) → IsSome (option_and_then (λ m. heights (planned_events (drop (i + 1) plan)) m) o) → IsSome o
-    go (Some m) h = some-is m
-      where
-        some-is : (m : ℕ) → IsSome (Some m)
-        some-is m = search rules
-    go None h = h
-
-    drop-is : (plan : List Planned) (i : ℕ) (p : Planned) → i < length plan → p ≡ get_or plan i p → drop i plan ≡ p ∷ drop (i + 1) plan
-    drop-is plan i p l e = rw (drop_more plan i p l, ← e) refl
 
 pub ready-next : (plan : List Planned) (i n m : ℕ) (p : Planned) → i < length plan → p ≡ get_or plan i p → height_after (planned_event p) n ≡ Some m → IsSome (heights (planned_events (drop i plan)) n) → IsSome (heights (planned_events (drop (i + 1) plan)) m)
 ready-next plan i n m p l e a h = subst (λ o. IsSome (option_and_then (λ m. heights (planned_events (drop (i + 1) plan)) m) o)) a (subst (λ ps. IsSome (heights (planned_events ps) n)) (drop-is plan i p l e) h)

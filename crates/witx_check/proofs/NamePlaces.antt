@@ -13,7 +13,6 @@ use Rattle.witx_base.specs.Texts.{same_text}
 use Rattle.witx_ast.specs.declared.types.Case.{Case}
 use Rattle.witx_ast.specs.Tree.{Arm, arms_of}
 use Rattle.witx_ast.specs.Views.{case_arm}
-use Rattle.witx_ast.proofs.Trees.{tree-Case}
 use Rattle.witx_check.specs.Tags.{has_name, arm_names}
 use Rattle.witx_check.specs.Trees.{arm_called}
 use Rattle.witx_check.specs.NamePlaces.{place_in, case_or_bare, case_placed}
@@ -96,9 +95,6 @@ place-end names i n places x l e = let e1 = rw (drop_all i names l) at e in sym 
 pub ruleset place_rules = (place-next, place-end, has-places)
 
 -- ---- the case at the place of its name
-
-called-is : (c : Case) → (case_arm c).called ≡ c.name
-called-is c = ap (λ a. a.called) (tree-Case c)
 
 placed-pick : (t : Bool) (cs : List Case) (c : Case) (i : ℕ) (n : List ℕ) (p : Option ℕ) (a : Arm) → slice_get cs i ≡ Some c → case_placed cs p n ≡ a → case_placed cs (cond t (Some i) p) n ≡ cond t (case_arm c) a
 placed-pick true cs c i n p a g e = ap (λ o. case_or_bare o n) g

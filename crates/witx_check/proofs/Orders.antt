@@ -48,9 +48,6 @@ module _ {T : Type 0} (name_of : T → Option (List ℕ)) where
 
 -- ---- what a name denotes stands before
 
-same-typename : (n q t : List ℕ) → introduced (typename_of n Tree.handle t) ≡ Some q → n ≡ q
-same-typename n q t e = cc
-
 called : (before : List DefinitionTree) (n : List ℕ) (t : Tree) (docs q : List ℕ) → found (by_name introduced before) q ≡ Some (typename_of n t docs) → NamesStand before (Tree.named n t docs)
 called before n t docs q e =
     let own : n ≡ q = (let k = key-of introduced before q (typename_of n t docs) e in cc) in

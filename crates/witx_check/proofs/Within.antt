@@ -29,10 +29,6 @@ pub place-within : (old : Names) (es : List (List ℕ × Entry)) (place : ℕ �
 unfolding within
 place-within old es place n at = refl
 
-pub place-here : (s : Scope) (at : ℕ) → (here_of s).place at ≡ location_in s.text.now s.path.now at
-unfolding here_of
-place-here s at = refl
-
 -- the scope, with what it was made of
 pub here-is : (s : Scope) (old : Names) (es : List (List ℕ × Entry)) (text : List ℕ) (path : Path) (n : Name)
     → s.entries.now ≡ es → s.text.now ≡ text → s.path.now ≡ path

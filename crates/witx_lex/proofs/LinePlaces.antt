@@ -1,10 +1,10 @@
 -- The column of a place by the bytes behind the last line feed, and the place of an offset past the end.
-use Rattle.std.specs.Prelude.{◌≡◌, ℕ, ◌+◌, ◌-◌, Bool, List, length, take, min, not}
-use Rattle.std.proofs.Common.{sym, ap, arith, ◌∙◌}
-use Rattle.std.proofs.lemmas.List.{take_min, length-drop}
+use Rattle.std.specs.Prelude.{◌≡◌, ℕ, ◌+◌, ◌-◌, Bool, List, length, take, not}
+use Rattle.std.proofs.Common.{sym, ap, arith}
+use Rattle.std.proofs.lemmas.List.{length-drop}
 use Rattle.std.proofs.lemmas.List.Sums.{suffix_len-le-length}
-use Rattle.std.specs.List.{count_by, suffix_len, after_last}
-use Rattle.witx_lex.specs.Places.{is_line_feed, line_at, column_at}
+use Rattle.std.specs.List.{suffix_len, after_last}
+use Rattle.witx_lex.specs.Places.{is_line_feed, column_at}
 
 abbrev pub is_plain : ℕ → Bool
 is_plain b = not (is_line_feed b)
@@ -16,9 +16,3 @@ behind_last xs =
 
 pub column-is : (text : List ℕ) (at : ℕ) → column_at text at ≡ 1 + suffix_len is_plain (take at text)
 column-is text at = ap (λ (n : ℕ). 1 + n) (sym (behind_last (take at text)))
-
-pub line-at-end : (text : List ℕ) (at end : ℕ) → end ≡ min at (length text) → line_at text end ≡ line_at text at
-line-at-end text at end e = ap (λ (xs : List ℕ). 1 + count_by is_line_feed xs) (ap (λ (n : ℕ). take n text) e ∙ take_min at text)
-
-pub column-at-end : (text : List ℕ) (at end : ℕ) → end ≡ min at (length text) → column_at text end ≡ column_at text at
-column-at-end text at end e = ap (λ (xs : List ℕ). 1 + length (after_last is_line_feed xs)) (ap (λ (n : ℕ). take n text) e ∙ take_min at text)
