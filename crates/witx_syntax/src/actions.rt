@@ -11,15 +11,17 @@ pub mod items;
 pub mod parts;
 pub mod types;
 
-use crate::constructors::{boolean, builtin, handle, string, union_of};
+use crate::constructors::builtin;
+use crate::held::Listed;
 use crate::production::ProductionName as P;
 use crate::stack::{add_item, push};
-use crate::value::{BuiltinWord, Entries, Entry, Value};
+use crate::value::{BuiltinWord, Entries, Value};
 use std::alloc::Global;
 use witx_base::OutOfMemory;
 use witx_lex::Lexed;
 use witx_syntax_tree::{
-    BuiltinSyntax, CaseSyntax, Documented, FieldSyntax, IdSyntax, ModuleDeclSyntax, TypedefSyntax,
+    BuiltinSyntax, CaseSyntax, Documented, FieldSyntax, IdSyntax, ModuleDeclSyntax, TopLevelSyntax,
+    TypedefSyntax,
 };
 
 /// Puts a builtin word on top.
@@ -36,6 +38,16 @@ fn push_builtin<'a>(stack: &mut Vec<Value<'a>>, word: BuiltinSyntax) -> Result<(
     push(stack, Value::Type(builtin(word)))
 }
 
+/// Puts the empty list on top.
+fn push_nothing<'a, A: Listed<'a>>(
+    alloc: Global,
+    stack: &mut Vec<Value<'a>>,
+) -> Result<(), OutOfMemory>
+    ensures { IfOk result (λ _. stack_view stack.new.items ≡ A.list_seen [] ∷ stack_view stack.old.items) }
+{
+    push(stack, A::of_list(Vec::new(alloc)))
+}
+
 /// Puts on top that a function has no entries.
 fn push_no_entries<'a>(alloc: Global, stack: &mut Vec<Value<'a>>) -> Result<(), OutOfMemory>
     ensures { IfOk result (λ _. Made production.NoEntries [] stack.old.items stack.new.items) }
@@ -50,6 +62,8 @@ fn push_no_entries<'a>(alloc: Global, stack: &mut Vec<Value<'a>>) -> Result<(), 
 }
 
 /// Puts the value of a production, whose first token has the number `at`, in place of its parts.
+///
+/// No arm makes a value itself: a function pays at its entry for the size of all its locals.
 pub fn perform<'a>(
     alloc: Global,
     production: P,
@@ -61,7 +75,7 @@ pub fn perform<'a>(
     ensures { IfOk result (λ _. Made production (drop at (tokens_view tokens.now)) stack.old.items stack.new.items) }
 {
     match production {
-        P::NoItems => push(stack, Value::Items(Vec::new(alloc))),
+        P::NoItems => push_nothing::<Documented<'a, TopLevelSyntax<'a>>>(alloc, stack),
         P::MoreItems => items::more_items(alloc, tokens, at, stack),
         P::Use => items::use_of(stack),
         P::Typename => items::typename(stack),
@@ -94,8 +108,8 @@ pub fn perform<'a>(
         P::Char8 => push_builtin(stack, BuiltinSyntax::U8 { lang_c_char: true }),
         P::PlainType => Ok(()),
         P::Ident => types::ident(stack),
-        P::String => push(stack, Value::Type(string())),
-        P::Bool => push(stack, Value::Type(boolean())),
+        P::String => types::string(stack),
+        P::Bool => types::boolean(stack),
         P::TaggedEnum => types::tagged_enum(stack),
         P::Enum => types::plain_enum(stack),
         P::TaggedFlags => types::tagged_flags(stack),
@@ -103,41 +117,41 @@ pub fn perform<'a>(
         P::Record => types::record(stack),
         P::Tuple => types::tuple(stack),
         P::List => types::list(alloc, stack),
-        P::Handle => push(stack, Value::Type(handle())),
+        P::Handle => types::handle(stack),
         P::Expected => types::expected(stack),
         P::ExpectedType => types::expected_type(alloc, stack),
         P::TaggedUnion => types::tagged_union(alloc, stack),
-        P::EmptyUnion => push(stack, Value::Type(union_of(None, Vec::new(alloc)))),
+        P::EmptyUnion => types::empty_union(alloc, stack),
         P::Union => types::plain_union(stack),
         P::TaggedVariant => types::tagged_variant(alloc, stack),
         P::Variant => types::plain_variant(stack),
         P::BuiltinType => types::builtin_type(stack),
         P::Name => parts::name(alloc, tokens, at, stack),
-        P::NoNames => push(stack, Value::Members(Vec::new(alloc))),
+        P::NoNames => push_nothing::<Documented<'a, IdSyntax<'a>>>(alloc, stack),
         P::MoreNames => add_item::<Documented<'a, IdSyntax<'a>>>(stack),
-        P::NoTypes => push(stack, Value::Types(Vec::new(alloc))),
+        P::NoTypes => push_nothing::<TypedefSyntax<'a>>(alloc, stack),
         P::MoreTypes => add_item::<TypedefSyntax<'a>>(stack),
         P::UnionField => parts::union_field(alloc, tokens, at, stack),
         P::FirstUnionField => parts::union_field(alloc, tokens, at, stack),
-        P::NoUnionFields => push(stack, Value::UnionFields(Vec::new(alloc))),
+        P::NoUnionFields => push_nothing::<Documented<'a, TypedefSyntax<'a>>>(alloc, stack),
         P::MoreUnionFields => add_item::<Documented<'a, TypedefSyntax<'a>>>(stack),
         P::Field => parts::field(alloc, tokens, at, stack),
-        P::NoFields => push(stack, Value::Fields(Vec::new(alloc))),
+        P::NoFields => push_nothing::<Documented<'a, FieldSyntax<'a>>>(alloc, stack),
         P::MoreFields => add_item::<Documented<'a, FieldSyntax<'a>>>(stack),
-        P::BareError => push(stack, Value::Error(None)),
+        P::BareError => parts::bare_error(stack),
         P::Error => parts::error(alloc, stack),
         P::BareCase => parts::bare_case(alloc, tokens, at, stack),
         P::Case => parts::case(alloc, tokens, at, stack),
-        P::NoCases => push(stack, Value::Cases(Vec::new(alloc))),
+        P::NoCases => push_nothing::<Documented<'a, CaseSyntax<'a>>>(alloc, stack),
         P::MoreCases => add_item::<Documented<'a, CaseSyntax<'a>>>(stack),
         P::Import => items::import(alloc, tokens, at, stack),
         P::Func => items::func(alloc, tokens, at, stack),
-        P::NoDecls => push(stack, Value::Decls(Vec::new(alloc))),
+        P::NoDecls => push_nothing::<Documented<'a, ModuleDeclSyntax<'a>>>(alloc, stack),
         P::MoreDecls => add_item::<Documented<'a, ModuleDeclSyntax<'a>>>(stack),
         P::Param => items::param(alloc, tokens, at, stack),
         P::Result => items::result_of(alloc, tokens, at, stack),
-        P::Noreturn => push(stack, Value::Entry(Entry::NoReturn)),
-        P::Stored => push(stack, Value::Entry(Entry::Stored)),
+        P::Noreturn => items::noreturn(stack),
+        P::Stored => items::stored(stack),
         P::NoEntries => push_no_entries(alloc, stack),
         P::MoreEntries => items::more_entries(stack),
     }

@@ -11,10 +11,10 @@ ghost use Rattle.witx_lex.specs.Views.{lexed_view, tokens_view};
 ghost use Rattle.witx_syntax.specs.declared.nonterminal.Nonterminal.TheVariants.{Text};
 ghost use Rattle.witx_syntax.specs.Grammar.{the_grammar};
 ghost use Rattle.witx_syntax.specs.Reads.{stands_for};
-ghost use Rattle.witx_syntax.specs.Stack.{stack_view};
+ghost use Rattle.witx_syntax.specs.Stack.{quoted_view, stack_view};
 ghost use Rattle.witx_syntax.specs.TokenKinds.{token_kinds};
-ghost use Rattle.witx_syntax.specs.Values.{leaf, some_items, token_at};
-ghost use Rattle.witx_syntax_tree.specs.Views.{noted_item};
+ghost use Rattle.witx_syntax.specs.Values.{a_name, a_text, an_integer, leaf, some_items, token_at};
+ghost use Rattle.witx_syntax_tree.specs.Views.{name_view, noted_item};
 
 use crate::actions::perform;
 use crate::comments::reversed;
@@ -28,24 +28,45 @@ use witx_grammar::Step;
 use witx_lex::{Lexed, Token};
 use witx_syntax_tree::{IdSyntax, TopLevelSyntaxes};
 
+/// Puts an identifier on the stack.
+fn push_name<'a>(name: Named<'a>, stack: &mut Vec<Value<'a>>) -> Result<(), OutOfMemory>
+    ensures { IfOk result (λ _. stack_view stack.new.items ≡ a_name (name_view name.entry.id) ∷ stack_view stack.old.items) }
+{
+    push(stack, Value::Name(name))
+}
+
+/// Puts a quoted text on the stack.
+fn push_quoted<'a>(quoted: Quoted, stack: &mut Vec<Value<'a>>) -> Result<(), OutOfMemory>
+    ensures { IfOk result (λ _. stack_view stack.new.items ≡ a_text (quoted_view quoted) ∷ stack_view stack.old.items) }
+{
+    push(stack, Value::Quoted(quoted))
+}
+
+/// Puts an integer on the stack.
+fn push_integer<'a>(number: Number, stack: &mut Vec<Value<'a>>) -> Result<(), OutOfMemory>
+    ensures { IfOk result (λ _. stack_view stack.new.items ≡ an_integer number.value ∷ stack_view stack.old.items) }
+{
+    push(stack, Value::Integer(number))
+}
+
 /// Puts what a token stands for on the stack.
 fn push_leaf<'a>(lexed: &Lexed<'a>, stack: &mut Vec<Value<'a>>) -> Result<(), OutOfMemory>
     ensures { IfOk result (λ _. stack_view stack.new.items ≡ leaf (lexed_view lexed.now) ++ stack_view stack.old.items) }
 {
     let span = lexed.span;
     match &lexed.token {
-        Token::Id(name) => push(
-            stack,
-            Value::Name(Named {
+        Token::Id(name) => push_name(
+            Named {
                 id: IdSyntax { name, span },
-            }),
+            },
+            stack,
         ),
         Token::Quoted(text) => {
             let text = text.copy()?;
-            push(stack, Value::Quoted(Quoted { text, span }))
+            push_quoted(Quoted { text, span }, stack)
         }
         Token::Int(digits) => match integer(digits) {
-            Some(value) => push(stack, Value::Integer(Number { value })),
+            Some(value) => push_integer(Number { value }, stack),
             None => Ok(()),
         },
         _ => Ok(()),

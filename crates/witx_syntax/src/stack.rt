@@ -10,6 +10,8 @@ use crate::value::Value;
 use witx_base::OutOfMemory;
 
 /// Puts a value on top.
+// A value is large; inlined, its parts are written where they stay, and the whole isn't moved twice.
+#[inline(always)]
 pub fn push<'a>(stack: &mut Vec<Value<'a>>, value: Value<'a>) -> Result<(), OutOfMemory>
     ensures { IfOk result (λ _. stack_view stack.new.items ≡ value_view value.entry ∷ stack_view stack.old.items) }
 {

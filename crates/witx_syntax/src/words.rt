@@ -2,6 +2,7 @@
 //! the message where it alone can stand.
 
 ghost use Rattle.std.specs.Prelude.{◌≡◌, if◌then◌else◌, map, option_map, IfOk};
+ghost use Rattle.witx_base.specs.Texts.{same_text};
 ghost use Rattle.witx_lex.specs.Views.{token_view, tokens_view};
 ghost use Rattle.witx_syntax.specs.declared.token_kind.TokenKind.TheVariants.{Integer, BigInteger};
 ghost use Rattle.witx_syntax.specs.Integers.{is_small};
@@ -101,13 +102,24 @@ fn annotations() -> &'static [Word]
     &ANNOTATIONS
 }
 
-/// The kind that is spelled so.
+/// Whether the word is spelled so.
 #[tactic(auto, unfolding(witx_base::specs::Texts::same_text))]
+fn is_spelled(word: &str, text: &str) -> bool
+    ensures { result ≡ same_text word.now text.now }
+{
+    // Most words are told apart by their length, which costs no call.
+    if word.len() != text.len() {
+        return false;
+    }
+    word == text
+}
+
+/// The kind that is spelled so.
 fn kind_spelled(words: &[Word], text: &str) -> TokenKind
     ensures { result ≡ kind_spelled_of (map spelling_view words.now) text.now }
 {
     for word in words {
-        if word.text == text {
+        if is_spelled(word.text, text) {
             return word.kind;
         }
     }

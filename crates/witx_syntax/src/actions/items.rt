@@ -173,6 +173,18 @@ pub fn result_of<'a>(
     )
 }
 
+pub fn noreturn<'a>(stack: &mut Vec<Value<'a>>) -> Result<(), OutOfMemory>
+    ensures { IfOk result (λ _. Made production.Noreturn [] stack.old.items stack.new.items) }
+{
+    push(stack, Value::Entry(Entry::NoReturn))
+}
+
+pub fn stored<'a>(stack: &mut Vec<Value<'a>>) -> Result<(), OutOfMemory>
+    ensures { IfOk result (λ _. Made production.Stored [] stack.old.items stack.new.items) }
+{
+    push(stack, Value::Entry(Entry::Stored))
+}
+
 /// Puts an entry to those of its kind.
 fn add_entry<'a>(entries: &mut Entries<'a>, entry: Entry<'a>) -> Result<(), OutOfMemory>
     ensures { IfOk result (λ _. entries_value entries.new

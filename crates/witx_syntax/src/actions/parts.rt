@@ -65,6 +65,12 @@ pub fn error<'a>(alloc: Global, stack: &mut Vec<Value<'a>>) -> Result<(), OutOfM
     push(stack, Value::Error(Some(Box::new(alloc, error)?)))
 }
 
+pub fn bare_error<'a>(stack: &mut Vec<Value<'a>>) -> Result<(), OutOfMemory>
+    ensures { IfOk result (λ _. Made production.BareError [] stack.old.items stack.new.items) }
+{
+    push(stack, Value::Error(None))
+}
+
 pub fn bare_case<'a>(
     alloc: Global,
     tokens: &[Lexed<'a>],

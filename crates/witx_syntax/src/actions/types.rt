@@ -52,6 +52,24 @@ pub fn list<'a>(alloc: Global, stack: &mut Vec<Value<'a>>) -> Result<(), OutOfMe
     )
 }
 
+pub fn string<'a>(stack: &mut Vec<Value<'a>>) -> Result<(), OutOfMemory>
+    ensures { IfOk result (λ _. Made production.String [] stack.old.items stack.new.items) }
+{
+    push(stack, Value::Type(constructors::string()))
+}
+
+pub fn boolean<'a>(stack: &mut Vec<Value<'a>>) -> Result<(), OutOfMemory>
+    ensures { IfOk result (λ _. Made production.Bool [] stack.old.items stack.new.items) }
+{
+    push(stack, Value::Type(constructors::boolean()))
+}
+
+pub fn handle<'a>(stack: &mut Vec<Value<'a>>) -> Result<(), OutOfMemory>
+    ensures { IfOk result (λ _. Made production.Handle [] stack.old.items stack.new.items) }
+{
+    push(stack, Value::Type(constructors::handle()))
+}
+
 pub fn ident<'a>(stack: &mut Vec<Value<'a>>) -> Result<(), OutOfMemory>
     requires { Ready production.Ident stack.old.items }
     ensures { IfOk result (λ _. Made production.Ident [] stack.old.items stack.new.items) }
@@ -143,6 +161,12 @@ pub fn tagged_union<'a>(alloc: Global, stack: &mut Vec<Value<'a>>) -> Result<(),
     let (tag, fields) = take_two(stack);
     let tag = Some(Box::new(alloc, tag)?);
     push(stack, Value::Type(union_of(tag, fields)))
+}
+
+pub fn empty_union<'a>(alloc: Global, stack: &mut Vec<Value<'a>>) -> Result<(), OutOfMemory>
+    ensures { IfOk result (λ _. Made production.EmptyUnion [] stack.old.items stack.new.items) }
+{
+    push(stack, Value::Type(union_of(None, Vec::new(alloc))))
 }
 
 pub fn plain_union<'a>(stack: &mut Vec<Value<'a>>) -> Result<(), OutOfMemory>
