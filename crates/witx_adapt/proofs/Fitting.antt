@@ -117,7 +117,7 @@ params-fit before h (p ∷ ps) s e =
     both (fits (plain p.tree)) (types_fit ps)
     (tree-fits before h p.tree s.0 (none-left (misfits p.tree) (params_misfits ps) e)) (params-fit before h ps s.1 (none-right (misfits p.tree) (params_misfits ps) e))
 
-abbrev FunctionsFit : List Owned → Type 0
+abbrev pub FunctionsFit : List Owned → Type 0
 FunctionsFit [] = Unit {0}
 FunctionsFit (p ∷ ps) = IsTrue (function_fits p.func) × FunctionsFit ps
 
@@ -197,7 +197,7 @@ no-typenames : TypenamesFit []
 unfolding TypenamesFit
 no-typenames n u e = cc
 
-functions-fit : (ds : List DefinitionTree) → IsClosed ds → first_misfit ds ≡ None → FunctionsFit (all_functions ds)
+pub functions-fit : (ds : List DefinitionTree) → IsClosed ds → first_misfit ds ≡ None → FunctionsFit (all_functions ds)
 functions-fit ds c e = fits-after 0 [] ds no-typenames c e
 
 -- a function as the machine has it
@@ -213,11 +213,11 @@ pub called-same : (f : InterfaceFunc) → function_of (func_tree f) ≡ called f
 called-same f = function-same f _ _ _ _ (params-called f.params) (params-called f.results)
 
 -- each entry
-none-here : (o : Option Unlowered) (rest : Option Unlowered) → option_or o rest ≡ None → o ≡ None
+pub none-here : (o : Option Unlowered) (rest : Option Unlowered) → option_or o rest ≡ None → o ≡ None
 none-here None rest h = refl
 none-here (Some u) rest h = cc
 
-none-later : (o : Option Unlowered) (rest : Option Unlowered) → option_or o rest ≡ None → rest ≡ None
+pub none-later : (o : Option Unlowered) (rest : Option Unlowered) → option_or o rest ≡ None → rest ≡ None
 none-later None rest h = h
 none-later (Some u) rest h = cc
 

@@ -9,6 +9,7 @@ use Rattle.witx_ast.specs.declared.function.Abi.{Abi}
 use Rattle.witx_ast.specs.Items.{ItemTree, import_of, func_of}
 use Rattle.witx_ast.specs.Definitions.{DefinitionTree, typename_of, module_of, constant_of, definition_tree}
 use Rattle.witx_machine.specs.Events.{Event}
+use Rattle.witx_machine.specs.declared.surface.WasmType.{WasmType}
 use Rattle.witx_layout.specs.declared.layout.SizeAlign.{SizeAlign}
 use Rattle.witx_layout.specs.LayoutsText.{typename_line}
 use Rattle.witx_adapt.specs.declared.adapted.Adapted.{Adapted}
@@ -30,15 +31,15 @@ abbrev pub stored_mark : Abi → List ℕ
 stored_mark Abi.Preview1 = []
 stored_mark Abi.Stored = codes " stored"
 
-abbrev pub func_line : List ℕ → Abi → Lowered → List ℕ
-func_line name abi f = codes "func " ++ quoted name ++ codes " " ++ signature f.params f.results ++ stored_mark abi ++ codes "\n"
+abbrev pub func_line : List ℕ → Abi → (params results : List WasmType) → List ℕ
+func_line name abi params results = codes "func " ++ quoted name ++ codes " " ++ signature params results ++ stored_mark abi ++ codes "\n"
 
 -- the events of one side, under its name
 abbrev pub side_lines : List ℕ → List Event → List ℕ
 side_lines side events = side ++ codes "\n" ++ event_lines events
 
 abbrev pub func_lines : List ℕ → Abi → Lowered → List ℕ
-func_lines name abi f = func_line name abi f ++ side_lines (codes "caller") f.caller ++ side_lines (codes "callee") f.callee
+func_lines name abi f = func_line name abi f.params f.results ++ side_lines (codes "caller") f.caller ++ side_lines (codes "callee") f.callee
 
 -- with the first of the layouts, where there is one
 abbrev pub typename_lines : List ℕ → List SizeAlign → List ℕ

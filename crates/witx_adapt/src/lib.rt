@@ -11,5 +11,6 @@ mod names;
 pub use adapted::{Adapted, AdaptedFunc, AdaptedFuncs};
 pub use adapting::adapt_document;
 pub use error::{DocumentError, RefusedDocument};
-pub use listings::listing;
+pub use listings::{listing, put_func_line};
+pub use names::{put_quoted, put_signature};
 pub use witx_layout::SizeAligns;

@@ -10,7 +10,7 @@ use crate::event_lines::put_events;
 use crate::names::{put_quoted, put_signature};
 use std::alloc::{AllocError, Global};
 use std::fmt::Write;
-use witx_abi::Event;
+use witx_abi::{Event, WasmType};
 use witx_ast::{Abi, Constant, Definition, InterfaceFunc, Module, ModuleDefinition};
 use witx_base::{OutOfMemory, Text};
 use witx_layout::SizeAlign;
@@ -172,22 +172,29 @@ fn put_func(
 ) -> Result<(), OutOfMemory>
     ensures { OnOk result (string_bytes text.new ≡ string_bytes text.old ++ func_lines func.now.name func.now.abi (lowered adapted.now)) }
 {
-    put_func_line(text, func, adapted)?;
+    put_func_line(
+        text,
+        func,
+        adapted.params.as_slice(),
+        adapted.results.as_slice(),
+    )?;
     put_side(alloc, text, "caller", adapted.caller.events().as_slice())?;
     put_side(alloc, text, "callee", adapted.callee.events().as_slice())
 }
 
-fn put_func_line(
+/// Appends the line of a function with this signature.
+pub fn put_func_line(
     text: &mut String,
     func: &InterfaceFunc,
-    adapted: &AdaptedFunc,
+    params: &[WasmType],
+    results: &[WasmType],
 ) -> Result<(), AllocError>
-    ensures { OnOk result (string_bytes text.new ≡ string_bytes text.old ++ func_line func.now.name func.now.abi (lowered adapted.now)) }
+    ensures { OnOk result (string_bytes text.new ≡ string_bytes text.old ++ func_line func.now.name func.now.abi params.now results.now) }
 {
     text.push_str("func ")?;
     put_quoted(text, func.name.as_str())?;
     text.push_str(" ")?;
-    put_signature(text, adapted.params.as_slice(), adapted.results.as_slice())?;
+    put_signature(text, params, results)?;
     text.push_str(stored_mark(func.abi))?;
     text.push_str("\n")
 }
