@@ -1,13 +1,13 @@
 -- One conversion more, whose line is there unless its types are alike.
 use Rattle.std.specs.Prelude.{◌≡◌, ℕ, ◌+◌, ◌≤◌, ◌<◌, List, [], ◌∷◌, ◌++◌, Bool, true, false, not, cond, ◌&&◌, if◌then◌else◌, length, drop, map}
 use Rattle.std.specs.List.{filter}
-use Rattle.std.proofs.Common.{get_or, refl, ap, sym, subst, ◌∙◌, append-nil}
+use Rattle.std.proofs.Common.{get_or, ap, sym, subst, ◌∙◌, append-nil}
 use Rattle.std.proofs.lemmas.List.{drop_more, drop_all}
 use Rattle.witx_compat.specs.declared.conversion.TypePolyfill.{TypePolyfill}
 use Rattle.witx_compat.specs.Answers.{is_same}
 use Rattle.witx_compat.specs.Conversions.{Conversion, conversion_answer}
 use Rattle.witx_compat.specs.Views.{conversion_view}
-use Rattle.witx_docs.specs.PolyfillTexts.{lines, conversion_text}
+use Rattle.witx_docs.specs.PolyfillTexts.{conversion_text}
 use Rattle.witx_docs.specs.Pieces.{line_start, unless_alike}
 use Rattle.witx_docs.proofs.Lines.{lines_from, lines-more, nothing}
 

@@ -1,6 +1,6 @@
 -- One more definition of a document: a typename, a module, a constant.
-use Rattle.std.specs.Prelude.{◌≡◌, ℕ, ◌+◌, ◌≤◌, ◌<◌, List, [], ◌∷◌, ◌++◌, Bool, true, false, not, length, drop, map, filter, find, Option, Some, None, is_some}
-use Rattle.std.proofs.Common.{arith, get_or, refl, sym, ap, subst, ◌∙◌, append_assoc, append-nil, Bor}
+use Rattle.std.specs.Prelude.{◌≡◌, ℕ, ◌+◌, ◌≤◌, ◌<◌, List, [], ◌∷◌, Bool, true, false, not, length, drop, map, find, Option, Some, None}
+use Rattle.std.proofs.Common.{arith, get_or, refl, sym, subst, Bor}
 use Rattle.std.proofs.lemmas.List.{drop_more, drop_all}
 use Rattle.witx_ast.specs.declared.definition.Constant.{Constant}
 use Rattle.witx_ast.specs.declared.definition.Definition.{Definition}

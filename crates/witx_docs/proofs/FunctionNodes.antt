@@ -1,6 +1,6 @@
 -- One more parameter, and one more import or function of a module.
 use Rattle.std.specs.Prelude.{◌≡◌, ℕ, ◌+◌, ◌≤◌, ◌<◌, List, [], ◌∷◌, ◌++◌, Bool, true, false, length, drop, map, Option}
-use Rattle.std.proofs.Common.{get_or, refl, sym, ◌∙◌, append_assoc, append-nil}
+use Rattle.std.proofs.Common.{get_or, sym, ◌∙◌, append_assoc, append-nil}
 use Rattle.std.proofs.lemmas.List.{drop_more, drop_all}
 use Rattle.witx_ast.specs.declared.function.InterfaceFuncParam.{InterfaceFuncParam}
 use Rattle.witx_ast.specs.declared.module.ModuleDefinition.{ModuleDefinition}

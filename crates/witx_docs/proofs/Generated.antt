@@ -1,5 +1,5 @@
 -- Nodes that are added below a node of a tree, and the content that the node then gets.
-use Rattle.std.specs.Prelude.{◌≡◌, ◌⊎◌, ℕ, ◌+◌, ◌<◌, List, [], ◌∷◌, ◌++◌, Bool, true, false, length, Option, Some, None}
+use Rattle.std.specs.Prelude.{◌≡◌, ◌⊎◌, ℕ, ◌+◌, ◌<◌, List, [], ◌++◌, false, length, Some, None}
 use Rattle.std.specs.List.{slice_set}
 use Rattle.std.proofs.Common.{arith, refl, sym, ap, ◌∙◌, inl, inr, append-nil, length-append}
 use Rattle.std.proofs.lemmas.List.{length-set, get_or_append_left, get_or-set_same, set-get_or, set-set, set-append_left}

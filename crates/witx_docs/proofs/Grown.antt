@@ -1,6 +1,6 @@
 -- Nodes that are added one after the other are all of them in order, and nodes that are added below one that was just
 -- added stand below it.
-use Rattle.std.specs.Prelude.{◌≡◌, ℕ, ◌+◌, ◌≤◌, ◌<◌, List, [], ◌∷◌, ◌++◌, length, Option, Some, None, Result, Ok, Err, OnOk}
+use Rattle.std.specs.Prelude.{◌≡◌, ℕ, ◌+◌, [], ◌∷◌, ◌++◌, length, Some, Result, Ok, Err, OnOk}
 use Rattle.std.proofs.Common.{arith, refl, sym, ap, ◌∙◌, append_assoc, append-nil, length-append}
 use Rattle.witx_docs.specs.declared.content.MdContent.{MdContent}
 use Rattle.witx_docs.specs.declared.branch.Branch.{Branch}

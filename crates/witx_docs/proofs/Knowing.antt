@@ -1,12 +1,12 @@
 -- A table that has the layouts of a closed document's typenames knows the types of all its definitions.
-use Rattle.std.specs.Prelude.{◌≡◌, ℕ, zero, suc, ◌+◌, ◌≤◌, ◌<◌, ◌^◌, List, [], ◌∷◌, ◌++◌, Bool, true, false, cond, ◌||◌, length, map, option_map, Option, Some, None}
+use Rattle.std.specs.Prelude.{◌≡◌, ℕ, zero, suc, ◌≤◌, ◌<◌, ◌^◌, List, [], ◌∷◌, ◌++◌, Bool, true, false, cond, ◌||◌, length, map, option_map, Option, Some}
 use Rattle.std.specs.Option.{option_and_then}
 use Rattle.std.proofs.Common.{arith, get_or, refl, sym, ap, ◌∙◌, subst, append_assoc}
 use Rattle.std.proofs.lemmas.List.{take_all}
 use Rattle.std.proofs.lemmas.List.Elements.{filter_map-append}
 use Rattle.witx_base.specs.Found.{found}
 use Rattle.witx_ast.specs.Tree.{Tree, Fields, Arms, Field, behind}
-use Rattle.witx_ast.specs.Plain.{Plain, plain}
+use Rattle.witx_ast.specs.Plain.{plain}
 use Rattle.witx_ast.specs.Entries.{by_name}
 use Rattle.witx_ast.specs.Definitions.{DefinitionTree, typename_of, module_of, constant_of, definition_tree, introduced, as_typename, typename_called}
 use Rattle.witx_ast.specs.Ordered.{NamesStand, FieldNamesStand, ArmNamesStand, DefinitionStands, OrderedAfter, IsOrdered}

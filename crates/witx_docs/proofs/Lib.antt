@@ -20,3 +20,6 @@ mod DocumentParts
 mod Paging
 mod RefusedPages
 mod Generated
+mod Descent
+mod PageTrees
+pub mod PageExamples

@@ -1,6 +1,6 @@
 -- Link by link documentation is written again.
-use Rattle.std.specs.Prelude.{◌≡◌, ℕ, ◌+◌, ◌≤◌, ◌<◌, List, [], ◌∷◌, ◌++◌, false, length, ◌==◌, Option, Some, None, MatchOption}
-use Rattle.std.proofs.Common.{arith, get_or, refl, sym, ap, ◌∙◌, append_assoc, lit<, Bor}
+use Rattle.std.specs.Prelude.{◌≡◌, ℕ, ◌<◌, List, [], ◌∷◌, ◌++◌, false, length, ◌==◌, Option, Some, None, MatchOption}
+use Rattle.std.proofs.Common.{arith, get_or, refl, ap, ◌∙◌, append_assoc, lit<, Bor}
 use Rattle.std.specs.List.{All}
 use Rattle.std.proofs.lemmas.Bool.{ne_eqb}
 use Rattle.std.proofs.lemmas.List.Elements.{All-from_get_or}

@@ -1,24 +1,23 @@
 -- One more member, or one more case: its node stands before those of the others, and so do its numbers.
-use Rattle.std.specs.Prelude.{◌≡◌, ℕ, zero, suc, ◌+◌, ◌*◌, ◌≤◌, ◌<◌, List, [], ◌∷◌, ◌++◌, Bool, true, false, length, drop, map, option_map, Option, Some, None, codes}
-use Rattle.std.proofs.Common.{arith, get_or, refl, sym, ap, ◌∙◌, append-nil}
+use Rattle.std.specs.Prelude.{◌≡◌, ℕ, zero, suc, ◌+◌, ◌*◌, ◌≤◌, ◌<◌, List, [], ◌∷◌, ◌++◌, Bool, true, false, length, drop, map, Option, Some, None, codes}
+use Rattle.std.proofs.Common.{arith, get_or, refl, sym, ap, ◌∙◌}
 use Rattle.std.proofs.lemmas.List.{drop_more, drop_all}
 use Rattle.witx_ast.specs.declared.types.RecordKind.{RecordKind}
 use Rattle.witx_ast.specs.declared.types.Case.{Case}
-use Rattle.witx_ast.specs.declared.types.RecordDatatype.{RecordDatatype, out-RecordDatatype}
 use Rattle.witx_ast.specs.declared.types.Variant.{Variant, out-Variant}
 use Rattle.witx_ast.specs.declared.types.IntRepr.{IntRepr}
 use Rattle.witx_ast.specs.Plain.{variant_of, plain_arms}
 use Rattle.witx_ast.specs.Words.{is_bool_arms, all_arms_bare}
 use Rattle.witx_ast.proofs.ResultLaws.{arms-listed}
 use Rattle.witx_layout.specs.Numbers.{size_of, align_of, repr_size}
-use Rattle.witx_ast.specs.Tree.{Tree, Arms, Arm, arm, fields_of, arms_of}
-use Rattle.witx_ast.specs.Views.{tree_of, record_tree, variant_tree, member_field, case_arm}
+use Rattle.witx_ast.specs.Tree.{Tree, Arms, Arm, arm, arms_of}
+use Rattle.witx_ast.specs.Views.{tree_of, variant_tree, member_field, case_arm}
 use Rattle.witx_ast.proofs.Trees.{tree_rules, tree-RecordMember, tree-Case, tree-RecordDatatype, tree-VariantDatatype}
 use Rattle.witx_layout.specs.declared.members.RecordMemberLayout.{RecordMemberLayout}
 use Rattle.witx_layout.specs.Nodes.{type_nodes, field_nodes, arm_nodes}
 use Rattle.witx_docs.specs.declared.heading.MdHeading.{MdHeading}
 use Rattle.witx_docs.specs.declared.branch.Branch.{Branch}
-use Rattle.witx_docs.specs.Forests.{Forest, no_nodes, node, followed_by, sprouted}
+use Rattle.witx_docs.specs.Forests.{no_nodes, node, followed_by, sprouted}
 use Rattle.witx_docs.specs.Parts.{section, type_parts, member_node, case_node, case_nodes, placed_fields, placed_nodes, payload_node, variant_layout, layout_nodes}
 use Rattle.witx_docs.specs.LaidOut.{too_large, laid_out, members_laid_out, cases_laid_out, case_laid_out, payload_laid_out, payload_numbers}
 use Rattle.witx_docs.proofs.Grown.{grown_rules, sprouted-followed, sprouted-none}

@@ -1,5 +1,5 @@
 -- The rows of a polyfill's Markdown, computed.
-use Rattle.std.specs.Prelude.{◌≡◌, ℕ, codes, List, [], ◌∷◌, ◌++◌, true, false}
+use Rattle.std.specs.Prelude.{◌≡◌, ℕ, codes, List, [], ◌∷◌, ◌++◌, false}
 use Rattle.std.proofs.Common.{refl}
 use Rattle.witx_ast.specs.declared.types.BuiltinType.{BuiltinType}
 use Rattle.witx_ast.specs.declared.function.Abi.{Abi}

@@ -1,5 +1,5 @@
 -- When a document has no page, and how that is told.
-use Rattle.std.specs.Prelude.{◌≡◌, ◌⊎◌, ℕ, List, Bool, false, Option, Some, None}
+use Rattle.std.specs.Prelude.{◌≡◌, ◌⊎◌, ℕ, List, false, Option, Some, None}
 use Rattle.std.proofs.Common.{refl, inl, inr}
 use Rattle.witx_layout.specs.declared.members.LayoutError.{LayoutError}
 use Rattle.witx_layout.specs.declared.members.LayoutError.TheVariants as layout_error

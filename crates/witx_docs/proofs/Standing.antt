@@ -1,11 +1,10 @@
 -- One more constant stands behind those of its type, and all others stay where they are.
-use Rattle.std.specs.Prelude.{◌≡◌, ℕ, ◌+◌, ◌≤◌, ◌<◌, List, [], ◌∷◌, ◌++◌, Bool, true, false, cond, length, drop, map, filter, Option, Some, None, if◌then◌else◌}
+use Rattle.std.specs.Prelude.{◌≡◌, ℕ, ◌+◌, ◌≤◌, ◌<◌, List, [], ◌∷◌, ◌++◌, Bool, true, false, cond, length, drop, map, Some, None, if◌then◌else◌}
 use Rattle.std.specs.Option.{unwrap_or}
 use Rattle.std.proofs.Common.{get_or, refl, sym, ap, ◌∙◌, append_assoc, append-nil, Bor}
 use Rattle.std.proofs.lemmas.List.{drop_more, drop_all, map-append}
 use Rattle.witx_base.specs.Found.{found}
 use Rattle.witx_base.specs.Texts.{same_text}
-use Rattle.witx_base.proofs.Names.{same-equal}
 use Rattle.witx_ast.proofs.EntryLaws.{is_key, key-decides, unlike}
 use Rattle.witx_ast.specs.SameLaws.{bytes-self}
 use Rattle.witx_ast.specs.declared.definition.Constant.{Constant}

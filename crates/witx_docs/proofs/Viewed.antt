@@ -1,6 +1,6 @@
 -- Functions and modules, one below the other, and what stands around them.
 use Rattle.std.specs.Prelude.{◌≡◌, ℕ, ◌+◌, ◌≤◌, ◌<◌, List, ◌++◌, Bool, false, length, drop, map, codes}
-use Rattle.std.proofs.Common.{get_or, ap, sym, ◌∙◌}
+use Rattle.std.proofs.Common.{get_or}
 use Rattle.witx_compat.specs.declared.functions.FuncPolyfill.{FuncPolyfill}
 use Rattle.witx_compat.specs.declared.modules.ModulePolyfill.{ModulePolyfill}
 use Rattle.witx_compat.specs.Views.{function_view, module_view}

@@ -1,7 +1,7 @@
 -- What a type, a function, a module and a document add below a node of a page.
 -- `h` is the header of what stands right below the node: its level is one more than the node has ancestors. Ids are joined
 -- by dots.
-use Rattle.std.specs.Prelude.{ℕ, ◌/◌, List, [], ◌∷◌, ◌++◌, map, filter, Bool, true, false, Option, Some, None, if◌then◌else◌, codes}
+use Rattle.std.specs.Prelude.{ℕ, ◌/◌, List, [], ◌∷◌, ◌++◌, map, filter, Option, Some, None, if◌then◌else◌, codes}
 use Rattle.std.specs.List.{filter_map}
 use Rattle.std.specs.Fmt.{decimal}
 use Rattle.witx_base.specs.Texts.{same_text}

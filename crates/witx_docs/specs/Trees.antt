@@ -77,8 +77,16 @@ text_order parents = 0 ∷ order_from 0 parents 0
 abbrev pub content_at : List MdContent → ℕ → MdContent
 content_at contents n = slice_index_or contents n content.Root
 
+-- what is told of each node's content, in the order of the text
+abbrev pub told_of : {A : Type 0} → (MdContent → List A) → PageTree → List A
+told_of told t = flat_map (λ n. told (content_at t.contents n)) (text_order t.parents)
+
 abbrev pub tree_text : PageTree → List ℕ
-tree_text t = flat_map (λ n. content_text (content_at t.contents n)) (text_order t.parents)
+tree_text t = told_of content_text t
+
+-- a root with nothing below it
+abbrev pub root_alone : PageTree
+root_alone = record { parents = None ∷ []; contents = content.Root ∷ [] }
 
 -- the header of what stands right below a node
 abbrev pub heading_below : PageTree → ℕ → MdHeading

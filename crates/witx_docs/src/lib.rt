@@ -16,6 +16,7 @@ mod generate;
 mod growing;
 mod heading;
 mod kept_layouts;
+mod kin;
 mod known_layout;
 mod links;
 mod markdown;

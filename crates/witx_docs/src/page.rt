@@ -26,7 +26,8 @@ use witx_ast::{Definition, Document};
 use witx_base::{Duplicate, Id, Items, OutOfMemory, Text};
 use witx_layout::LayoutError;
 
-/// The page of a document, and the links of its documentation that lead nowhere.
+/// The page of a document, and the links of its documentation that lead nowhere: the text of the tree that
+/// `generate` makes at a root alone, with the links put in last.
 ///
 /// What stands between two backquotes links to the node whose id it is, with `::` as a dot. Where there
 /// is none it stays, and is among the missing links, which come in the order of the text.

@@ -1,16 +1,20 @@
-ghost use Rattle.std.specs.Prelude.{◌≡◌, ◌∷◌, ◌++◌, [], ◌<◌, IfOk, OnOk, OnErr, length, Some, None};
+ghost use Rattle.std.specs.Prelude.{◌≡◌, ◌∷◌, ◌++◌, [], ◌<◌, IfOk, OnOk, OnErr, length, string_bytes, Some, None};
 ghost use Rattle.std.specs.Borrow.{sem};
+ghost use Rattle.std.specs.List.{All, flat_map};
 ghost use Rattle.witx_docs.specs.declared.content.MdContent.{MdContent};
-ghost use Rattle.witx_docs.specs.Trees.{HaveParents, ancestors_of, content_at, heading_below};
+ghost use Rattle.witx_docs.specs.Contents.{content_text};
+ghost use Rattle.witx_docs.specs.Trees.{HaveParents, ancestors_of, levels_of, tree_text, content_at, heading_below};
 ghost use Rattle.witx_docs.specs.Lending.{LendsContent};
 
 use crate::branch::Branch;
 use crate::content::MdContent;
+use crate::content_text::put_content;
 use crate::family::{ancestor_count, ancestors_in};
 use crate::heading::MdHeading;
+use crate::kin::{children_below, nodes_from};
 use std::alloc::Global;
 use std::marker::Model;
-use witx_base::{Items, OutOfMemory};
+use witx_base::{Items, OutOfMemory, Text};
 
 /// Numbers of nodes.
 pub type Numbers = Items<usize>;
@@ -47,7 +51,7 @@ impl MdTree {
     }
 
     /// Where the tree takes its memory from.
-    pub fn allocator(&self) -> Global {
+    pub(crate) fn allocator(&self) -> Global {
         *self.contents.allocator()
     }
 
@@ -82,6 +86,24 @@ impl MdTree {
         ensures { IfOk result (λ numbers. numbers ≡ ancestors_of self.now.parents node) }
     {
         ancestors_in(self.allocator(), self.parents.as_slice(), node)
+    }
+
+    /// The children of `node`, and then in turn the same of each of them.
+    pub fn children(&self, node: usize) -> Result<Numbers, OutOfMemory>
+        requires { node < length self.now.contents }
+        ensures { IfOk result (λ numbers. numbers ≡ levels_of self.now.parents node) }
+    {
+        children_below(self.allocator(), self.parents.as_slice(), node)
+    }
+
+    /// The text of the whole tree: each node's text, and then that of its children, one after the other.
+    pub fn text(&self) -> Result<Text, OutOfMemory>
+        ensures { IfOk result (λ text. text ≡ tree_text self.now) }
+    {
+        let nodes = nodes_from(self.allocator(), self.parents.as_slice(), 0)?;
+        let mut out = String::new(self.allocator());
+        put_nodes(&mut out, self.contents.as_slice(), nodes.as_slice())?;
+        Ok(Text::from_string(out))
     }
 
     /// The content of `node`.
@@ -126,4 +148,15 @@ impl MdTree {
         }
         Ok(())
     }
+}
+
+/// Appends the texts of these nodes, one after the other.
+fn put_nodes(out: &mut String, contents: &[MdContent], nodes: &[usize]) -> Result<(), OutOfMemory>
+    requires { All (λ n. n < length contents.now) nodes.now }
+    ensures { OnOk result (string_bytes out.new ≡ string_bytes out.old ++ flat_map (λ n. content_text (content_at contents.now n)) nodes.now) }
+{
+    for node in nodes {
+        put_content(out, &contents[*node])?;
+    }
+    Ok(())
 }
