@@ -119,10 +119,14 @@ old-stops files mid arguments news olds new s n o f p k =
 pub ruleset document_rules = (both-mean, new-stops, old-stops)
 
 -- the report on mapped modules, or of what is absent
-pub mapped-text : (new old : List DefinitionTree) (names : List (List ℕ)) (m : Pairs) (modules : List MappedModule) (text : List ℕ) → m ≡ mapping_of names
-    → polyfill_answer new old m ≡ Ok modules → text ≡ polyfill_text modules → IsPolyfillText new old names text
+pub mapped-answer : (new old : List DefinitionTree) (names : List (List ℕ)) (m : Pairs) (modules : List MappedModule) → m ≡ mapping_of names
+    → polyfill_answer new old m ≡ Ok modules → polyfill_answer new old (mapping_of names) ≡ Ok modules
+mapped-answer new old names m modules e p = ap (polyfill_answer new old) (sym e) ∙ p
+
+pub answer-text : (new old : List DefinitionTree) (names : List (List ℕ)) (modules : List MappedModule) (text : List ℕ)
+    → polyfill_answer new old (mapping_of names) ≡ Ok modules → text ≡ polyfill_text modules → IsPolyfillText new old names text
 unfolding IsPolyfillText
-mapped-text new old names m modules text e p t = (modules, ap (polyfill_answer new old) (sym e) ∙ p, t)
+answer-text new old names modules text p t = (modules, p, t)
 
 absent-told : (new old : List DefinitionTree) (names : List (List ℕ)) (m : Pairs) (e : PolyfillError) (report : List ℕ) → m ≡ mapping_of names
     → Says (polyfill_answer new old m) e → IsErrorText e report → IsAbsentReport new old names report
@@ -135,7 +139,7 @@ pub absent-stops : (new old : List DefinitionTree) (names : List (List ℕ)) (m 
     → Says (polyfill_answer new old m) e → StopsWith (IsErrorText e) s → StopsWith (IsAbsentReport new old names) s
 absent-stops new old names m e s n p k = stops-as (IsErrorText e) (IsAbsentReport new old names) (λ report t. absent-told new old names m e report n p t) s k
 
-pub ruleset report_rules = (memory-stops, mapped-text, absent-stops)
+pub ruleset report_rules = (memory-stops, mapped-answer, answer-text, absent-stops)
 
 -- the command's output, and what it refuses
 pub polyfill-output : (files : Files) (arguments names : List (List ℕ)) (text notes : List ℕ) (new old : List DefinitionTree) (adapted : Option Adapted) → names ≡ module_names arguments

@@ -109,10 +109,15 @@ fn summary_of_files(
 /// The adapted document that the files at these paths mean, or the end of a run over files that can't
 /// be adapted.
 #[tactic(auto, using(crate::proofs::Refusing::stop_rules))]
-fn adapted_or_stop(alloc: Global, paths: &[WitxPath], files: &mut MockFs) -> Result<Adapted, Stop>
+pub fn adapted_or_stop(
+    alloc: Global,
+    paths: &[WitxPath],
+    files: &mut MockFs,
+) -> Result<Adapted, Stop>
     ensures document { IfOk result (λ a. Parses files.old paths.now (Ok (defined a))) }
     ensures parts { IfOk result IsAdapted }
     ensures stopped { IfErr result (StopsWith (AdaptingFails files.old paths.now)) }
+    ensures kept { OnOk result (files.new ≡ files.old) }
 {
     match adapted_bundle(alloc, paths, files) {
         Ok(adapted) => Ok(adapted),

@@ -20,16 +20,20 @@ mod status;
 mod words;
 
 pub use adapting::adapt;
+pub use commands::adapted_or_stop;
 pub use error::AdaptError;
 pub use input::{InputError, read_bundle};
 pub use laws::{
     constants_have_typenames, output_or_refusal, valid_files_are_not_refused, valid_is_not_refused,
 };
-pub use output::put_text;
+pub use output::{put_text, put_whole};
+pub use parsing::text_stop;
+pub use polyfill::{mapped_modules, module_names, new_file, old_file};
 pub use program::{Ran, run};
-pub use refusal::Refusal;
-pub use status::NO_MEMORY;
-pub use words::{Command, command_of, has_form};
+pub use refusal::{Refusal, Stop};
+pub use refused::put_refusal;
+pub use status::{DONE, NO_BUNDLE, NO_FORM, NO_MEMORY, REFUSED, UNREAD, UNWRITTEN};
+pub use words::{Command, arguments_of, command_of, has_form, paths_of};
 // By hand, since more than a hundred names would be laid out one a line.
 #[rattlefmt::skip]
 pub use witx_base::{

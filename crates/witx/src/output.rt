@@ -75,7 +75,7 @@ pub fn put_both<O: Sink, E: Sink>(out: &mut O, err: &mut E, text: &str, notes: &
 }
 
 /// Writes a text, and answers 0, or 4 where the sink failed.
-fn put_whole<K: Sink>(sink: &mut K, text: &str) -> u8
+pub fn put_whole<K: Sink>(sink: &mut K, text: &str) -> u8
     ensures status { (result ≡ 0) ⊎ (result ≡ 4) }
     ensures done { result ≡ 0 → Appends (K.taken sink.old) (K.taken sink.new) text.now × (K.faults sink.new ≡ K.faults sink.old) }
     ensures unwritten { result ≡ 4 → Rose (K.faults sink.old) (K.faults sink.new)

@@ -93,7 +93,7 @@ pub fn parsed_or_stop(
 }
 
 /// The end of a run whose files mean no document.
-fn text_stop(alloc: Global, files: &mut MockFs, error: &WitxError) -> Stop
+pub fn text_stop(alloc: Global, files: &mut MockFs, error: &WitxError) -> Stop
     ensures { StopsWith (IsTextReport files.old error.now) result }
 {
     match text_report(alloc, files, error) {

@@ -1,9 +1,10 @@
 //! The report on the modules of an old file in terms of those of a new one.
-ghost use Rattle.std.specs.Prelude.{◌≡◌, [], IfErr, IfOk, None, OnOk, Some, map};
+ghost use Rattle.std.specs.Prelude.{◌≡◌, [], IfErr, IfOk, None, Ok, OnOk, Some, map};
 ghost use Rattle.std.specs.BTreeMap.{insert_entry};
 ghost use Rattle.std.specs.Cmp.Lexicographic.{slice_cmp};
 ghost use Rattle.std.specs.Ordering.{nat_cmp};
 ghost use Rattle.witx_ast.specs.Definitions.{definition_tree};
+ghost use Rattle.witx_compat.specs.Polyfills.{polyfill_answer};
 ghost use Rattle.witx_compat.specs.Views.{module_view};
 ghost use Rattle.witx_docs.specs.PolyfillTexts.{polyfill_text};
 ghost use Rattle.witx.specs.Causes.{IsOutput};
@@ -54,19 +55,22 @@ fn both_or_stop(
     Ok((new, old))
 }
 
-fn new_file(arguments: &[Text]) -> &[Text]
+/// The word of the new file, where there is one.
+pub fn new_file(arguments: &[Text]) -> &[Text]
     ensures { result.now ≡ new_file arguments.now }
 {
     first_of(arguments)
 }
 
-fn old_file(arguments: &[Text]) -> &[Text]
+/// The word of the old file, where there is one.
+pub fn old_file(arguments: &[Text]) -> &[Text]
     ensures { result.now ≡ old_file arguments.now }
 {
     first_of(arguments_of(arguments))
 }
 
-fn module_names(arguments: &[Text]) -> &[Text]
+/// The names of modules behind the two files.
+pub fn module_names(arguments: &[Text]) -> &[Text]
     ensures { result.now ≡ module_names arguments.now }
 {
     arguments_of(arguments_of(arguments))
@@ -80,9 +84,29 @@ fn mapped(alloc: Global, new: &Document, old: &Document, names: &[Text]) -> Resu
     ensures stopped { IfErr result (StopsWith
         (IsAbsentReport (map definition_tree new.now.definitions) (map definition_tree old.now.definitions) names.now)) }
 {
+    match mapped_modules(alloc, new, old, names) {
+        Ok(polyfill) => reported(alloc, &polyfill),
+        Err(stop) => Err(stop),
+    }
+}
+
+/// The modules of two documents that have these names, two by two, each old one in terms of the new; or
+/// the end of a run of which a module or a function is absent.
+#[tactic(auto, using(crate::proofs::Mapping::report_rules))]
+pub fn mapped_modules(
+    alloc: Global,
+    new: &Document,
+    old: &Document,
+    names: &[Text],
+) -> Result<Polyfill, Stop>
+    ensures modules { IfOk result (λ polyfill. polyfill_answer (map definition_tree new.now.definitions) (map definition_tree old.now.definitions)
+        (mapping_of names.now) ≡ Ok (map module_view polyfill.modules)) }
+    ensures stopped { IfErr result (StopsWith
+        (IsAbsentReport (map definition_tree new.now.definitions) (map definition_tree old.now.definitions) names.now)) }
+{
     let mapping = mapping_of(alloc, names)?;
     match Polyfill::new(alloc, new, old, &mapping) {
-        Ok(polyfill) => reported(alloc, &polyfill),
+        Ok(polyfill) => Ok(polyfill),
         Err(error) => Err(absent_stop(alloc, &error)),
     }
 }
