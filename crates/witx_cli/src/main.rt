@@ -1,4 +1,4 @@
-//! The program `witx`: it hands the words of the command line and the standard streams to `run`.
+//! The program `witx`: it hands the words of the command line and the standard streams to `run_all`.
 #![tactic(auto)]
 
 use std::alloc::Global;
@@ -6,8 +6,8 @@ use std::env;
 use std::io::ErrorKind;
 use std::mem::forget;
 use std::process::ExitCode;
-use witx::run;
 use witx_base::{Items, OutOfMemory, Reading, Text, Writing};
+use witx_tools::run_all;
 
 /// The status of a run that found no memory for its words.
 const NO_MEMORY: u8 = 5;
@@ -20,7 +20,7 @@ fn main(rt: HostRuntime) -> ExitCode {
     let mut source = Reading::new(rt.stdin());
     let mut out = Writing::new(rt.stdout());
     let mut err = Writing::new(rt.stderr());
-    let ran = run(alloc, words.as_slice(), &mut source, &mut out, &mut err);
+    let ran = run_all(alloc, words.as_slice(), &mut source, &mut out, &mut err);
     let status = ran.status;
     // The process ends here, and gives all memory back at once.
     forget(ran);

@@ -1,0 +1,5 @@
+pub mod Excluded
+pub mod Telling
+pub mod Runs
+pub mod Shims
+pub mod Words

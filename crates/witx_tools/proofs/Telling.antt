@@ -1,0 +1,177 @@
+-- What a tool tells over the files of a bundle, and why it has no text, by what its calls answer.
+use Rattle.std.specs.Prelude.{◌≡◌, ℕ, List, Some, Ok, Err, map}
+use Rattle.std.proofs.Common.{refl, subst, inl, inr, arith}
+use Rattle.witx_base.specs.Paths.{Path}
+use Rattle.witx_files.specs.Answers.{IsText}
+use Rattle.witx_files.specs.Files.{Files, held}
+use Rattle.witx_files.specs.declared.fault.IoError.TheVariants.{Fault}
+use Rattle.witx_files.specs.declared.fault.IoFault.{IoFault}
+use Rattle.witx_files.specs.declared.fault.IoFault.TheVariants as io_fault
+use Rattle.witx_walk.specs.ErrorReports.{io_report}
+use Rattle.witx_walk.specs.declared.error.WitxError.TheVariants as witx_error
+use Rattle.witx_adapt.specs.declared.adapted.Adapted.{Adapted}
+use Rattle.witx_compat.specs.Polyfills.{polyfill_answer}
+use Rattle.witx_compat.specs.Views.{module_view}
+use Rattle.witx_compat.specs.declared.modules.ModulePolyfill.{ModulePolyfill}
+use Rattle.witx_imports.specs.Faults.{offered}
+use Rattle.witx_imports.specs.Reads as list
+use Rattle.witx_imports.specs.declared.import.WasmImport.{WasmImport}
+use Rattle.witx.specs.Adapting.{IsAdapted, Parses, defined}
+use Rattle.witx.specs.Causes.{CanAdapt}
+use Rattle.witx.specs.Mappings.{IsAbsentReport, mapping_of, module_names, new_file, old_file}
+use Rattle.witx.specs.Reports.{AdaptingFails, IsTextReport}
+use Rattle.witx.specs.Stops.{StopsWith}
+use Rattle.witx.specs.Words.{arguments_of, paths_of}
+use Rattle.witx.specs.declared.refusal.Stop.{Stop}
+use Rattle.witx.proofs.Refusing.{memory-stops, stops-as}
+use Rattle.witx_tools.specs.ImportTexts.{IsBadList, bad_report, faults_text}
+use Rattle.witx_tools.specs.ShimTexts.{shims_text}
+use Rattle.witx_tools.specs.ToolCauses.{IsToolOutput, LacksOwn, ToolRefuses}
+use Rattle.witx_tools.specs.ToolWords.{list_path}
+use Rattle.witx_tools.specs.declared.tool.Tool.TheVariants as tool
+use Rattle.witx_tools.proofs.Shims.{answers-mapped}
+
+-- documents that can be adapted
+can-adapt : (files : Files) (words : List (List ℕ)) (a : Adapted) → Parses files (paths_of words) (Ok (defined a)) → IsAdapted a → CanAdapt files (paths_of words)
+can-adapt files words a p k = (defined a, p, k.adaptable)
+
+-- of the words that were read
+said : (files other : Files) (words same : List (List ℕ)) (a : Adapted) → words ≡ same → other ≡ files → Parses other (paths_of words) (Ok (defined a))
+    → Parses files (paths_of same) (Ok (defined a))
+said files other words same a e f p = subst (λ ws. Parses files (paths_of ws) (Ok (defined a))) e (subst (λ fs. Parses fs (paths_of words) (Ok (defined a))) f p)
+
+failed : (files other : Files) (words same : List (List ℕ)) (s : Stop) → words ≡ same → other ≡ files → StopsWith (AdaptingFails other (paths_of words)) s
+    → StopsWith (AdaptingFails files (paths_of same)) s
+failed files other words same s e f k = subst (λ ws. StopsWith (AdaptingFails files (paths_of ws)) s) e (subst (λ fs. StopsWith (AdaptingFails fs (paths_of words)) s) f k)
+
+-- ---- adapted documents
+
+pub adapted-paths : (files : Files) (handed paths : List Path) (a : Adapted) → handed ≡ paths → Parses files handed (Ok (defined a)) → Parses files paths (Ok (defined a))
+adapted-paths files handed paths a e p = subst (λ ps. Parses files ps (Ok (defined a))) e p
+
+pub adapting-paths : (files : Files) (handed paths : List Path) (s : Stop) → handed ≡ paths → StopsWith (AdaptingFails files handed) s → StopsWith (AdaptingFails files paths) s
+adapting-paths files handed paths s e k = subst (λ ps. StopsWith (AdaptingFails files ps) s) e k
+
+pub ruleset path_rules = (memory-stops, adapted-paths, adapting-paths)
+
+-- ---- a tool's own file
+
+missing-told : (files : Files) (path : Path) (fault : IoFault) (report : List ℕ) → IsText (Some files) path 0 0 (Err (Fault fault)) → report ≡ io_report path fault
+    → LacksOwn (Some path) files report
+missing-told files path io_fault.NotFound report h r = (h.0, r)
+missing-told files path io_fault.LineNotFound report h r = absurd h.0
+missing-told files path io_fault.Failed report h r = absurd (omega (arith, h.1))
+
+pub missing-stops : (files : Files) (path : Path) (fault : IoFault) (s : Stop) → IsText (Some files) path 0 0 (Err (Fault fault))
+    → StopsWith (λ report. report ≡ io_report path fault) s → StopsWith (LacksOwn (Some path) files) s
+missing-stops files path fault s h k =
+    stops-as (λ report. report ≡ io_report path fault) (LacksOwn (Some path) files) (λ report r. missing-told files path fault report h r) s k
+
+pub ruleset own_rules = (memory-stops, missing-stops)
+
+error-told : (files : Files) (path : Path) (fault : IoFault) (report : List ℕ) → IsTextReport files (witx_error.Io path fault) report → report ≡ io_report path fault
+unfolding IsTextReport
+error-told files path fault report k = k.1.0
+
+pub error-stops : (files : Files) (path other : Path) (fault : IoFault) (s : Stop) → other ≡ path → StopsWith (IsTextReport files (witx_error.Io other fault)) s
+    → StopsWith (λ report. report ≡ io_report path fault) s
+error-stops files path other fault s e k =
+    stops-as (IsTextReport files (witx_error.Io path fault)) (λ report. report ≡ io_report path fault) (λ report h. error-told files path fault report h) s
+    (subst (λ p. StopsWith (IsTextReport files (witx_error.Io p fault)) s) e k)
+
+pub ruleset error_rules = (memory-stops, error-stops)
+
+-- ---- shims
+
+pub new-stops : (files : Files) (arguments news : List (List ℕ)) (s : Stop) → news ≡ new_file arguments → StopsWith (AdaptingFails files (paths_of news)) s
+    → StopsWith (ToolRefuses tool.Shim files arguments) s
+unfolding ToolRefuses
+new-stops files arguments news s n k =
+    stops-as (AdaptingFails files (paths_of (new_file arguments))) (ToolRefuses tool.Shim files arguments) (λ report h. inr (tt, inl (inl h))) s
+    (failed files files news (new_file arguments) s n refl k)
+
+pub old-stops : (files mid : Files) (arguments news olds : List (List ℕ)) (a : Adapted) (s : Stop) → news ≡ new_file arguments → olds ≡ old_file arguments → mid ≡ files
+    → Parses files (paths_of news) (Ok (defined a)) → IsAdapted a → StopsWith (AdaptingFails mid (paths_of olds)) s → StopsWith (ToolRefuses tool.Shim files arguments) s
+unfolding ToolRefuses
+old-stops files mid arguments news olds a s n o f p q k =
+    stops-as (AdaptingFails files (paths_of (old_file arguments))) (ToolRefuses tool.Shim files arguments)
+    (λ report h. inr (tt, inl (inr (can-adapt files (new_file arguments) a (said files files news (new_file arguments) a n refl p) q, inl h)))) s
+    (failed files mid olds (old_file arguments) s o f k)
+
+pub absent-stops : (files mid : Files) (arguments news olds names : List (List ℕ)) (a b : Adapted) (s : Stop) → news ≡ new_file arguments → olds ≡ old_file arguments
+    → names ≡ module_names arguments → mid ≡ files → Parses files (paths_of news) (Ok (defined a)) → IsAdapted a → Parses mid (paths_of olds) (Ok (defined b)) → IsAdapted b
+    → StopsWith (IsAbsentReport (defined a) (defined b) names) s → StopsWith (ToolRefuses tool.Shim files arguments) s
+unfolding ToolRefuses
+absent-stops files mid arguments news olds names a b s n o m f p q r t k =
+    let new = said files files news (new_file arguments) a n refl p in
+    let old = said files mid olds (old_file arguments) b o f r in
+    stops-as (IsAbsentReport (defined a) (defined b) (module_names arguments)) (ToolRefuses tool.Shim files arguments)
+    (λ report h. inr (tt, inr ((can-adapt files (new_file arguments) a new q, (can-adapt files (old_file arguments) b old t, tt)), (defined a, defined b, (new, old), h)))) s
+    (subst (λ ws. StopsWith (IsAbsentReport (defined a) (defined b) ws) s) m k)
+
+pub shims-told : (files mid : Files) (arguments news olds names : List (List ℕ)) (a b : Adapted) (ms : List ModulePolyfill) (text : List ℕ) → news ≡ new_file arguments
+    → olds ≡ old_file arguments → names ≡ module_names arguments → mid ≡ files → Parses files (paths_of news) (Ok (defined a)) → IsAdapted a
+    → Parses mid (paths_of olds) (Ok (defined b)) → IsAdapted b → polyfill_answer (defined a) (defined b) (mapping_of names) ≡ Ok (map module_view ms)
+    → text ≡ shims_text (map module_view ms) → IsToolOutput tool.Shim files arguments text
+unfolding IsToolOutput
+shims-told files mid arguments news olds names a b ms text n o m f p q r t e k =
+    let new = said files files news (new_file arguments) a n refl p in
+    let old = said files mid olds (old_file arguments) b o f r in (
+      tt,
+      (can-adapt files (new_file arguments) a new q, (can-adapt files (old_file arguments) b old t, tt)),
+      (defined a, defined b, (new, old), map module_view ms, subst (λ ws. polyfill_answer (defined a) (defined b) (mapping_of ws) ≡ Ok (map module_view ms)) m e, k),
+    )
+
+pub ruleset shim_rules = (memory-stops, new-stops, old-stops, absent-stops, shims-told, answers-mapped)
+
+-- ---- imports
+
+bad-told : (path : Path) (text : List ℕ) (place : list.Place) (report : List ℕ) → list.IsFaultOf text place → report ≡ bad_report path place → IsBadList path text report
+unfolding IsBadList
+bad-told path text place report h r = (place, h, r)
+
+pub bad-stops : (path : Path) (text : List ℕ) (place : list.Place) (s : Stop) → list.IsFaultOf text place → StopsWith (λ report. report ≡ bad_report path place) s
+    → StopsWith (IsBadList path text) s
+bad-stops path text place s h k = stops-as (λ report. report ≡ bad_report path place) (IsBadList path text) (λ report r. bad-told path text place report h r) s k
+
+pub ruleset list_rules = (memory-stops, bad-stops)
+
+pub lacking-stops : (files : Files) (arguments : List (List ℕ)) (path : Path) (s : Stop) → path ≡ list_path arguments → StopsWith (LacksOwn (Some path) files) s
+    → StopsWith (ToolRefuses tool.Imports files arguments) s
+unfolding ToolRefuses
+lacking-stops files arguments path s e k =
+    stops-as (LacksOwn (Some (list_path arguments)) files) (ToolRefuses tool.Imports files arguments) (λ report h. inl h) s
+    (subst (λ p. StopsWith (LacksOwn (Some p) files) s) e k)
+
+pub document-stops : (files mid : Files) (arguments words : List (List ℕ)) (path : Path) (text : List ℕ) (s : Stop) → path ≡ list_path arguments
+    → words ≡ arguments_of arguments → mid ≡ files → held files path ≡ Some text → StopsWith (AdaptingFails mid (paths_of words)) s
+    → StopsWith (ToolRefuses tool.Imports files arguments) s
+unfolding ToolRefuses
+document-stops files mid arguments words path text s e w f h k =
+    stops-as (AdaptingFails files (paths_of (arguments_of arguments))) (ToolRefuses tool.Imports files arguments)
+    (λ report r. inr ((text, subst (λ p. held files p ≡ Some text) e h), inl (inl r))) s
+    (failed files mid words (arguments_of arguments) s w f k)
+
+pub list-stops : (files mid : Files) (arguments words : List (List ℕ)) (path : Path) (text : List ℕ) (a : Adapted) (s : Stop) → path ≡ list_path arguments
+    → words ≡ arguments_of arguments → mid ≡ files → held files path ≡ Some text → Parses mid (paths_of words) (Ok (defined a)) → IsAdapted a
+    → StopsWith (IsBadList path text) s → StopsWith (ToolRefuses tool.Imports files arguments) s
+unfolding ToolRefuses
+list-stops files mid arguments words path text a s e w f h p q k =
+    let holds : held files (list_path arguments) ≡ Some text = subst (λ p. held files p ≡ Some text) e h in
+    stops-as (IsBadList (list_path arguments) text) (ToolRefuses tool.Imports files arguments)
+    (λ report r. inr (
+      (text, holds),
+      inr ((can-adapt files (arguments_of arguments) a (said files mid words (arguments_of arguments) a w f p) q, tt), (text, holds, r)),
+    )) s
+    (subst (λ p. StopsWith (IsBadList p text) s) e k)
+
+pub faults-told : (files mid : Files) (arguments words : List (List ℕ)) (path : Path) (text made : List ℕ) (a : Adapted) (imports : List WasmImport)
+    → path ≡ list_path arguments → words ≡ arguments_of arguments → mid ≡ files → held files path ≡ Some text → Parses mid (paths_of words) (Ok (defined a)) → IsAdapted a
+    → list.Reads text imports → made ≡ faults_text (map offered a.functions) imports → IsToolOutput tool.Imports files arguments made
+unfolding IsToolOutput
+faults-told files mid arguments words path text made a imports e w f h p q r k =
+    let holds : held files (list_path arguments) ≡ Some text = subst (λ p. held files p ≡ Some text) e h in
+    let means = said files mid words (arguments_of arguments) a w f p in
+    ((text, holds), (can-adapt files (arguments_of arguments) a means q, tt), (imports, (text, holds, r), a, means, q, k))
+
+pub ruleset import_rules = (memory-stops, lacking-stops, document-stops, list-stops, faults-told)

@@ -1,0 +1,6 @@
+use Rattle.std.proofs.Common.{sym, ◌∙◌}
+use Rattle.witx_tools.proofs.Words.{no-tool}
+use Rattle.witx_tools.proofs.program.run_all.Goals as goal
+
+pub returns-then-has_form-clause-tool : goal.returns-then-has_form-clause-tool
+returns-then-has_form-clause-tool g c = λ t h. absurd (no-tool c.args.words.now t (sym c.has_form.ensures ∙ c.if-has_form.true) h)

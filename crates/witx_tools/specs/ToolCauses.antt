@@ -1,0 +1,149 @@
+-- What a tool tells over the files of a bundle, and when it refuses them: where the file of its own is missing, else as `adapt`
+-- refuses the first document that can't be adapted, else by the tool's own refusals, a row for each tool.
+use Rattle.std.specs.Prelude.{◌≡◌, ◌⊎◌, ℕ, List, [], ◌∷◌, ◌++◌, map, Option, Some, None, Ok, Err, codes}
+use Rattle.std.specs.List.{flat_map}
+use Rattle.witx_base.specs.Causes.{Rose}
+use Rattle.witx_base.specs.Paths.{Path}
+use Rattle.witx_files.specs.Files.{Files, held}
+use Rattle.witx_files.specs.declared.fault.IoFault.TheVariants.{NotFound}
+use Rattle.witx_ast.specs.Definitions.{DefinitionTree}
+use Rattle.witx_compat.specs.Polyfills.{MappedModule, polyfill_answer}
+use Rattle.witx_walk.specs.ErrorReports.{io_report}
+use Rattle.witx_adapt.specs.declared.adapted.Adapted.{Adapted}
+use Rattle.witx_imports.specs.Faults.{offered}
+use Rattle.witx_imports.specs.Reads as list
+use Rattle.witx_imports.specs.declared.import.WasmImport.{WasmImport}
+use Rattle.witx.specs.Adapting.{IsAdapted, Parses, defined}
+use Rattle.witx.specs.Causes.{CanAdapt, CanMap, IsCause, Reads}
+use Rattle.witx.specs.Mappings.{MeansBoth, mapping_of, module_names}
+use Rattle.witx.specs.Reports.{AdaptingFails, MappingFails}
+use Rattle.witx.specs.Streams.{Finished}
+use Rattle.witx.specs.Texts.{line, usage_lines}
+use Rattle.witx.specs.Words.{arguments_of, paths_of}
+use Rattle.witx.specs.declared.refusal.Refusal.{Refusal}
+use Rattle.witx.specs.declared.refusal.Refusal.TheVariants as refusal
+use Rattle.witx.specs.declared.refusal.Stop.{Stop}
+use Rattle.witx.specs.declared.refusal.Stop.TheVariants as stop
+use Rattle.witx_tools.specs.ImportTexts.{IsBadList, faults_text}
+use Rattle.witx_tools.specs.ShimTexts.{shims_text}
+use Rattle.witx_tools.specs.ToolWords.{adapted_files, list_path, own_file}
+use Rattle.witx_tools.specs.declared.tool.Tool.{Tool}
+use Rattle.witx_tools.specs.declared.tool.Tool.TheVariants as tool
+
+-- a line for each tool, behind those of the commands
+abbrev pub tool_lines : List (List ℕ)
+tool_lines =
+    codes "       witx shim NEW OLD [NEWMODULE OLDMODULE].."
+    ∷ codes "       witx imports LIST PATH.."
+    ∷ []
+
+-- what is told where the words have no form
+abbrev pub usage_text : List ℕ
+usage_text = flat_map line (usage_lines ++ tool_lines)
+
+-- the bundle holds a tool's own file, if it has one
+abbrev pub HoldsOwn : Option Path → Files → Type 0
+HoldsOwn None files = Unit {0}
+HoldsOwn (Some path) files = (text : List ℕ) × (held files path ≡ Some text)
+
+-- it doesn't, and this is the report
+abbrev pub LacksOwn : Option Path → Files → List ℕ → Type 0
+LacksOwn None files report = ⊥
+LacksOwn (Some path) files report = (held files path ≡ None) × (report ≡ io_report path NotFound)
+
+-- the files at the paths of each of these words can be adapted
+abbrev pub CanAdaptAll : Files → List (List (List ℕ)) → Type 0
+CanAdaptAll files [] = Unit {0}
+CanAdaptAll files (words ∷ more) = CanAdapt files (paths_of words) × CanAdaptAll files more
+
+-- those of one can't, the first such, and this is the report of `adapt`
+abbrev pub OneIsUnadapted : Files → List (List (List ℕ)) → List ℕ → Type 0
+OneIsUnadapted files [] report = ⊥
+OneIsUnadapted files (words ∷ more) report = AdaptingFails files (paths_of words) report ⊎ (CanAdapt files (paths_of words) × OneIsUnadapted files more report)
+
+-- the list of imports is read so
+abbrev pub ListReads : Files → Path → List WasmImport → Type 0
+ListReads files path imports = (text : List ℕ) × (held files path ≡ Some text) × list.Reads text imports
+
+-- the text at the path of the list is none, and this is the report
+abbrev pub ListFails : Files → Path → List ℕ → Type 0
+ListFails files path report = (text : List ℕ) × (held files path ≡ Some text) × IsBadList path text report
+
+-- what a tool refuses by itself: a row for each tool
+abbrev pub OwnRefuses : Tool → Files → List (List ℕ) → List ℕ → Type 0
+OwnRefuses tool.Shim files arguments report = MappingFails files arguments report
+OwnRefuses tool.Imports files arguments report = ListFails files (list_path arguments) report
+
+-- WHEN A TOOL REFUSES the files of a bundle, and with which report
+unfoldable pub ToolRefuses : Tool → Files → List (List ℕ) → List ℕ → Type 0
+ToolRefuses t files arguments report =
+    LacksOwn (own_file t arguments) files report
+    ⊎ (HoldsOwn (own_file t arguments) files × (OneIsUnadapted files (adapted_files t arguments) report
+    ⊎ (CanAdaptAll files (adapted_files t arguments) × OwnRefuses t files arguments report)))
+
+-- the shims of the modules of the old file by those of the new one
+abbrev pub AreShims : Files → List (List ℕ) → List ℕ → Type 0
+AreShims files arguments text =
+    (new : List DefinitionTree) × (old : List DefinitionTree) × MeansBoth files arguments new old
+    × (modules : List MappedModule) × (polyfill_answer new old (mapping_of (module_names arguments)) ≡ Ok modules) × (text ≡ shims_text modules)
+
+-- the faults of the imports of the list, held against the document of the files behind it
+abbrev pub AreFaults : Files → List (List ℕ) → List ℕ → Type 0
+AreFaults files arguments text =
+    (imports : List WasmImport) × ListReads files (list_path arguments) imports
+    × (a : Adapted) × Parses files (paths_of (arguments_of arguments)) (Ok (defined a)) × IsAdapted a × (text ≡ faults_text (map offered a.functions) imports)
+
+-- the text of a tool: a row for each tool
+abbrev pub IsToolText : Tool → Files → List (List ℕ) → List ℕ → Type 0
+IsToolText tool.Shim files arguments text = AreShims files arguments text
+IsToolText tool.Imports files arguments text = AreFaults files arguments text
+
+-- WHAT A TOOL TELLS over the files of a bundle, where it doesn't refuse them
+unfoldable pub IsToolOutput : Tool → Files → List (List ℕ) → List ℕ → Type 0
+IsToolOutput t files arguments text =
+    HoldsOwn (own_file t arguments) files × CanAdaptAll files (adapted_files t arguments) × IsToolText t files arguments text
+
+-- nothing of this is refused by the tool itself: a row for each tool
+abbrev pub IsOwnValid : Tool → Files → List (List ℕ) → Type 0
+IsOwnValid tool.Shim files arguments = CanMap files arguments
+IsOwnValid tool.Imports files arguments = (imports : List WasmImport) × ListReads files (list_path arguments) imports
+
+-- the bundle holds what the tool works on, and its documents can be adapted
+unfoldable pub IsValidForTool : Tool → Files → List (List ℕ) → Type 0
+IsValidForTool t files arguments =
+    HoldsOwn (own_file t arguments) files × CanAdaptAll files (adapted_files t arguments) × IsOwnValid t files arguments
+
+-- what a run of a tool is given: the words behind the first, and what is told of its source: which bytes it had left before and
+-- has left after, and its count of faults before and now
+pub record ToolInput : Type 0 where
+  pub tool : Tool
+  pub arguments : List (List ℕ)
+  pub left : Option (List ℕ)
+  pub after : Option (List ℕ)
+  pub before : ℕ
+  pub now : ℕ
+
+-- with a source, by what is told of it
+abbrev pub tool_input : {S : Type 0} → Tool → List (List ℕ) → (S → Option (List ℕ)) → (S → ℕ) → (old new : S) → ToolInput
+tool_input t arguments left faults old new =
+    record { tool = t; arguments = arguments; left = left old; after = left new; before = faults old; now = faults new }
+
+-- what is so where a run of a tool refuses
+abbrev pub ToolCause : ToolInput → Refusal → Type 0
+ToolCause i refusal.Usage = ⊥
+ToolCause i refusal.Source = Rose i.before i.now
+ToolCause i (refusal.Bundle e) = (i.now ≡ i.before) × IsCause e × Reads i.left (Err e)
+ToolCause i (refusal.Command report) = (i.now ≡ i.before) × (files : Files) × Reads i.left (Ok files) × ToolRefuses i.tool files i.arguments report
+
+-- why it has no text
+abbrev pub ToolStop : ToolInput → Stop → Type 0
+ToolStop i (stop.Refused r) = ToolCause i r
+ToolStop i stop.OutOfMemory = i.now ≡ i.before
+
+-- what is so where it has its text: the source was read to its end, there is a bundle, and the text is over its files
+pub record IsToolAnswered (i : ToolInput) (text : List ℕ) : Type 0 where
+  pub finished : Finished i.left i.after
+  pub no_fault : i.now ≡ i.before
+  pub files : Files
+  pub bundle : Reads i.left (Ok files)
+  pub output : IsToolOutput i.tool files i.arguments text

@@ -1,0 +1,19 @@
+//! What the words and the bytes of a bundle decide, as functions that do nothing: each contract is a
+//! theorem.
+ghost use Rattle.witx_tools.specs.ToolLaws.{CommandsAreNoTools, ValidIsNotRefusedByTools};
+
+use witx::valid_is_not_refused;
+use witx_imports::no_fault_where_imports_are_read;
+
+/// No words are both a command's and a tool's.
+pub fn commands_are_no_tools()
+    ensures { CommandsAreNoTools }
+{}
+
+/// A bundle that is valid for a tool isn't refused by it.
+pub fn valid_is_not_refused_by_tools()
+    ensures { ValidIsNotRefusedByTools }
+{
+    valid_is_not_refused();
+    no_fault_where_imports_are_read();
+}

@@ -1,0 +1,63 @@
+//! What tools work on: the file of their own, and adapted documents.
+ghost use Rattle.std.specs.Prelude.{◌≡◌, IfErr, IfOk, None, OnOk, Ok, Some};
+ghost use Rattle.witx_files.specs.Files.{held};
+ghost use Rattle.witx_files.specs.declared.fault.IoFault.{IoFault};
+ghost use Rattle.witx_walk.specs.ErrorReports.{io_report};
+ghost use Rattle.witx.specs.Adapting.{IsAdapted, Parses, defined};
+ghost use Rattle.witx.specs.Reports.{AdaptingFails, IsTextReport};
+ghost use Rattle.witx.specs.Stops.{StopsWith};
+ghost use Rattle.witx.specs.Words.{paths_of};
+ghost use Rattle.witx_tools.specs.ToolCauses.{LacksOwn};
+
+use std::alloc::Global;
+use witx::{Stop, adapted_or_stop, paths_of, text_stop};
+use witx_adapt::Adapted;
+use witx_base::{Duplicate, Text, WitxPath};
+use witx_files::{IoError, IoFault, MockFs, WitxIo};
+use witx_walk::WitxError;
+
+/// The adapted document of the files at the paths of these words, or the end of a run over files that
+/// can't be adapted.
+#[tactic(auto, using(crate::proofs::Telling::path_rules))]
+pub fn adapted_words(alloc: Global, words: &[Text], files: &mut MockFs) -> Result<Adapted, Stop>
+    ensures document { IfOk result (λ a. Parses files.old (paths_of words.now) (Ok (defined a))) }
+    ensures parts { IfOk result IsAdapted }
+    ensures stopped { IfErr result (StopsWith (AdaptingFails files.old (paths_of words.now))) }
+    ensures kept { OnOk result (files.new ≡ files.old) }
+{
+    let paths = paths_of(alloc, words)?;
+    adapted_or_stop(alloc, paths.as_slice(), files)
+}
+
+/// The text of a tool's own file, or the end of a run whose bundle lacks it.
+#[tactic(auto, using(crate::proofs::Telling::own_rules))]
+pub fn own_text(alloc: Global, path: &WitxPath, files: &mut MockFs) -> Result<Text, Stop>
+    ensures held { IfOk result (λ text. held files.old path.now ≡ Some text) }
+    ensures stopped { IfErr result (StopsWith (LacksOwn (Some path.now) files.old)) }
+    ensures kept { OnOk result (files.new ≡ files.old) }
+{
+    match files.fgets(alloc, path) {
+        Ok(text) => Ok(text),
+        Err(IoError::Fault(fault)) => Err(unread_stop(alloc, path, fault, files)),
+        Err(IoError::OutOfMemory) => Err(Stop::OutOfMemory),
+    }
+}
+
+/// The end of a run that can't read a file.
+#[tactic(auto, using(crate::proofs::Telling::error_rules))]
+fn unread_stop(alloc: Global, path: &WitxPath, fault: IoFault, files: &mut MockFs) -> Stop
+    ensures { StopsWith (λ report. report ≡ io_report path.now fault) result }
+{
+    match path.copy() {
+        Ok(path) => error_stop(alloc, WitxError::Io(path, fault), files),
+        Err(_) => Stop::OutOfMemory,
+    }
+}
+
+fn error_stop(alloc: Global, error: WitxError, files: &mut MockFs) -> Stop
+    ensures { StopsWith (IsTextReport files.old error) result }
+{
+    let stop = text_stop(alloc, files, &error);
+    drop(error);
+    stop
+}
