@@ -17,7 +17,7 @@ use Rattle.witx_machine.proofs.All.{all_fit}
 use Rattle.witx_verify.proofs.Sound.{yes_is_faithful}
 use Rattle.witx_verify.proofs.Own.{own_raise_no_doubt}
 
-no_doubt_of : (o : Option Doubt) → verdict_of o ≡ Verdict.Yes → o ≡ None
+pub no_doubt_of : (o : Option Doubt) → verdict_of o ≡ Verdict.Yes → o ≡ None
 no_doubt_of None e = refl
 no_doubt_of (Some d) e = absurd (clash e)
   where

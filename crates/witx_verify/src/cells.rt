@@ -1,14 +1,22 @@
+//! What stands at the addresses that were given.
+
 ghost use Rattle.std.specs.Prelude.{◌≡◌, [], Some, IfOk, option_map, false, slice_get};
+ghost use Rattle.witx_ast.specs.Same.{same_tree};
 ghost use Rattle.witx_ast.specs.Views.{named_tree};
 ghost use Rattle.witx_machine.specs.Words.{when};
+ghost use Rattle.witx_verify.specs.Putting.{put_symbol};
+ghost use Rattle.witx_verify.specs.Symbols.{given};
 ghost use Rattle.witx_verify.specs.Symbolic.{give_symbol, symbol_at, get_symbol, put_in, set_symbol};
+ghost use Rattle.witx_verify.specs.Verdicts.{holds_symbol, is_made_for};
 ghost use Rattle.witx_verify.specs.SymbolViews.{symbol_of};
 ghost use Rattle.witx_verify.specs.WordViews.{takes_symbol, word_of, shared_of, option_of, cell_of, memory_of};
 
+use crate::kinds::is_by_address;
 use crate::symbol::Symbol;
 use crate::types::alike;
 use crate::typing::is_of;
 use crate::words::Word;
+use crate::world::is_symbol;
 use std::alloc::Global;
 use std::rc::Rc;
 use witx_ast::NamedType;
@@ -26,6 +34,20 @@ pub(crate) struct Cell {
 pub struct Cells {
     cells: Vec<Cell>,
     left: usize,
+}
+
+impl Cell {
+    /// The cell once more.
+    fn again(&self) -> Result<Cell, OutOfMemory>
+        ensures { IfOk result (λ cell. cell_of cell ≡ cell_of self.now) }
+    {
+        let content = match &self.content {
+            Some(symbol) => Some(Rc::clone(symbol)?),
+            None => None,
+        };
+        let made_for = Rc::clone(&self.made_for)?;
+        Ok(Cell { made_for, content })
+    }
 }
 
 impl Cells {
@@ -50,6 +72,22 @@ impl Cells {
         ensures { IfOk result (λ word. option_map (λ w. (word_of w, memory_of self.new)) word ≡
             give_symbol (named_tree ty.now.value) (option_of content) (memory_of self.old).made (memory_of self.old).left) }
     {
+        match self.give_number(ty, content)? {
+            Some(number) => Ok(Some(Word::Given(number))),
+            None => Ok(None),
+        }
+    }
+
+    /// The same, by the number of the address.
+    #[tactic(auto, using(crate::proofs::CellLemmas::cell_rules))]
+    pub(crate) fn give_number(
+        &mut self,
+        ty: &Rc<NamedType>,
+        content: Option<Rc<Symbol>>,
+    ) -> Result<Option<usize>, OutOfMemory>
+        ensures { IfOk result (λ number. option_map (λ k. (given k, memory_of self.new)) number ≡
+            give_symbol (named_tree ty.now.value) (option_of content) (memory_of self.old).made (memory_of self.old).left) }
+    {
         if self.left == 0 {
             return Ok(None);
         }
@@ -57,7 +95,38 @@ impl Cells {
         let made_for = Rc::clone(ty)?;
         self.cells.push(Cell { made_for, content })?;
         self.left -= 1;
-        Ok(Some(Word::Given(number)))
+        Ok(Some(number))
+    }
+
+    /// Puts a symbol at the next address, made for a type that is passed by address; none where it isn't,
+    /// or where no address is left.
+    pub fn put(
+        &mut self,
+        ty: &Rc<NamedType>,
+        symbol: Rc<Symbol>,
+    ) -> Result<Option<Word>, OutOfMemory>
+        ensures { IfOk result (λ word. option_map (λ w. (word_of w, memory_of self.new)) word ≡
+            put_symbol (named_tree ty.now.value) (shared_of symbol) (memory_of self.old)) }
+    {
+        if is_by_address(&ty.tref) {
+            self.give(ty, Some(symbol))
+        } else {
+            Ok(None)
+        }
+    }
+
+    /// The cells once more.
+    pub(crate) fn again(&self, alloc: Global) -> Result<Cells, OutOfMemory>
+        ensures { IfOk result (λ cells. memory_of cells ≡ memory_of self.now) }
+    {
+        let mut cells = Vec::new(alloc);
+        for cell in &self.cells {
+            cells.push(cell.again()?)?;
+        }
+        Ok(Cells {
+            cells,
+            left: self.left,
+        })
     }
 
     /// What stands at an address that was made for a type alike to this one.
@@ -87,6 +156,42 @@ impl Cells {
     {
         match word {
             Word::Given(k) => self.set_at(*k, ty, symbol),
+            Word::Of { symbol: _, ty: _ }
+            | Word::Address(_)
+            | Word::Length(_)
+            | Word::Zero
+            | Word::One => false,
+        }
+    }
+
+    /// Whether the word is an address that was given, at which the symbol stands.
+    #[tactic(auto, using(crate::proofs::CellLemmas::cell_rules))]
+    pub(crate) fn holds(&self, word: &Word, symbol: &Symbol) -> bool
+        ensures { result ≡ holds_symbol (memory_of self.now) (word_of word.now) (symbol_of symbol.now) }
+    {
+        match word {
+            Word::Given(k) => match self.cells.get(*k) {
+                Some(cell) => is_symbol(&cell.content, symbol),
+                None => false,
+            },
+            Word::Of { symbol: _, ty: _ }
+            | Word::Address(_)
+            | Word::Length(_)
+            | Word::Zero
+            | Word::One => false,
+        }
+    }
+
+    /// Whether the word is an address that was made for the type as it is written.
+    #[tactic(auto, using(crate::proofs::CellLemmas::cell_rules))]
+    pub(crate) fn is_made_for(&self, word: &Word, ty: &NamedType) -> bool
+        ensures { result ≡ is_made_for (memory_of self.now) (word_of word.now) (named_tree ty.now) }
+    {
+        match word {
+            Word::Given(k) => match self.cells.get(*k) {
+                Some(cell) => is_for(cell, ty),
+                None => false,
+            },
             Word::Of { symbol: _, ty: _ }
             | Word::Address(_)
             | Word::Length(_)
@@ -131,4 +236,11 @@ fn takes(cell: &Cell, ty: &NamedType, symbol: &Symbol) -> bool
     ensures { result ≡ takes_symbol (named_tree ty.now) (symbol_of symbol.now) (cell_of cell.now) }
 {
     alike(&cell.made_for.tref, &ty.tref) && is_of(symbol, &ty.tref)
+}
+
+#[tactic(auto, using(crate::proofs::CellLemmas::cell_rules))]
+fn is_for(cell: &Cell, ty: &NamedType) -> bool
+    ensures { result ≡ same_tree (named_tree cell.now.made_for.value) (named_tree ty.now) }
+{
+    *cell.made_for == *ty
 }

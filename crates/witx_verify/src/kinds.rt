@@ -1,9 +1,13 @@
-ghost use Rattle.std.specs.Prelude.{◌≡◌};
+//! Which conversions between values and words a type has.
+
+ghost use Rattle.std.specs.Prelude.{◌≡◌, ◌∷◌, []};
 ghost use Rattle.witx_ast.specs.Plain as plain_tree;
 ghost use Rattle.witx_ast.specs.Plain.{plain};
 ghost use Rattle.witx_ast.specs.Views.{tree_of, datatype_tree, record_tree};
 ghost use Rattle.witx_ast.specs.Alike.{same_plain};
-ghost use Rattle.witx_machine.specs.Words.{same_type, builtin_word_type, word_type};
+ghost use Rattle.witx_machine.specs.Functions.{by_address};
+ghost use Rattle.witx_machine.specs.Signature.{param_words};
+ghost use Rattle.witx_machine.specs.Words.{same_type, same_types, builtin_word_type, word_type};
 ghost use Rattle.witx_verify.specs.Symbolic.{has_kind, converts};
 ghost use Rattle.witx_verify.specs.SymbolViews.{symbol_of};
 ghost use Rattle.witx_verify.specs.WordViews.{scalar_of};
@@ -16,13 +20,19 @@ use witx_machine::WasmType;
 
 /// A conversion between a value and its one word; of a handle, of flags and of a variant without payloads
 /// under the named type.
+#[derive(Clone, Copy)]
 pub enum Conversion<'a> {
+    /// A number, or a character.
     Number(BuiltinType),
+    /// A pointer to any type.
     Pointer,
+    /// A const pointer to any type.
     ConstPointer,
+    /// A handle of this type.
     Handle(&'a NamedType),
-    /// Flags that a word of this type holds.
+    /// Flags of this type, which a word of that one holds.
     Flags(WasmType, &'a NamedType),
+    /// A case of this variant without payloads.
     Enum(&'a NamedType),
 }
 
@@ -138,6 +148,39 @@ fn is_handle(datatype: &Datatype) -> bool
     matches!(datatype, Datatype::Handle(_))
 }
 
+/// Whether a value of the type has one word, of this type.
+#[tactic(auto, using(crate::proofs::KindLemmas::kind_rules))]
+pub(crate) fn has_one_word(word: WasmType, ty: &TypeRef) -> bool
+    ensures { result ≡ same_types (word ∷ []) (param_words (plain (tree_of ty.now))) }
+{
+    is_one_word(word, ty.type_())
+}
+
+#[tactic(auto, using(crate::proofs::KindLemmas::kind_rules))]
+fn is_one_word(word: WasmType, datatype: &Datatype) -> bool
+    ensures { result ≡ same_types (word ∷ []) (param_words (plain (datatype_tree datatype.now))) }
+{
+    match datatype {
+        Datatype::List(_) => false,
+        Datatype::Builtin(builtin) => same_type(word, builtin_word(*builtin)),
+        Datatype::Record(record) => is_word_of_record(word, record),
+        Datatype::Variant(_)
+        | Datatype::Handle(_)
+        | Datatype::Pointer(_)
+        | Datatype::ConstPointer(_) => same_type(word, WasmType::I32),
+    }
+}
+
+#[tactic(auto, using(crate::proofs::KindLemmas::kind_rules))]
+fn is_word_of_record(word: WasmType, members: &RecordDatatype) -> bool
+    ensures { result ≡ same_types (word ∷ []) (param_words (plain (record_tree members.now))) }
+{
+    match members.kind {
+        RecordKind::Bitflags(repr) => same_type(word, WasmType::from(repr)),
+        RecordKind::Tuple | RecordKind::Other => same_type(word, WasmType::I32),
+    }
+}
+
 /// Whether a type is a list, names looked through.
 #[tactic(auto, using(crate::proofs::KindLemmas::kind_rules))]
 pub(crate) fn is_list(ty: &TypeRef) -> bool
@@ -180,5 +223,34 @@ fn is_enum(datatype: &Datatype) -> bool
     match datatype {
         Datatype::Variant(variant) => variant.is_enum(),
         _ => false,
+    }
+}
+
+/// Whether a value of the type is passed by address: a record that isn't flags, or a variant with a payload.
+#[tactic(auto, using(crate::proofs::KindLemmas::kind_rules))]
+pub(crate) fn is_by_address(ty: &TypeRef) -> bool
+    ensures { result ≡ by_address (plain (tree_of ty.now)) }
+{
+    is_datatype_by_address(ty.type_())
+}
+
+#[tactic(auto, using(crate::proofs::AddressLemmas::address_rules))]
+fn is_datatype_by_address(datatype: &Datatype) -> bool
+    ensures { result ≡ by_address (plain (datatype_tree datatype.now)) }
+{
+    match datatype {
+        Datatype::Record(record) => is_record_by_address(record),
+        Datatype::Variant(variant) => !variant.is_enum(),
+        _ => false,
+    }
+}
+
+#[tactic(auto, using(crate::proofs::KindLemmas::kind_rules))]
+fn is_record_by_address(record: &RecordDatatype) -> bool
+    ensures { result ≡ by_address (plain (record_tree record.now)) }
+{
+    match record.kind {
+        RecordKind::Bitflags(_) => false,
+        RecordKind::Tuple | RecordKind::Other => true,
     }
 }

@@ -9,6 +9,7 @@ ghost use Rattle.witx_machine.specs.Traces.{caller_events, callee_events};
 ghost use Rattle.witx_machine.specs.Faithful.{Faithful};
 ghost use Rattle.witx_verify.specs.declared.surface.Verdict.{Verdict};
 ghost use Rattle.witx_verify.specs.Verdicts.{verdict, RunsNamePlaces};
+ghost use Rattle.witx_verify.specs.Adapted.{AdaptedGetYes};
 ghost use Rattle.witx_verify.specs.Meaning.{TestsTell};
 
 /// Traces that get a yes are faithful to the function.
@@ -21,6 +22,11 @@ pub fn a_yes_is_faithful()
 pub fn own_traces_get_a_yes()
     ensures { (module_name : List ℕ) (func : FunctionTree) → IsTrue (lowerable (function_of func)) → IsTrue (function_fits func) →
         verdict module_name (function_of func) (caller_events module_name (function_of func)) (callee_events module_name (function_of func)) ≡ Verdict.Yes }
+{}
+
+/// The two traces of each function of an adapted document get a yes, where the document is closed.
+pub fn traces_of_an_adapted_get_a_yes()
+    ensures { AdaptedGetYes }
 {}
 
 /// The tests of the verdict hold exactly where the words of symbols pass, and return, as the machine

@@ -2,24 +2,41 @@
 #![tactic(auto)]
 
 mod cells;
+mod coming_back;
 mod from;
+mod going_in;
+mod judging;
 mod kinds;
 mod laws;
+mod machine;
+mod matching;
+mod misfits;
+mod outcome;
+mod rows;
+mod slots;
+mod stack;
 mod surface;
 mod symbol;
+mod traces;
 mod types;
 mod typing;
 mod words;
 mod world;
+mod worlds;
 
 pub use cells::Cells;
 pub use from::{arguments_from, symbol_from};
 pub use kinds::Conversion;
 pub use laws::{
     a_stuck_run_names_its_event, a_yes_is_faithful, own_traces_get_a_yes, tests_tell_what_passes,
+    traces_of_an_adapted_get_a_yes,
 };
 pub use surface::{Doubt, Verdict};
 pub use symbol::{Source, Symbol, Symbols, same};
+pub use traces::{
+    a_line_says_at_most_one_event, a_listing_shows_its_own_events,
+    a_text_gives_at_most_one_list_of_traces, at_most_one_line_is_unfit, traces_leave_no_line_unfit,
+};
 pub use types::alike;
 pub use typing::is_of;
 pub use words::{Word, lift, list_of_words, list_words, lower, parts_of};

@@ -3,7 +3,9 @@ use witx_machine::Place;
 /// What is found of two traces.
 #[derive(Clone, Copy, PartialEq, Eq, Debug)]
 pub enum Verdict {
+    /// The two traces are faithful to the function: for all arguments, replies, memories and free addresses.
     Yes,
+    /// They aren't known to be; what goes wrong first.
     No(Doubt),
 }
 

@@ -113,7 +113,7 @@ pub fn same(a: &Symbol, b: &Symbol) -> bool
 
 #[cycle(symbol)]
 #[tactic(auto, using(crate::proofs::SymbolReads::symbol_rules))]
-fn all_same(a: &[Rc<Symbol>], b: &[Rc<Symbol>]) -> bool
+pub(crate) fn all_same(a: &[Rc<Symbol>], b: &[Rc<Symbol>]) -> bool
     ensures { result ≡ same_members (symbols_read a.now) (symbols_read b.now) }
 {
     if a.len() != b.len() {

@@ -132,9 +132,9 @@ impl World {
     }
 }
 
-// Whether it is this symbol.
+/// Whether it is this symbol.
 #[tactic(auto, using(crate::proofs::WorldLemmas::world_rules))]
-fn is_symbol(option: &Option<Rc<Symbol>>, symbol: &Symbol) -> bool
+pub(crate) fn is_symbol(option: &Option<Rc<Symbol>>, symbol: &Symbol) -> bool
     ensures { result ≡ same_option (option_of option.now) (Some (symbol_of symbol.now)) }
 {
     match option {
