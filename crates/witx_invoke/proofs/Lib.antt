@@ -1,0 +1,10 @@
+pub mod Examples
+pub mod FitLoops
+pub mod HeadLaws
+pub mod Lines
+pub mod Numbers
+pub mod ReadBack
+pub mod ReadFlags
+pub mod ReadParts
+pub mod ReadTypes
+pub mod Texts

@@ -1,0 +1,5 @@
+pub mod ValueTexts
+pub mod Reading
+pub mod Lines
+pub mod Cases
+pub mod Laws

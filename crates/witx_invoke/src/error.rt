@@ -1,0 +1,23 @@
+ghost use Rattle.std.specs.Prelude.{◌≡◌};
+
+use witx_base::OutOfMemory;
+
+/// Why no values are read.
+#[derive(Clone, Copy, PartialEq, Eq, Debug)]
+pub enum ValuesError {
+    /// The first line that isn't the text of a value of its type, or is one too many or missing;
+    /// lines are counted from 1.
+    Line { line: usize },
+    /// Want of memory.
+    OutOfMemory,
+}
+
+impl From<OutOfMemory> for ValuesError {
+    ghost use Rattle.witx_invoke.specs.declared.error.ValuesError.{ValuesError};
+
+    ghost from_gives = { λ _ error. error ≡ ValuesError.OutOfMemory };
+
+    fn from(_refused: OutOfMemory) -> ValuesError {
+        ValuesError::OutOfMemory
+    }
+}

@@ -1,0 +1,336 @@
+//! The value at the head of a text, under the guidance of its type.
+//!
+//! A number is as many digits as stand there, so that `05` is read as 5: whether the text is that of
+//! the value is seen afterwards, when the value's text is compared with it.
+
+ghost use Rattle.std.specs.Prelude.{◌≡◌, ℕ, List, true, IfOk, Some, None, option_and_then};
+ghost use Rattle.witx_ast.specs.Plain.{plain, builtin, handle, list_of, pointer_to, const_pointer_to, record_of, all_bare};
+ghost use Rattle.witx_ast.specs.Views.{tree_of, datatype_tree, record_tree, variant_tree, members_plain, cases_plain};
+ghost use Rattle.witx_ast.specs.declared.types.IntRepr.{IntRepr};
+ghost use Rattle.witx_ast.specs.declared.types.RecordKind.{RecordKind};
+ghost use Rattle.witx_bytes.specs.Readings.{Reads};
+ghost use Rattle.witx_bytes.specs.Seen.{seen, values_seen};
+ghost use Rattle.witx_invoke.specs.Reading.{Payloads, after, case_behind, cases_at, closed, item_at, members_at, payload_at, taken, type_at};
+
+use crate::flags::read_flags;
+use crate::heads::{after, item_start, read_index, read_signed, read_word};
+use std::alloc::Global;
+use std::boxed::Box;
+use witx_ast::{
+    BuiltinType, Case, Datatype, RecordDatatype, RecordKind, RecordMember, TypeRef, Variant,
+};
+use witx_base::OutOfMemory;
+use witx_bytes::{ReadError, Value, Values};
+
+/// The value at the head, and what follows it.
+#[cycle(reading)]
+#[tactic(auto, using(crate::proofs::ReadTypes::type_rules))]
+pub(crate) fn read_type<'a>(
+    alloc: Global,
+    ty: &TypeRef,
+    text: &'a [u8],
+) -> Result<(Value, &'a [u8]), ReadError>
+    ensures { Reads (taken seen) (type_at (plain (tree_of ty.now)) text.now) result }
+{
+    match ty {
+        TypeRef::Name(named) => read_type(alloc, &named.tref, text),
+        TypeRef::Value(datatype) => read_datatype(alloc, datatype, text),
+    }
+}
+
+#[cycle(reading)]
+#[tactic(auto, using(crate::proofs::ReadTypes::type_rules))]
+fn read_datatype<'a>(
+    alloc: Global,
+    datatype: &Datatype,
+    text: &'a [u8],
+) -> Result<(Value, &'a [u8]), ReadError>
+    ensures { Reads (taken seen) (type_at (plain (datatype_tree datatype.now)) text.now) result }
+{
+    match datatype {
+        Datatype::Record(record) => read_record(alloc, record, text),
+        Datatype::Variant(variant) => read_variant(alloc, variant, text),
+        Datatype::Handle(_) => read_handle(text),
+        Datatype::List(target) => read_list(target, text),
+        Datatype::Pointer(target) => read_pointer(target, text),
+        Datatype::ConstPointer(target) => read_const_pointer(target, text),
+        Datatype::Builtin(builtin) => read_builtin(*builtin, text),
+    }
+}
+
+#[cycle(reading)]
+#[tactic(auto, using(crate::proofs::ReadTypes::type_rules))]
+fn read_record<'a>(
+    alloc: Global,
+    record_type: &RecordDatatype,
+    text: &'a [u8],
+) -> Result<(Value, &'a [u8]), ReadError>
+    ensures { Reads (taken seen) (type_at (plain (record_tree record_type.now)) text.now) result }
+{
+    let members = record_type.members.as_slice();
+    match record_type.kind {
+        RecordKind::Bitflags(_) => read_bits(alloc, members, text),
+        RecordKind::Tuple => read_tuple(alloc, members, text),
+        RecordKind::Other => read_other(alloc, members, text),
+    }
+}
+
+fn read_bits<'a>(
+    alloc: Global,
+    members: &[RecordMember],
+    text: &'a [u8],
+) -> Result<(Value, &'a [u8]), ReadError>
+    ensures { (r : IntRepr) → Reads (taken seen) (type_at (record_of (RecordKind.Bitflags r) (members_plain members.now)) text.now) result }
+{
+    let (flags, rest) = read_flags(alloc, members.len(), text)?;
+    Ok((Value::Flags(flags), rest))
+}
+
+#[cycle(reading)]
+#[tactic(auto, using(crate::proofs::ReadParts::part_rules))]
+fn read_tuple<'a>(
+    alloc: Global,
+    members: &[RecordMember],
+    text: &'a [u8],
+) -> Result<(Value, &'a [u8]), ReadError>
+    ensures { Reads (taken seen) (type_at (record_of RecordKind.Tuple (members_plain members.now)) text.now) result }
+{
+    let (values, rest) = read_enclosed(alloc, members, text)?;
+    Ok((Value::Tuple(values), rest))
+}
+
+#[cycle(reading)]
+#[tactic(auto, using(crate::proofs::ReadParts::part_rules))]
+fn read_other<'a>(
+    alloc: Global,
+    members: &[RecordMember],
+    text: &'a [u8],
+) -> Result<(Value, &'a [u8]), ReadError>
+    ensures { Reads (taken seen) (type_at (record_of RecordKind.Other (members_plain members.now)) text.now) result }
+{
+    let (values, rest) = read_enclosed(alloc, members, text)?;
+    Ok((Value::Rec(values), rest))
+}
+
+/// A value for each member, in parentheses.
+#[cycle(reading)]
+#[tactic(auto, using(crate::proofs::ReadParts::part_rules))]
+fn read_enclosed<'a>(
+    alloc: Global,
+    members: &[RecordMember],
+    text: &'a [u8],
+) -> Result<(Values, &'a [u8]), ReadError>
+    ensures { Reads (taken values_seen) (option_and_then (closed 41) (option_and_then (members_at 0 (members_plain members.now)) (after 40 text.now))) result }
+{
+    let Some(inside) = after(b'(', text) else {
+        return Err(ReadError::NoValue);
+    };
+    let (values, rest) = read_members(alloc, members, inside)?;
+    let Some(rest) = after(b')', rest) else {
+        drop(values);
+        return Err(ReadError::NoValue);
+    };
+    Ok((values, rest))
+}
+
+/// A value for each member, one space between.
+#[cycle(reading)]
+#[tactic(auto, using(crate::proofs::ReadParts::part_rules))]
+fn read_members<'a>(
+    alloc: Global,
+    members: &[RecordMember],
+    text: &'a [u8],
+) -> Result<(Values, &'a [u8]), ReadError>
+    ensures { Reads (taken values_seen) (members_at 0 (members_plain members.now) text.now) result }
+{
+    let mut values = Values::new(alloc);
+    let mut rest = text;
+    for i in 0..members.len() {
+        let (value, more) = read_member(alloc, i, &members[i].tref, rest)?;
+        values.push(value)?;
+        rest = more;
+    }
+    Ok((values, rest))
+}
+
+/// The value of a member, behind the space before it.
+#[cycle(reading)]
+#[tactic(auto, using(crate::proofs::ReadParts::part_rules))]
+fn read_member<'a>(
+    alloc: Global,
+    item: usize,
+    ty: &TypeRef,
+    text: &'a [u8],
+) -> Result<(Value, &'a [u8]), ReadError>
+    ensures { Reads (taken seen) (option_and_then (type_at (plain (tree_of ty.now))) (item_at item text.now)) result }
+{
+    let Some(start) = item_start(item, text) else {
+        return Err(ReadError::NoValue);
+    };
+    read_type(alloc, ty, start)
+}
+
+#[cycle(reading)]
+#[tactic(auto, using(crate::proofs::ReadTypes::type_rules))]
+fn read_variant<'a>(
+    alloc: Global,
+    variant: &Variant,
+    text: &'a [u8],
+) -> Result<(Value, &'a [u8]), ReadError>
+    ensures { Reads (taken seen) (type_at (plain (variant_tree variant.now)) text.now) result }
+{
+    read_cases(alloc, variant.cases.as_slice(), text)
+}
+
+/// A case: `#` and its number, and in parentheses with its payload if it has one.
+#[cycle(reading)]
+#[tactic(auto, using(crate::proofs::ReadParts::part_rules))]
+fn read_cases<'a>(
+    alloc: Global,
+    cases: &[Case],
+    text: &'a [u8],
+) -> Result<(Value, &'a [u8]), ReadError>
+    ensures { Reads (taken seen) (cases_at (all_bare (cases_plain cases.now)) (payload_at (cases_plain cases.now)) text.now) result }
+{
+    if are_bare(cases) {
+        return read_enum(text);
+    }
+    match after(b'(', text) {
+        Some(inside) => read_carrying(alloc, cases, inside),
+        None => read_bare(text),
+    }
+}
+
+/// A case with its payload, behind the parenthesis.
+#[cycle(reading)]
+#[tactic(auto, using(crate::proofs::ReadParts::part_rules))]
+fn read_carrying<'a>(
+    alloc: Global,
+    cases: &[Case],
+    text: &'a [u8],
+) -> Result<(Value, &'a [u8]), ReadError>
+    ensures { (s : List ℕ) → Reads (taken seen) (case_behind (Some text.now) (payload_at (cases_plain cases.now)) s) result }
+{
+    let Some((case, behind)) = read_index(text) else {
+        return Err(ReadError::NoValue);
+    };
+    let Some(start) = after(b' ', behind) else {
+        return Err(ReadError::NoValue);
+    };
+    let (payload, rest) = read_payload(alloc, cases, case, start)?;
+    let boxed = boxed(alloc, payload)?;
+    let Some(rest) = after(b')', rest) else {
+        drop(boxed);
+        return Err(ReadError::NoValue);
+    };
+    Ok((Value::Case(case, Some(boxed)), rest))
+}
+
+/// The payload of the case of this number, if it has one.
+#[cycle(reading)]
+#[tactic(auto, using(crate::proofs::ReadParts::part_rules))]
+fn read_payload<'a>(
+    alloc: Global,
+    cases: &[Case],
+    case: u32,
+    text: &'a [u8],
+) -> Result<(Value, &'a [u8]), ReadError>
+    ensures { Reads (taken seen) (payload_at (cases_plain cases.now) case text.now) result }
+{
+    if case as usize >= cases.len() {
+        return Err(ReadError::NoValue);
+    }
+    match &cases[case as usize].tref {
+        Some(ty) => read_type(alloc, ty, text),
+        None => Err(ReadError::NoValue),
+    }
+}
+
+fn boxed(alloc: Global, value: Value) -> Result<Box<Value>, OutOfMemory>
+    ensures { IfOk result (λ made. made.value ≡ value) }
+{
+    Ok(Box::new(alloc, value)?)
+}
+
+/// Whether no case has a payload.
+#[tactic(auto, using(witx_bytes::proofs::Belonging::loop_rules))]
+fn are_bare(cases: &[Case]) -> bool
+    ensures { result ≡ all_bare (cases_plain cases.now) }
+{
+    for case in cases {
+        if case.tref.is_some() {
+            return false;
+        }
+    }
+    true
+}
+
+#[tactic(auto, using(crate::proofs::ReadParts::scalar_rules))]
+fn read_builtin(ty: BuiltinType, text: &[u8]) -> Result<(Value, &[u8]), ReadError>
+    ensures { Reads (taken seen) (type_at (builtin ty) text.now) result }
+{
+    let (number, rest) = read_signed(text);
+    Ok((Value::Num(ty, number), rest))
+}
+
+#[tactic(auto, using(crate::proofs::ReadParts::scalar_rules))]
+fn read_handle(text: &[u8]) -> Result<(Value, &[u8]), ReadError>
+    ensures { Reads (taken seen) (type_at handle text.now) result }
+{
+    let (number, rest) = read_word(text);
+    Ok((Value::Handle(number), rest))
+}
+
+#[tactic(auto, using(crate::proofs::ReadParts::scalar_rules))]
+fn read_pointer<'a>(target: &TypeRef, text: &'a [u8]) -> Result<(Value, &'a [u8]), ReadError>
+    ensures { Reads (taken seen) (type_at (pointer_to (plain (tree_of target.now))) text.now) result }
+{
+    let (address, rest) = read_word(text);
+    Ok((Value::Pointer(address), rest))
+}
+
+#[tactic(auto, using(crate::proofs::ReadParts::scalar_rules))]
+fn read_const_pointer<'a>(target: &TypeRef, text: &'a [u8]) -> Result<(Value, &'a [u8]), ReadError>
+    ensures { Reads (taken seen) (type_at (const_pointer_to (plain (tree_of target.now))) text.now) result }
+{
+    let (address, rest) = read_word(text);
+    Ok((Value::ConstPointer(address), rest))
+}
+
+/// A list: `@`, its address, `+` and its length.
+#[tactic(auto, using(crate::proofs::ReadParts::scalar_rules))]
+fn read_list<'a>(target: &TypeRef, text: &'a [u8]) -> Result<(Value, &'a [u8]), ReadError>
+    ensures { Reads (taken seen) (type_at (list_of (plain (tree_of target.now))) text.now) result }
+{
+    let Some(start) = after(b'@', text) else {
+        return Err(ReadError::NoValue);
+    };
+    let (address, rest) = read_word(start);
+    let Some(behind) = after(b'+', rest) else {
+        return Err(ReadError::NoValue);
+    };
+    let (length, rest) = read_word(behind);
+    Ok((Value::List { address, length }, rest))
+}
+
+/// A case of a variant without payloads.
+#[tactic(auto, using(crate::proofs::ReadParts::scalar_rules))]
+fn read_enum(text: &[u8]) -> Result<(Value, &[u8]), ReadError>
+    ensures { (payload : Payloads) → Reads (taken seen) (cases_at true payload text.now) result }
+{
+    let Some((case, rest)) = read_index(text) else {
+        return Err(ReadError::NoValue);
+    };
+    Ok((Value::Enum(case), rest))
+}
+
+/// A case without a payload, of a variant that has payloads.
+#[tactic(auto, using(crate::proofs::ReadParts::scalar_rules))]
+fn read_bare(text: &[u8]) -> Result<(Value, &[u8]), ReadError>
+    ensures { (payload : Payloads) → Reads (taken seen) (case_behind None payload text.now) result }
+{
+    let Some((case, rest)) = read_index(text) else {
+        return Err(ReadError::NoValue);
+    };
+    Ok((Value::Case(case, None), rest))
+}
