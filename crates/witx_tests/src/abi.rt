@@ -100,47 +100,53 @@ fn play(
     }
 }
 
+/// What a generator of which this call fails was told, and how it ended.
+fn played(
+    alloc: Global,
+    func: &InterfaceFunc,
+    is_caller: bool,
+    call: usize,
+) -> Result<(FailingBindgen, Result<(), AbiError>), OutOfMemory> {
+    let fails = calls_of(alloc, &[call as u64])?;
+    let mut bindgen = FailingBindgen::new(Trace::new(alloc), fails);
+    let answer = play(alloc, func, is_caller, &mut bindgen);
+    Ok((bindgen, answer))
+}
+
 /// Whether the events are those before the failing call.
 fn stops_at(
     alloc: Global,
     func: &InterfaceFunc,
     is_caller: bool,
     call: usize,
-) -> Result<bool, OutOfMemory> {
-    let fails = calls_of(alloc, &[call as u64])?;
-    let mut bindgen = FailingBindgen::new(Trace::new(alloc), fails);
-    let is_refused = matches!(
-        play(alloc, func, is_caller, &mut bindgen),
-        Err(AbiError::BindgenFailed)
-    );
-    Ok(is_refused && bindgen.events().len() == call && bindgen.faults() == 1)
+    whole: &Events,
+) -> bool {
+    match played(alloc, func, is_caller, call) {
+        Ok((bindgen, answer)) => answer == Err(AbiError::BindgenFailed)
+            && whole.as_slice().get(..call) == Some(bindgen.events().as_slice())
+            && bindgen.faults() == 1,
+        Err(_) => false,
+    }
 }
 
-fn stops_at_each(alloc: Global, func: &InterfaceFunc, is_caller: bool, calls: usize) -> bool {
-    for call in 0..calls {
-        if !stops_at(alloc, func, is_caller, call).unwrap_or(false) {
+fn stops_at_each(alloc: Global, func: &InterfaceFunc, is_caller: bool, whole: &Events) -> bool {
+    for call in 0..whole.len() {
+        if !stops_at(alloc, func, is_caller, call, whole) {
             return false;
         }
     }
     true
 }
 
-/// Whether no call fails behind the last one.
-fn ends_at(
-    alloc: Global,
-    func: &InterfaceFunc,
-    is_caller: bool,
-    calls: usize,
-) -> Result<bool, OutOfMemory> {
-    let fails = calls_of(alloc, &[calls as u64])?;
-    let mut bindgen = FailingBindgen::new(Trace::new(alloc), fails);
-    let is_done = play(alloc, func, is_caller, &mut bindgen).is_ok();
-    Ok(is_done && bindgen.events().len() == calls && bindgen.faults() == 0)
-}
-
+/// Whether there are so many calls, no further one fails, and each of them failing ends the events.
 fn fails_at_each(alloc: Global, func: &InterfaceFunc, is_caller: bool, calls: usize) -> bool {
-    stops_at_each(alloc, func, is_caller, calls)
-        && ends_at(alloc, func, is_caller, calls).unwrap_or(false)
+    match played(alloc, func, is_caller, calls) {
+        Ok((bindgen, answer)) => answer.is_ok()
+            && bindgen.faults() == 0
+            && bindgen.events().len() == calls
+            && stops_at_each(alloc, func, is_caller, bindgen.events()),
+        Err(_) => false,
+    }
 }
 
 fn text_fails(alloc: Global, text: &str, caller: usize, callee: usize) -> bool {

@@ -3,8 +3,9 @@
 ghost use Rattle.std.specs.Prelude.{◌<◌};
 
 use crate::run::{ADD, ADD_LISTING, Gave, USAGE, run_on, run_over, sink_of, source_of};
+use crate::run_docs::{LINKED, LINKED_LINES, LINKED_PAGE, NUMBER, NUMBER_PAGE};
 use std::alloc::Global;
-use witx_base::OutOfMemory;
+use witx_base::{MemSink, OutOfMemory};
 
 const UNKNOWN: &str = "\
 ;;;; file /a
@@ -29,6 +30,26 @@ Originally defined at:
 in "/a":
     1 | (typename $a u8)
                    ^
+"#;
+
+const RECURSIVE: &str = r#";;;; file /a
+(module $m (@interface func (export "f") (param $x $m)))"#;
+
+const RECURSIVE_REPORT: &str = r#"witx: in "/a":
+    1 | (module $m (@interface func (export "f") (param $x $m)))
+                                                            ^
+Recursive definition of name `m`
+"#;
+
+const WRONG_KIND: &str = "\
+;;;; file /a
+(module $m)
+(typename $t $m)";
+
+const WRONG_KIND_REPORT: &str = r#"witx: in "/a":
+    2 | (typename $t $m)
+                      ^
+Wrong kind of name `m`: expected datatype, got module
 "#;
 
 const UNREAD: &str = "witx: cannot read input\n";
@@ -69,6 +90,9 @@ static CASES: &[Case] = &[
     ("adapt /a", ADD, (&[1], &[], &[], 1), 3, "", UNREAD),
     ("adapt /a", ADD, (&[2], &[], &[], 1), 3, "", UNREAD),
     ("layouts /a", ADD, (&[2], &[], &[], 1), 3, "", UNREAD),
+    ("print /a", ADD, (&[0], &[0], &[], 1), 3, "", UNREAD),
+    ("docs /a", ADD, (&[1], &[0], &[], 1), 3, "", UNREAD),
+    ("polyfill /a /a m m", ADD, (&[2], &[0], &[], 1), 3, "", UNREAD),
     ("adapt /a", "x", (&[1], &[], &[], 1), 3, "", UNREAD),
     // The output.
     (
@@ -169,62 +193,92 @@ fn failing_devices(rt: HostRuntime) {
     assert!(rt; all_give(rt.alloc(), 1) && all_give(rt.alloc(), 7));
 }
 
-/// A run of which the given call fails, on the output where the status is 0, and else on the sink of
-/// refusals.
-fn run_cut(alloc: Global, bundle: &str, status: u8, call: usize) -> Result<Gave, OutOfMemory> {
-    let source = source_of(alloc, bundle.as_bytes(), 1000, &[])?;
-    let fails = [call as u64];
-    if status == 0 {
-        let out = sink_of(alloc, 10, &fails)?;
-        return run_on(alloc, "adapt /a", source, out, sink_of(alloc, 10, &[])?);
-    }
-    let out = sink_of(alloc, 10, &[])?;
-    run_on(alloc, "adapt /a", source, out, sink_of(alloc, 10, &fails)?)
-}
+/// Words, a bundle, and what a run writes on the two sinks where no call fails.
+type Written = (&'static str, &'static str, &'static str, &'static str);
 
-/// Whether the run ended with status 4, with the text up to the failing call on one sink and nothing
-/// on the other.
-fn is_cut(gave: &Gave, text: &str, call: usize) -> bool {
-    let out = gave.out.bytes();
-    let err = gave.err.bytes();
-    let written = out.len().max(err.len());
-    gave.status == 4
-        && !gave.has_value
-        && faults(gave) == 1
-        && (out.is_empty() || err.is_empty())
-        && text.as_bytes().starts_with(out)
-        && text.as_bytes().starts_with(err)
-        && written / 10 == call
-        && written % 10 == 0
-}
-
-/// Bundles, the status without a failure, and the text that is written then.
 #[rattlefmt::skip]
-const TEXTS: &[(&str, u8, &str)] = &[
-    (ADD, 0, ADD_LISTING),
-    (UNKNOWN, 1, UNKNOWN_REPORT),
-    (TWICE, 1, TWICE_REPORT),
+static TEXTS: &[Written] = &[
+    ("adapt /a", ADD, ADD_LISTING, ""),
+    ("adapt /a", RECURSIVE, "", RECURSIVE_REPORT),
+    ("adapt /a", WRONG_KIND, "", WRONG_KIND_REPORT),
+    ("adapt /a", UNKNOWN, "", UNKNOWN_REPORT),
+    ("adapt /a", TWICE, "", TWICE_REPORT),
+    ("docs /a", NUMBER, NUMBER_PAGE, ""),
+    // Links that lead nowhere are told behind the page.
+    ("docs /a", LINKED, LINKED_PAGE, LINKED_LINES),
 ];
 
-fn cut_at(alloc: Global, bundle: &str, status: u8, text: &str, call: usize) -> bool {
-    match run_cut(alloc, bundle, status, call) {
-        Ok(gave) => is_cut(&gave, text, call),
+/// A run of which these calls of the two sinks fail.
+fn run_cut(
+    alloc: Global,
+    row: &Written,
+    out_fails: &[u64],
+    err_fails: &[u64],
+) -> Result<Gave, OutOfMemory> {
+    let source = source_of(alloc, row.1.as_bytes(), 1000, &[])?;
+    let out = sink_of(alloc, 10, out_fails)?;
+    run_on(alloc, row.0, source, out, sink_of(alloc, 10, err_fails)?)
+}
+
+/// Whether the run ended with status 4, and one call failed.
+fn is_unwritten(gave: &Gave) -> bool {
+    gave.status == 4 && !gave.has_value && faults(gave) == 1
+}
+
+/// Whether a sink holds the front of a text that so many calls took.
+fn holds_front(sink: &MemSink, text: &str, calls: usize) -> bool {
+    text.as_bytes().get(..calls.saturating_mul(10)) == Some(sink.bytes())
+}
+
+/// The output holds the front of its text, and nothing is told.
+fn out_is_cut(alloc: Global, row: &Written, call: usize) -> bool {
+    match run_cut(alloc, row, &[call as u64], &[]) {
+        Ok(gave) => is_unwritten(&gave)
+            && holds_front(&gave.out, row.2, call)
+            && gave.err.bytes().is_empty(),
         Err(_) => false,
     }
 }
 
-fn cut_anywhere(alloc: Global, bundle: &str, status: u8, text: &str) -> bool {
-    for call in 0..text.len().div_ceil(10) {
-        if !cut_at(alloc, bundle, status, text, call) {
+/// The output holds its whole text, and the other sink the front of its own.
+fn err_is_cut(alloc: Global, row: &Written, call: usize) -> bool {
+    match run_cut(alloc, row, &[], &[call as u64]) {
+        Ok(gave) => is_unwritten(&gave)
+            && gave.out.bytes() == row.2.as_bytes()
+            && holds_front(&gave.err, row.3, call),
+        Err(_) => false,
+    }
+}
+
+/// Nothing is cut where the calls behind the last ones fail, which don't come.
+fn is_whole(alloc: Global, row: &Written) -> bool {
+    let outs = row.2.len().div_ceil(10) as u64;
+    let errs = row.3.len().div_ceil(10) as u64;
+    match run_cut(alloc, row, &[outs], &[errs]) {
+        Ok(gave) => faults(&gave) == 0
+            && gave.out.bytes() == row.2.as_bytes()
+            && gave.err.bytes() == row.3.as_bytes(),
+        Err(_) => false,
+    }
+}
+
+fn cut_anywhere(alloc: Global, row: &Written) -> bool {
+    for call in 0..row.2.len().div_ceil(10) {
+        if !out_is_cut(alloc, row, call) {
             return false;
         }
     }
-    true
+    for call in 0..row.3.len().div_ceil(10) {
+        if !err_is_cut(alloc, row, call) {
+            return false;
+        }
+    }
+    is_whole(alloc, row)
 }
 
 fn all_cut(alloc: Global) -> bool {
-    for (bundle, status, text) in TEXTS {
-        if !cut_anywhere(alloc, bundle, *status, text) {
+    for row in TEXTS {
+        if !cut_anywhere(alloc, row) {
             return false;
         }
     }

@@ -1,12 +1,14 @@
 //! What is shown of each type of an interface, added to a tree by hand: the ids of all nodes, in the order
-//! of their numbers.
+//! of their numbers. Trees whose nodes were added in another order than that of their text.
 
 use crate::pages::add;
 use std::alloc::{AllocError, Global};
 use witx::parse;
 use witx_ast::{Datatype, Document, InterfaceFunc, Module, NamedType};
-use witx_base::OutOfMemory;
-use witx_docs::{MdContent, MdFunc, MdHeading, MdNamedType, MdSection, MdTree, ToMarkdown};
+use witx_base::{OutOfMemory, Text};
+use witx_docs::{
+    MdContent, MdFunc, MdHeading, MdNamedType, MdSection, MdTree, ToMarkdown, document_md,
+};
 
 const TEXT: &str = r#"
 (typename $r (record (field $x u8) (field $pair (tuple u8 u8))))
@@ -159,4 +161,98 @@ fn all_show(alloc: Global) -> bool {
 #[test]
 fn what_is_shown_of_each_type(rt: HostRuntime) {
     assert!(rt; all_show(rt.alloc()));
+}
+
+/// The parent and the title of each node below the root, which has the number 0.
+const NODES: &[(usize, &str)] = &[(0, "a"), (0, "b"), (1, "c"), (2, "d"), (1, "e"), (3, "f")];
+
+const TITLES: &str = "- a\n- c\n- f\n- e\n- b\n- d\n";
+
+/// Nodes, with the children of each, then the children's children, and so on.
+const BELOW: &[(usize, &[usize])] = &[
+    (0, &[1, 2, 3, 5, 6, 4]),
+    (1, &[3, 5, 6]),
+    (2, &[4]),
+    (3, &[6]),
+    (6, &[]),
+];
+
+fn titled(alloc: Global, title: &str) -> Result<MdContent, OutOfMemory> {
+    let section = MdSection::new(alloc, MdHeading::new_bullet(), title)?;
+    Ok(MdContent::Section(section))
+}
+
+fn titles(alloc: Global) -> Result<MdTree, OutOfMemory> {
+    let mut tree = MdTree::new(alloc)?;
+    for (parent, title) in NODES {
+        add(&mut tree, *parent, titled(alloc, title)?)?;
+    }
+    Ok(tree)
+}
+
+fn has_below(tree: &MdTree, node: usize, wanted: &[usize]) -> bool {
+    if node >= tree.len() {
+        return false;
+    }
+    match tree.children(node) {
+        Ok(numbers) => numbers.as_slice() == wanted,
+        Err(_) => false,
+    }
+}
+
+fn has_all_below(tree: &MdTree) -> bool {
+    for (node, wanted) in BELOW {
+        if !has_below(tree, *node, wanted) {
+            return false;
+        }
+    }
+    true
+}
+
+fn reads(tree: &MdTree, wanted: &str) -> bool {
+    match tree.text() {
+        Ok(text) => text.as_str() == wanted,
+        Err(_) => false,
+    }
+}
+
+fn titles_are_in_order(alloc: Global) -> bool {
+    match titles(alloc) {
+        Ok(tree) => reads(&tree, TITLES) && has_all_below(&tree),
+        Err(_) => false,
+    }
+}
+
+#[test]
+fn nodes_in_another_order(rt: HostRuntime) {
+    assert!(rt; titles_are_in_order(rt.alloc()));
+}
+
+/// The text of what a document shows below a root.
+fn text_of(alloc: Global, document: &Document) -> Option<Text> {
+    let mut tree = MdTree::new(alloc).ok()?;
+    if tree.len() != 1 {
+        return None;
+    }
+    document.generate(&mut tree, 0).ok()?;
+    tree.text().ok()
+}
+
+/// The page of a document whose documentation has no links is that text.
+fn page_is_text(alloc: Global) -> bool {
+    let Ok(document) = parse(alloc, TEXT) else {
+        return false;
+    };
+    let Some(text) = text_of(alloc, &document) else {
+        return false;
+    };
+    match document_md(alloc, &document) {
+        Ok((page, _)) => page == text,
+        Err(_) => false,
+    }
+}
+
+#[test]
+fn a_page_is_the_text_of_a_tree(rt: HostRuntime) {
+    assert!(rt; page_is_text(rt.alloc()));
 }

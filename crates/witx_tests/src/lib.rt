@@ -83,7 +83,11 @@ mod surface;
 #[cfg(test)]
 mod syntax;
 #[cfg(test)]
+mod tools;
+#[cfg(test)]
 mod tree;
+#[cfg(test)]
+mod values;
 #[cfg(test)]
 mod verify;
 #[cfg(test)]

@@ -548,7 +548,7 @@ pub fn sink_of(alloc: Global, takes: usize, fails: &[u64]) -> Result<MemSink, Ou
 }
 
 /// The words of a line; an empty line has none.
-fn words_of(alloc: Global, line: &str) -> Result<Items<Text>, OutOfMemory> {
+pub fn words_of(alloc: Global, line: &str) -> Result<Items<Text>, OutOfMemory> {
     let mut words = Items::new(alloc);
     if line.is_empty() {
         return Ok(words);

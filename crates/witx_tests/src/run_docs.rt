@@ -1,13 +1,15 @@
-//! The command that documents: worked bundles with what a run gives.
+//! The command that documents: worked bundles with what a run gives, also where a sink fails.
 
-use crate::run::{Built, Case, all_built_give, all_give};
+use crate::run::{Built, Case, Gave, all_built_give, all_give, run_on, sink_of, source_of};
+use std::alloc::Global;
+use witx_base::OutOfMemory;
 
-const LINKED: &str = "\
+pub const LINKED: &str = "\
 ;;;; file /a
 ;;; A `gone`, an `n` and a `m::x`.
 (typename $n u32)";
 
-const LINKED_PAGE: &str = r##"# Types
+pub const LINKED_PAGE: &str = r##"# Types
 ## <a href="#n" name="n"></a> `n`: `u32`
 A `gone`, an [`n`](#n) and a `m::x`.
 
@@ -18,16 +20,16 @@ Alignment: 4
 # Modules
 "##;
 
-const LINKED_LINES: &str = "\
+pub const LINKED_LINES: &str = "\
 witx: link `gone` not found
 witx: link `m::x` not found
 ";
 
-const NUMBER: &str = "\
+pub const NUMBER: &str = "\
 ;;;; file /a
 (typename $n u32)";
 
-const NUMBER_PAGE: &str = r##"# Types
+pub const NUMBER_PAGE: &str = r##"# Types
 ## <a href="#n" name="n"></a> `n`: `u32`
 
 Size: 4
@@ -87,4 +89,63 @@ Offset: 4096
 #[test]
 fn documented(rt: HostRuntime) {
     assert!(rt; all_give(rt.alloc(), PAGES) && all_built_give(rt.alloc(), LARGE_PAGES));
+}
+
+/// A run over sinks that take ten bytes a call and of whose calls these fail.
+fn run_failing(alloc: Global, out: &[u64], err: &[u64]) -> Result<Gave, OutOfMemory> {
+    let source = source_of(alloc, LINKED.as_bytes(), 1000, &[])?;
+    let out = sink_of(alloc, 10, out)?;
+    run_on(alloc, "docs /a", source, out, sink_of(alloc, 10, err)?)
+}
+
+/// Whether these are the first bytes of a text, so many tens of them.
+fn are_tens(bytes: &[u8], text: &str, tens: usize) -> bool {
+    bytes.len() / 10 == tens && bytes.len() % 10 == 0 && text.as_bytes().starts_with(bytes)
+}
+
+/// The page breaks off, and nothing is noted.
+fn page_is_cut(alloc: Global, call: usize) -> bool {
+    match run_failing(alloc, &[call as u64], &[]) {
+        Ok(gave) => {
+            gave.status == 4
+                && are_tens(gave.out.bytes(), LINKED_PAGE, call)
+                && gave.err.bytes().is_empty()
+        }
+        Err(_) => false,
+    }
+}
+
+/// The notes break off behind a whole page.
+fn notes_are_cut(alloc: Global, call: usize) -> bool {
+    match run_failing(alloc, &[], &[call as u64]) {
+        Ok(gave) => {
+            gave.status == 4
+                && gave.out.bytes() == LINKED_PAGE.as_bytes()
+                && are_tens(gave.err.bytes(), LINKED_LINES, call)
+        }
+        Err(_) => false,
+    }
+}
+
+fn pages_are_cut(alloc: Global) -> bool {
+    for call in 0..LINKED_PAGE.len().div_ceil(10) {
+        if !page_is_cut(alloc, call) {
+            return false;
+        }
+    }
+    true
+}
+
+fn all_notes_are_cut(alloc: Global) -> bool {
+    for call in 0..LINKED_LINES.len().div_ceil(10) {
+        if !notes_are_cut(alloc, call) {
+            return false;
+        }
+    }
+    true
+}
+
+#[test]
+fn documented_on_failing_sinks(rt: HostRuntime) {
+    assert!(rt; pages_are_cut(rt.alloc()) && all_notes_are_cut(rt.alloc()));
 }

@@ -497,6 +497,36 @@ static LINKED: &[Linked] = &[
     ),
     // A report without the lines whose reading fails.
     (
+        &[("/a", "(typename $a $b)")],
+        &[],
+        "/a",
+        &[2],
+        r#"in "/a":
+
+Unknown name `b`"#,
+        1,
+    ),
+    (
+        &[("/a", "(module $m)(typename $t $m)")],
+        &[],
+        "/a",
+        &[2],
+        r#"in "/a":
+
+Wrong kind of name `m`: expected datatype, got module"#,
+        1,
+    ),
+    (
+        &[("/a", r#"(module $m (@interface func (export "f") (param $x $m)))"#)],
+        &[],
+        "/a",
+        &[2],
+        r#"in "/a":
+
+Recursive definition of name `m`"#,
+        1,
+    ),
+    (
         &[("/a", "\
 (typename $a u8)
 (typename $a u8)")],
