@@ -11,6 +11,7 @@ pub mod Fits
 pub mod Funcs
 pub mod ModuleItems
 pub mod NamePlaces
+pub mod NameTables
 pub mod Onward
 pub mod Orders
 pub mod Params

@@ -7,6 +7,7 @@ mod error;
 mod functions;
 mod laws;
 mod modules;
+mod name_table;
 mod parts;
 mod place;
 mod report;
