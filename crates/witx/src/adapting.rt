@@ -2,6 +2,7 @@ ghost use Rattle.std.specs.Prelude.{◌≡◌, All, Contains, IfErr, IfOk, List,
 ghost use Rattle.witx_base.specs.Causes.{Rose};
 ghost use Rattle.witx_base.specs.Paths.{file_name};
 ghost use Rattle.witx_files.specs.Files.{Aliases, Files};
+ghost use Rattle.witx_ast.specs.Closed.{IsClosed};
 ghost use Rattle.witx_ast.specs.Definitions.{DefinitionTree};
 ghost use Rattle.witx_adapt.specs.Adaptable.{IsAdaptable};
 ghost use Rattle.witx_adapt.specs.Entries.{IsFaithful, all_functions, entry_for, entry_of};
@@ -31,6 +32,7 @@ pub fn adapt<I: WitxIo>(
     ensures layouts { IfOk result (λ a. a.layouts ≡ all_layouts (defined a)) }
     ensures functions { IfOk result (λ a. map entry_of a.functions ≡ map entry_for (all_functions (defined a))) }
     ensures faithful { IfOk result (λ a. All IsFaithful a.functions) }
+    ensures closed { IfOk result (λ a. IsClosed (defined a)) }
     ensures adaptable { IfOk result (λ a. IsAdaptable (defined a)) }
     ensures refused { IfErr result (AdaptRefuses (I.files io.old) (I.aliases io.old) paths.now (I.faults io.old) (I.faults io.new)) }
     ensures cause { IfErr result (HasAdaptCause (λ p. Contains paths.now p × (file_name p ≡ None)) (I.files io.old) (I.faults io.old) (I.faults io.new)) }
@@ -59,6 +61,7 @@ pub fn adapted<I: WitxIo>(
     ensures layouts { IfOk result (λ a. a.layouts ≡ all_layouts (defined a)) }
     ensures functions { IfOk result (λ a. map entry_of a.functions ≡ map entry_for (all_functions (defined a))) }
     ensures faithful { IfOk result (λ a. All IsFaithful a.functions) }
+    ensures closed { IfOk result (λ a. IsClosed (defined a)) }
     ensures adaptable { IfOk result (λ a. IsAdaptable (defined a)) }
     ensures refused { IfErr result (λ u. AdaptRefuses (I.files io.old) (I.aliases io.old) paths.now (I.faults io.old) (I.faults io.new) (refusal_of u)) }
     ensures meant { IfErr result (IsMeant (I.files io.old) (I.aliases io.old) paths.now (I.faults io.old) (I.faults io.new)) }
