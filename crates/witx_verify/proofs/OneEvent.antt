@@ -1,6 +1,6 @@
 -- A line says at most one event.
-use Rattle.std.proofs.Common.{◌≡◌, ℕ, ◌<◌, ◌≤◌, List, [], ◌∷◌, ◌++◌, length, take, drop, Bool, true, false, refl, sym, ap, ◌∙◌, subst, Option, Some, None, arith, append_assoc, append-nil, length-append, if◌then◌else◌, ◌==◌}
-use Rattle.std.specs.Prelude.{codes}
+use Rattle.std.proofs.Common.{◌≡◌, ℕ, List, [], ◌∷◌, ◌++◌, take, drop, Bool, true, false, refl, sym, ap, ◌∙◌, subst, Option, Some, None, arith, append_assoc, append-nil, if◌then◌else◌, ◌==◌}
+use Rattle.std.specs.Prelude.{codes, option_map}
 use Rattle.std.specs.List.{flat_map}
 use Rattle.std.specs.Fmt.{decimal}
 use Rattle.std.specs.Str.Parse.{AllDigits}
@@ -16,8 +16,16 @@ use Rattle.witx_machine.specs.Events.{Event}
 use Rattle.witx_adapt.specs.Lines.{event_text}
 use Rattle.witx_adapt.specs.Names.{quoted, signature, spaced, wasm_word, wasm_words}
 use Rattle.witx_verify.specs.Traces.{Types, CanSay, Says, IsWord, IsPayload, EndsBeforeError, shown as shown_in, shown_payload}
+use Rattle.witx_verify.specs.LineReading.{EndsFirst, payloads_tail}
+use Rattle.witx_verify.proofs.PayloadTexts.{payloads-same}
 use Rattle.witx_verify.proofs.Quoting.{quoted-same}
-use Rattle.witx_verify.proofs.LineWords.{PlainWord, NumberWord, NamedWord, ShownWord, LineWord, Parts, plain, number, named, shown, wasm, interface, lower, room, finished, event_from, word_of, tail_of, lower_tail, block_end, CanSayParts, spelling, the_words, word_spelled, parts, from-parts, with_tail, text-parts, can-parts, spells, no_blank, word-unbroken}
+use Rattle.witx_verify.specs.declared.line_words.PlainWord.{PlainWord}
+use Rattle.witx_verify.specs.declared.line_words.NumberWord.{NumberWord}
+use Rattle.witx_verify.specs.declared.line_words.NamedWord.{NamedWord}
+use Rattle.witx_verify.specs.declared.line_words.ShownWord.{ShownWord}
+use Rattle.witx_verify.specs.declared.line_words.LineWord.{LineWord}
+use Rattle.witx_verify.specs.LineParts.{Parts, plain, number, named, shown, wasm, interface, lower, room, finished, event_from, word_of, tail_of, lower_tail, block_end, CanSayParts, spelling, the_words, word_spelled, parts, with_tail, no_blank}
+use Rattle.witx_verify.proofs.LineWords.{from-parts, text-parts, can-parts, spells, word-unbroken}
 
 some-same : {A : Type 0} (x y : A) → Some x ≡ Some y → x ≡ y
 some-same x y e = cc
@@ -37,7 +45,7 @@ unbroken b false rest h e = (λ is. grind (arith, nat_tests), e)
 no-start : (b : ℕ) (bs : List ℕ) → no_blank (b ∷ bs) ≡ true → (b ≡ 32 → ⊥) × (no_blank bs ≡ true)
 no-start b bs e = unbroken b (b == 32) (no_blank bs) refl e
 
-cut : (x y r t : List ℕ) → no_blank x ≡ true → no_blank y ≡ true → x ++ (32 ∷ r) ≡ y ++ (32 ∷ t) → (x ≡ y) × (r ≡ t)
+pub cut : (x y r t : List ℕ) → no_blank x ≡ true → no_blank y ≡ true → x ++ (32 ∷ r) ≡ y ++ (32 ∷ t) → (x ≡ y) × (r ≡ t)
 cut [] [] r t f g e = (refl, rest-of 32 32 r t e)
 cut [] (b ∷ y) r t f g e = absurd ((no-start b y g).0 (sym (first-of 32 b r (y ++ (32 ∷ t)) e)))
 cut (a ∷ x) [] r t f g e = absurd ((no-start a x f).0 (first-of a 32 (x ++ (32 ∷ r)) t e))
@@ -66,7 +74,7 @@ digits-unbroken (d ∷ ds) h =
     let here : (d == 32) ≡ false = ne_eqb d 32 (λ e. omega (arith, low, e)) in
     ap (λ t. if t then false else no_blank ds) here ∙ digits-unbroken ds h.1
 
-number-unbroken : (n : ℕ) → IsWord n → no_blank (decimal n) ≡ true
+pub number-unbroken : (n : ℕ) → IsWord n → no_blank (decimal n) ≡ true
 number-unbroken n small = digits-unbroken (decimal n) (decimal_is_IsNumeral n small).0.1
 
 -- ---- signatures
@@ -88,7 +96,7 @@ behind-word WasmType.I64 r = refl
 behind-word WasmType.F32 r = refl
 behind-word WasmType.F64 r = refl
 
-word-same : (a b : WasmType) (r t : List ℕ) → wasm_word a ++ r ≡ wasm_word b ++ t → (a ≡ b) × (r ≡ t)
+pub word-same : (a b : WasmType) (r t : List ℕ) → wasm_word a ++ r ≡ wasm_word b ++ t → (a ≡ b) × (r ≡ t)
 word-same a b r t e = (sym (typed-so a r) ∙ (ap word-type e ∙ typed-so b t), sym (behind-word a r) ∙ (ap (drop 3) e ∙ behind-word b t))
 
 more-same : (ps qs : List WasmType) (r t : List ℕ) → flat_map spaced ps ++ (41 ∷ r) ≡ flat_map spaced qs ++ (41 ∷ t) → (ps ≡ qs) × (r ≡ t)
@@ -102,7 +110,7 @@ more-same (p ∷ ps) (q ∷ qs) r t e =
     let more = more-same ps qs r t one.1 in
     (ap (λ z. z ∷ ps) one.0 ∙ ap (λ z. q ∷ z) more.0, more.1)
 
-word-begins : (q : WasmType) (r t : List ℕ) → 41 ∷ r ≡ wasm_word q ++ t → ⊥
+pub word-begins : (q : WasmType) (r t : List ℕ) → 41 ∷ r ≡ wasm_word q ++ t → ⊥
 word-begins WasmType.I32 r t e = let wrong : 41 ≡ 105 = first-of 41 105 _ _ e in omega (arith, wrong)
 word-begins WasmType.I64 r t e = let wrong : 41 ≡ 105 = first-of 41 105 _ _ e in omega (arith, wrong)
 word-begins WasmType.F32 r t e = let wrong : 41 ≡ 102 = first-of 41 102 _ _ e in omega (arith, wrong)
@@ -120,7 +128,7 @@ words-same (p ∷ ps) (q ∷ qs) r t e =
     (ap (λ z. z ∷ ps) one.0 ∙ ap (λ z. q ∷ z) more.0, more.1)
 
 -- a signature up to its results, and its results
-opened : (ps rs : List WasmType) → signature ps rs ≡ 40 ∷ (wasm_words ps ++ (41 ∷ (codes " -> (" ++ (wasm_words rs ++ (41 ∷ [])))))
+pub opened : (ps rs : List WasmType) → signature ps rs ≡ 40 ∷ (wasm_words ps ++ (41 ∷ (codes " -> (" ++ (wasm_words rs ++ (41 ∷ [])))))
 opened ps rs = ap (λ z. 40 ∷ z) (append_assoc (wasm_words ps ++ (41 ∷ [])) (codes " -> ") (codes "(" ++ wasm_words rs ++ codes ")")
     ∙ append_assoc (wasm_words ps) (41 ∷ []) (codes " -> (" ++ (wasm_words rs ++ (41 ∷ []))))
 
@@ -132,7 +140,7 @@ signature-same ps rs qs ts e =
 
 -- ---- the parts with each word
 
-plain-shape : (v : PlainWord) (p : Parts) → word_of p ≡ LineWord.Plain v → p ≡ plain v
+pub plain-shape : (v : PlainWord) (p : Parts) → word_of p ≡ LineWord.Plain v → p ≡ plain v
 plain-shape v (plain w) e = let s : w ≡ v = cc in ap plain s
 plain-shape v (number w n) e = absurd (cc)
 plain-shape v (named w t) e = absurd (cc)
@@ -143,7 +151,7 @@ plain-shape v (lower ok err) e = absurd (cc)
 plain-shape v (room k t) e = absurd (cc)
 plain-shape v (finished b) e = absurd (cc)
 
-number-shape : (v : NumberWord) (p : Parts) → word_of p ≡ LineWord.Number v → (n : ℕ) × (p ≡ number v n)
+pub number-shape : (v : NumberWord) (p : Parts) → word_of p ≡ LineWord.Number v → (n : ℕ) × (p ≡ number v n)
 number-shape v (plain w) e = absurd (cc)
 number-shape v (number w n) e = let s : w ≡ v = cc in (n, ap (λ u. number u n) s)
 number-shape v (named w t) e = absurd (cc)
@@ -154,7 +162,7 @@ number-shape v (lower ok err) e = absurd (cc)
 number-shape v (room k t) e = absurd (cc)
 number-shape v (finished b) e = absurd (cc)
 
-named-shape : (v : NamedWord) (p : Parts) → word_of p ≡ LineWord.Named v → (t : Tree) × (p ≡ named v t)
+pub named-shape : (v : NamedWord) (p : Parts) → word_of p ≡ LineWord.Named v → (t : Tree) × (p ≡ named v t)
 named-shape v (plain w) e = absurd (cc)
 named-shape v (number w n) e = absurd (cc)
 named-shape v (named w t) e = let s : w ≡ v = cc in (t, ap (λ u. named u t) s)
@@ -165,7 +173,7 @@ named-shape v (lower ok err) e = absurd (cc)
 named-shape v (room k t) e = absurd (cc)
 named-shape v (finished b) e = absurd (cc)
 
-shown-shape : (v : ShownWord) (p : Parts) → word_of p ≡ LineWord.Shown v → (t : Tree) × (p ≡ shown v t)
+pub shown-shape : (v : ShownWord) (p : Parts) → word_of p ≡ LineWord.Shown v → (t : Tree) × (p ≡ shown v t)
 shown-shape v (plain w) e = absurd (cc)
 shown-shape v (number w n) e = absurd (cc)
 shown-shape v (named w t) e = absurd (cc)
@@ -176,7 +184,7 @@ shown-shape v (lower ok err) e = absurd (cc)
 shown-shape v (room k t) e = absurd (cc)
 shown-shape v (finished b) e = absurd (cc)
 
-wasm-shape : (p : Parts) → word_of p ≡ LineWord.CallWasm → (m : List ℕ) × (n : List ℕ) × (ps : List WasmType) × (rs : List WasmType) × (p ≡ wasm m n ps rs)
+pub wasm-shape : (p : Parts) → word_of p ≡ LineWord.CallWasm → (m : List ℕ) × (n : List ℕ) × (ps : List WasmType) × (rs : List WasmType) × (p ≡ wasm m n ps rs)
 wasm-shape (plain w) e = absurd (cc)
 wasm-shape (number w n) e = absurd (cc)
 wasm-shape (named w t) e = absurd (cc)
@@ -187,7 +195,7 @@ wasm-shape (lower ok err) e = absurd (cc)
 wasm-shape (room k t) e = absurd (cc)
 wasm-shape (finished b) e = absurd (cc)
 
-interface-shape : (p : Parts) → word_of p ≡ LineWord.CallInterface → (m : List ℕ) × (n : List ℕ) × (ps : List Tree) × (rs : List Tree) × (p ≡ interface m n ps rs)
+pub interface-shape : (p : Parts) → word_of p ≡ LineWord.CallInterface → (m : List ℕ) × (n : List ℕ) × (ps : List Tree) × (rs : List Tree) × (p ≡ interface m n ps rs)
 interface-shape (plain w) e = absurd (cc)
 interface-shape (number w n) e = absurd (cc)
 interface-shape (named w t) e = absurd (cc)
@@ -198,7 +206,7 @@ interface-shape (lower ok err) e = absurd (cc)
 interface-shape (room k t) e = absurd (cc)
 interface-shape (finished b) e = absurd (cc)
 
-lower-shape : (p : Parts) → word_of p ≡ LineWord.ResultLower → (ok : Option Tree) × (err : Option Tree) × (p ≡ lower ok err)
+pub lower-shape : (p : Parts) → word_of p ≡ LineWord.ResultLower → (ok : Option Tree) × (err : Option Tree) × (p ≡ lower ok err)
 lower-shape (plain w) e = absurd (cc)
 lower-shape (number w n) e = absurd (cc)
 lower-shape (named w t) e = absurd (cc)
@@ -209,7 +217,7 @@ lower-shape (lower ok err) e = (ok, err, refl)
 lower-shape (room k t) e = absurd (cc)
 lower-shape (finished b) e = absurd (cc)
 
-room-shape : (p : Parts) → word_of p ≡ LineWord.Space → (k : ℕ) × (t : Tree) × (p ≡ room k t)
+pub room-shape : (p : Parts) → word_of p ≡ LineWord.Space → (k : ℕ) × (t : Tree) × (p ≡ room k t)
 room-shape (plain w) e = absurd (cc)
 room-shape (number w n) e = absurd (cc)
 room-shape (named w t) e = absurd (cc)
@@ -220,7 +228,7 @@ room-shape (lower ok err) e = absurd (cc)
 room-shape (room k t) e = (k, t, refl)
 room-shape (finished b) e = absurd (cc)
 
-finished-shape : (p : Parts) → word_of p ≡ LineWord.FinishBlock → (v : Bool) × (p ≡ finished v)
+pub finished-shape : (p : Parts) → word_of p ≡ LineWord.FinishBlock → (v : Bool) × (p ≡ finished v)
 finished-shape (plain w) e = absurd (cc)
 finished-shape (number w n) e = absurd (cc)
 finished-shape (named w t) e = absurd (cc)
@@ -236,71 +244,27 @@ finished-shape (finished v) e = (v, refl)
 looked-same : (look : List ℕ → Option Tree) (t u : Tree) → look (type_text t) ≡ Some t → look (type_text u) ≡ Some u → type_text t ≡ type_text u → t ≡ u
 looked-same look t u f g e = some-same t u (sym f ∙ (ap look e ∙ g))
 
-record Front (xs zs : List ℕ) : Type 0 where
-  behind : List ℕ
-  same : xs ≡ zs ++ behind
+payload-same : (types : Types) (t u : Option Tree) → IsPayload types t → IsPayload types u → option_map type_text t ≡ option_map type_text u → t ≡ u
+payload-same types None None f g e = refl
+payload-same types None (Some u) f g e = absurd (cc)
+payload-same types (Some t) None f g e = absurd (cc)
+payload-same types (Some t) (Some u) f g e = ap Some (looked-same (shown_payload types) t u f g (some-same _ _ e))
 
-split-front : (xs ys zs ws : List ℕ) → xs ++ ys ≡ zs ++ ws → length zs ≤ length xs → Front xs zs
-split-front xs ys [] ws e l = record { behind = xs; same = refl }
-split-front [] ys (z ∷ zs) ws e l = absurd (omega (arith, l))
-split-front (x ∷ xs) ys (z ∷ zs) ws e l =
-    let more = split-front xs ys zs ws (rest-of x z _ _ e) (omega (arith, l)) in
-    record { behind = more.behind; same = ap (λ c. c ∷ xs) (first-of x z _ _ e) ∙ ap (λ c. z ∷ c) more.same }
+pub lower-texts : (ok err : Option Tree) → lower_tail ok err ≡ payloads_tail (option_map type_text ok) (option_map type_text err)
+lower-texts None None = refl
+lower-texts (Some t) None = refl
+lower-texts (Some t) (Some u) = refl
+lower-texts None (Some u) = refl
 
-same-fronts : (xs ys zs ws : List ℕ) → xs ++ ys ≡ zs ++ ws → length xs ≡ length zs → (xs ≡ zs) × (ys ≡ ws)
-same-fronts [] ys [] ws e l = (refl, e)
-same-fronts [] ys (z ∷ zs) ws e l = absurd (omega (arith, l))
-same-fronts (x ∷ xs) ys [] ws e l = absurd (omega (arith, l))
-same-fronts (x ∷ xs) ys (z ∷ zs) ws e l =
-    let more = same-fronts xs ys zs ws (rest-of x z _ _ e) (omega (arith, l)) in
-    (ap (λ c. c ∷ xs) (first-of x z _ _ e) ∙ ap (λ c. z ∷ c) more.0, more.1)
-
--- an ok type ends at the first ` err `, so no other text ends there before it
-not-before : (t : Tree) (other u v : List ℕ) → EndsBeforeError (Some t) → other ++ (codes " err " ++ u) ≡ type_text t ++ (codes " err " ++ v) → length other < length (type_text t) → ⊥
-not-before t other u v ends e less =
-    let flat : (type_text t ++ codes " err ") ++ v ≡ (other ++ codes " err ") ++ u
-    = append_assoc (type_text t) (codes " err ") v ∙ (sym e ∙ sym (append_assoc other (codes " err ") u)) in
-    let lengths : length (other ++ codes " err ") ≤ length (type_text t ++ codes " err ") = omega (arith, less, length-append other (codes " err "), length-append (type_text t) (codes " err ")) in
-    let front = split-front (type_text t ++ codes " err ") v (other ++ codes " err ") u flat lengths in
-    let long = ends other front.behind (front.same ∙ append_assoc other (codes " err ") front.behind) in
-    omega (arith, long, less)
-
-not-within : (t : Tree) (other u : List ℕ) → EndsBeforeError (Some t) → type_text t ≡ other ++ (codes " err " ++ u) → ⊥
-not-within t other u ends e =
-    let long = ends other (u ++ codes " err ") (ap (λ z. z ++ codes " err ") e ∙ append_assoc other (codes " err " ++ u) (codes " err ")) in
-    let all = ap length e in
-    omega (arith, long, all, length-append other (codes " err " ++ u))
-
-equal-unless : (j k : ℕ) → (j < k → ⊥) → (k < j → ⊥) → j ≡ k
-equal-unless j k f g = grind (arith)
-
-both-same : (types : Types) (t u a b : Tree) → IsPayload types (Some t) × IsPayload types (Some u) × EndsBeforeError (Some t) → IsPayload types (Some a) × IsPayload types (Some b) × EndsBeforeError (Some a)
-    → type_text t ++ (codes " err " ++ type_text u) ≡ type_text a ++ (codes " err " ++ type_text b) → (t ≡ a) × (u ≡ b)
-both-same types t u a b f g e =
-    let long = equal-unless (length (type_text t)) (length (type_text a)) (not-before a (type_text t) (type_text u) (type_text b) g.2 e) (not-before t (type_text a) (type_text b) (type_text u) f.2 (sym e)) in
-    let cut = same-fronts _ _ _ _ e long in
-    (looked-same (shown_payload types) t a f.0 g.0 cut.0, looked-same (shown_payload types) u b f.1 g.1 (ap (drop 5) cut.1))
+pub ends-first : (ok : Option Tree) → EndsBeforeError ok → EndsFirst (option_map type_text ok)
+ends-first None h = tt
+ends-first (Some t) h = h
 
 lower-same : (types : Types) (ok err ok' err' : Option Tree) → IsPayload types ok × IsPayload types err × EndsBeforeError ok → IsPayload types ok' × IsPayload types err' × EndsBeforeError ok'
     → lower_tail ok err ≡ lower_tail ok' err' → (ok ≡ ok') × (err ≡ err')
-lower-same types None None None None f g e = (refl, refl)
-lower-same types None None (Some a) None f g e = absurd (cc)
-lower-same types None None None (Some b) f g e = absurd (cc)
-lower-same types None None (Some a) (Some b) f g e = absurd (cc)
-lower-same types (Some t) None None None f g e = absurd (cc)
-lower-same types (Some t) None (Some a) None f g e = (ap Some (looked-same (shown_payload types) t a f.0 g.0 (ap (drop 3) (some-same _ _ e))), refl)
-lower-same types (Some t) None None (Some b) f g e = let wrong : 111 ≡ 101 = first-of 111 101 _ _ (some-same _ _ e) in absurd (omega (arith, wrong))
-lower-same types (Some t) None (Some a) (Some b) f g e = absurd (not-within t (type_text a) (type_text b) f.2 (ap (drop 3) (some-same _ _ e)))
-lower-same types None (Some u) None None f g e = absurd (cc)
-lower-same types None (Some u) (Some a) None f g e = let wrong : 101 ≡ 111 = first-of 101 111 _ _ (some-same _ _ e) in absurd (omega (arith, wrong))
-lower-same types None (Some u) None (Some b) f g e = (refl, ap Some (looked-same (shown_payload types) u b f.1 g.1 (ap (drop 4) (some-same _ _ e))))
-lower-same types None (Some u) (Some a) (Some b) f g e = let wrong : 101 ≡ 111 = first-of 101 111 _ _ (some-same _ _ e) in absurd (omega (arith, wrong))
-lower-same types (Some t) (Some u) None None f g e = absurd (cc)
-lower-same types (Some t) (Some u) (Some a) None f g e = absurd (not-within a (type_text t) (type_text u) g.2 (sym (ap (drop 3) (some-same _ _ e))))
-lower-same types (Some t) (Some u) None (Some b) f g e = let wrong : 111 ≡ 101 = first-of 111 101 _ _ (some-same _ _ e) in absurd (omega (arith, wrong))
-lower-same types (Some t) (Some u) (Some a) (Some b) f g e =
-    let s = both-same types t u a b f g (ap (drop 3) (some-same _ _ e)) in
-    (ap Some s.0, ap Some s.1)
+lower-same types ok err ok' err' f g e =
+    let same = payloads-same (option_map type_text ok) (option_map type_text err) (option_map type_text ok') (option_map type_text err') (ends-first ok f.2) (ends-first ok' g.2) (sym (lower-texts ok err) ∙ (e ∙ lower-texts ok' err')) in
+    (payload-same types ok ok' f.0 g.0 same.0, payload-same types err err' f.1 g.1 same.1)
 
 -- ---- the same word and the same behind it are the same parts
 

@@ -1,5 +1,5 @@
 -- A text gives at most one list of traces.
-use Rattle.std.proofs.Common.{◌≡◌, ℕ, zero, suc, ◌+◌, List, [], ◌∷◌, ◌++◌, length, take, Bool, true, false, refl, sym, ap, ◌∙◌, subst, arith, ◌==◌, append_assoc}
+use Rattle.std.proofs.Common.{◌≡◌, ℕ, zero, suc, ◌+◌, List, [], ◌∷◌, ◌++◌, length, take, true, false, refl, sym, ap, ◌∙◌, subst, arith, append_assoc}
 use Rattle.std.specs.Prelude.{codes, drop}
 use Rattle.std.specs.List.{AllByRecursion}
 use Rattle.witx_ast.specs.declared.function.Abi.{Abi}
@@ -10,6 +10,7 @@ use Rattle.witx_layout.specs.declared.layout.SizeAlign.{SizeAlign}
 use Rattle.witx_adapt.specs.Entries.{Lowered}
 use Rattle.witx_adapt.specs.Lines.{event_line, event_lines, event_text}
 use Rattle.witx_adapt.specs.Listings.{constant_line, module_line, import_line, func_line, func_lines, side_lines, typename_lines, item_lines, func_count, definition_lines}
+use Rattle.witx_verify.specs.Passages.{indented}
 use Rattle.witx_verify.specs.Traces.{Types, types_of, ended, IsLine, AreLines, Listed, Offered, Sides, FitFunctions, GivesTraces, with_sides, function_number, HasEachEntry}
 use Rattle.witx_verify.proofs.OneEvent.{one-event}
 use Rattle.witx_verify.proofs.UnfitLines.{line-cut}
@@ -27,10 +28,6 @@ behind-same (x ∷ xs) ys zs e = behind-same xs ys zs (rest-of x x _ _ e)
 
 -- ---- the events of one side
 
-abbrev indented : List ℕ → Bool
-indented [] = false
-indented (b ∷ bs) = b == 32
-
 line-flat : (e : Event) (es : List Event) (r : List ℕ) → event_lines (e ∷ es) ++ r ≡ 32 ∷ 32 ∷ (ended (event_text e) ++ (event_lines es ++ r))
 line-flat e es r = append_assoc (event_line e) (event_lines es) r
 
@@ -47,10 +44,10 @@ side-same types (c ∷ es) (d ∷ ds) r t f g p q e =
 
 -- ---- the two sides of a function
 
-abbrev with_events : Lowered → Sides → Lowered
+abbrev pub with_events : Lowered → Sides → Lowered
 with_events f s = record { params = f.params; results = f.results; caller = s.caller; callee = s.callee }
 
-func-flat : (name : List ℕ) (abi : Abi) (f : Lowered) (s : Sides) (r : List ℕ)
+pub func-flat : (name : List ℕ) (abi : Abi) (f : Lowered) (s : Sides) (r : List ℕ)
     → func_lines name abi (with_events f s) ++ r
     ≡ func_line name abi f.params f.results ++ (codes "caller\n" ++ (event_lines s.caller ++ (codes "callee\n" ++ (event_lines s.callee ++ r))))
 func-flat name abi f s r =
@@ -89,9 +86,6 @@ Alike n ss us = take n ss ≡ take n us
 alike-more : (n k : ℕ) (s u : Sides) (ss us : List Sides) → n ≡ suc k → s ≡ u → Alike k ss us → Alike n (s ∷ ss) (u ∷ us)
 alike-more n k s u ss us e f g = subst (λ j. take j (s ∷ ss) ≡ take j (u ∷ us)) (sym e) (ap (λ z. z ∷ take k ss) f ∙ ap (λ z. u ∷ z) g)
 
-alike-none : (n : ℕ) → Alike n [] []
-alike-none n = refl
-
 items-same : (all : List DefinitionTree) (items : List ItemTree) (fs : List Offered) (ss us : List Sides) (r t : List ℕ) → FitFunctions all fs ss → FitFunctions all fs us → indented r ≡ false → indented t ≡ false
     → item_lines items (with_sides fs ss) ++ r ≡ item_lines items (with_sides fs us) ++ t → Alike (func_count items) ss us × (r ≡ t)
 items-same all [] fs ss us r t a b p q e = (refl, e)
@@ -112,7 +106,7 @@ items-same all (func_of f ∷ items) (l ∷ fs) (s ∷ ss) (u ∷ us) r t a b p 
     (alike-more (1 + func_count items) (func_count items) s u ss us (omega arith) here.0 more.0, more.1)
 
 -- behind the first of them
-sides-behind : (n : ℕ) (fs : List Offered) (ss : List Sides) → drop n (with_sides fs ss) ≡ with_sides (drop n fs) (drop n ss)
+pub sides-behind : (n : ℕ) (fs : List Offered) (ss : List Sides) → drop n (with_sides fs ss) ≡ with_sides (drop n fs) (drop n ss)
 sides-behind zero fs ss = refl
 sides-behind (suc n) [] [] = refl
 sides-behind (suc n) [] (s ∷ ss) = refl
@@ -164,13 +158,13 @@ definitions-same all (module_of m ∷ ds) fs ss us ls a b e =
 
 -- ---- all of them
 
-whole-list : (ss : List Sides) (n : ℕ) → n ≡ length ss → take n ss ≡ ss
+pub whole-list : (ss : List Sides) (n : ℕ) → n ≡ length ss → take n ss ≡ ss
 whole-list [] zero e = refl
 whole-list [] (suc n) e = refl
 whole-list (s ∷ ss) zero e = absurd (omega (arith, e))
 whole-list (s ∷ ss) (suc n) e = ap (λ z. s ∷ z) (whole-list ss n (omega (arith, e)))
 
-each-side : (all : List DefinitionTree) (fs : List Offered) (ss : List Sides) → FitFunctions all fs ss → length fs ≡ length ss
+pub each-side : (all : List DefinitionTree) (fs : List Offered) (ss : List Sides) → FitFunctions all fs ss → length fs ≡ length ss
 each-side all [] [] a = refl
 each-side all [] (s ∷ ss) a = absurd a
 each-side all (f ∷ fs) [] a = absurd a

@@ -9,20 +9,20 @@ use Rattle.std.proofs.lemmas.Str.{encode_ascii, encode_same, encodes-chars}
 use Rattle.witx_adapt.specs.Names.{digit, escaped, quoted}
 
 -- a quote or a backslash; a control character; what is escaped
-abbrev is_mark : ℕ → Bool
+abbrev pub is_mark : ℕ → Bool
 is_mark c = c == 34 || c == 92
 
-abbrev is_control : ℕ → Bool
+abbrev pub is_control : ℕ → Bool
 is_control c = nat_lt c 32 || c == 127
 
-abbrev escapes : ℕ → Bool
+abbrev pub escapes : ℕ → Bool
 escapes c = is_mark c || is_control c
 
 mark-is : (c : ℕ) → is_mark c ≡ true → (c ≡ 34) ⊎ (c ≡ 92)
 mark-is c e = grind (arith, nat_tests)
 
 -- how a character is spelled
-data Way (c : ℕ) : Type 0 where
+pub data Way (c : ℕ) : Type 0 where
   bare : escapes c ≡ false → escaped c ≡ encode_utf8 c → Way c
   mark : is_mark c ≡ true → escaped c ≡ 92 ∷ c ∷ [] → Way c
   control : is_control c ≡ true → escaped c ≡ 92 ∷ digit (c / 16) ∷ digit (c % 16) ∷ [] → Way c
@@ -35,13 +35,10 @@ by-tests c false false e f small = bare (ap (λ t. t || is_control c) e ∙ f) (
 mark-small : (c : ℕ) → is_mark c ≡ true → c < 128
 mark-small c e = grind (arith, nat_tests)
 
-way : (c : ℕ) → Way c
+pub way : (c : ℕ) → Way c
 way c = by-tests c (is_mark c) (is_control c) refl refl (mark-small c)
 
 -- ---- one character a spelling
-
-digit-small : (k : ℕ) (t : Bool) → nat_lt k 10 ≡ t → (if t then 48 + k else 87 + k) ≡ digit k
-digit-small k t e = ap (λ b. if b then 48 + k else 87 + k) (sym e)
 
 -- a digit is no quote and no backslash, and tells its number
 record Digit (k : ℕ) (d : ℕ) : Type 0 where
@@ -133,7 +130,7 @@ spelled-same (c ∷ cs) (d ∷ ds) r t e =
     let more = spelled-same cs ds r t here.1 in
     (ap (λ z. z ∷ cs) here.0 ∙ ap (λ z. d ∷ z) more.0, more.1)
 
-quoted-open : (name r : List ℕ) → quoted name ++ r ≡ 34 ∷ (flat_map escaped (chars name) ++ (34 ∷ r))
+pub quoted-open : (name r : List ℕ) → quoted name ++ r ≡ 34 ∷ (flat_map escaped (chars name) ++ (34 ∷ r))
 quoted-open name r = ap (λ z. 34 ∷ z) (append_assoc (flat_map escaped (chars name)) (34 ∷ []) r)
 
 -- a text begins with one quoted name alone

@@ -17,7 +17,8 @@ use Rattle.witx_machine.specs.Events.{Step, Event, emit, space, push, finish}
 use Rattle.witx_machine.specs.Functions.{Function}
 use Rattle.witx_adapt.specs.Lines.{event_text, event_line, event_lines}
 use Rattle.witx_verify.specs.Traces.{held_types, types_of, shown, shown_payload, Types, Says, Sides, Listed, GivesTraces, IsUnfit, listing_with, IsLine, ended}
-use Rattle.witx_verify.proofs.LineWords.{parts, word_of, tail_of, spelling, word_spelled, the_words, word-unbroken, spells}
+use Rattle.witx_verify.specs.LineParts.{parts, word_of, tail_of, spelling, word_spelled, the_words}
+use Rattle.witx_verify.proofs.LineWords.{word-unbroken, spells}
 use Rattle.witx_verify.proofs.OneEvent.{first-of, said-parts, tails-same}
 use Rattle.witx_verify.proofs.UnfitLines.{line-cut}
 

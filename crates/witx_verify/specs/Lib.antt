@@ -2,6 +2,7 @@ pub mod Symbols
 pub mod Symbolic
 pub mod Verdicts
 pub mod Adapted
+pub mod AdaptedPairs
 pub mod Meaning
 pub mod OutcomeViews
 pub mod PassageParts
@@ -21,3 +22,16 @@ pub mod SlotViews
 pub mod StackRows
 pub mod RowViews
 pub mod MachineViews
+pub mod ScriptParts
+pub mod Turns
+pub mod Nearing
+pub mod LeftOver
+pub mod Sides
+pub mod CallViews
+pub mod LineParts
+pub mod Passages
+pub mod ReadTypes
+pub mod LineReading
+pub mod Refusals
+pub mod Answers
+pub mod RunEnds

@@ -1,18 +1,35 @@
 //! Whether two traces are faithful to a function: the machine runs them over symbols.
 #![tactic(auto)]
 
+mod blocks;
+mod calls;
+mod candidates;
 mod cells;
 mod coming_back;
+mod event_texts;
+mod frame;
 mod from;
 mod going_in;
+mod heads;
 mod judging;
 mod kinds;
+mod known_types;
 mod laws;
+mod line_words;
+mod lists;
 mod machine;
 mod matching;
 mod misfits;
 mod outcome;
+mod passages;
+mod progress;
+mod quoted_names;
+mod reading;
 mod rows;
+mod run;
+mod script;
+mod sides;
+mod signature_texts;
 mod slots;
 mod stack;
 mod surface;
@@ -20,6 +37,7 @@ mod symbol;
 mod traces;
 mod types;
 mod typing;
+mod verifying;
 mod words;
 mod world;
 mod worlds;
@@ -31,6 +49,7 @@ pub use laws::{
     a_stuck_run_names_its_event, a_yes_is_faithful, own_traces_get_a_yes, tests_tell_what_passes,
     traces_of_an_adapted_get_a_yes,
 };
+pub use reading::{TracePair, TracePairs, TracesError, read_traces};
 pub use surface::{Doubt, Verdict};
 pub use symbol::{Source, Symbol, Symbols, same};
 pub use traces::{
@@ -39,5 +58,6 @@ pub use traces::{
 };
 pub use types::alike;
 pub use typing::is_of;
+pub use verifying::verify;
 pub use words::{Word, lift, list_of_words, list_words, lower, parts_of};
 pub use world::{Picked, World};

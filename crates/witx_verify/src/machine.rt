@@ -3,12 +3,15 @@
 ghost use Rattle.std.specs.Prelude.{◌≡◌, List, true, None, IfOk, option_map};
 ghost use Rattle.witx_ast.specs.Views.{named_tree};
 ghost use Rattle.witx_machine.specs.Rows.{returns};
+ghost use Rattle.witx_machine.specs.Events.{Event};
 ghost use Rattle.witx_machine.specs.Machine.{payload_in, slot_word};
+ghost use Rattle.witx_machine.specs.Run.{start};
 ghost use Rattle.witx_verify.specs.OutcomeViews.{item_of};
 ghost use Rattle.witx_verify.specs.SlotViews.{slots_of};
 ghost use Rattle.witx_verify.specs.RowViews.{row_view};
-ghost use Rattle.witx_verify.specs.MachineViews.{inside_of, Performs, GivesSlot};
+ghost use Rattle.witx_verify.specs.MachineViews.{inside_of, state_in, Performs, GivesSlot, Setting};
 ghost use Rattle.witx_verify.specs.RowViews.{runs_nothing};
+ghost use Rattle.witx_verify.specs.WordViews.{memory_of};
 ghost use Rattle.witx_verify.specs.declared.outcome.Item as declared_item;
 ghost use Rattle.witx_verify.specs.declared.machine.Inside.TheVariants.{Outside};
 
@@ -69,7 +72,9 @@ pub(crate) struct Machine {
 
 impl Machine {
     /// Nothing was run yet.
-    pub(crate) fn new(alloc: Global, cells: Cells) -> Machine {
+    pub(crate) fn new(alloc: Global, cells: Cells) -> Machine
+        ensures { (x : Setting) (es : List Event) → x.called ≡ None → state_in x es result ≡ start (memory_of cells) }
+    {
         Machine {
             stack: Vec::new(alloc),
             slots: Slots::new(alloc),
@@ -90,7 +95,8 @@ impl Machine {
         inside: &Inside,
     ) -> Result<bool, OutOfMemory>
         requires { runs_nothing (row_view row) ≡ true }
-        ensures { IfOk result (λ went. Performs arguments.now has_called inside.now (row_view row.entry) self.old self.new went) }
+        ensures performs { IfOk result (λ went. Performs arguments.now has_called inside.now (row_view row.entry) self.old self.new went) }
+        ensures blocks { self.new.blocks ≡ self.old.blocks }
     {
         match row {
             Row::GetArg(nth) => get_arg(&mut self.stack, arguments, nth),
@@ -122,7 +128,9 @@ impl Machine {
         has_called: bool,
         inside: &Inside,
     ) -> Result<bool, OutOfMemory>
-        ensures { IfOk result (λ went. (arguments : List declared_item.Item) → Performs arguments has_called inside.now (returns count) self.old self.new went) }
+        ensures performs { IfOk result (λ went. (arguments : List declared_item.Item) →
+            Performs arguments has_called inside.now (returns count) self.old self.new went) }
+        ensures blocks { self.new.blocks ≡ self.old.blocks }
     {
         match inside {
             Inside::Outside => self.answer_with(alloc, count, has_called),
@@ -136,7 +144,9 @@ impl Machine {
         count: usize,
         has_called: bool,
     ) -> Result<bool, OutOfMemory>
-        ensures { IfOk result (λ went. (arguments : List declared_item.Item) → Performs arguments has_called Outside (returns count) self.old self.new went) }
+        ensures performs { IfOk result (λ went. (arguments : List declared_item.Item) →
+            Performs arguments has_called Outside (returns count) self.old self.new went) }
+        ensures blocks { self.new.blocks ≡ self.old.blocks }
     {
         let Some(items) = items_off(alloc, &mut self.stack, count)? else {
             return Ok(false);
@@ -152,7 +162,8 @@ impl Machine {
 
     /// Gives a slot the next address, unless it has one; or the event has no rule.
     pub(crate) fn give_slot(&mut self, slot: usize, ty: &Rc<NamedType>) -> Result<bool, OutOfMemory>
-        ensures { IfOk result (λ went. GivesSlot slot (named_tree ty.now.value) self.old self.new went) }
+        ensures gives { IfOk result (λ went. GivesSlot slot (named_tree ty.now.value) self.old self.new went) }
+        ensures blocks { self.new.blocks ≡ self.old.blocks }
     {
         match self.slots.get(slot) {
             Some(_address) => Ok(false),
@@ -162,7 +173,8 @@ impl Machine {
 
     fn give_free_slot(&mut self, slot: usize, ty: &Rc<NamedType>) -> Result<bool, OutOfMemory>
         requires { None ≡ slot_word slot (slots_of self.old.slots) }
-        ensures { IfOk result (λ went. GivesSlot slot (named_tree ty.now.value) self.old self.new went) }
+        ensures gives { IfOk result (λ went. GivesSlot slot (named_tree ty.now.value) self.old self.new went) }
+        ensures blocks { self.new.blocks ≡ self.old.blocks }
     {
         match self.cells.give_number(ty, None)? {
             Some(address) => {
@@ -170,17 +182,6 @@ impl Machine {
                 Ok(true)
             }
             None => Ok(false),
-        }
-    }
-
-    /// The two blocks set aside last, taken off, the earlier one first.
-    pub(crate) fn two_blocks(&mut self) -> Option<(Block, Block)> {
-        let Some(second) = self.blocks.pop() else {
-            return None;
-        };
-        match self.blocks.pop() {
-            Some(first) => Some((first, second)),
-            None => None,
         }
     }
 }

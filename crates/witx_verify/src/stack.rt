@@ -117,7 +117,7 @@ pub(crate) fn pop_symbol(stack: &mut Vec<Item>) -> Option<Rc<Symbol>>
 
 /// Pushes what there is; or the step has no rule.
 #[tactic(auto, using(crate::proofs::StackLemmas::stack_rules))]
-fn push_word(stack: &mut Vec<Item>, word: Option<Word>) -> Result<bool, OutOfMemory>
+pub(crate) fn push_word(stack: &mut Vec<Item>, word: Option<Word>) -> Result<bool, OutOfMemory>
     ensures { IfOk result (λ went. when went (Some (stack_of stack.new.items)) ≡ pushed_word (option_map word_of word) (stack_of stack.old.items)) }
 {
     match word {
@@ -131,7 +131,10 @@ fn push_word(stack: &mut Vec<Item>, word: Option<Word>) -> Result<bool, OutOfMem
 
 /// Pushes the value that there is; or the step has no rule.
 #[tactic(auto, using(crate::proofs::StackLemmas::stack_rules))]
-fn push_plain(stack: &mut Vec<Item>, symbol: Option<Rc<Symbol>>) -> Result<bool, OutOfMemory>
+pub(crate) fn push_plain(
+    stack: &mut Vec<Item>,
+    symbol: Option<Rc<Symbol>>,
+) -> Result<bool, OutOfMemory>
     ensures { IfOk result (λ went. when went (Some (stack_of stack.new.items)) ≡ pushed_symbol (option_of symbol) (stack_of stack.old.items)) }
 {
     match symbol {

@@ -1,7 +1,9 @@
-ghost use Rattle.std.specs.Prelude.{◌≡◌, map};
+ghost use Rattle.std.specs.Prelude.{◌≡◌, IfErr, IfOk, map};
+ghost use Rattle.witx_verify.specs.declared.symbol.Symbol.TheVariants as declared;
 ghost use Rattle.witx_verify.specs.SymbolViews.{source_of, symbol_of, symbols_read};
 ghost use Rattle.witx_verify.specs.Symbols.{same_source, same_symbol, same_members};
 
+use crate::lists::{joined, without_last};
 use crate::types::alike;
 use std::rc::Rc;
 use witx_ast::TypeRef;
@@ -21,8 +23,9 @@ pub enum Source {
 }
 
 /// What stands for a value of which only its type and where it comes from are known.
+///
+/// However deep a tuple is, it is dropped without recursion.
 #[cycle(symbol)]
-#[derive(Drop)]
 pub enum Symbol {
     /// A value of a type that is no tuple.
     Atom { source: Rc<Source>, ty: TypeRef },
@@ -36,6 +39,85 @@ pub enum Symbol {
 
 /// Symbols, in order.
 pub type Symbols = Items<Rc<Symbol>>;
+
+// The parts of a tuple of tuples are put into one list, from its end; where memory is refused they are let go
+// one in the other.
+impl Drop for Symbol {
+    #[tactic(auto, using(crate::proofs::LettingGo::drop_rules))]
+    fn drop(mut self) {
+        loop {
+            match self {
+                Symbol::Atom { source, ty } => {
+                    drop(source);
+                    drop(ty);
+                    return;
+                }
+                Symbol::BareMade { case: _ } => return,
+                Symbol::Made { case: _, payload } => match Rc::into_inner(payload) {
+                    Some(inner) => self = inner,
+                    None => return,
+                },
+                Symbol::Tuple(parts) => {
+                    let (rest, last) = without_last(parts);
+                    match last {
+                        None => {
+                            drop(rest);
+                            return;
+                        }
+                        Some(last) => match Rc::into_inner(last) {
+                            None => self = Symbol::Tuple(rest),
+                            Some(inner) => {
+                                if inner.is_leaf() {
+                                    drop(inner);
+                                    self = Symbol::Tuple(rest);
+                                } else {
+                                    match inner.into_parts() {
+                                        Ok(more) => {
+                                            let (all, left) = joined(rest, more);
+                                            drop(left);
+                                            self = Symbol::Tuple(all);
+                                        }
+                                        Err(made) => {
+                                            drop(rest);
+                                            self = made;
+                                        }
+                                    }
+                                }
+                            }
+                        },
+                    }
+                }
+            }
+        }
+    }
+}
+
+impl Symbol {
+    // Whether it is made of no other symbol.
+    fn is_leaf(&self) -> bool {
+        match self {
+            Symbol::Atom { source: _, ty: _ } | Symbol::BareMade { case: _ } => true,
+            Symbol::Tuple(_)
+            | Symbol::Made {
+                case: _,
+                payload: _,
+            } => false,
+        }
+    }
+
+    // The parts of a tuple; else the symbol itself.
+    fn into_parts(self) -> Result<Symbols, Symbol>
+        ensures parts { IfOk result (λ parts. self ≡ declared.Tuple parts) }
+        ensures other { IfErr result (λ other. self ≡ other) }
+    {
+        match self {
+            Symbol::Tuple(parts) => Ok(parts),
+            Symbol::Atom { source, ty } => Err(Symbol::Atom { source, ty }),
+            Symbol::Made { case, payload } => Err(Symbol::Made { case, payload }),
+            Symbol::BareMade { case } => Err(Symbol::BareMade { case }),
+        }
+    }
+}
 
 #[cycle(source)]
 #[tactic(auto, using(crate::proofs::SymbolReads::symbol_rules))]

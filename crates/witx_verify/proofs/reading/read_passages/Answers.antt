@@ -1,0 +1,16 @@
+use Rattle.std.proofs.Common.{◌≡◌, ◌∷◌, ◌++◌, [], ℕ, List, map, drop, ap, subst, rules, sym, ◌∙◌, codes, arith}
+use Rattle.witx_ast.specs.Definitions.{definition_tree}
+use Rattle.witx_abi.specs.Views.{called, event_of}
+use Rattle.witx_verify.specs.declared.reading.Stopped.{Stopped}
+use Rattle.witx_verify.specs.Refusals.{Tells}
+use Rattle.witx_verify.specs.Passages.{IsCutAt, IsPlain, Passage, Stretch, StopsAt, events_of, passage_of, sides_of, stretches}
+use Rattle.witx_verify.specs.ReadTypes.{types_in}
+use Rattle.witx_verify.proofs.ReadSteps.{cut-last, tells-moved}
+use Rattle.witx_verify.proofs.reading.read_passages.Goals as goal
+
+pub returns-in_err-end-clause-stopped : goal.returns-in_err-end-clause-stopped
+returns-in_err-end-clause-stopped c =
+    let told : (e : Stopped) → Tells (IsCutAt c.args.last.now c.in_ok-pairs.rest.now) e → Tells (StopsAt (stretches (map definition_tree c.args.document.now.definitions) (map passage_of c.args.passages.now)) c.args.last.now c.args.text.now) e =
+    λ e h. tells-moved (IsCutAt c.args.last.now c.in_ok-pairs.rest.now) (StopsAt (stretches (map definition_tree c.args.document.now.definitions) (map passage_of c.args.passages.now)) c.args.last.now c.args.text.now) e h
+    (λ at cut. c.in_ok-pairs.ensures.behind c.args.last.now at c.requires.last (cut-last c.args.last.now c.in_ok-pairs.rest.now at cut)) in
+    search (rules, told)
