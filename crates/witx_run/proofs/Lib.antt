@@ -1,0 +1,13 @@
+pub mod OffLemmas
+pub mod RowLemmas
+pub mod SlotLemmas
+pub mod MachineLemmas
+pub mod StackLemmas
+pub mod EndLemmas
+pub mod Cutting
+pub mod Resuming
+pub mod PartLemmas
+pub mod TurnLemmas
+pub mod BlockLemmas
+pub mod NearLemmas
+pub mod StartLemmas

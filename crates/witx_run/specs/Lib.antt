@@ -1,0 +1,12 @@
+pub mod Views
+pub mod StackRows
+pub mod RowViews
+pub mod SlotViews
+pub mod MachineViews
+pub mod BlockEnds
+pub mod Cuts
+pub mod Frames
+pub mod ScriptParts
+pub mod Turns
+pub mod Nearing
+pub mod LeftOver
