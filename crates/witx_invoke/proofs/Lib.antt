@@ -8,3 +8,13 @@ pub mod ReadFlags
 pub mod ReadParts
 pub mod ReadTypes
 pub mod Texts
+pub mod CallExamples
+pub mod ShapeLemmas
+pub mod PickLemmas
+pub mod CopyLemmas
+pub mod PlacementLemmas
+pub mod LowerLemmas
+pub mod LiftLemmas
+pub mod StoreLemmas
+pub mod KindLemmas
+pub mod PutLemmas

@@ -1,18 +1,32 @@
-//! The texts of values: what is written of a value, and the values that lines of text give.
+//! The texts of values: what is written of a value, and the values that lines of text give; and what one
+//! call over a memory of bytes does to values, words and ranges.
 #![tactic(auto)]
 
+mod builtins;
+mod copies;
 mod error;
 mod fitting;
 mod flags;
 mod given;
+mod giving;
 mod heads;
+mod kinds;
 mod laws;
+mod lifting;
 mod line;
+mod lowering;
+mod picking;
+mod placement;
+mod range;
 mod read;
+mod shapes;
+mod storing;
 mod text;
+mod word;
 
 pub use error::ValuesError;
 pub use fitting::function_fits;
 pub use given::{GivenValues, read_values};
 pub use laws::{lines_tell_values, texts_tell_values};
 pub use text::value_text;
+pub use word::Word;
