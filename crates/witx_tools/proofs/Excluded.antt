@@ -1,21 +1,31 @@
 -- A bundle that is valid for a tool isn't refused by it, and what a tool tells is over a bundle that is valid for it.
 use Rattle.std.specs.Prelude.{◌≡◌, ◌⊎◌, ℕ, List, [], ◌∷◌, Option, Some, None, Ok}
-use Rattle.std.proofs.Common.{sym, ◌∙◌, subst, inl, inr}
+use Rattle.std.proofs.Common.{refl, sym, ap, ◌∙◌, subst, inl, inr}
+use mathlib.Core.Path.{fun_ext}
 use Rattle.witx_base.specs.Paths.{Path}
-use Rattle.witx_files.specs.Files.{Files, held}
+use Rattle.witx_files.specs.Files.{Files, canonical, held}
 use Rattle.witx_bundle.specs.Bundles.{IsRead}
+use Rattle.witx_ast.specs.Definitions.{DefinitionTree}
+use Rattle.witx_check.specs.Faults.{Fault}
+use Rattle.witx_order.specs.Walks.{World}
+use Rattle.witx_walk.specs.Answers.{Answer, Answers, OneAnswer}
+use Rattle.witx_walk.specs.Meaning.{fault_behind, world}
+use Rattle.witx_walk.specs.Readings.{Reading}
+use Rattle.witx_verify.specs.Traces.{IsUnfit, Sides, TracesLeaveNoneUnfit}
 use Rattle.witx_imports.specs.Reads as list
 use Rattle.witx_imports.specs.declared.import.WasmImport.{WasmImport}
+use Rattle.witx.specs.Adapting.{IsParsed, Parses}
 use Rattle.witx.specs.Causes.{CanAdapt}
 use Rattle.witx.specs.Laws.{ValidIsNotRefused}
 use Rattle.witx.specs.Reports.{AdaptingFails, CommandRefuses, MappingFails}
 use Rattle.witx.specs.Causes.{CanMap}
-use Rattle.witx.specs.Words.{paths_of}
+use Rattle.witx.specs.Words.{arguments_of, paths_of}
 use Rattle.witx.specs.declared.words.Command.TheVariants as command
 use Rattle.witx_tools.specs.ImportTexts.{IsBadList}
-use Rattle.witx_tools.specs.ToolCauses.{CanAdaptAll, HoldsOwn, IsOwnValid, IsToolOutput, IsToolText, IsValidForTool, LacksOwn, ListFails, ListReads, OneIsUnadapted, OwnRefuses, ToolRefuses}
+use Rattle.witx_tools.specs.ToolCauses.{CanAdaptAll, HoldsOwn, IsOwnValid, IsToolOutput, IsToolText, IsValidForTool, LacksOwn, ListFails, ListReads, ListingFails, ListingReads, OneIsUnadapted, OwnRefuses, ToolRefuses}
 use Rattle.witx_tools.specs.ToolLaws.{ValidIsNotRefusedByTools}
-use Rattle.witx_tools.specs.ToolWords.{adapted_files, list_path, own_file}
+use Rattle.witx_tools.specs.ToolWords.{adapted_files, first_path, own_file}
+use Rattle.witx_tools.specs.VerdictTexts.{IsUnfitListing, listed_for}
 use Rattle.witx_tools.specs.declared.tool.Tool.{Tool}
 use Rattle.witx_tools.specs.declared.tool.Tool.TheVariants as tool
 
@@ -23,7 +33,7 @@ use Rattle.witx_tools.specs.declared.tool.Tool.TheVariants as tool
 abbrev pub ListsHaveNoFault : Type 0
 ListsHaveNoFault = (text : List ℕ) (d : List WasmImport) (place : list.Place) → list.Reads text d → list.IsFaultOf text place → ⊥
 
-module _ (valid : ValidIsNotRefused) (no_fault : ListsHaveNoFault) (bytes : List ℕ) (files others : Files)
+module _ (valid : ValidIsNotRefused) (no_fault : ListsHaveNoFault) (one_answer : OneAnswer) (no_unfit : TracesLeaveNoneUnfit) (bytes : List ℕ) (files others : Files)
     (here : IsRead bytes (Ok files)) (there : IsRead bytes (Ok others)) where
   same-held : (path : Path) → held files path ≡ held others path
   same-held path = here.3 path ∙ sym (there.3 path)
@@ -52,9 +62,41 @@ module _ (valid : ValidIsNotRefused) (no_fault : ListsHaveNoFault) (bytes : List
       let equal : other ≡ text = cc in
       no_fault text imports place reads (subst (λ t. list.IsFaultOf t place) equal fault)
 
+  -- the files of both readings mean the same document
+  abbrev world-with : Reading → (Path → Option (List ℕ)) → World Fault
+  world-with reading texts = record { text_at = texts; canonical = canonical []; reading = reading; fault_of = fault_behind }
+
+  same-world : (reading : Reading) → world files [] reading ≡ world others [] reading
+  same-world reading = ap (λ (texts : Path → Option (List ℕ)). world-with reading texts) (fun_ext same-held)
+
+  parsed-there : (handed : List Path) (r : Answer) → Parses files handed r → Parses others handed r
+  unfolding IsParsed
+  parsed-there handed r p = λ fs links reading e k is.
+      let here_fs : others ≡ fs = cc in
+      let no_links : [] ≡ links = cc in
+      subst (λ l. Answers (world fs l reading) handed 0 0 r) no_links
+      (subst (λ f. Answers (world f [] reading) handed 0 0 r) here_fs (subst (λ w. Answers w handed 0 0 r) (same-world reading) (p files [] reading refl refl is)))
+
+  same-document : (handed : List Path) (ds es : List DefinitionTree) → Parses others handed (Ok ds) → Parses files handed (Ok es) → es ≡ ds
+  unfolding IsParsed
+  same-document handed ds es p q =
+      let same : Ok es ≡ Ok ds = one_answer others [] handed 0 0 0 0 (Ok es) (Ok ds) (Ok es) (Ok ds) (parsed-there handed (Ok es) q) p refl refl in
+      cc
+
+  listing-excluded : (arguments : List (List ℕ)) (ds : List DefinitionTree) (sides : List Sides) (report : List ℕ) → ListingReads others arguments ds sides
+      → ListingFails files arguments report → ⊥
+  unfolding IsUnfitListing
+  listing-excluded arguments ds sides report (listing, (k, p), gives) (es, text, (h, q), (number, unfit, r)) =
+      let same : held files (first_path arguments) ≡ held others (first_path arguments) = same-held (first_path arguments) in
+      let equal : text ≡ listing = cc in
+      let document : es ≡ ds = same-document (paths_of (arguments_of arguments)) ds es p q in
+      no_unfit (listed_for ds) listing number sides gives
+      (subst (λ t. IsUnfit (listed_for ds) t number) equal (subst (λ xs. IsUnfit (listed_for xs) text number) document unfit))
+
   tool-excluded : (t : Tool) (arguments : List (List ℕ)) (report : List ℕ) → IsOwnValid t others arguments → OwnRefuses t files arguments report → ⊥
   tool-excluded tool.Shim arguments report v h = mapping-excluded arguments report v h
-  tool-excluded tool.Imports arguments report v h = list-excluded (list_path arguments) v.0 report v.1 h
+  tool-excluded tool.Verify arguments report v h = listing-excluded arguments v.0 v.1 report v.2 h
+  tool-excluded tool.Imports arguments report v h = list-excluded (first_path arguments) v.0 report v.1 h
 
   by-part : (t : Tool) (arguments : List (List ℕ)) (report : List ℕ) → HoldsOwn (own_file t arguments) others → CanAdaptAll others (adapted_files t arguments)
       → IsOwnValid t others arguments
@@ -70,12 +112,13 @@ module _ (valid : ValidIsNotRefused) (no_fault : ListsHaveNoFault) (bytes : List
   unfolding IsValidForTool ToolRefuses
   valid-excluded t arguments report v h = by-part t arguments report v.0 v.1 v.2 h
 
-pub valid-is-not-refused : ValidIsNotRefused → ListsHaveNoFault → ValidIsNotRefusedByTools
-valid-is-not-refused valid no_fault = λ bytes files others here there arguments t report v h.
-    valid-excluded valid no_fault bytes files others here there t arguments report v h
+pub valid-is-not-refused : ValidIsNotRefused → ListsHaveNoFault → OneAnswer → TracesLeaveNoneUnfit → ValidIsNotRefusedByTools
+valid-is-not-refused valid no_fault one_answer no_unfit = λ bytes files others here there arguments t report v h.
+    valid-excluded valid no_fault one_answer no_unfit bytes files others here there t arguments report v h
 
 text-valid : (t : Tool) (files : Files) (arguments : List (List ℕ)) (text : List ℕ) → IsToolText t files arguments text → IsOwnValid t files arguments
 text-valid tool.Shim files arguments text (new, old, both, modules, e, k) = (new, old, both, modules, e)
+text-valid tool.Verify files arguments text (ds, sides, reads, k) = (ds, sides, reads)
 text-valid tool.Imports files arguments text h = (h.0, h.1)
 
 -- what a tool tells

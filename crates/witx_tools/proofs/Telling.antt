@@ -1,5 +1,5 @@
 -- What a tool tells over the files of a bundle, and why it has no text, by what its calls answer.
-use Rattle.std.specs.Prelude.{◌≡◌, ℕ, List, Some, Ok, Err, map}
+use Rattle.std.specs.Prelude.{◌≡◌, ◌⊎◌, ℕ, List, [], ◌∷◌, Some, Ok, Err, map}
 use Rattle.std.proofs.Common.{refl, subst, inl, inr, arith}
 use Rattle.witx_base.specs.Paths.{Path}
 use Rattle.witx_files.specs.Answers.{IsText}
@@ -9,7 +9,13 @@ use Rattle.witx_files.specs.declared.fault.IoFault.{IoFault}
 use Rattle.witx_files.specs.declared.fault.IoFault.TheVariants as io_fault
 use Rattle.witx_walk.specs.ErrorReports.{io_report}
 use Rattle.witx_walk.specs.declared.error.WitxError.TheVariants as witx_error
+use Rattle.witx_adapt.specs.Entries.{all_functions}
 use Rattle.witx_adapt.specs.declared.adapted.Adapted.{Adapted}
+use Rattle.witx_verify.specs.Passages.{sides_of}
+use Rattle.witx_verify.specs.Refusals.{Refuses}
+use Rattle.witx_verify.specs.Traces.{GivesTraces, Listed, listed}
+use Rattle.witx_verify.specs.declared.reading.TracePair.{TracePair}
+use Rattle.witx_verify.specs.declared.reading.TracesError.TheVariants as traces_error
 use Rattle.witx_compat.specs.Polyfills.{polyfill_answer}
 use Rattle.witx_compat.specs.Views.{module_view}
 use Rattle.witx_compat.specs.declared.modules.ModulePolyfill.{ModulePolyfill}
@@ -26,10 +32,12 @@ use Rattle.witx.specs.declared.refusal.Stop.{Stop}
 use Rattle.witx.proofs.Refusing.{memory-stops, stops-as}
 use Rattle.witx_tools.specs.ImportTexts.{IsBadList, bad_report, faults_text}
 use Rattle.witx_tools.specs.ShimTexts.{shims_text}
-use Rattle.witx_tools.specs.ToolCauses.{IsToolOutput, LacksOwn, ToolRefuses}
-use Rattle.witx_tools.specs.ToolWords.{list_path}
+use Rattle.witx_tools.specs.ToolCauses.{CanAdaptAll, HoldsOwn, IsToolOutput, LacksOwn, OneIsUnadapted, OwnRefuses, ToolRefuses}
+use Rattle.witx_tools.specs.ToolWords.{first_path}
+use Rattle.witx_tools.specs.VerdictTexts.{IsUnfitListing, listed_for, owned_of, unfit_report, verdicts_text}
 use Rattle.witx_tools.specs.declared.tool.Tool.TheVariants as tool
 use Rattle.witx_tools.proofs.Shims.{answers-mapped}
+use Rattle.witx_tools.proofs.Verdicts.{ReadAsTrees, each-entry, listed-for, owned-for}
 
 -- documents that can be adapted
 can-adapt : (files : Files) (words : List (List ℕ)) (a : Adapted) → Parses files (paths_of words) (Ok (defined a)) → IsAdapted a → CanAdapt files (paths_of words)
@@ -124,6 +132,42 @@ shims-told files mid arguments news olds names a b ms text n o m f p q r t e k =
 
 pub ruleset shim_rules = (memory-stops, new-stops, old-stops, absent-stops, shims-told, answers-mapped)
 
+-- ---- a tool with a file of its own and one document behind it
+
+-- what else it refuses is R
+abbrev Refused : (List ℕ → Type 0) → Files → List (List ℕ) → List ℕ → Type 0
+Refused R files arguments report =
+    LacksOwn (Some (first_path arguments)) files report
+    ⊎ (HoldsOwn (Some (first_path arguments)) files × (OneIsUnadapted files (arguments_of arguments ∷ []) report
+    ⊎ (CanAdaptAll files (arguments_of arguments ∷ []) × R report)))
+
+own-held : (files : Files) (arguments : List (List ℕ)) (path : Path) (text : List ℕ) → path ≡ first_path arguments → held files path ≡ Some text
+    → held files (first_path arguments) ≡ Some text
+own-held files arguments path text e h = subst (λ p. held files p ≡ Some text) e h
+
+lacking : (R : List ℕ → Type 0) (files : Files) (arguments : List (List ℕ)) (path : Path) (s : Stop) → path ≡ first_path arguments
+    → StopsWith (LacksOwn (Some path) files) s → StopsWith (Refused R files arguments) s
+lacking R files arguments path s e k =
+    stops-as (LacksOwn (Some (first_path arguments)) files) (Refused R files arguments) (λ report h. inl h) s
+    (subst (λ p. StopsWith (LacksOwn (Some p) files) s) e k)
+
+unadapted : (R : List ℕ → Type 0) (files mid : Files) (arguments words : List (List ℕ)) (path : Path) (text : List ℕ) (s : Stop) → path ≡ first_path arguments
+    → words ≡ arguments_of arguments → mid ≡ files → held files path ≡ Some text → StopsWith (AdaptingFails mid (paths_of words)) s → StopsWith (Refused R files arguments) s
+unadapted R files mid arguments words path text s e w f h k =
+    stops-as (AdaptingFails files (paths_of (arguments_of arguments))) (Refused R files arguments)
+    (λ report r. inr ((text, own-held files arguments path text e h), inl (inl r))) s
+    (failed files mid words (arguments_of arguments) s w f k)
+
+refusing : (R Q : List ℕ → Type 0) (files mid : Files) (arguments words : List (List ℕ)) (path : Path) (text : List ℕ) (a : Adapted) (s : Stop) → path ≡ first_path arguments
+    → words ≡ arguments_of arguments → mid ≡ files → held files path ≡ Some text → Parses mid (paths_of words) (Ok (defined a)) → IsAdapted a
+    → ((report : List ℕ) → Q report → R report) → StopsWith Q s → StopsWith (Refused R files arguments) s
+refusing R Q files mid arguments words path text a s e w f h p q why k =
+    stops-as Q (Refused R files arguments)
+    (λ report r. inr (
+      (text, own-held files arguments path text e h),
+      inr ((can-adapt files (arguments_of arguments) a (said files mid words (arguments_of arguments) a w f p) q, tt), why report r),
+    )) s k
+
 -- ---- imports
 
 bad-told : (path : Path) (text : List ℕ) (place : list.Place) (report : List ℕ) → list.IsFaultOf text place → report ≡ bad_report path place → IsBadList path text report
@@ -136,42 +180,82 @@ bad-stops path text place s h k = stops-as (λ report. report ≡ bad_report pat
 
 pub ruleset list_rules = (memory-stops, bad-stops)
 
-pub lacking-stops : (files : Files) (arguments : List (List ℕ)) (path : Path) (s : Stop) → path ≡ list_path arguments → StopsWith (LacksOwn (Some path) files) s
+pub lacking-stops : (files : Files) (arguments : List (List ℕ)) (path : Path) (s : Stop) → path ≡ first_path arguments → StopsWith (LacksOwn (Some path) files) s
     → StopsWith (ToolRefuses tool.Imports files arguments) s
 unfolding ToolRefuses
-lacking-stops files arguments path s e k =
-    stops-as (LacksOwn (Some (list_path arguments)) files) (ToolRefuses tool.Imports files arguments) (λ report h. inl h) s
-    (subst (λ p. StopsWith (LacksOwn (Some p) files) s) e k)
+lacking-stops files arguments path s e k = lacking (OwnRefuses tool.Imports files arguments) files arguments path s e k
 
-pub document-stops : (files mid : Files) (arguments words : List (List ℕ)) (path : Path) (text : List ℕ) (s : Stop) → path ≡ list_path arguments
+pub document-stops : (files mid : Files) (arguments words : List (List ℕ)) (path : Path) (text : List ℕ) (s : Stop) → path ≡ first_path arguments
     → words ≡ arguments_of arguments → mid ≡ files → held files path ≡ Some text → StopsWith (AdaptingFails mid (paths_of words)) s
     → StopsWith (ToolRefuses tool.Imports files arguments) s
 unfolding ToolRefuses
-document-stops files mid arguments words path text s e w f h k =
-    stops-as (AdaptingFails files (paths_of (arguments_of arguments))) (ToolRefuses tool.Imports files arguments)
-    (λ report r. inr ((text, subst (λ p. held files p ≡ Some text) e h), inl (inl r))) s
-    (failed files mid words (arguments_of arguments) s w f k)
+document-stops files mid arguments words path text s e w f h k = unadapted (OwnRefuses tool.Imports files arguments) files mid arguments words path text s e w f h k
 
-pub list-stops : (files mid : Files) (arguments words : List (List ℕ)) (path : Path) (text : List ℕ) (a : Adapted) (s : Stop) → path ≡ list_path arguments
+pub list-stops : (files mid : Files) (arguments words : List (List ℕ)) (path : Path) (text : List ℕ) (a : Adapted) (s : Stop) → path ≡ first_path arguments
     → words ≡ arguments_of arguments → mid ≡ files → held files path ≡ Some text → Parses mid (paths_of words) (Ok (defined a)) → IsAdapted a
     → StopsWith (IsBadList path text) s → StopsWith (ToolRefuses tool.Imports files arguments) s
 unfolding ToolRefuses
 list-stops files mid arguments words path text a s e w f h p q k =
-    let holds : held files (list_path arguments) ≡ Some text = subst (λ p. held files p ≡ Some text) e h in
-    stops-as (IsBadList (list_path arguments) text) (ToolRefuses tool.Imports files arguments)
-    (λ report r. inr (
-      (text, holds),
-      inr ((can-adapt files (arguments_of arguments) a (said files mid words (arguments_of arguments) a w f p) q, tt), (text, holds, r)),
-    )) s
+    refusing (OwnRefuses tool.Imports files arguments) (IsBadList (first_path arguments) text) files mid arguments words path text a s e w f h p q
+    (λ report r. (text, own-held files arguments path text e h, r))
     (subst (λ p. StopsWith (IsBadList p text) s) e k)
 
 pub faults-told : (files mid : Files) (arguments words : List (List ℕ)) (path : Path) (text made : List ℕ) (a : Adapted) (imports : List WasmImport)
-    → path ≡ list_path arguments → words ≡ arguments_of arguments → mid ≡ files → held files path ≡ Some text → Parses mid (paths_of words) (Ok (defined a)) → IsAdapted a
+    → path ≡ first_path arguments → words ≡ arguments_of arguments → mid ≡ files → held files path ≡ Some text → Parses mid (paths_of words) (Ok (defined a)) → IsAdapted a
     → list.Reads text imports → made ≡ faults_text (map offered a.functions) imports → IsToolOutput tool.Imports files arguments made
 unfolding IsToolOutput
 faults-told files mid arguments words path text made a imports e w f h p q r k =
-    let holds : held files (list_path arguments) ≡ Some text = subst (λ p. held files p ≡ Some text) e h in
+    let holds = own-held files arguments path text e h in
     let means = said files mid words (arguments_of arguments) a w f p in
     ((text, holds), (can-adapt files (arguments_of arguments) a means q, tt), (imports, (text, holds, r), a, means, q, k))
 
 pub ruleset import_rules = (memory-stops, lacking-stops, document-stops, list-stops, faults-told)
+
+-- ---- verdicts
+
+unfit-told : (shown : Listed) (text : List ℕ) (line : ℕ) (report : List ℕ) → Refuses shown text (traces_error.Line line) → report ≡ unfit_report line
+    → IsUnfitListing shown text report
+unfolding IsUnfitListing
+unfit-told shown text line report h r = (line, h, r)
+
+pub unfit-stops : (shown : Listed) (text : List ℕ) (line : ℕ) (s : Stop) → Refuses shown text (traces_error.Line line)
+    → StopsWith (λ report. report ≡ unfit_report line) s → StopsWith (IsUnfitListing shown text) s
+unfit-stops shown text line s h k =
+    stops-as (λ report. report ≡ unfit_report line) (IsUnfitListing shown text) (λ report r. unfit-told shown text line report h r) s k
+
+pub ruleset listing_rules = (memory-stops, unfit-stops, each-entry)
+
+pub lacking-listing : (files : Files) (arguments : List (List ℕ)) (path : Path) (s : Stop) → path ≡ first_path arguments → StopsWith (LacksOwn (Some path) files) s
+    → StopsWith (ToolRefuses tool.Verify files arguments) s
+unfolding ToolRefuses
+lacking-listing files arguments path s e k = lacking (OwnRefuses tool.Verify files arguments) files arguments path s e k
+
+pub unadapted-listing : (files mid : Files) (arguments words : List (List ℕ)) (path : Path) (text : List ℕ) (s : Stop) → path ≡ first_path arguments
+    → words ≡ arguments_of arguments → mid ≡ files → held files path ≡ Some text → StopsWith (AdaptingFails mid (paths_of words)) s
+    → StopsWith (ToolRefuses tool.Verify files arguments) s
+unfolding ToolRefuses
+unadapted-listing files mid arguments words path text s e w f h k = unadapted (OwnRefuses tool.Verify files arguments) files mid arguments words path text s e w f h k
+
+pub listing-stops : (files mid : Files) (arguments words : List (List ℕ)) (path : Path) (text : List ℕ) (a : Adapted) (s : Stop) → ReadAsTrees → path ≡ first_path arguments
+    → words ≡ arguments_of arguments → mid ≡ files → held files path ≡ Some text → Parses mid (paths_of words) (Ok (defined a)) → IsAdapted a
+    → StopsWith (IsUnfitListing (listed a) text) s → StopsWith (ToolRefuses tool.Verify files arguments) s
+unfolding ToolRefuses
+listing-stops files mid arguments words path text a s law e w f h p q k =
+    refusing (OwnRefuses tool.Verify files arguments) (IsUnfitListing (listed_for (defined a)) text) files mid arguments words path text a s e w f h p q
+    (λ report r. (defined a, text, (own-held files arguments path text e h, said files mid words (arguments_of arguments) a w f p), r))
+    (subst (λ l. StopsWith (IsUnfitListing l text) s) (listed-for law a q) k)
+
+pub verdicts-told : (files mid : Files) (arguments words : List (List ℕ)) (path : Path) (text made : List ℕ) (a : Adapted) (pairs : List TracePair) → ReadAsTrees
+    → path ≡ first_path arguments → words ≡ arguments_of arguments → mid ≡ files → held files path ≡ Some text → Parses mid (paths_of words) (Ok (defined a)) → IsAdapted a
+    → GivesTraces (listed a) text (map sides_of pairs) → made ≡ verdicts_text (map owned_of a.functions) (map sides_of pairs)
+    → IsToolOutput tool.Verify files arguments made
+unfolding IsToolOutput
+verdicts-told files mid arguments words path text made a pairs law e w f h p q g k =
+    let holds = own-held files arguments path text e h in
+    let means = said files mid words (arguments_of arguments) a w f p in
+    let gives : GivesTraces (listed_for (defined a)) text (map sides_of pairs) = subst (λ l. GivesTraces l text (map sides_of pairs)) (listed-for law a q) g in
+    let tells : made ≡ verdicts_text (all_functions (defined a)) (map sides_of pairs)
+    = subst (λ fs. made ≡ verdicts_text fs (map sides_of pairs)) (owned-for a.functions (all_functions (defined a)) q.functions) k in
+    ((text, holds), (can-adapt files (arguments_of arguments) a means q, tt), (defined a, map sides_of pairs, (text, (holds, means), gives), tells))
+
+pub ruleset verdict_rules = (memory-stops, lacking-listing, unadapted-listing, listing-stops, verdicts-told)

@@ -6,28 +6,38 @@ use Rattle.witx_base.specs.Texts.{same_text}
 use Rattle.witx.specs.Words.{command_called, command_of}
 use Rattle.witx.specs.declared.words.Command.{Command}
 use Rattle.witx_tools.specs.ToolLaws.{CommandsAreNoTools}
-use Rattle.witx_tools.specs.ToolWords.{imports_of, shim_of, tool_of}
+use Rattle.witx_tools.specs.ToolWords.{shim_of, tool_of, with_own_file}
 use Rattle.witx_tools.specs.declared.tool.Tool.{Tool}
+use Rattle.witx_tools.specs.declared.tool.Tool.TheVariants as tool
 
-neither : (s t : Bool) (x y : Option Tool) → (s ≡ true → ⊥) → (t ≡ true → ⊥) → (if s then x else (if t then y else None)) ≡ None
-neither true t x y h k = absurd (h refl)
-neither false true x y h k = absurd (k refl)
-neither false false x y h k = refl
+passed : (s : Bool) (x y : Option Tool) → (s ≡ true → ⊥) → y ≡ None → (if s then x else y) ≡ None
+passed true x y h k = absurd (h refl)
+passed false x y h k = k
 
 no-shim : (arguments : List (List ℕ)) (c : Command) → command_called (codes "shim") arguments ≡ Some c → ⊥
 unfolding same_text
 no-shim arguments c e = cc
 
+no-verify : (arguments : List (List ℕ)) (c : Command) → command_called (codes "verify") arguments ≡ Some c → ⊥
+unfolding same_text
+no-verify arguments c e = cc
+
 no-imports : (arguments : List (List ℕ)) (c : Command) → command_called (codes "imports") arguments ≡ Some c → ⊥
 unfolding same_text
 no-imports arguments c e = cc
 
+-- a word of a command isn't the tool's name, where that is no command's
+past : (word name : List ℕ) (arguments : List (List ℕ)) (c : Command) (x y : Option Tool) → command_called word arguments ≡ Some c
+    → (command_called name arguments ≡ Some c → ⊥) → y ≡ None → (if same_text word name then x else y) ≡ None
+past word name arguments c x y e none k =
+    passed (same_text word name) x y (λ t. none (subst (λ w. command_called w arguments ≡ Some c) ((same-equal word name).0 t) e)) k
+
 pub commands-are-no-tools : CommandsAreNoTools
 commands-are-no-tools [] c e = refl
 commands-are-no-tools (word ∷ arguments) c e =
-    neither (same_text word (codes "shim")) (same_text word (codes "imports")) (shim_of arguments) (imports_of arguments)
-    (λ t. no-shim arguments c (subst (λ w. command_called w arguments ≡ Some c) ((same-equal word (codes "shim")).0 t) e))
-    (λ t. no-imports arguments c (subst (λ w. command_called w arguments ≡ Some c) ((same-equal word (codes "imports")).0 t) e))
+    past word (codes "shim") arguments c (shim_of arguments) _ e (no-shim arguments c)
+    (past word (codes "verify") arguments c (with_own_file tool.Verify arguments) _ e (no-verify arguments c)
+    (past word (codes "imports") arguments c (with_own_file tool.Imports arguments) None e (no-imports arguments c) refl))
 
 -- where the words have the form of a command they have none of a tool
 no-tool-of : (words : List (List ℕ)) (form : Option Command) (t : Tool) → command_of words ≡ form → is_some form ≡ true → tool_of words ≡ Some t → ⊥

@@ -5,3 +5,4 @@ pub mod ToolCauses
 pub mod ToolLaws
 pub mod ToolRuns
 pub mod ToolWords
+pub mod VerdictTexts

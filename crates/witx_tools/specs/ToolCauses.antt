@@ -9,7 +9,9 @@ use Rattle.witx_files.specs.declared.fault.IoFault.TheVariants.{NotFound}
 use Rattle.witx_ast.specs.Definitions.{DefinitionTree}
 use Rattle.witx_compat.specs.Polyfills.{MappedModule, polyfill_answer}
 use Rattle.witx_walk.specs.ErrorReports.{io_report}
+use Rattle.witx_adapt.specs.Entries.{all_functions}
 use Rattle.witx_adapt.specs.declared.adapted.Adapted.{Adapted}
+use Rattle.witx_verify.specs.Traces.{GivesTraces, Sides}
 use Rattle.witx_imports.specs.Faults.{offered}
 use Rattle.witx_imports.specs.Reads as list
 use Rattle.witx_imports.specs.declared.import.WasmImport.{WasmImport}
@@ -26,7 +28,8 @@ use Rattle.witx.specs.declared.refusal.Stop.{Stop}
 use Rattle.witx.specs.declared.refusal.Stop.TheVariants as stop
 use Rattle.witx_tools.specs.ImportTexts.{IsBadList, faults_text}
 use Rattle.witx_tools.specs.ShimTexts.{shims_text}
-use Rattle.witx_tools.specs.ToolWords.{adapted_files, list_path, own_file}
+use Rattle.witx_tools.specs.ToolWords.{adapted_files, first_path, own_file}
+use Rattle.witx_tools.specs.VerdictTexts.{IsUnfitListing, listed_for, verdicts_text}
 use Rattle.witx_tools.specs.declared.tool.Tool.{Tool}
 use Rattle.witx_tools.specs.declared.tool.Tool.TheVariants as tool
 
@@ -34,6 +37,7 @@ use Rattle.witx_tools.specs.declared.tool.Tool.TheVariants as tool
 abbrev pub tool_lines : List (List ℕ)
 tool_lines =
     codes "       witx shim NEW OLD [NEWMODULE OLDMODULE].."
+    ∷ codes "       witx verify LISTING PATH.."
     ∷ codes "       witx imports LIST PATH.."
     ∷ []
 
@@ -61,6 +65,20 @@ abbrev pub OneIsUnadapted : Files → List (List (List ℕ)) → List ℕ → Ty
 OneIsUnadapted files [] report = ⊥
 OneIsUnadapted files (words ∷ more) report = AdaptingFails files (paths_of words) report ⊎ (CanAdapt files (paths_of words) × OneIsUnadapted files more report)
 
+-- the bundle holds this listing, and the files behind it mean this document
+abbrev pub IsListingOf : Files → List (List ℕ) → List ℕ → List DefinitionTree → Type 0
+IsListingOf files arguments listing ds =
+    (held files (first_path arguments) ≡ Some listing) × Parses files (paths_of (arguments_of arguments)) (Ok ds)
+
+-- the listing gives the functions of the document these traces
+abbrev pub ListingReads : Files → List (List ℕ) → List DefinitionTree → List Sides → Type 0
+ListingReads files arguments ds sides = (listing : List ℕ) × IsListingOf files arguments listing ds × GivesTraces (listed_for ds) listing sides
+
+-- a line of it can't stand there, and this is the report of the first such
+abbrev pub ListingFails : Files → List (List ℕ) → List ℕ → Type 0
+ListingFails files arguments report =
+    (ds : List DefinitionTree) × (listing : List ℕ) × IsListingOf files arguments listing ds × IsUnfitListing (listed_for ds) listing report
+
 -- the list of imports is read so
 abbrev pub ListReads : Files → Path → List WasmImport → Type 0
 ListReads files path imports = (text : List ℕ) × (held files path ≡ Some text) × list.Reads text imports
@@ -72,7 +90,8 @@ ListFails files path report = (text : List ℕ) × (held files path ≡ Some tex
 -- what a tool refuses by itself: a row for each tool
 abbrev pub OwnRefuses : Tool → Files → List (List ℕ) → List ℕ → Type 0
 OwnRefuses tool.Shim files arguments report = MappingFails files arguments report
-OwnRefuses tool.Imports files arguments report = ListFails files (list_path arguments) report
+OwnRefuses tool.Verify files arguments report = ListingFails files arguments report
+OwnRefuses tool.Imports files arguments report = ListFails files (first_path arguments) report
 
 -- WHEN A TOOL REFUSES the files of a bundle, and with which report
 unfoldable pub ToolRefuses : Tool → Files → List (List ℕ) → List ℕ → Type 0
@@ -87,15 +106,21 @@ AreShims files arguments text =
     (new : List DefinitionTree) × (old : List DefinitionTree) × MeansBoth files arguments new old
     × (modules : List MappedModule) × (polyfill_answer new old (mapping_of (module_names arguments)) ≡ Ok modules) × (text ≡ shims_text modules)
 
+-- the verdicts on the traces that the listing gives the functions of the document behind it
+abbrev pub AreVerdicts : Files → List (List ℕ) → List ℕ → Type 0
+AreVerdicts files arguments text =
+    (ds : List DefinitionTree) × (sides : List Sides) × ListingReads files arguments ds sides × (text ≡ verdicts_text (all_functions ds) sides)
+
 -- the faults of the imports of the list, held against the document of the files behind it
 abbrev pub AreFaults : Files → List (List ℕ) → List ℕ → Type 0
 AreFaults files arguments text =
-    (imports : List WasmImport) × ListReads files (list_path arguments) imports
+    (imports : List WasmImport) × ListReads files (first_path arguments) imports
     × (a : Adapted) × Parses files (paths_of (arguments_of arguments)) (Ok (defined a)) × IsAdapted a × (text ≡ faults_text (map offered a.functions) imports)
 
 -- the text of a tool: a row for each tool
 abbrev pub IsToolText : Tool → Files → List (List ℕ) → List ℕ → Type 0
 IsToolText tool.Shim files arguments text = AreShims files arguments text
+IsToolText tool.Verify files arguments text = AreVerdicts files arguments text
 IsToolText tool.Imports files arguments text = AreFaults files arguments text
 
 -- WHAT A TOOL TELLS over the files of a bundle, where it doesn't refuse them
@@ -106,7 +131,8 @@ IsToolOutput t files arguments text =
 -- nothing of this is refused by the tool itself: a row for each tool
 abbrev pub IsOwnValid : Tool → Files → List (List ℕ) → Type 0
 IsOwnValid tool.Shim files arguments = CanMap files arguments
-IsOwnValid tool.Imports files arguments = (imports : List WasmImport) × ListReads files (list_path arguments) imports
+IsOwnValid tool.Verify files arguments = (ds : List DefinitionTree) × (sides : List Sides) × ListingReads files arguments ds sides
+IsOwnValid tool.Imports files arguments = (imports : List WasmImport) × ListReads files (first_path arguments) imports
 
 -- the bundle holds what the tool works on, and its documents can be adapted
 unfoldable pub IsValidForTool : Tool → Files → List (List ℕ) → Type 0

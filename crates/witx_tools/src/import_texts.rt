@@ -10,11 +10,9 @@ ghost use Rattle.witx_imports.specs.Reads.{Reads};
 ghost use Rattle.witx.specs.Stops.{StopsWith};
 ghost use Rattle.witx_tools.specs.ImportTexts.{IsBadList, asked_text, bad_report, differs_line, expected_text, fault_line, faults_text, missing_line, names_text};
 ghost use Rattle.witx_tools.specs.ToolCauses.{IsToolOutput, ToolRefuses};
-ghost use Rattle.witx_tools.specs.ToolWords.{list_path};
 ghost use Rattle.witx_tools.specs.declared.tool.Tool.{Tool};
 
-use crate::own::{adapted_words, own_text};
-use crate::tool::first_word;
+use crate::own::{adapted_words, first_path, own_text};
 use std::alloc::{AllocError, Global};
 use witx::{Refusal, Stop, arguments_of};
 use witx_adapt::{Adapted, AdaptedFunc, put_quoted, put_signature};
@@ -31,18 +29,11 @@ pub fn faults_of_files(alloc: Global, arguments: &[Text], files: &mut MockFs) ->
     ensures text { IfOk result (λ text. IsToolOutput Tool.Imports files.old arguments.now text) }
     ensures stopped { IfErr result (StopsWith (ToolRefuses Tool.Imports files.old arguments.now)) }
 {
-    let path = list_path(alloc, arguments)?;
+    let path = first_path(alloc, arguments)?;
     let list = own_text(alloc, &path, files)?;
     let adapted = adapted_words(alloc, arguments_of(arguments), files)?;
     let imports = listed_imports(alloc, &path, list.as_str())?;
     Ok(faults_text(alloc, &adapted, &imports)?)
-}
-
-/// The path of the list.
-fn list_path(alloc: Global, arguments: &[Text]) -> Result<WitxPath, OutOfMemory>
-    ensures { IfOk result (λ path. path ≡ list_path arguments.now) }
-{
-    WitxPath::new(alloc, first_word(arguments))
 }
 
 /// The imports that a text lists, or the end of a run whose text at this path is no list.

@@ -4,6 +4,8 @@ ghost use Rattle.witx_tools.specs.ToolLaws.{CommandsAreNoTools, ValidIsNotRefuse
 
 use witx::valid_is_not_refused;
 use witx_imports::no_fault_where_imports_are_read;
+use witx_verify::traces_leave_no_line_unfit;
+use witx_walk::one_answer;
 
 /// No words are both a command's and a tool's.
 pub fn commands_are_no_tools()
@@ -16,4 +18,6 @@ pub fn valid_is_not_refused_by_tools()
 {
     valid_is_not_refused();
     no_fault_where_imports_are_read();
+    one_answer();
+    traces_leave_no_line_unfit();
 }

@@ -9,6 +9,7 @@ mod program;
 mod shim_texts;
 mod tool;
 mod usage;
+mod verdict_texts;
 
 pub use laws::{commands_are_no_tools, valid_is_not_refused_by_tools};
 pub use program::run_all;

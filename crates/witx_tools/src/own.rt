@@ -8,11 +8,13 @@ ghost use Rattle.witx.specs.Reports.{AdaptingFails, IsTextReport};
 ghost use Rattle.witx.specs.Stops.{StopsWith};
 ghost use Rattle.witx.specs.Words.{paths_of};
 ghost use Rattle.witx_tools.specs.ToolCauses.{LacksOwn};
+ghost use Rattle.witx_tools.specs.ToolWords.{first_path};
 
+use crate::tool::first_word;
 use std::alloc::Global;
 use witx::{Stop, adapted_or_stop, paths_of, text_stop};
 use witx_adapt::Adapted;
-use witx_base::{Duplicate, Text, WitxPath};
+use witx_base::{Duplicate, OutOfMemory, Text, WitxPath};
 use witx_files::{IoError, IoFault, MockFs, WitxIo};
 use witx_walk::WitxError;
 
@@ -27,6 +29,13 @@ pub fn adapted_words(alloc: Global, words: &[Text], files: &mut MockFs) -> Resul
 {
     let paths = paths_of(alloc, words)?;
     adapted_or_stop(alloc, paths.as_slice(), files)
+}
+
+/// The path of a tool's own file.
+pub fn first_path(alloc: Global, arguments: &[Text]) -> Result<WitxPath, OutOfMemory>
+    ensures { IfOk result (λ path. path ≡ first_path arguments.now) }
+{
+    WitxPath::new(alloc, first_word(arguments))
 }
 
 /// The text of a tool's own file, or the end of a run whose bundle lacks it.

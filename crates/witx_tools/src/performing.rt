@@ -6,6 +6,7 @@ ghost use Rattle.witx_tools.specs.ToolCauses.{IsToolOutput, ToolRefuses};
 use crate::import_texts::faults_of_files;
 use crate::shim_texts::shims_of_files;
 use crate::tool::Tool;
+use crate::verdict_texts::verdicts_of_files;
 use std::alloc::Global;
 use witx::Stop;
 use witx_base::Text;
@@ -23,6 +24,7 @@ pub fn perform(
 {
     match tool {
         Tool::Shim => shims_of_files(alloc, arguments, files),
+        Tool::Verify => verdicts_of_files(alloc, arguments, files),
         Tool::Imports => faults_of_files(alloc, arguments, files),
     }
 }

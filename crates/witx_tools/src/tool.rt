@@ -1,6 +1,6 @@
 //! The tools, and the forms of their words.
 ghost use Rattle.std.specs.Prelude.{◌≡◌};
-ghost use Rattle.witx_tools.specs.ToolWords.{first_word, imports_of, shim_of, tool_called, tool_of};
+ghost use Rattle.witx_tools.specs.ToolWords.{first_word, shim_of, tool_called, tool_of, with_own_file};
 
 use witx_base::Text;
 
@@ -9,6 +9,8 @@ use witx_base::Text;
 pub enum Tool {
     /// Which words of an old file's calls go where in the functions of a new file.
     Shim,
+    /// What the verdict says of the traces of a listing.
+    Verify,
     /// What is wrong with the imports of a WebAssembly module.
     Imports,
 }
@@ -30,8 +32,11 @@ fn tool_called(word: &str, arguments: &[Text]) -> Option<Tool>
     if word == "shim" {
         return shim_of(arguments);
     }
+    if word == "verify" {
+        return with_own_file(Tool::Verify, arguments);
+    }
     if word == "imports" {
-        return imports_of(arguments);
+        return with_own_file(Tool::Imports, arguments);
     }
     None
 }
@@ -46,14 +51,14 @@ fn shim_of(arguments: &[Text]) -> Option<Tool>
     None
 }
 
-/// The check of the list that the first word behind names.
-fn imports_of(arguments: &[Text]) -> Option<Tool>
-    ensures { result ≡ imports_of arguments.now }
+/// The tool, where the first word behind names the file of its own.
+fn with_own_file(tool: Tool, arguments: &[Text]) -> Option<Tool>
+    ensures { result ≡ with_own_file tool arguments.now }
 {
     if arguments.is_empty() {
         return None;
     }
-    Some(Tool::Imports)
+    Some(tool)
 }
 
 /// The first of some words, where there is one.

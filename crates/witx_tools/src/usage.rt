@@ -20,6 +20,7 @@ usage: witx adapt PATH..
        witx polyfill NEW OLD [NEWMODULE OLDMODULE]..
        witx sample N
        witx shim NEW OLD [NEWMODULE OLDMODULE]..
+       witx verify LISTING PATH..
        witx imports LIST PATH..
 "
 }
