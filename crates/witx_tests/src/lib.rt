@@ -55,6 +55,8 @@ mod lex;
 #[cfg(test)]
 mod limits;
 #[cfg(test)]
+mod listings;
+#[cfg(test)]
 mod pages;
 #[cfg(test)]
 mod read_back;

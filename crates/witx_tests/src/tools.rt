@@ -14,6 +14,7 @@ usage: witx adapt PATH..
        witx polyfill NEW OLD [NEWMODULE OLDMODULE]..
        witx sample N
        witx shim NEW OLD [NEWMODULE OLDMODULE]..
+       witx verify LISTING PATH..
        witx imports LIST PATH..
 ";
 
@@ -154,6 +155,44 @@ missing \"m\" \"sub\"
     ("imports /l /a", MISFITS, 0, "", ""),
 ];
 
+/// A function without words, its listing, and listings that are none.
+const TRACES: &str = r#";;;; file /a
+(module $m (@interface func (export "f")))
+;;;; file /l
+module m
+func "f" () -> ()
+caller
+  call_wasm "m" "f" () -> ()
+  return 0
+callee
+  call_interface "m" "f"
+  return 0
+;;;; file /x
+module m
+;;;; file /n
+(typename $n (flags (@witx repr u8) $a $b $c $d $e $f $g $h $i))
+;;;; file /u
+(typename $a $b)
+;;;; file /e
+"#;
+
+#[rattlefmt::skip]
+static VERDICTS: &[Case] = &[
+    ("verify /l /a", TRACES, 0, "func \"f\" yes\n", ""),
+    ("verify //l/. /a /a", TRACES, 0, "func \"f\" yes\n", ""),
+    // Over no documents.
+    ("verify /e", TRACES, 0, "", ""),
+    ("verify /l", TRACES, 1, "", "witx: listing: unexpected line 1\n"),
+    // The listing is looked up first; then come `adapt`'s refusals, and then the listing's own.
+    ("verify /y /z", TRACES, 1, "", "witx: with file \"/y\": file not found\n"),
+    ("verify /x /z", TRACES, 1, "", "witx: with file \"/z\": file not found\n"),
+    ("verify /x /n", TRACES, 1, "", "witx: `n`: 9 flags or cases, at most 8\n"),
+    ("verify /x /u", TRACES, 1, "", "witx: in \"/u\":\n    1 | (typename $a $b)\n                      ^\nUnknown name `b`\n"),
+    ("verify /x /a", TRACES, 1, "", "witx: listing: unexpected line 2\n"),
+    ("verify /a /a", TRACES, 1, "", "witx: listing: unexpected line 1\n"),
+    ("verify /l /a", "x", 6, "", "witx: text before the first file at byte 0\n"),
+];
+
 #[rattlefmt::skip]
 static OTHERS: &[Case] = &[
     // Words of no form.
@@ -162,6 +201,7 @@ static OTHERS: &[Case] = &[
     ("shim", TURNED, 2, "", ALL_USAGE),
     ("shim /n", TURNED, 2, "", ALL_USAGE),
     ("shim /n /o m", TURNED, 2, "", ALL_USAGE),
+    ("verify", TRACES, 2, "", ALL_USAGE),
     ("imports", LISTS, 2, "", ALL_USAGE),
     ("polyfill /n", TURNED, 2, "", ALL_USAGE),
     // Commands.
@@ -195,7 +235,12 @@ fn run_all_on(
 type Fails = (&'static [u64], &'static [u64], &'static [u64]);
 
 /// A run over a source that gives 50 bytes a call, and sinks that take 10.
-fn run_failing(alloc: Global, line: &str, bundle: &str, fails: Fails) -> Result<Gave, OutOfMemory> {
+pub fn run_failing(
+    alloc: Global,
+    line: &str,
+    bundle: &str,
+    fails: Fails,
+) -> Result<Gave, OutOfMemory> {
     let source = source_of(alloc, bundle.as_bytes(), 50, fails.0)?;
     let out = sink_of(alloc, 10, fails.1)?;
     run_all_on(alloc, line, source, out, sink_of(alloc, 10, fails.2)?)
@@ -224,6 +269,11 @@ fn shims(rt: HostRuntime) {
 }
 
 #[test]
+fn verdicts(rt: HostRuntime) {
+    assert!(rt; all_give(rt.alloc(), VERDICTS));
+}
+
+#[test]
 fn held_imports(rt: HostRuntime) {
     assert!(rt; all_give(rt.alloc(), IMPORTS));
 }
@@ -238,6 +288,9 @@ fn other_words(rt: HostRuntime) {
 static FAILING: &[(Fails, Case)] = &[
     ((&[0], &[0], &[]), ("shim /n /o m m", TURNED, 3, "", "witx: cannot read input\n")),
     ((&[1], &[], &[]), ("imports /same /a", LISTS, 3, "", "witx: cannot read input\n")),
+    ((&[2], &[], &[]), ("verify /l /a", TRACES, 3, "", "witx: cannot read input\n")),
+    ((&[], &[1], &[0]), ("verify /l /a", TRACES, 4, "func \"f\" y", "")),
+    ((&[], &[0], &[3]), ("verify /x /a", TRACES, 4, "", "witx: listing: unexpected line")),
     ((&[], &[1], &[0]), ("shim /n /o m m", TURNED, 4, "module m b", "")),
     ((&[], &[0], &[]), ("imports /missing /a", LISTS, 4, "", "")),
     ((&[], &[0], &[0]), ("imports /same /a", LISTS, 0, "", "")),
@@ -272,6 +325,8 @@ fn is_tool(alloc: Global, line: &str, tool: Option<Tool>) -> bool {
 fn all_are_tools(alloc: Global) -> bool {
     is_tool(alloc, "shim a b", Some(Tool::Shim))
         && is_tool(alloc, "shim a b c d e", None)
+        && is_tool(alloc, "verify a b c", Some(Tool::Verify))
+        && is_tool(alloc, "verify", None)
         && is_tool(alloc, "imports a", Some(Tool::Imports))
         && is_tool(alloc, "imports", None)
         && is_tool(alloc, "adapt a", None)
