@@ -25,3 +25,4 @@ pub mod ReadNumbers
 pub mod ReadFlags
 pub mod ReadParts
 pub mod Answered
+pub mod CopiedBlocks

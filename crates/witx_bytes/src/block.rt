@@ -35,6 +35,14 @@ impl Block {
         Ok(Block { bytes })
     }
 
+    /// The block once more.
+    pub(crate) fn copy(&self, alloc: Global) -> Result<Block, OutOfMemory>
+        ensures { IfOk result (λ made. made ≡ self.now) }
+    {
+        let bytes = Vec::from_slice(alloc, self.bytes.as_slice())?;
+        Ok(Block { bytes })
+    }
+
     /// What stands from a place on.
     pub(crate) fn bytes_from(&self, i: u32) -> &[Option<u8>]
         requires { i < 256 }

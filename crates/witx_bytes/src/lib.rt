@@ -21,7 +21,8 @@ pub use laws::{
 };
 pub use membership::is_value;
 pub use memory::{ByteMemory, PlaceError};
-pub use read::read_value;
+pub use numbers::{flag_bits, in_range, number_of};
+pub use read::{flags_of, read_value};
 pub use read_error::ReadError;
 pub use value::{Bools, Value, Values};
 pub use write::write_value;

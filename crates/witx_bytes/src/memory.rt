@@ -1,4 +1,4 @@
-ghost use Rattle.std.specs.Prelude.{◌≡◌, ◌≢◌, ◌+◌, ◌-◌, ◌/◌, ◌%◌, ◌^◌, ◌<◌, ◌≤◌, ℕ, [], Some, None, Ok, Err, OnOk, OnErr, ◌↔◌, ◌⊎◌, true, false, is_some};
+ghost use Rattle.std.specs.Prelude.{◌≡◌, ◌≢◌, ◌+◌, ◌-◌, ◌/◌, ◌%◌, ◌^◌, ◌<◌, ◌≤◌, ℕ, [], Some, None, Ok, Err, OnOk, OnErr, IfOk, ◌↔◌, ◌⊎◌, true, false, is_some};
 ghost use Rattle.witx_bytes.specs.Bytes.{IsByteMemory, held, placed, all_held as are_held_at, none_held as none_are_held, holds as holds_range, HasBlock, HasBlocks, block_of, Filled, RunAt};
 ghost use Rattle.witx_bytes.specs.Images.{little};
 ghost use Rattle.witx_bytes.specs.Writes.{Writes};
@@ -48,6 +48,17 @@ impl ByteMemory {
             alloc,
             blocks: BTreeMap::new(alloc),
         }
+    }
+
+    /// The memory once more.
+    pub fn copy(&self) -> Result<ByteMemory, OutOfMemory>
+        ensures { IfOk result (λ made. made ≡ self.now) }
+    {
+        let blocks = copy_blocks(self.alloc, &self.blocks)?;
+        Ok(ByteMemory {
+            alloc: self.alloc,
+            blocks,
+        })
     }
 
     /// What is held are bytes, at addresses below 2^32.
@@ -245,6 +256,20 @@ impl ByteMemory {
             None => unreachable!(),
         }
     }
+}
+
+fn copy_blocks(
+    alloc: Global,
+    blocks: &BTreeMap<u32, Block>,
+) -> Result<BTreeMap<u32, Block>, OutOfMemory>
+    ensures { IfOk result (λ made. made.entries ≡ blocks.now.entries) }
+{
+    let mut made = BTreeMap::new(alloc);
+    for (number, block) in blocks.iter() {
+        let block = block.copy(alloc)?;
+        made.insert(*number, block)?;
+    }
+    Ok(made)
 }
 
 /// Where the part of a range ends that lies in the block of its first address.

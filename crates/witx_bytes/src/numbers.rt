@@ -62,22 +62,21 @@ pub(crate) fn number_bits(builtin: BuiltinType, number: i128) -> u64
     }
 }
 
-/// The number that a builtin's bytes are.
-pub(crate) fn number_of(ty: BuiltinType, bits: u64) -> i128
-    requires { bits < 256 ^ builtin_size ty }
+/// The number that bits are for a builtin, cut to its width.
+pub fn number_of(ty: BuiltinType, bits: u64) -> i128
     ensures { result ≡ cut ty bits }
 {
     match ty {
-        BuiltinType::S8 => signed(bits, 1 << 7),
-        BuiltinType::S16 => signed(bits, 1 << 15),
-        BuiltinType::S32 => signed(bits, 1 << 31),
+        BuiltinType::S8 => signed(bits % (1 << 8), 1 << 7),
+        BuiltinType::S16 => signed(bits % (1 << 16), 1 << 15),
+        BuiltinType::S32 => signed(bits % (1 << 32), 1 << 31),
         BuiltinType::S64 => signed(bits, 1 << 63),
-        BuiltinType::Char => bits as i128,
-        BuiltinType::U8 { lang_c_char: _ } => bits as i128,
-        BuiltinType::U16 => bits as i128,
-        BuiltinType::U32 { lang_ptr_size: _ } => bits as i128,
+        BuiltinType::Char => (bits % (1 << 32)) as i128,
+        BuiltinType::U8 { lang_c_char: _ } => (bits % (1 << 8)) as i128,
+        BuiltinType::U16 => (bits % (1 << 16)) as i128,
+        BuiltinType::U32 { lang_ptr_size: _ } => (bits % (1 << 32)) as i128,
         BuiltinType::U64 => bits as i128,
-        BuiltinType::F32 => bits as i128,
+        BuiltinType::F32 => (bits % (1 << 32)) as i128,
         BuiltinType::F64 => bits as i128,
     }
 }
@@ -95,9 +94,9 @@ fn signed(bits: u64, half: u64) -> i128
     }
 }
 
-/// Flag k is bit k.
+/// The bits of flags: flag k is bit k.
 #[tactic(auto, using(crate::proofs::FlagBits::flag_rules))]
-pub(crate) fn flag_bits(flags: &[bool]) -> u64
+pub fn flag_bits(flags: &[bool]) -> u64
     requires { length flags.now ≤ 64 }
     ensures { result ≡ bits_of_flags flags.now }
 {
@@ -111,7 +110,7 @@ pub(crate) fn flag_bits(flags: &[bool]) -> u64
 }
 
 /// Whether a number is one of the builtin.
-pub(crate) fn in_range(ty: BuiltinType, number: i128) -> bool
+pub fn in_range(ty: BuiltinType, number: i128) -> bool
     ensures { result ≡ is_in_range ty number }
 {
     match ty {

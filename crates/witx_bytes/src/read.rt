@@ -40,6 +40,7 @@ pub fn read_value(
     requires writable { fits (plain (tree_of ty.now)) ≡ true }
     requires sized { size_of (plain (tree_of ty.now)) < 2 ^ 64 }
     ensures value { IfOk result (λ value. Spells (held memory.now) at (plain (tree_of ty.now)) (seen value)) }
+    ensures reads { Reads seen (value_at (plain (tree_of ty.now)) (held memory.now) at) result }
     ensures no_value { result ≡ Err ReadError.NoValue → (value : PlainValue) → ¬ (Spells (held memory.now) at (plain (tree_of ty.now)) value) }
 {
     memory.bounds();
@@ -269,7 +270,7 @@ fn read_flags(
 
 /// The lowest bits of a number, so many, where all further ones are 0.
 #[tactic(auto, using(crate::proofs::ReadFlags::flag_rules))]
-fn flags_of(alloc: Global, bits: u64, count: usize) -> Result<Value, ReadError>
+pub fn flags_of(alloc: Global, bits: u64, count: usize) -> Result<Value, ReadError>
     ensures { Reads seen (flags_at count bits) result }
 {
     let mut flags = Bools::new(alloc);
