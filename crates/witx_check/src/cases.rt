@@ -9,6 +9,7 @@ ghost use Rattle.witx_ast.specs.Tree.{arms_of};
 ghost use Rattle.witx_check.specs.NamePlaces.{place_in, case_placed};
 ghost use Rattle.witx_check.specs.Trees.{arm_called, bare_arm, in_order};
 
+use crate::room::with_room;
 use std::alloc::Global;
 use std::marker::Model;
 use witx_ast::{Case, Cases, TypeRef};
@@ -107,7 +108,7 @@ fn places_of(alloc: Global, names: &[Id]) -> Result<Places, OutOfMemory>
 pub fn case_names(alloc: Global, cases: &[Case]) -> Result<Items<Id>, OutOfMemory>
     ensures { IfOk result (λ ns. ns ≡ arm_names (arms_of (map case_arm cases.now))) }
 {
-    let mut names = Items::new(alloc);
+    let mut names: Items<Id> = with_room(alloc, cases.len())?;
     for case in cases {
         names.push(case.name.copy()?)?;
     }
@@ -145,7 +146,7 @@ fn in_turn(alloc: Global, names: &[Id], cases: &[Case]) -> Result<Cases, OutOfMe
 {
     let called = case_names(alloc, cases)?;
     let places = places_of(alloc, called.as_slice())?;
-    let mut made = Cases::new(alloc);
+    let mut made: Cases = with_room(alloc, names.len())?;
     for name in names {
         made.push(case_at(alloc, &places, cases, name)?)?;
     }

@@ -13,6 +13,7 @@ ghost use Rattle.witx_check.specs.Blame.{Blames};
 ghost use Rattle.witx_check.specs.Senses.{here_of};
 
 use crate::error::CheckError;
+use crate::room::with_room;
 use crate::scope::{Marks, Scope, abi_fault, introduce_mark};
 use crate::types::checked_type;
 use std::alloc::Global;
@@ -54,7 +55,7 @@ pub fn checked_params(
     ensures kept { OnOk result ((q : _) → found names.new q ≡ found (fields_scope names.old (fields_view fields.now)) q) }
     ensures fault { IfErr result (λ e. Blames e (first_fault (field_checks (here_of scope.now) names.old (fields_view fields.now)))) }
 {
-    let mut params = Params::new(scope.alloc);
+    let mut params: Params = with_room(scope.alloc, fields.len())?;
     for field in fields {
         let at = field.item.name.span.start;
         let name = introduce_mark(names, scope, field.item.name.name, at)?;
@@ -74,7 +75,7 @@ pub fn checked_results(
     ensures tree { IfOk result (λ ps. map param_field ps ≡ fields_meant (here_of scope.now) (fields_view fields.now)) }
     ensures fault { IfErr result (λ e. Blames e (first_fault (result_checks (here_of scope.now) names.old (fields_view fields.now)))) }
 {
-    let mut results = Params::new(scope.alloc);
+    let mut results: Params = with_room(scope.alloc, fields.len())?;
     for field in fields {
         let at = field.item.name.span.start;
         let tref = checked_type(&field.item.type_, scope, false, at)?;

@@ -11,6 +11,7 @@ mod name_table;
 mod parts;
 mod place;
 mod report;
+mod room;
 mod scope;
 mod site;
 mod tables;

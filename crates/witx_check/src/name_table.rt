@@ -1,6 +1,6 @@
 //! Tables of names that are searched by a number first.
 
-ghost use Rattle.std.specs.Prelude.{◌≡◌, [], option_map, cond, IfOk, OnOk, OnErr, Some};
+ghost use Rattle.std.specs.Prelude.{◌≡◌, [], option_map, cond, IfOk, IsTrue, None, OnOk, OnErr, Some};
 ghost use Rattle.std.specs.Ordering.{is_eq, nat_cmp};
 ghost use Rattle.std.specs.Cmp.Lexicographic.{slice_cmp};
 ghost use Rattle.witx_base.specs.Found.{found};
@@ -88,6 +88,27 @@ impl<V> NameTable<V> {
         NameTable {
             map: BTreeMap::new(alloc),
         }
+    }
+
+    /// Whether the name's key is behind all keys of the table.
+    #[tactic(auto, using(crate::proofs::NameTables::table_rules))]
+    fn ends_before(&self, name: &NameKey) -> bool
+        ensures { IsTrue result → found self.now name.now ≡ None }
+    {
+        match self.map.last_key_value() {
+            Some((last, _)) => last.cmp(name).is_lt(),
+            None => false,
+        }
+    }
+
+    /// The value at a name that mostly is behind all others, so that the last key is looked at first.
+    pub fn get_new(&self, name: &NameKey) -> Option<&V>
+        ensures { option_map (λ v. v.now) result ≡ found self.now name.now }
+    {
+        if self.ends_before(name) {
+            return None;
+        }
+        self.get(name)
     }
 
     /// The value at a name; none where the table lacks it.

@@ -14,6 +14,7 @@ ghost use Rattle.std.specs.Map.{keys_of};
 use crate::cases::{TagNames, case_names, case_with, ordered};
 use crate::error::CheckError;
 use crate::name_table::NameKey;
+use crate::room::with_room;
 use crate::scope::{
     Marks, Scope, bad_field, bad_tag, introduce_mark, mark, repr, wrong_kind, wrong_size,
 };
@@ -71,7 +72,7 @@ pub fn string_type(alloc: Global) -> Result<TypeRef, OutOfMemory>
 fn two_cases(alloc: Global, first: Case, second: Case) -> Result<Cases, OutOfMemory>
     ensures { IfOk result (λ cs. cs ≡ first ∷ second ∷ []) }
 {
-    let mut cases = Cases::new(alloc);
+    let mut cases: Cases = with_room(alloc, 2)?;
     cases.push(first)?;
     cases.push(second)?;
     Ok(cases)
@@ -183,7 +184,7 @@ fn noted_cases(
     ensures fault { IfErr result (λ e. Blames e (first_fault (member_checks (here_of scope.now) [] (member_views members.now)))) }
 {
     let mut names = Marks::new(scope.alloc);
-    let mut cases = Cases::new(scope.alloc);
+    let mut cases: Cases = with_room(scope.alloc, members.len())?;
     for member in members {
         let name = introduce_mark(&mut names, scope, member.item.name, member.item.span.start)?;
         push_case(&mut cases, scope.alloc, name, None, &member.comments)?;
@@ -203,7 +204,7 @@ fn noted_flags(
     ensures fault { IfErr result (λ e. Blames e (first_fault (member_checks (here_of scope.now) [] (member_views flags.now)))) }
 {
     let mut names = Marks::new(scope.alloc);
-    let mut members = Members::new(scope.alloc);
+    let mut members: Members = with_room(scope.alloc, flags.len())?;
     for flag in flags {
         let name = introduce_mark(&mut names, scope, flag.item.name, flag.item.span.start)?;
         let tref = bool_type.clone()?;

@@ -233,7 +233,7 @@ pub fn introduce_mark(
 {
     let id = Id::new(scope.alloc, name)?;
     let key = NameKey::new(scope.alloc, name)?;
-    match marks.get(&key) {
+    match marks.get_new(&key) {
         Some(before) => Err(known_mark(scope, &id, at, *before)),
         None => {
             marks.insert(key, at)?;
@@ -267,7 +267,7 @@ pub fn introduce(
 {
     let id = Id::new(alloc, name)?;
     let key = NameKey::new(alloc, name)?;
-    match names.get(&key) {
+    match names.get_new(&key) {
         Some(before) => Err(known(alloc, &id, &at, before)),
         None => {
             names.insert(key, at)?;

@@ -16,6 +16,7 @@ use crate::parts::{
     expected_type, number_name, ordered_type, push_case, push_member, string_type, tag_of,
     union_name, value, variant_type,
 };
+use crate::room::with_room;
 use crate::scope::{Marks, Scope, anonymous_type, introduce_mark, used};
 use witx_ast::{
     Cases, Datatype, HandleDatatype, IntRepr, Members, RecordDatatype, RecordKind, RecordMember,
@@ -121,7 +122,7 @@ fn checked_rows(
     ensures fault { IfErr result (λ e. Blames e (first_fault (field_checks (here_of scope.now) [] (fields_view fields.now)))) }
 {
     let mut names = Marks::new(scope.alloc);
-    let mut members = Members::new(scope.alloc);
+    let mut members: Members = with_room(scope.alloc, fields.len())?;
     for field in fields {
         let at = field.item.name.span.start;
         let name = introduce_mark(&mut names, scope, field.item.name.name, at)?;
@@ -161,7 +162,7 @@ fn checked_parts(
     ensures tree { IfOk result (λ ms. map member_field ms ≡ types_meant (here_of scope.now) 0 (types_view types.now)) }
     ensures fault { IfErr result (λ e. Blames e (first_fault (each_type_checks (here_of scope.now) ((here_of scope.now).place near) (types_view types.now)))) }
 {
-    let mut members = Members::new(scope.alloc);
+    let mut members: Members = with_room(scope.alloc, types.len())?;
     for i in 0..types.len() {
         let tref = checked_type(&types[i], scope, false, near)?;
         let name = number_name(scope.alloc, i)?;
@@ -234,7 +235,7 @@ fn union_cases(
     ensures tree { IfOk result (λ cs. map case_arm cs ≡ union_arms (here_of scope.now) names.now 0 (union_fields_view types.now)) }
     ensures fault { IfErr result (λ e. Blames e (first_fault (part_checks (here_of scope.now) near types.now))) }
 {
-    let mut cases = Cases::new(scope.alloc);
+    let mut cases: Cases = with_room(scope.alloc, types.len())?;
     for i in 0..types.len() {
         let part = &types[i];
         let tref = checked_type(&part.item, scope, false, near)?;
@@ -257,7 +258,7 @@ fn variant_cases(
     ensures fault { IfErr result (λ e. Blames e (first_fault (case_checks (here_of scope.now) names.now [] (cases_view cases.now)))) }
 {
     let mut seen = Marks::new(scope.alloc);
-    let mut made = Cases::new(scope.alloc);
+    let mut made: Cases = with_room(scope.alloc, cases.len())?;
     for case in cases {
         let name = checked_case(names, &mut seen, &case.item.name, scope)?;
         let tref = checked_payload(&case.item.ty, scope, case.item.name.span.start)?;
