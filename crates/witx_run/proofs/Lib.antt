@@ -11,3 +11,8 @@ pub mod TurnLemmas
 pub mod BlockLemmas
 pub mod NearLemmas
 pub mod StartLemmas
+pub mod PairLemmas
+pub mod SideLemmas
+pub mod NameLemmas
+pub mod CallLemmas
+pub mod RunLemmas

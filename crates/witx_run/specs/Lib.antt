@@ -10,3 +10,7 @@ pub mod ScriptParts
 pub mod Turns
 pub mod Nearing
 pub mod LeftOver
+pub mod OutcomeViews
+pub mod Sides
+pub mod CallViews
+pub mod RunEnds

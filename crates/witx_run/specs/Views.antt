@@ -33,6 +33,10 @@ abbrev pub type_tree : Option (Bor TypeRef) → Option Tree
 type_tree t = option_map (λ t. tree_of t.now) t
 
 module _ {v V : Type 0} (value : v → V) where
+  -- a value, where one is given
+  abbrev pub reply_of : Option (Bor v) → Option V
+  reply_of r = option_map (λ r. value r.now) r
+
   abbrev pub payload_of : Option (v × Option (Rc NamedType Global)) → Option (V × Option Tree)
   payload_of p = option_map (λ q. (value q.0, name_tree q.1)) p
 

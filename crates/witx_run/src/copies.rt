@@ -1,12 +1,14 @@
 //! Items once more, and the names that they carry.
 
 ghost use Rattle.std.specs.Prelude.{◌≡◌, IfOk};
+ghost use Rattle.witx_ast.specs.Views.{tree_of};
+ghost use Rattle.witx_machine.specs.Functions.{name_of};
 ghost use Rattle.witx_run.specs.Views.{name_tree, item_of};
 
 use crate::domain::Domain;
 use crate::item::Item;
 use std::rc::Rc;
-use witx_ast::NamedType;
+use witx_ast::{NamedType, TypeRef};
 use witx_base::OutOfMemory;
 
 /// A name once more.
@@ -16,6 +18,17 @@ pub(crate) fn copy_name(name: &Option<Rc<NamedType>>) -> Result<Option<Rc<NamedT
     match name {
         Some(named) => Ok(Some(Rc::clone(named)?)),
         None => Ok(None),
+    }
+}
+
+/// The named type, where the type is a name.
+#[tactic(auto, using(crate::proofs::SideLemmas::side_rules))]
+pub fn name_of(ty: &TypeRef) -> Result<Option<Rc<NamedType>>, OutOfMemory>
+    ensures { IfOk result (λ named. name_tree named ≡ name_of (tree_of ty.now)) }
+{
+    match ty {
+        TypeRef::Name(named) => Ok(Some(Rc::clone(named)?)),
+        TypeRef::Value(_) => Ok(None),
     }
 }
 

@@ -54,6 +54,10 @@ pub trait Domain {
     fn copy_word(&self, word: &Self::Word) -> Result<Self::Word, OutOfMemory>
         ensures { IfOk result (λ made. word_of made ≡ word_of word.now) };
 
+    /// What stands at the addresses once more.
+    fn copy_memory(&self, memory: &Self::Memory) -> Result<Self::Memory, OutOfMemory>
+        ensures { IfOk result (λ made. memory_of made ≡ memory_of memory.now) };
+
     /// The one word of a value by a conversion.
     fn lower(
         &self,

@@ -2,7 +2,7 @@
 
 ghost use Rattle.std.specs.Prelude.{◌≡◌, ◌∷◌, [], Some, None, IfOk, MatchOption, map, option_map, slice_get};
 ghost use Rattle.witx_ast.specs.Views.{named_tree};
-ghost use Rattle.witx_machine.specs.Machine.{pushed, plain_item, values_off, items_off, slot_word};
+ghost use Rattle.witx_machine.specs.Machine.{pushed, plain_item, values_off, words_off, items_off, slot_word};
 ghost use Rattle.witx_machine.specs.Words.{when};
 ghost use Rattle.witx_run.specs.SlotViews.{given_slots};
 ghost use Rattle.witx_run.specs.StackRows.{top_word_of, top_named_of, top_value_of, pushed_item, pushed_word, pushed_value, pushed_words, lowering_row, lifting_row, list_words_row, list_value_row, load_row, store_row, addr_row, put_named, tuple_row, parts_row};
@@ -331,6 +331,27 @@ pub(crate) fn values_off<D: Domain>(
     }
     values.reverse();
     Ok(Some(values))
+}
+
+/// So many words, in the same way.
+#[tactic(auto, using(crate::proofs::StackLemmas::stack_rules))]
+pub(crate) fn words_off<D: Domain>(
+    alloc: Global,
+    stack: &mut Stack<D>,
+    count: usize,
+) -> Result<Option<Vec<D::Word>>, OutOfMemory>
+    ensures { IfOk result (λ words. option_map (λ ws. (map D.word_of ws.items, stack_of D.value_of D.word_of stack.new.items)) words
+        ≡ words_off count [] (stack_of D.value_of D.word_of stack.old.items)) }
+{
+    let mut words = Vec::new(alloc);
+    for _taken in 0..count {
+        let Some(word) = pop_word::<D>(stack) else {
+            return Ok(None);
+        };
+        words.push(word)?;
+    }
+    words.reverse();
+    Ok(Some(words))
 }
 
 /// The item on top, taken off.

@@ -1,0 +1,9 @@
+use Rattle.std.proofs.Common.{ap, map}
+use Rattle.witx_abi.specs.Views.{event_of}
+use Rattle.witx_run.specs.Views.{reply_of}
+use Rattle.witx_run.proofs.RunLemmas.{calls_interface, caller-at-interface}
+use Rattle.witx_run.proofs.traces.caller_halted.Goals as goal
+
+pub returns-in-Interface : goal.returns-in-Interface
+returns-in-Interface g c =
+    caller-at-interface (g.D.Domain.domain c.args.domain.now) g.D.Domain.value_of g.D.Domain.word_of g.D.Domain.memory_of c.args.module.now (map event_of c.args.callee.now) (reply_of g.D.Domain.value_of c.args.reply) c.args.script.now c.args.progress c.args.stop (ap calls_interface c.in-Interface.is)
