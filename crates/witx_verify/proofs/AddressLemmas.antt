@@ -1,8 +1,7 @@
 -- Which variants are passed by address.
-use Rattle.std.proofs.Common.{◌≡◌, ℕ, Bool, not, ◌&&◌, refl, ap, ◌∙◌, List, [], ◌∷◌, map, Option, Some, None}
+use Rattle.std.proofs.Common.{◌≡◌, not, refl, ap, ◌∙◌, map}
 use Rattle.witx_ast.specs.declared.types.Variant.{Variant, out-Variant}
-use Rattle.witx_ast.specs.Tree.{Tree, Arm, Arms, arm, arms_of}
-use Rattle.witx_ast.specs.Plain.{Plain, plain, plain_arms, all_bare}
+use Rattle.witx_ast.specs.Plain.{plain}
 use Rattle.witx_ast.specs.Words.{all_arms_bare}
 use Rattle.witx_ast.specs.Views.{case_arm, variant_tree}
 use Rattle.witx_ast.proofs.Trees.{tree-VariantDatatype}

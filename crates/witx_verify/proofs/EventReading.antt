@@ -19,7 +19,7 @@ use Rattle.witx_verify.specs.declared.line_words.NamedWord.{NamedWord}
 use Rattle.witx_verify.specs.declared.line_words.ShownWord.{ShownWord}
 use Rattle.witx_verify.specs.declared.line_words.LineWord.{LineWord}
 use Rattle.witx_verify.specs.LineParts.{Parts, plain, number, named, shown, wasm, interface, lower, room, finished, plain_event, number_step, named_step, shown_step, event_from, word_of, tail_of, block_end, CanSayParts, spelling, spelled, all_words, the_words, word_spelled, parts, with_tail, no_blank, HasParts, SaidBy, HasText, SaidByText, SaidByLine}
-use Rattle.witx_verify.specs.LineReading.{IsBehind, NumberAt, NamesAt, Names, QuotedAt, SignatureAt, PayloadsAt, payloads_tail, EndsFirst}
+use Rattle.witx_verify.specs.LineReading.{IsBehind, NumberAt, NamesAt, QuotedAt, SignatureAt, PayloadsAt, payloads_tail, EndsFirst}
 use Rattle.witx_verify.specs.declared.candidates.KnownTypes.{KnownTypes}
 use Rattle.witx_verify.specs.ReadTypes.{PayloadAt, types_in}
 use Rattle.witx_verify.specs.Traces.{Types, CanSay, IsWord, IsPayload, EndsBeforeError, shown as shown_in, shown_payload}

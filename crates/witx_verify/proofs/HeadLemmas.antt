@@ -1,5 +1,5 @@
 -- What stands at the head of a text: a front, a line, a word.
-use Rattle.std.proofs.Common.{◌≡◌, ℕ, suc, ◌+◌, ◌<◌, List, [], ◌∷◌, ◌++◌, length, drop, get_or, Bool, true, false, refl, sym, ap, ◌∙◌, Option, Some, None, Bor, arith, append_assoc, lit<, if◌then◌else◌}
+use Rattle.std.proofs.Common.{◌≡◌, ℕ, suc, ◌+◌, ◌<◌, List, [], ◌∷◌, ◌++◌, length, drop, get_or, true, false, refl, sym, ap, ◌∙◌, Option, Some, None, Bor, arith, append_assoc, lit<, if◌then◌else◌}
 use Rattle.std.specs.Prelude.{MatchOption, option_copied}
 use Rattle.std.specs.Str.Pattern.{FindsTextPrefix}
 use Rattle.std.proofs.lemmas.Bool.{ne_eqb}

@@ -1,18 +1,22 @@
 -- What a run leaves in doubt.
-use Rattle.std.proofs.Common.{◌≡◌, ◌≢◌, ℕ, suc, Bool, true, false, ◌&&◌, refl, sym, ap, ◌∙◌, arith, List, [], ◌∷◌, map, length, get_or, Option, Some, None}
+use Rattle.std.proofs.Common.{◌≡◌, ◌≢◌, Bool, true, false, ◌&&◌, refl, sym, ap, ◌∙◌, arith, List, [], ◌∷◌, length, get_or, Option, Some, None}
 use Rattle.std.specs.Prelude.{nat_eq, option_and_then}
 use Rattle.std.proofs.Math.Dec.{eqb-suc-zero}
 use Rattle.witx_machine.specs.Run.{values_in}
 use Rattle.witx_verify.specs.declared.surface.Doubt.{Doubt}
 use Rattle.witx_verify.specs.Symbols.{Symbol, same_symbol, same_symbols, same_members}
-use Rattle.witx_verify.specs.Symbols as symbols
 use Rattle.witx_verify.specs.SymbolViews.{symbols_read}
 use Rattle.witx_verify.specs.Verdicts.{unless, are_values}
 use Rattle.witx_verify.specs.WordViews.{Shared, shared_of, shared_symbols}
 use Rattle.witx_verify.specs.OutcomeViews.{item_of, items_of}
-use Rattle.witx_verify.specs.declared.outcome.Item as declared_item
-use Rattle.witx_verify.specs.declared.outcome.Item.TheVariants as item
+use Rattle.witx_run.specs.declared.item.Item as declared_item
+use Rattle.witx_run.specs.declared.item.Item.TheVariants as item
+use Rattle.witx_verify.specs.declared.words.Word as declared_word
 use Rattle.witx_verify.proofs.ReturnLemmas.{return_rules}
+
+-- what lies on a stack
+abbrev Laid : Type 0
+Laid = declared_item.Item Shared declared_word.Word
 
 -- the same symbols, as a list
 pub members-symbols : (a b : List Shared) → same_members (symbols_read a) (symbols_read b) ≡ same_symbols (shared_symbols a) (shared_symbols b)
@@ -22,7 +26,7 @@ members-symbols (x ∷ a) [] = refl
 members-symbols (x ∷ a) (y ∷ b) = ap (λ t. same_symbol (shared_of x) (shared_of y) && t) (members-symbols a b)
 
 -- what is given back
-pub nothing-back : (xs : List declared_item.Item) → are_values (values_in (items_of xs)) [] ≡ nat_eq (length xs) 0
+pub nothing-back : (xs : List Laid) → are_values (values_in (items_of xs)) [] ≡ nat_eq (length xs) 0
 nothing-back [] = refl
 nothing-back (item.Word w ∷ xs) = sym (eqb-suc-zero (length xs))
 nothing-back (item.Value v n ∷ xs) = go (values_in (items_of xs)) ∙ sym (eqb-suc-zero (length xs))
@@ -31,7 +35,7 @@ nothing-back (item.Value v n ∷ xs) = go (values_in (items_of xs)) ∙ sym (eqb
     go None = refl
     go (Some vs) = refl
 
-pub one-item : (xs : List declared_item.Item) (x : declared_item.Item) → length xs ≡ 1 → x ≡ get_or xs 0 x → items_of xs ≡ item_of x ∷ []
+pub one-item : (xs : List Laid) (x : Laid) → length xs ≡ 1 → x ≡ get_or xs 0 x → items_of xs ≡ item_of x ∷ []
 one-item [] x l e = absurd (omega arith)
 one-item (y ∷ []) x l e = ap (λ i. item_of i ∷ []) (sym e)
 one-item (y ∷ z ∷ xs) x l e = absurd (omega arith)
@@ -43,7 +47,7 @@ value-back v u = last (same_symbol v u)
     last true = refl
     last false = refl
 
-pub other-back : (xs : List declared_item.Item) (u : Symbol) → length xs ≢ 1 → are_values (values_in (items_of xs)) (u ∷ []) ≡ false
+pub other-back : (xs : List Laid) (u : Symbol) → length xs ≢ 1 → are_values (values_in (items_of xs)) (u ∷ []) ≡ false
 other-back [] u n = refl
 other-back (x ∷ []) u n = absurd (n refl)
 other-back (item.Word w ∷ y ∷ xs) u n = refl

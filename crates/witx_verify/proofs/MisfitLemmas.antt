@@ -1,5 +1,5 @@
 -- The first type that doesn't fit its tag, among parameters and among their trees.
-use Rattle.std.proofs.Common.{◌≡◌, ℕ, not, refl, sym, ap, ◌∙◌, List, map, Option, Some, None, option_map}
+use Rattle.std.proofs.Common.{◌≡◌, ℕ, not, refl, List, Option, Some, None, option_map}
 use Rattle.std.specs.List.{position}
 use Rattle.witx_ast.specs.declared.function.InterfaceFuncParam.{InterfaceFuncParam}
 use Rattle.witx_ast.specs.Plain.{plain}

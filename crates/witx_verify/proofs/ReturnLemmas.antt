@@ -1,5 +1,5 @@
 -- The words that come back, and what stands at the return pointers.
-use Rattle.std.proofs.Common.{◌≡◌, ◌≢◌, ℕ, zero, suc, ◌+◌, ◌-◌, ◌<◌, ◌≤◌, Bool, true, false, not, cond, ◌&&◌, refl, sym, ap, ◌∙◌, arith, List, [], ◌∷◌, map, length, get_or, take, drop, Option, Some, None, option_map}
+use Rattle.std.proofs.Common.{◌≡◌, ◌≢◌, ℕ, zero, suc, ◌+◌, ◌-◌, ◌<◌, ◌≤◌, Bool, true, false, not, ◌&&◌, refl, sym, ap, ◌∙◌, arith, List, [], ◌∷◌, map, length, get_or, take, drop, Option, Some, None}
 use Rattle.std.specs.Prelude.{nat_eq}
 use Rattle.std.proofs.Math.Dec.{eqb-suc-zero}
 use Rattle.std.proofs.lemmas.List.{drop_more, drop_all, length-drop, length-map}
@@ -8,20 +8,20 @@ use Rattle.witx_ast.specs.declared.function.InterfaceFuncParam.{InterfaceFuncPar
 use Rattle.witx_ast.specs.declared.types.RecordMember.{RecordMember}
 use Rattle.witx_ast.specs.Tree.{Tree}
 use Rattle.witx_ast.specs.Views.{tree_of}
-use Rattle.witx_machine.specs.Functions.{is_tuple, tuple_types}
+use Rattle.witx_machine.specs.Functions.{tuple_types}
 use Rattle.witx_machine.specs.Machine.{is_nil}
 use Rattle.witx_machine.specs.Passage.{last_words}
 use Rattle.witx_machine.specs.Signature.{ok_pointers, or_alone}
 use Rattle.witx_machine.specs.declared.surface.WasmType.{WasmType}
 use Rattle.witx_verify.specs.Symbols.{Symbol, SymbolWord, word_of_symbol, list_address, list_length, given, zero_word, one_word}
 use Rattle.witx_verify.specs.Symbolic.{SymbolMemory, World}
-use Rattle.witx_verify.specs.Verdicts.{gives_back, returns_under, returns_case, hold_all, hold_parts, ok_parts, holds_symbol, is_case_word}
+use Rattle.witx_verify.specs.Verdicts.{gives_back, returns_case, hold_all, holds_symbol, is_case_word}
 use Rattle.witx_verify.specs.PassageParts.{nothing_returns, ok_returns, err_returns}
 use Rattle.witx_verify.specs.WordViews.{Shared, shared_of, shared_symbols, word_of}
 use Rattle.witx_verify.specs.OutcomeViews.{Outcome, words_of}
 use Rattle.witx_verify.specs.declared.words.Word as declared_word
 use Rattle.witx_verify.proofs.FromLemmas.{types_of}
-use Rattle.witx_verify.proofs.WorldLemmas.{world_rules}
+use Rattle.witx_verify.proofs.WordLemmas.{word_rules}
 use Rattle.witx_verify.proofs.PassLemmas.{pass_rules, words-dropped}
 
 abbrev Words : Type 0
@@ -158,4 +158,4 @@ held-longer m (w ∷ ws) (v ∷ vs) n = both (holds_symbol m (word_of w) (shared
     both true e = e
     both false e = refl
 
-pub ruleset return_rules = (world_rules, pass_rules, nil-words, nil-types, gives-none, one-result, gives-other, last-read, case-zero, case-one, case-of, case-address, case-length, case-given, case-other, case-ok, case-err, members-count, alone-count, held-more, held-done, held-longer)
+pub ruleset return_rules = (word_rules, pass_rules, nil-words, nil-types, gives-none, one-result, gives-other, last-read, case-zero, case-one, case-of, case-address, case-length, case-given, case-other, case-ok, case-err, members-count, alone-count, held-more, held-done, held-longer)

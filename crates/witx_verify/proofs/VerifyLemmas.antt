@@ -1,5 +1,5 @@
 -- The first doubt, found world by world, and what is said of the verdict.
-use Rattle.std.proofs.Common.{◌≡◌, ℕ, zero, suc, ◌+◌, ◌<◌, ◌≤◌, refl, sym, ap, ◌∙◌, subst, arith, List, [], ◌∷◌, ◌++◌, drop, map, length, get_or, Bool, true, false, Option, Some, None, option_map}
+use Rattle.std.proofs.Common.{◌≡◌, ℕ, zero, suc, ◌+◌, ◌<◌, ◌≤◌, refl, sym, ap, ◌∙◌, subst, List, [], ◌∷◌, ◌++◌, drop, map, length, get_or, Bool, true, false, Option, Some, None}
 use Rattle.std.specs.Prelude.{IfOk, Result, Ok, Err, nat_le}
 use Rattle.std.proofs.lemmas.List.{drop_more, drop_all, length-map}
 use Rattle.witx_ast.specs.declared.function.Abi.{Abi}
@@ -24,7 +24,6 @@ use Rattle.witx_verify.specs.Symbolic.{World, known_world, unknown_world, world_
 use Rattle.witx_verify.specs.Verdicts.{arguments_from, judged, doubt_in, first_doubt, misfit, doubt, verdict_of, verdict}
 use Rattle.witx_verify.specs.WordViews.{option_of, world_of}
 use Rattle.witx_verify.specs.WorldViews.{AreOf, worlds_read}
-use Rattle.witx_verify.proofs.Stated.{no_doubt_of}
 use Rattle.witx_verify.proofs.Sound.{yes_is_faithful}
 use Rattle.witx_verify.proofs.AdaptedLemmas.{adapted_get_yes}
 

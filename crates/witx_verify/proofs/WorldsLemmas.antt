@@ -6,7 +6,7 @@ use Rattle.std.proofs.lemmas.List.{length-map}
 use Rattle.witx_ast.specs.declared.function.Abi.{Abi}
 use Rattle.witx_ast.specs.declared.function.InterfaceFuncParam.{InterfaceFuncParam}
 use Rattle.witx_ast.specs.declared.types.Variant.{Variant, out-Variant}
-use Rattle.witx_ast.specs.Tree.{Tree, Arm, Arms, arm, arms_of, arm_list}
+use Rattle.witx_ast.specs.Tree.{Tree, Arm, arm, arms_of, arm_list}
 use Rattle.witx_ast.specs.Views.{tree_of, case_arm}
 use Rattle.witx_abi.specs.Views.{variant_arms}
 use Rattle.witx_verify.specs.Symbolic.{World, unknown_world, world_if, worlds_of}
@@ -14,7 +14,7 @@ use Rattle.witx_verify.specs.WordViews.{world_of}
 use Rattle.witx_verify.specs.WorldViews.{worlds_read}
 use Rattle.witx_verify.specs.declared.world.World as declared_world
 use Rattle.witx_verify.proofs.FromLemmas.{from_rules, types_of}
-use Rattle.witx_verify.proofs.WorldLemmas.{world_rules}
+use Rattle.witx_verify.proofs.WordLemmas.{word_rules}
 
 pub worlds-append : (ws : List declared_world.World) (w : declared_world.World) → worlds_read (ws ++ w ∷ []) ≡ worlds_read ws ++ world_of w ∷ []
 worlds-append [] w = refl
@@ -60,4 +60,4 @@ worlds-none abi (q ∷ ps) e = absurd (clash e)
     clash : Some q ≡ None → ⊥
     clash e = cc
 
-pub ruleset worlds_rules = (world_rules, from_rules, worlds-append, no-world, cases-long, world-more, world-none, worlds-first, worlds-none)
+pub ruleset worlds_rules = (word_rules, from_rules, worlds-append, no-world, cases-long, world-more, world-none, worlds-first, worlds-none)

@@ -1,6 +1,6 @@
 -- The fixed text of a listing, cut where the events of its functions stand: the text before the events of each caller, and
 -- the text behind the last events. And how far a text goes with it.
-use Rattle.std.specs.Prelude.{◌≡◌, ℕ, suc, ◌+◌, List, [], ◌∷◌, ◌++◌, drop, map, Bool, true, false, codes, string_bytes, ◌==◌, if◌then◌else◌}
+use Rattle.std.specs.Prelude.{◌≡◌, ℕ, suc, List, [], ◌∷◌, ◌++◌, drop, map, Bool, true, false, codes, string_bytes, ◌==◌, if◌then◌else◌}
 use Rattle.std.specs.List.{AllByRecursion}
 use Rattle.witx_ast.specs.declared.function.Abi.{Abi}
 use Rattle.witx_ast.specs.Items.{ItemTree, import_of, func_of}

@@ -1,16 +1,14 @@
--- How the program's words, conversions, cells and worlds are read.
+-- How the program's words, cells and worlds are read.
 use Rattle.std.specs.Prelude.{List, map, Bool, false, ◌&&◌, Option, Some, None, option_map}
-use Rattle.std.specs.Borrow.{Bor}
-use Rattle.witx_ast.specs.declared.types.TypeRef.{TypeRef}
 use Rattle.witx_ast.specs.Plain.{plain}
 use Rattle.witx_ast.specs.Alike.{same_plain}
 use Rattle.std.specs.declared.alloc.Global.{Global}
 use Rattle.std.specs.declared.rc.Rc.{Rc}
 use Rattle.witx_ast.specs.declared.types.NamedType.{NamedType}
 use Rattle.witx_ast.specs.Tree.{Tree}
-use Rattle.witx_ast.specs.Views.{tree_of, named_tree}
-use Rattle.witx_machine.specs.Words as machine
-use Rattle.witx_machine.specs.Words.{Scalar}
+use Rattle.witx_ast.specs.Views.{named_tree}
+use Rattle.witx_run.specs.Views as views
+use Rattle.witx_run.specs.declared.domain.Picked as declared_picked
 use Rattle.witx_verify.specs.Symbols as symbols
 use Rattle.witx_verify.specs.Symbols.{SymbolWord}
 use Rattle.witx_verify.specs.Symbolic as symbolic
@@ -19,12 +17,9 @@ use Rattle.witx_verify.specs.SymbolViews.{symbol_of}
 use Rattle.witx_verify.specs.declared.symbol.Symbol as declared_symbol
 use Rattle.witx_verify.specs.declared.words.Word as declared_word
 use Rattle.witx_verify.specs.declared.words.Word.TheVariants as word
-use Rattle.witx_verify.specs.declared.kinds.Conversion as declared_conversion
-use Rattle.witx_verify.specs.declared.kinds.Conversion.TheVariants as conversion
 use Rattle.witx_verify.specs.declared.cells.Cell as declared_cell
 use Rattle.witx_verify.specs.declared.cells.Cells as declared_cells
 use Rattle.witx_verify.specs.declared.world.World as declared_world
-use Rattle.witx_verify.specs.declared.world.Picked as declared_picked
 
 abbrev pub Shared : Type 0
 Shared = Rc declared_symbol.Symbol Global
@@ -47,17 +42,6 @@ word_of (word.Given k) = symbols.given k
 word_of word.Zero = symbols.zero_word
 word_of word.One = symbols.one_word
 
-abbrev pub scalar_of : declared_conversion.Conversion → Scalar
-scalar_of (conversion.Number b) = machine.number_of b
-scalar_of conversion.Pointer = machine.pointer
-scalar_of conversion.ConstPointer = machine.const_pointer
-scalar_of (conversion.Handle n) = machine.handle_of (named_tree n.now)
-scalar_of (conversion.Flags w n) = machine.flags_of w (named_tree n.now)
-scalar_of (conversion.Enum n) = machine.enum_of (named_tree n.now)
-
-abbrev pub name_tree : Option (Rc NamedType Global) → Option Tree
-name_tree n = option_map (λ n. named_tree n.value) n
-
 abbrev pub cell_of : declared_cell.Cell → SymbolCell
 cell_of c = (named_tree c.made_for.value, option_of c.content)
 
@@ -72,16 +56,12 @@ abbrev pub takes_symbol : Tree → symbols.Symbol → SymbolCell → Bool
 takes_symbol t v c = same_plain (plain c.0) (plain t) && symbols.is_of (plain t) v
 
 abbrev pub payload_pair : Option (Shared × Option (Rc NamedType Global)) → Option (symbols.Symbol × Option Tree)
-payload_pair p = option_map (λ q. (shared_of q.0, name_tree q.1)) p
+payload_pair p = views.payload_of shared_of p
 
-abbrev pub picked_of : declared_picked.Picked → Bool × Option (symbols.Symbol × Option Tree)
-picked_of p = (p.error, payload_pair p.payload)
+abbrev pub picked_of : declared_picked.Picked Shared → Bool × Option (symbols.Symbol × Option Tree)
+picked_of p = views.picked_of shared_of p
 
 -- the case is the one that is known
 abbrev pub is_case_of : Bool → Option Bool → Bool
 is_case_of e None = false
 is_case_of e (Some known) = symbolic.same_case e known
-
--- a type, where one is given
-abbrev pub type_tree : Option (Bor TypeRef) → Option Tree
-type_tree t = option_map (λ t. tree_of t.now) t

@@ -45,7 +45,7 @@ pub(crate) fn gives_back(
 fn nothing_returns(results: &[InterfaceFuncParam], outcome: &Outcome) -> bool
     ensures { result ≡ nothing_returns (param_types results.now) (outcome_of outcome.now) }
 {
-    results.is_empty() && outcome.callee_words.is_empty()
+    results.is_empty() && outcome.call.callee_words.is_empty()
 }
 
 #[tactic(auto, using(crate::proofs::ReturnLemmas::return_rules))]
@@ -86,11 +86,11 @@ fn result_returns(
 fn whole_returns(reply: &Symbol, outcome: &Outcome) -> bool
     ensures { result ≡ returns_whole (symbol_of reply.now) (outcome_of outcome.now) }
 {
-    outcome.callee_words.is_empty()
+    outcome.call.callee_words.is_empty()
         && holds_one(
-            &outcome.at_return,
+            &outcome.call.at_return,
             reply,
-            last_words(outcome.words.as_slice(), 1),
+            last_words(outcome.call.words.as_slice(), 1),
         )
 }
 
@@ -114,7 +114,7 @@ fn word_returns(
 {
     match result_cases(ty) {
         Some(variant) => case_returns(world, variant, reply, outcome),
-        None => Ok(direct_are(ty, reply, outcome.callee_words.as_slice())),
+        None => Ok(direct_are(ty, reply, outcome.call.callee_words.as_slice())),
     }
 }
 
@@ -144,18 +144,19 @@ fn picked_returns(
     outcome: &Outcome,
 ) -> bool
     ensures { result ≡
-        returns_case (payload_tree ok.entry) (payload_tree err.entry) (last_words (length (ok_pointers (payload_tree ok.entry))) (words_of outcome.now.words.items))
-        picked.now.error (payload_pair picked.now.payload) (memory_of outcome.now.at_return) (words_of outcome.now.callee_words.items) }
+        returns_case (payload_tree ok.entry) (payload_tree err.entry)
+        (last_words (length (ok_pointers (payload_tree ok.entry))) (words_of outcome.now.call.words.items))
+        picked.now.error (payload_pair picked.now.payload) (memory_of outcome.now.call.at_return) (words_of outcome.now.call.callee_words.items) }
 {
-    let words = outcome.callee_words.as_slice();
+    let words = outcome.call.callee_words.as_slice();
     match &picked.payload {
         None => is_case_word(picked.error, words),
         Some((payload, _)) => {
             if picked.error {
-                err_returns(err, payload, &outcome.at_return, words)
+                err_returns(err, payload, &outcome.call.at_return, words)
             } else {
-                let pointers = last_words(outcome.words.as_slice(), pointer_count(ok));
-                ok_returns(ok, pointers, payload, &outcome.at_return, words)
+                let pointers = last_words(outcome.call.words.as_slice(), pointer_count(ok));
+                ok_returns(ok, pointers, payload, &outcome.call.at_return, words)
             }
         }
     }

@@ -52,14 +52,14 @@ fn outcome_judged(
         judged (world_of world.now) (called func.now) (shared_symbols arguments.now) (option_of world.now.whole) (went (outcome_of outcome.now))) }
 {
     let params = func.params.as_slice();
-    let words = outcome.words.as_slice();
-    if !passes(&outcome.at_call, pointers, params, arguments, words) {
+    let words = outcome.call.words.as_slice();
+    if !passes(&outcome.call.at_call, pointers, params, arguments, words) {
         return Ok(Some(Doubt::Passes));
     }
     if !gives_back(world, func, outcome)? {
         return Ok(Some(Doubt::Returns));
     }
-    if !all_same(outcome.noted.as_slice(), arguments) {
+    if !all_same(outcome.call.noted.as_slice(), arguments) {
         return Ok(Some(Doubt::Notes));
     }
     if !is_reply(outcome.back.as_slice(), &world.whole) {
@@ -94,7 +94,7 @@ fn is_value(item: &Item, reply: &Symbol) -> bool
     ensures { result ≡ are_values (values_in (item_of item.now ∷ [])) (symbol_of reply.now ∷ []) }
 {
     match item {
-        Item::Value { symbol, name: _ } => same(symbol, reply),
+        Item::Value { value, name: _ } => same(value, reply),
         Item::Word(_) => false,
     }
 }

@@ -7,113 +7,49 @@ ghost use Rattle.witx_ast.specs.Views.{tree_of, datatype_tree, record_tree};
 ghost use Rattle.witx_ast.specs.Alike.{same_plain};
 ghost use Rattle.witx_machine.specs.Functions.{by_address};
 ghost use Rattle.witx_machine.specs.Signature.{param_words};
-ghost use Rattle.witx_machine.specs.Words.{same_type, same_types, builtin_word_type, word_type};
+ghost use Rattle.witx_machine.specs.Words.{same_types};
 ghost use Rattle.witx_verify.specs.Symbolic.{has_kind, converts};
 ghost use Rattle.witx_verify.specs.SymbolViews.{symbol_of};
-ghost use Rattle.witx_verify.specs.WordViews.{scalar_of};
+ghost use Rattle.witx_run.specs.Views.{scalar_of};
 ghost use Rattle.witx_verify.specs.Typing.{is_list_type, is_pointer_type, is_const_pointer_type, is_handle_type, is_flags_type, is_enum_type};
 
 use crate::symbol::Symbol;
 use crate::types::alike;
 use witx_ast::{BuiltinType, Datatype, NamedType, RecordDatatype, RecordKind, TypeRef};
 use witx_machine::WasmType;
+use witx_run::{Conversion, builtin_word_type, same_type};
 
-/// A conversion between a value and its one word; of a handle, of flags and of a variant without payloads
-/// under the named type.
-#[derive(Clone, Copy)]
-pub enum Conversion<'a> {
-    /// A number, or a character.
-    Number(BuiltinType),
-    /// A pointer to any type.
-    Pointer,
-    /// A const pointer to any type.
-    ConstPointer,
-    /// A handle of this type.
-    Handle(&'a NamedType),
-    /// Flags of this type, which a word of that one holds.
-    Flags(WasmType, &'a NamedType),
-    /// A case of this variant without payloads.
-    Enum(&'a NamedType),
-}
-
-impl Conversion<'_> {
-    /// The type of the word.
-    #[tactic(auto, using(crate::proofs::KindLemmas::kind_rules))]
-    pub fn word_type(&self) -> WasmType
-        ensures { result ≡ word_type (scalar_of self.now) }
-    {
-        match self {
-            Conversion::Number(builtin) => builtin_word(*builtin),
-            Conversion::Flags(word, _) => *word,
-            Conversion::Pointer
-            | Conversion::ConstPointer
-            | Conversion::Handle(_)
-            | Conversion::Enum(_) => WasmType::I32,
-        }
-    }
-
-    /// Whether a type has the conversion: it is the builtin, a pointer, or alike to the named type, which
-    /// is of the kind.
-    #[tactic(auto, using(crate::proofs::KindLemmas::kind_rules))]
-    pub fn fits(&self, ty: &TypeRef) -> bool
-        ensures { result ≡ has_kind (scalar_of self.now) (plain (tree_of ty.now)) }
-    {
-        match self {
-            Conversion::Number(builtin) => is_builtin(*builtin, ty.type_()),
-            Conversion::Pointer => is_pointer(ty.type_()),
-            Conversion::ConstPointer => is_const_pointer(ty.type_()),
-            Conversion::Handle(named) => is_handle(named.tref.type_()) && alike(ty, &named.tref),
-            Conversion::Flags(word, named) => {
-                is_flags(*word, named.tref.type_()) && alike(ty, &named.tref)
-            }
-            Conversion::Enum(named) => is_enum(named.tref.type_()) && alike(ty, &named.tref),
-        }
-    }
-
-    /// Whether a symbol is of a type that has the conversion.
-    #[tactic(auto, using(crate::proofs::KindLemmas::kind_rules))]
-    pub fn converts(&self, symbol: &Symbol) -> bool
-        ensures { result ≡ converts (scalar_of self.now) (symbol_of symbol.now) }
-    {
-        match symbol {
-            Symbol::Atom { source: _, ty } => self.fits(ty),
-            Symbol::Tuple(_)
-            | Symbol::Made {
-                case: _,
-                payload: _,
-            }
-            | Symbol::BareMade { case: _ } => false,
-        }
-    }
-}
-
-fn builtin_word(builtin: BuiltinType) -> WasmType
-    ensures { result ≡ builtin_word_type builtin }
+/// Whether a type has the conversion: it is the builtin, a pointer, or alike to the named type, which
+/// is of the kind.
+#[tactic(auto, using(crate::proofs::KindLemmas::kind_rules))]
+pub fn fits(conversion: &Conversion<'_>, ty: &TypeRef) -> bool
+    ensures { result ≡ has_kind (scalar_of conversion.now) (plain (tree_of ty.now)) }
 {
-    match builtin {
-        BuiltinType::U64 | BuiltinType::S64 => WasmType::I64,
-        BuiltinType::F32 => WasmType::F32,
-        BuiltinType::F64 => WasmType::F64,
-        BuiltinType::Char
-        | BuiltinType::U8 { .. }
-        | BuiltinType::U16
-        | BuiltinType::U32 { .. }
-        | BuiltinType::S8
-        | BuiltinType::S16
-        | BuiltinType::S32 => WasmType::I32,
+    match conversion {
+        Conversion::Number(builtin) => is_builtin(*builtin, ty.type_()),
+        Conversion::Pointer => is_pointer(ty.type_()),
+        Conversion::ConstPointer => is_const_pointer(ty.type_()),
+        Conversion::Handle(named) => is_handle(named.tref.type_()) && alike(ty, &named.tref),
+        Conversion::Flags(word, named) => {
+            is_flags(*word, named.tref.type_()) && alike(ty, &named.tref)
+        }
+        Conversion::Enum(named) => is_enum(named.tref.type_()) && alike(ty, &named.tref),
     }
 }
 
-/// Whether two words are of one type.
-pub(crate) fn same_type(a: WasmType, b: WasmType) -> bool
-    ensures { result ≡ same_type a b }
+/// Whether a symbol is of a type that has the conversion.
+#[tactic(auto, using(crate::proofs::KindLemmas::kind_rules))]
+pub fn converts(conversion: &Conversion<'_>, symbol: &Symbol) -> bool
+    ensures { result ≡ converts (scalar_of conversion.now) (symbol_of symbol.now) }
 {
-    match (a, b) {
-        (WasmType::I32, WasmType::I32)
-        | (WasmType::I64, WasmType::I64)
-        | (WasmType::F32, WasmType::F32)
-        | (WasmType::F64, WasmType::F64) => true,
-        _ => false,
+    match symbol {
+        Symbol::Atom { source: _, ty } => fits(conversion, ty),
+        Symbol::Tuple(_)
+        | Symbol::Made {
+            case: _,
+            payload: _,
+        }
+        | Symbol::BareMade { case: _ } => false,
     }
 }
 
@@ -162,7 +98,7 @@ fn is_one_word(word: WasmType, datatype: &Datatype) -> bool
 {
     match datatype {
         Datatype::List(_) => false,
-        Datatype::Builtin(builtin) => same_type(word, builtin_word(*builtin)),
+        Datatype::Builtin(builtin) => same_type(word, builtin_word_type(*builtin)),
         Datatype::Record(record) => is_word_of_record(word, record),
         Datatype::Variant(_)
         | Datatype::Handle(_)

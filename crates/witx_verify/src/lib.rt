@@ -1,13 +1,11 @@
 //! Whether two traces are faithful to a function: the machine runs them over symbols.
 #![tactic(auto)]
 
-mod blocks;
-mod calls;
 mod candidates;
 mod cells;
 mod coming_back;
+mod domain;
 mod event_texts;
-mod frame;
 mod from;
 mod going_in;
 mod heads;
@@ -17,21 +15,13 @@ mod known_types;
 mod laws;
 mod line_words;
 mod lists;
-mod machine;
-mod matching;
 mod misfits;
 mod outcome;
 mod passages;
-mod progress;
 mod quoted_names;
 mod reading;
-mod rows;
 mod run;
-mod script;
-mod sides;
 mod signature_texts;
-mod slots;
-mod stack;
 mod surface;
 mod symbol;
 mod traces;
@@ -44,7 +34,7 @@ mod worlds;
 
 pub use cells::Cells;
 pub use from::{arguments_from, symbol_from};
-pub use kinds::Conversion;
+pub use kinds::{converts, fits};
 pub use laws::{
     a_stuck_run_names_its_event, a_yes_is_faithful, own_traces_get_a_yes, tests_tell_what_passes,
     traces_of_an_adapted_get_a_yes,
@@ -59,5 +49,6 @@ pub use traces::{
 pub use types::alike;
 pub use typing::is_of;
 pub use verifying::verify;
+pub use witx_run::Conversion;
 pub use words::{Word, lift, list_of_words, list_words, lower, parts_of};
 pub use world::{Picked, World};

@@ -2,13 +2,15 @@ ghost use Rattle.std.specs.Prelude.{◌≡◌, IfOk, option_map};
 ghost use Rattle.witx_verify.specs.Symbolic.{lower_symbol, lift_word, list_words, list_of_words, parts_of, word_has_type};
 ghost use Rattle.witx_verify.specs.SymbolViews.{symbol_of};
 ghost use Rattle.witx_verify.specs.Typing.{is_list_symbol};
-ghost use Rattle.witx_verify.specs.WordViews.{word_of, scalar_of, shared_of, option_of, shared_symbols};
+ghost use Rattle.witx_run.specs.Views.{scalar_of};
+ghost use Rattle.witx_verify.specs.WordViews.{word_of, shared_of, option_of, shared_symbols};
 
-use crate::kinds::{Conversion, is_list, same_type};
+use crate::kinds::{converts, is_list};
 use crate::symbol::{Symbol, same};
 use std::rc::Rc;
 use witx_base::OutOfMemory;
 use witx_machine::WasmType;
+use witx_run::{Conversion, same_type};
 
 /// What stands for a word.
 #[derive(Drop)]
@@ -40,6 +42,24 @@ impl Word {
             }
         }
     }
+
+    /// The word once more.
+    #[tactic(auto, using(crate::proofs::WordLemmas::word_rules))]
+    pub(crate) fn again(&self) -> Result<Word, OutOfMemory>
+        ensures { IfOk result (λ w. word_of w ≡ word_of self.now) }
+    {
+        match self {
+            Word::Of { symbol, ty } => Ok(Word::Of {
+                symbol: Rc::clone(symbol)?,
+                ty: *ty,
+            }),
+            Word::Address(symbol) => Ok(Word::Address(Rc::clone(symbol)?)),
+            Word::Length(symbol) => Ok(Word::Length(Rc::clone(symbol)?)),
+            Word::Given(k) => Ok(Word::Given(*k)),
+            Word::Zero => Ok(Word::Zero),
+            Word::One => Ok(Word::One),
+        }
+    }
 }
 
 /// The one word of a symbol by a conversion; none where its type doesn't have it.
@@ -47,7 +67,7 @@ impl Word {
 pub fn lower(conversion: &Conversion<'_>, symbol: &Rc<Symbol>) -> Result<Option<Word>, OutOfMemory>
     ensures { IfOk result (λ word. option_map word_of word ≡ lower_symbol (scalar_of conversion.now) (shared_of symbol.now)) }
 {
-    if conversion.converts(symbol) {
+    if converts(conversion, symbol) {
         Ok(Some(Word::Of {
             symbol: Rc::clone(symbol)?,
             ty: conversion.word_type(),
@@ -64,7 +84,7 @@ pub fn lift(conversion: &Conversion<'_>, word: &Word) -> Result<Option<Rc<Symbol
 {
     match word {
         Word::Of { symbol, ty } => {
-            if same_type(*ty, conversion.word_type()) && conversion.converts(symbol) {
+            if same_type(*ty, conversion.word_type()) && converts(conversion, symbol) {
                 Ok(Some(Rc::clone(symbol)?))
             } else {
                 Ok(None)

@@ -1,13 +1,11 @@
 ghost use Rattle.std.specs.Prelude.{◌≡◌, Some, true, cond, IfOk, option_map};
-ghost use Rattle.witx_ast.specs.Views.{tree_of};
-ghost use Rattle.witx_machine.specs.Functions.{name_of};
 ghost use Rattle.witx_machine.specs.Words.{when};
 ghost use Rattle.witx_verify.specs.Symbols.{same_option};
 ghost use Rattle.witx_verify.specs.Symbolic.{payload_is, picks_in, chooses_in, made_of, result_in};
 ghost use Rattle.witx_verify.specs.SymbolViews.{symbol_of};
-ghost use Rattle.witx_verify.specs.WordViews.{word_of, shared_of, option_of, name_tree, type_tree, world_of, picked_of, payload_pair, is_case_of};
+ghost use Rattle.witx_run.specs.Views.{type_tree};
+ghost use Rattle.witx_verify.specs.WordViews.{word_of, shared_of, option_of, world_of, picked_of, payload_pair, is_case_of};
 
-use crate::kinds::same_type;
 use crate::symbol::{Symbol, same};
 use crate::typing::is_of;
 use crate::words::Word;
@@ -16,6 +14,7 @@ use std::rc::Rc;
 use witx_ast::{Abi, NamedType, TypeRef};
 use witx_base::OutOfMemory;
 use witx_machine::WasmType;
+use witx_run::{name_of, same_type};
 
 /// What is known of the reply.
 #[derive(Drop)]
@@ -31,17 +30,12 @@ pub struct World {
 }
 
 /// The case of a reply, and what it carries, with the name of its type if that is a name.
-#[derive(Drop)]
-pub struct Picked {
-    /// Whether it is the second case.
-    pub error: bool,
-    pub payload: Option<(Rc<Symbol>, Option<Rc<NamedType>>)>,
-}
+pub type Picked = witx_run::Picked<Rc<Symbol>>;
 
 impl World {
     /// Which case a symbol has, for cases that carry these types: only the reply has one, and only where
     /// it is known.
-    #[tactic(auto, using(crate::proofs::WorldLemmas::world_rules))]
+    #[tactic(auto, using(crate::proofs::WordLemmas::word_rules))]
     pub fn picks(
         &self,
         ok: Option<&TypeRef>,
@@ -64,7 +58,7 @@ impl World {
     }
 
     /// Whether a word stands for the second case, or for the first; neither where it tells nothing.
-    #[tactic(auto, using(crate::proofs::WorldLemmas::world_rules))]
+    #[tactic(auto, using(crate::proofs::WordLemmas::word_rules))]
     pub fn chooses(&self, word: &Word) -> Option<bool>
         ensures { result ≡ chooses_in self.now.error (world_of self.now) (word_of word.now) }
     {
@@ -84,7 +78,7 @@ impl World {
         }
     }
 
-    #[tactic(auto, using(crate::proofs::WorldLemmas::world_rules))]
+    #[tactic(auto, using(crate::proofs::WordLemmas::word_rules))]
     fn tells_error(&self, word: &Word) -> bool
         ensures { when result (Some true) ≡ chooses_in (Some true) (world_of self.now) (word_of word.now) }
     {
@@ -99,7 +93,7 @@ impl World {
     }
 
     /// The result of a case with a payload or none: the reply, where they are the reply's.
-    #[tactic(auto, using(crate::proofs::WorldLemmas::world_rules))]
+    #[tactic(auto, using(crate::proofs::WordLemmas::word_rules))]
     pub fn result(
         &self,
         alloc: Global,
@@ -121,7 +115,7 @@ impl World {
         }
     }
 
-    #[tactic(auto, using(crate::proofs::WorldLemmas::world_rules))]
+    #[tactic(auto, using(crate::proofs::WordLemmas::word_rules))]
     fn is_case(&self, error: bool) -> bool
         ensures { result ≡ is_case_of error self.now.error }
     {
@@ -133,7 +127,7 @@ impl World {
 }
 
 /// Whether it is this symbol.
-#[tactic(auto, using(crate::proofs::WorldLemmas::world_rules))]
+#[tactic(auto, using(crate::proofs::WordLemmas::word_rules))]
 pub(crate) fn is_symbol(option: &Option<Rc<Symbol>>, symbol: &Symbol) -> bool
     ensures { result ≡ same_option (option_of option.now) (Some (symbol_of symbol.now)) }
 {
@@ -143,7 +137,7 @@ pub(crate) fn is_symbol(option: &Option<Rc<Symbol>>, symbol: &Symbol) -> bool
     }
 }
 
-#[tactic(auto, using(crate::proofs::WorldLemmas::world_rules))]
+#[tactic(auto, using(crate::proofs::WordLemmas::word_rules))]
 fn same_payload(a: &Option<Rc<Symbol>>, b: &Option<Rc<Symbol>>) -> bool
     ensures { result ≡ same_option (option_of a.now) (option_of b.now) }
 {
@@ -154,7 +148,7 @@ fn same_payload(a: &Option<Rc<Symbol>>, b: &Option<Rc<Symbol>>) -> bool
     }
 }
 
-#[tactic(auto, using(crate::proofs::WorldLemmas::world_rules))]
+#[tactic(auto, using(crate::proofs::WordLemmas::word_rules))]
 fn made(alloc: Global, error: bool, payload: Option<Rc<Symbol>>) -> Result<Rc<Symbol>, OutOfMemory>
     ensures { IfOk result (λ made. shared_of made ≡ made_of (cond error 1 0) (option_of payload)) }
 {
@@ -166,7 +160,7 @@ fn made(alloc: Global, error: bool, payload: Option<Rc<Symbol>>) -> Result<Rc<Sy
 }
 
 // The payload, as the type of its case has it: absent where that case has no type.
-#[tactic(auto, using(crate::proofs::WorldLemmas::world_rules))]
+#[tactic(auto, using(crate::proofs::WordLemmas::word_rules))]
 fn payload_of(
     ty: Option<&TypeRef>,
     load: &Option<Rc<Symbol>>,
@@ -184,16 +178,5 @@ fn payload_of(
             }
         }
         _ => Ok(None),
-    }
-}
-
-/// The named type, where the type is a name.
-#[tactic(auto, using(crate::proofs::WorldLemmas::world_rules))]
-pub(crate) fn name_of(ty: &TypeRef) -> Result<Option<Rc<NamedType>>, OutOfMemory>
-    ensures { IfOk result (λ named. name_tree named ≡ name_of (tree_of ty.now)) }
-{
-    match ty {
-        TypeRef::Name(named) => Ok(Some(Rc::clone(named)?)),
-        TypeRef::Value(_) => Ok(None),
     }
 }

@@ -1,11 +1,11 @@
-use Rattle.std.proofs.Common.{◌≡◌, ◌∷◌, ◌++◌, [], ℕ, List, map, drop, ap, subst, rules, sym, ◌∙◌, codes, arith}
+use Rattle.std.proofs.Common.{◌≡◌, ◌∷◌, ℕ, List, map, subst, rules}
 use Rattle.witx_ast.specs.Definitions.{definition_tree}
 use Rattle.witx_abi.specs.Views.{called, event_of}
 use Rattle.witx_verify.specs.declared.reading.Stopped.{Stopped}
 use Rattle.witx_verify.specs.Refusals.{Tells}
-use Rattle.witx_verify.specs.Passages.{IsCutAt, IsPlain, Passage, Stretch, StopsAt, events_of, passage_of, sides_of, stretches}
+use Rattle.witx_verify.specs.Passages.{IsPlain, Stretch, StopsAt, passage_of, stretches}
 use Rattle.witx_verify.specs.ReadTypes.{types_in}
-use Rattle.witx_verify.specs.Traces.{IsLine, Types, types_of}
+use Rattle.witx_verify.specs.Traces.{IsLine, types_of}
 use Rattle.std.specs.List.{AllByRecursion}
 use Rattle.witx_verify.proofs.ReadSteps.{handed-on, pair-behind, pair-callee, pair-caller, side_of}
 use Rattle.witx_verify.proofs.reading.read_pair.Goals as goal

@@ -1,9 +1,7 @@
-use Rattle.std.proofs.Common.{◌≡◌, ◌∷◌, ◌++◌, [], ℕ, List, map, drop, ap, subst, rules, sym, ◌∙◌, codes, arith}
-use Rattle.witx_ast.specs.Definitions.{definition_tree}
-use Rattle.witx_abi.specs.Views.{called, event_of}
+use Rattle.std.proofs.Common.{◌∷◌, rules}
 use Rattle.witx_verify.specs.declared.reading.Stopped.{Stopped}
 use Rattle.witx_verify.specs.Refusals.{Tells}
-use Rattle.witx_verify.specs.Passages.{IsCutAt, IsPlain, Passage, Stretch, StopsAt, events_of, passage_of, sides_of, stretches}
+use Rattle.witx_verify.specs.Passages.{IsCutAt, StopsAt, events_of}
 use Rattle.witx_verify.specs.ReadTypes.{types_in}
 use Rattle.witx_verify.proofs.ReadSteps.{answer-moved, cut-fixed, refusal-moved, side-stop, side_of, tells-moved}
 use Rattle.witx_verify.proofs.reading.read_side.Goals as goal

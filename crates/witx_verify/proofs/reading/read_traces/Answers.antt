@@ -1,5 +1,4 @@
 use Rattle.std.proofs.Common.{◌≡◌, map, ap, ◌∙◌}
-use Rattle.witx_ast.specs.Definitions.{definition_tree}
 use Rattle.witx_verify.specs.Passages.{passage_of, passages_of, sides_of}
 use Rattle.witx_verify.specs.Traces.{listed}
 use Rattle.witx_verify.proofs.Refusing.{passages-last, traces-read, unfit-line}

@@ -1,9 +1,0 @@
-use Rattle.std.proofs.Common.{sym, ◌∙◌}
-use Rattle.witx_abi.specs.Views.{called}
-use Rattle.witx_verify.proofs.CallLemmas.{hands-on}
-use Rattle.witx_verify.proofs.calls.take_words.Goals as goal
-
-pub returns-then-branch-clause-words : goal.returns-then-branch-clause-words
-returns-then-branch-clause-words c =
-    hands-on c.args.module.now (called c.args.func.now) c.args.call.module.now c.args.call.name.now c.args.call.params.now c.args.call.results.now c.args.machine.now c.typed_words_off.new.stack c.typed_words_off.result
-    (sym c.in_ok-names_words.ensures ∙ c.if-branch.true) c.typed_words_off.ensures
