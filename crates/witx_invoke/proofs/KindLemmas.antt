@@ -7,6 +7,7 @@ use Rattle.witx_ast.specs.Words.{all_arms_bare, is_bare}
 use Rattle.witx_ast.specs.Views.{case_arm, variant_tree}
 use Rattle.witx_ast.proofs.TreeKinds.{kind_rules as tree_kind_rules, plain-behind}
 use Rattle.witx_ast.proofs.Trees.{tree-VariantDatatype}
+use Rattle.witx_ast.proofs.Parts.{record-plain, variant-plain, count-members}
 use Rattle.witx_machine.specs.Functions.{by_address}
 
 pub plain-of-behind : (x t : Tree) → x ≡ behind t → plain x ≡ plain t
@@ -24,3 +25,5 @@ pub variant-address : (v : Variant) → by_address (plain (variant_tree v)) ≡ 
 variant-address v = rw (tree-VariantDatatype v) (ap not (bare-arms (map case_arm (out-Variant v).cases)))
 
 pub ruleset kind_rules = (tree_kind_rules, plain-of-behind, variant-address)
+
+pub ruleset kept_rules = (tree_kind_rules, plain-of-behind, record-plain, variant-plain, count-members)

@@ -1,4 +1,11 @@
 pub mod Examples
+pub mod Answers
+pub mod BothEnd
+pub mod StatedRanges
+pub mod Listing
+pub mod CellsBeside
+pub mod CellsPlaced
+pub mod PlacedRuns
 pub mod FitLoops
 pub mod HeadLaws
 pub mod Lines
@@ -18,3 +25,8 @@ pub mod LiftLemmas
 pub mod StoreLemmas
 pub mod KindLemmas
 pub mod PutLemmas
+pub mod ExceptLemmas
+pub mod AnswerLemmas
+pub mod InvokeLemmas
+pub mod FlagLemmas
+pub mod LoadLemmas

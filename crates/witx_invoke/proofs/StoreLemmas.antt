@@ -24,14 +24,14 @@ some-same : {A : Type 0} {x y : A} → Some x ≡ Some y → x ≡ y
 some-same e = cc
 
 -- the word is an address, and this is its number
-is-number : (w : Word) (n : ℕ) → Some n ≡ u32_in w → (is_address w ≡ true) × (n ≡ w.bits)
+pub is-number : (w : Word) (n : ℕ) → Some n ≡ u32_in w → (is_address w ≡ true) × (n ≡ w.bits)
 is-number w n e = by (is_address w) refl e
   where
     by : (b : Bool) → is_address w ≡ b → Some n ≡ when b (Some w.bits) → (is_address w ≡ true) × (n ≡ w.bits)
     by true h e = (h, some-same e)
     by false h e = absurd (none_some (sym e))
 
-no-number : (w : Word) → None ≡ u32_in w → is_address w ≡ false
+pub no-number : (w : Word) → None ≡ u32_in w → is_address w ≡ false
 no-number w e = by (is_address w) refl e
   where
     by : (b : Bool) → is_address w ≡ b → None ≡ when b (Some w.bits) → is_address w ≡ false

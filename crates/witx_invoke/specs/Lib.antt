@@ -11,3 +11,7 @@ pub mod Placing
 pub mod RangeViews
 pub mod Zeroing
 pub mod PlacementViews
+pub mod Invoking
+pub mod Excepting
+pub mod Answering
+pub mod Representing

@@ -21,3 +21,24 @@ impl From<OutOfMemory> for ValuesError {
         ValuesError::OutOfMemory
     }
 }
+
+/// Why a call isn't run.
+#[derive(Clone, Copy, PartialEq, Eq, Debug)]
+pub enum InvokeError {
+    /// The reply is an error that is passed as the word 0, which can't be told from ok.
+    ZeroError,
+    /// The two traces together have more than 2^30 events, or a range would end above 2^20.
+    NoRoom,
+    /// Want of memory.
+    OutOfMemory,
+}
+
+impl From<OutOfMemory> for InvokeError {
+    ghost use Rattle.witx_invoke.specs.declared.error.InvokeError.{InvokeError};
+
+    ghost from_gives = { λ _ error. error ≡ InvokeError.OutOfMemory };
+
+    fn from(_refused: OutOfMemory) -> InvokeError {
+        InvokeError::OutOfMemory
+    }
+}

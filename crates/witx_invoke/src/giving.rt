@@ -8,6 +8,7 @@ ghost use Rattle.witx_bytes.specs.ByteMachine.{range_size};
 ghost use Rattle.witx_bytes.specs.Bytes.{held};
 ghost use Rattle.witx_invoke.specs.Placing.{given};
 ghost use Rattle.witx_invoke.specs.PlacementViews.{room_of};
+ghost use Rattle.witx_invoke.specs.RangeViews.{range_of, taken_of};
 ghost use Rattle.witx_invoke.specs.Runs.{no_bytes};
 ghost use Rattle.witx_invoke.specs.Zeroing.{Zeroed};
 
@@ -65,10 +66,47 @@ impl Placement {
             return Ok(None);
         }
         let ty = Rc::clone(ty)?;
-        self.taken.push(Range { at, ty })?;
+        self.taken.push(Range { at, ty, len })?;
         self.next = end + (8 - end % 8) % 8;
         Ok(Some(at))
     }
+}
+
+impl Placement {
+    /// The memory once more.
+    pub(crate) fn copy(&self, alloc: Global) -> Result<Placement, OutOfMemory>
+        ensures { IfOk result (λ made. room_of made ≡ room_of self.now) }
+    {
+        let bytes = self.bytes.copy()?;
+        let taken = copy_ranges(alloc, self.taken.as_slice())?;
+        Ok(Placement {
+            bytes,
+            taken,
+            next: self.next,
+        })
+    }
+}
+
+#[tactic(auto, using(crate::proofs::CopyLemmas::copy_rules))]
+fn copy_ranges(alloc: Global, ranges: &[Range]) -> Result<Vec<Range>, OutOfMemory>
+    ensures { IfOk result (λ made. taken_of made.items ≡ taken_of ranges.now) }
+{
+    let mut made = Vec::new(alloc);
+    for range in ranges {
+        made.push(copy_range(range)?)?;
+    }
+    Ok(made)
+}
+
+fn copy_range(range: &Range) -> Result<Range, OutOfMemory>
+    ensures { IfOk result (λ made. range_of made ≡ range_of range.now) }
+{
+    let ty = Rc::clone(&range.ty)?;
+    Ok(Range {
+        at: range.at,
+        ty,
+        len: range.len,
+    })
 }
 
 /// Zeros in a range, where none of it is held; else nothing changes.

@@ -1,28 +1,32 @@
-//! The value whose word it is, by a conversion.
+//! The value whose word it is, by a conversion. A number of a case that is no number of the program's is
+//! refused as want of memory.
 
-ghost use Rattle.std.specs.Prelude.{◌≡◌, option_map};
+ghost use Rattle.std.specs.Prelude.{◌≡◌, IfOk, option_map};
 ghost use Rattle.witx_ast.specs.Plain.{plain};
 ghost use Rattle.witx_ast.specs.Views.{tree_of, named_tree};
 ghost use Rattle.witx_machine.specs.Cells.{cells};
-ghost use Rattle.witx_machine.specs.Words.{checked, const_pointer, handle_of, number_of, pointer};
+ghost use Rattle.witx_machine.specs.Words.{checked, const_pointer, enum_of, flags_in, flags_of as flags_by, handle_of, number_of as number_by, pointer};
 ghost use Rattle.witx_bytes.specs.Seen.{seen};
 ghost use Rattle.witx_invoke.specs.WordViews.{word_of};
 
-use crate::builtins::{cut, in_range};
+use crate::kinds::{cut_to, flags_repr, repr_word_type, tag_repr};
 use crate::word::Word;
+use std::alloc::Global;
 use witx_ast::{BuiltinType, NamedType, TypeRef};
-use witx_bytes::{Value, is_value};
+use witx_base::OutOfMemory;
+use witx_bytes::{ReadError, Value, flags_of, in_range, is_value, number_of};
+use witx_machine::WasmType;
 use witx_run::{builtin_word_type, same_type};
 
 /// The number of a builtin whose word it is, cut to the builtin's width.
 #[tactic(auto, using(crate::proofs::LiftLemmas::lift_rules))]
 pub(crate) fn lift_number(builtin: BuiltinType, word: Word) -> Option<Value>
-    ensures { option_map seen result ≡ cells.lift (number_of builtin) (word_of word) }
+    ensures { option_map seen result ≡ cells.lift (number_by builtin) (word_of word) }
 {
     if !same_type(word.ty, builtin_word_type(builtin)) {
         return None;
     }
-    let number = cut(builtin, word.bits);
+    let number = number_of(builtin, word.bits);
     if in_range(builtin, number) {
         Some(Value::Num(builtin, number))
     } else {
@@ -74,4 +78,55 @@ fn value_if(ty: &TypeRef, value: Value) -> Option<Value>
         drop(value);
         None
     }
+}
+
+/// The flags whose word it is, under their named type.
+#[tactic(auto, using(crate::proofs::FlagLemmas::flag_rules))]
+pub(crate) fn lift_flags(
+    alloc: Global,
+    ty: WasmType,
+    named: &NamedType,
+    word: Word,
+) -> Result<Option<Value>, OutOfMemory>
+    ensures { IfOk result (λ value. option_map seen value ≡ cells.lift (flags_by ty (named_tree named.now)) (word_of word)) }
+{
+    let Some((repr, count)) = flags_repr(&named.tref) else {
+        return Ok(None);
+    };
+    if !same_type(ty, repr_word_type(repr)) {
+        return Ok(None);
+    }
+    if !same_type(word.ty, ty) {
+        return Ok(None);
+    }
+    flags_value(alloc, cut_to(repr, word.bits), count)
+}
+
+/// So many flags, where no further bit is set.
+fn flags_value(alloc: Global, bits: u64, count: usize) -> Result<Option<Value>, OutOfMemory>
+    ensures { IfOk result (λ value. option_map seen value ≡ flags_in count bits) }
+{
+    match flags_of(alloc, bits, count) {
+        Ok(value) => Ok(Some(value)),
+        Err(ReadError::NoValue) => Ok(None),
+        Err(ReadError::OutOfMemory) => Err(OutOfMemory),
+    }
+}
+
+/// The case whose word it is, of a variant without payloads under its named type.
+#[tactic(auto, using(crate::proofs::FlagLemmas::flag_rules))]
+pub(crate) fn lift_enum(named: &NamedType, word: Word) -> Result<Option<Value>, OutOfMemory>
+    ensures { IfOk result (λ value. option_map seen value ≡ cells.lift (enum_of (named_tree named.now)) (word_of word)) }
+{
+    if !same_type(word.ty, WasmType::I32) {
+        return Ok(None);
+    }
+    let Some(repr) = tag_repr(&named.tref) else {
+        return Ok(None);
+    };
+    let case = cut_to(repr, word.bits);
+    if case >= 1 << 32 {
+        return Err(OutOfMemory);
+    }
+    Ok(value_if(&named.tref, Value::Enum(case as u32)))
 }

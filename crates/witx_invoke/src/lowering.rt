@@ -1,18 +1,23 @@
-//! The one word of a value, by a conversion.
+//! The one word of a value, by a conversion. Where that word is no number of the program's, as that of more
+//! than 64 flags, it is refused as want of memory.
 
-ghost use Rattle.std.specs.Prelude.{◌≡◌, Some, option_map};
+ghost use Rattle.std.specs.Prelude.{◌≡◌, IfOk, Some, option_map};
 ghost use Rattle.witx_ast.specs.ValueTests.{in_range as is_in_range};
 ghost use Rattle.witx_ast.specs.Views.{named_tree};
 ghost use Rattle.witx_machine.specs.Cells.{cells};
-ghost use Rattle.witx_machine.specs.Words.{const_pointer, enum_of, handle_of, i32 as word_i32, number_of, number_word, pointer, when};
+ghost use Rattle.witx_machine.specs.Words.{bits_of_flags, const_pointer, enum_of, flags_of, handle_of, i32 as word_i32, number_of, number_word, pointer, repr_word_type as type_of_word, when};
 ghost use Rattle.witx_bytes.specs.Seen.{seen};
+ghost use Rattle.witx_invoke.specs.Representing.{flags_in_word};
 ghost use Rattle.witx_invoke.specs.WordViews.{word_of};
 
-use crate::builtins::{in_range, word_bits};
+use crate::builtins::word_bits;
+use crate::kinds::{flags_repr, repr_word_type};
 use crate::word::Word;
-use witx_ast::{BuiltinType, NamedType};
-use witx_bytes::{Value, is_value};
-use witx_run::builtin_word_type;
+use witx_ast::{BuiltinType, IntRepr, NamedType};
+use witx_base::OutOfMemory;
+use witx_bytes::{Value, flag_bits, in_range, is_value};
+use witx_machine::WasmType;
+use witx_run::{builtin_word_type, same_type};
 
 /// The word of a number of a builtin.
 #[tactic(auto, using(crate::proofs::ShapeLemmas::shape_rules))]
@@ -142,4 +147,57 @@ fn word_if(has_one: bool, number: u32) -> Option<Word>
     } else {
         None
     }
+}
+
+/// The word of flags, under their named type.
+#[tactic(auto, using(crate::proofs::FlagLemmas::flag_rules))]
+pub(crate) fn lower_flags(
+    ty: WasmType,
+    named: &NamedType,
+    value: &Value,
+) -> Result<Option<Word>, OutOfMemory>
+    ensures { IfOk result (λ word. option_map word_of word ≡ cells.lower (flags_of ty (named_tree named.now)) (seen value.now)) }
+{
+    let Some((repr, _count)) = flags_repr(&named.tref) else {
+        return Ok(None);
+    };
+    if !same_type(ty, repr_word_type(repr)) {
+        return Ok(None);
+    }
+    if !is_value(&named.tref, value) {
+        return Ok(None);
+    }
+    flags_word(repr, value)
+}
+
+/// The word that keeps flags.
+#[tactic(auto, using(crate::proofs::ShapeLemmas::shape_rules))]
+fn flags_word(repr: IntRepr, value: &Value) -> Result<Option<Word>, OutOfMemory>
+    ensures { IfOk result (λ word. option_map word_of word ≡ flags_in_word repr (seen value.now)) }
+{
+    match value {
+        Value::Flags(flags) => flags_number(repr, flags.as_slice()),
+        Value::Num(_, _) => Ok(None),
+        Value::Handle(_) => Ok(None),
+        Value::Pointer(_) => Ok(None),
+        Value::ConstPointer(_) => Ok(None),
+        Value::List { .. } => Ok(None),
+        Value::Tuple(_) => Ok(None),
+        Value::Rec(_) => Ok(None),
+        Value::Enum(_) => Ok(None),
+        Value::Case(_, None) => Ok(None),
+        Value::Case(_, Some(_)) => Ok(None),
+    }
+}
+
+fn flags_number(repr: IntRepr, flags: &[bool]) -> Result<Option<Word>, OutOfMemory>
+    ensures { IfOk result (λ word. option_map word_of word ≡ Some (record { type = type_of_word repr; bits = bits_of_flags flags.now })) }
+{
+    if flags.len() > 64 {
+        return Err(OutOfMemory);
+    }
+    Ok(Some(Word {
+        ty: repr_word_type(repr),
+        bits: flag_bits(flags),
+    }))
 }

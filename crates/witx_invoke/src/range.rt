@@ -1,9 +1,16 @@
+ghost use Rattle.std.specs.Prelude.{◌≡◌};
+ghost use Rattle.witx_ast.specs.Plain.{plain};
+ghost use Rattle.witx_ast.specs.Views.{named_tree};
+ghost use Rattle.witx_bytes.specs.ByteMachine.{range_size};
+
 use std::rc::Rc;
 use witx_ast::NamedType;
 
-/// A range that was given: where it begins, and the type that it was made for.
+/// A range that was given: where it begins, the type that it was made for, and its length.
 #[derive(Drop)]
 pub(crate) struct Range {
     pub(crate) at: u32,
     pub(crate) ty: Rc<NamedType>,
+    pub(crate) len: u32,
+    ghost sized: { len ≡ range_size (plain (named_tree ty.value)) },
 }

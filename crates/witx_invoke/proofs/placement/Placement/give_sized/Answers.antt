@@ -8,7 +8,7 @@ use Rattle.witx_invoke.proofs.placement.Placement.give_sized.Goals as goal
 pub invariant_of-self-2-clause-stated : goal.invariant_of-self-2-clause-stated
 invariant_of-self-2-clause-stated c =
     let same : c.in_ok-ty.ty.value ≡ c.args.ty.now.value = search rules in
-    next-behind c.args.self.now.taken.items c.push.new.self.items (record { at = c.args.self.now.next; ty = c.in_ok-ty.ty }) c.args.len (c.args.self.now.next + c.args.len) c.in_ok-push.ensures.items
+    next-behind c.args.self.now.taken.items c.push.new.self.items _ c.args.len (c.args.self.now.next + c.args.len) c.in_ok-push.ensures.items
     (c.requires.size ∙ ap (λ v. range_size (plain (named_tree v))) (sym same)) refl
 
 pub invariant_of-self-2-clause-low : goal.invariant_of-self-2-clause-low

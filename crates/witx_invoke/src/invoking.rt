@@ -1,0 +1,116 @@
+//! The run of one call over a memory of bytes.
+
+ghost use Rattle.std.specs.Prelude.{◌≡◌, ◌+◌, ◌^◌, IfErr, IfOk, map, nat_lt};
+ghost use Rattle.witx_abi.specs.Views.{called, event_of};
+ghost use Rattle.witx_bytes.specs.Seen.{seen};
+ghost use Rattle.witx_invoke.specs.Answering.{stated_run};
+ghost use Rattle.witx_invoke.specs.Invoking.{CanRun, IsAnswer, Refuses};
+ghost use Rattle.witx_run.specs.OutcomeViews.{run_of};
+ghost use Rattle.witx_run.specs.Views.{reply_of};
+ghost use Rattle.witx_invoke.specs.PlacementViews.{room_of};
+ghost use Rattle.witx_invoke.specs.WordViews.{word_of};
+
+use crate::answering::answer;
+use crate::byte_domain::ByteDomain;
+use crate::error::InvokeError;
+use crate::excepting::is_excepted;
+use crate::invoked::Invoked;
+use crate::placement::Placement;
+use crate::word::Word;
+use std::alloc::Global;
+use witx_abi::Events;
+use witx_adapt::AdaptedFunc;
+use witx_ast::InterfaceFunc;
+use witx_base::{Id, OutOfMemory};
+use witx_bytes::{Value, Values};
+use witx_run::{Run, run_traces};
+
+/// How many events are run at most.
+const MOST_EVENTS: u128 = 1 << 30;
+
+/// Runs the two traces of a function over a memory of bytes that is empty at first, with these arguments
+/// and this reply. The first range begins at address 16, each other at the end of the one before, rounded
+/// up to a multiple of 8.
+///
+/// Asked of faithful traces whose allocated types fit their tags, with values of the function's types, and
+/// a reply exactly where there is a result.
+///
+/// Refused as `ZeroError` where the reply is an error that is passed as the word 0, which the function's ABI
+/// can't tell from ok; else as `NoRoom` where the traces together have more than 2^30 events, or a range
+/// would end above 2^20.
+pub fn invoke(
+    alloc: Global,
+    entry: &AdaptedFunc,
+    args: &Values,
+    reply: Option<&Value>,
+) -> Result<Invoked, InvokeError>
+    requires { CanRun entry.now.module.value.name (called entry.now.func.value) (map event_of entry.now.caller.events) (map event_of entry.now.callee.events)
+        (map seen args.now) (reply_of seen reply) }
+    ensures answer { IfOk result (IsAnswer entry.now.module.value.name (called entry.now.func.value)
+        (map event_of entry.now.caller.events) (map event_of entry.now.callee.events) (map seen args.now) (reply_of seen reply.entry)) }
+    ensures refused { IfErr result (Refuses entry.now.module.value.name (called entry.now.func.value)
+        (map event_of entry.now.caller.events) (map event_of entry.now.callee.events) (map seen args.now) (reply_of seen reply.entry)) }
+{
+    invoke_traces(
+        alloc,
+        &entry.module.name,
+        &entry.func,
+        entry.caller.events(),
+        entry.callee.events(),
+        args.as_slice(),
+        reply,
+    )
+}
+
+/// The same of two traces of a function of a module.
+fn invoke_traces(
+    alloc: Global,
+    module: &Id,
+    func: &InterfaceFunc,
+    caller: &Events,
+    callee: &Events,
+    args: &[Value],
+    reply: Option<&Value>,
+) -> Result<Invoked, InvokeError>
+    requires { CanRun «module».now (called func.now) (map event_of caller.now) (map event_of callee.now) (map seen args.now) (reply_of seen reply) }
+    ensures answer { IfOk result
+        (IsAnswer «module».now (called func.now) (map event_of caller.now) (map event_of callee.now) (map seen args.now) (reply_of seen reply.entry)) }
+    ensures refused { IfErr result
+        (Refuses «module».now (called func.now) (map event_of caller.now) (map event_of callee.now) (map seen args.now) (reply_of seen reply.entry)) }
+{
+    if is_excepted(func.abi, reply) {
+        return Err(InvokeError::ZeroError);
+    }
+    if are_too_many(caller.len(), callee.len()) {
+        return Err(InvokeError::NoRoom);
+    }
+    let run = run_stated(alloc, module, func, caller, callee, args, reply)?;
+    answer(alloc, run)
+}
+
+/// Whether there are more events than are run.
+fn are_too_many(caller: usize, callee: usize) -> bool
+    ensures { result ≡ nat_lt (2 ^ 30) (caller + callee) }
+{
+    caller as u128 + callee as u128 > MOST_EVENTS
+}
+
+/// Runs the two traces, from a memory that is empty.
+fn run_stated(
+    alloc: Global,
+    module: &Id,
+    func: &InterfaceFunc,
+    caller: &Events,
+    callee: &Events,
+    args: &[Value],
+    reply: Option<&Value>,
+) -> Result<Run<Value, Word, Placement>, OutOfMemory>
+    ensures { IfOk result (λ run. run_of seen word_of room_of run
+        ≡ stated_run «module».now (called func.now) (map event_of caller.now) (map event_of callee.now) (map seen args.now) (reply_of seen reply.entry)) }
+{
+    let domain = ByteDomain { alloc };
+    let memory = Placement::new(alloc);
+    run_traces(
+        alloc, &domain, module, func, caller, callee, args, reply, memory,
+    )
+}
