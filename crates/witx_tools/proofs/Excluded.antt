@@ -1,5 +1,5 @@
 -- A bundle that is valid for a tool isn't refused by it, and what a tool tells is over a bundle that is valid for it.
-use Rattle.std.specs.Prelude.{◌≡◌, ◌⊎◌, ℕ, List, [], ◌∷◌, Option, Some, None, Ok}
+use Rattle.std.specs.Prelude.{◌≡◌, ◌⊎◌, ℕ, List, [], ◌∷◌, true, Option, Some, None, Ok}
 use Rattle.std.proofs.Common.{refl, sym, ap, ◌∙◌, subst, inl, inr}
 use mathlib.Core.Path.{fun_ext}
 use Rattle.witx_base.specs.Paths.{Path}
@@ -10,7 +10,13 @@ use Rattle.witx_check.specs.Faults.{Fault}
 use Rattle.witx_order.specs.Walks.{World}
 use Rattle.witx_walk.specs.Answers.{Answer, Answers, OneAnswer}
 use Rattle.witx_walk.specs.Meaning.{fault_behind, world}
-use Rattle.witx_walk.specs.Readings.{Reading}
+use Rattle.witx_walk.specs.Readings.{OneReading, Reading}
+use Rattle.witx_ast.specs.Closed.{IsClosed}
+use Rattle.witx_ast.specs.Misfits.{first_misfit}
+use Rattle.witx_ast.specs.Tags.{function_fits}
+use Rattle.witx_adapt.proofs.Fitting.{functions-fit}
+use Rattle.witx_adapt.specs.Entries.{Entry, all_functions}
+use Rattle.witx_invoke.specs.Laws.{AtMostOneLine}
 use Rattle.witx_verify.specs.Traces.{IsUnfit, Sides, TracesLeaveNoneUnfit}
 use Rattle.witx_imports.specs.Reads as list
 use Rattle.witx_imports.specs.declared.import.WasmImport.{WasmImport}
@@ -21,19 +27,22 @@ use Rattle.witx.specs.Reports.{AdaptingFails, CommandRefuses, MappingFails}
 use Rattle.witx.specs.Causes.{CanMap}
 use Rattle.witx.specs.Words.{arguments_of, paths_of}
 use Rattle.witx.specs.declared.words.Command.TheVariants as command
+use Rattle.witx_tools.specs.Calls.{CallFails, CanCall, IsCallText, NamedFails, Names, entries_of, first_named, has_names}
 use Rattle.witx_tools.specs.ImportTexts.{IsBadList}
-use Rattle.witx_tools.specs.ToolCauses.{CanAdaptAll, HoldsOwn, IsOwnValid, IsToolOutput, IsToolText, IsValidForTool, LacksOwn, ListFails, ListReads, ListingFails, ListingReads, OneIsUnadapted, OwnRefuses, ToolRefuses}
+use Rattle.witx_tools.specs.ToolCauses.{CallReads, CallRefuses, CanAdaptAll, HoldsOwn, IsOwnValid, IsToolOutput, IsToolText, IsValidForTool, LacksOwn, ListFails, ListReads, ListingFails, ListingReads, OneIsUnadapted, OwnRefuses, ToolRefuses}
 use Rattle.witx_tools.specs.ToolLaws.{ValidIsNotRefusedByTools}
-use Rattle.witx_tools.specs.ToolWords.{adapted_files, first_path, own_file}
+use Rattle.witx_tools.specs.ToolWords.{adapted_files, behind_names, first_path, named_by, own_file}
 use Rattle.witx_tools.specs.VerdictTexts.{IsUnfitListing, listed_for}
 use Rattle.witx_tools.specs.declared.tool.Tool.{Tool}
 use Rattle.witx_tools.specs.declared.tool.Tool.TheVariants as tool
+use Rattle.witx_tools.proofs.Closing.{parsed-closed}
+use Rattle.witx_tools.proofs.Handing.{call-excluded, found-fits}
 
 -- a text that lists imports has no fault
 abbrev pub ListsHaveNoFault : Type 0
 ListsHaveNoFault = (text : List ℕ) (d : List WasmImport) (place : list.Place) → list.Reads text d → list.IsFaultOf text place → ⊥
 
-module _ (valid : ValidIsNotRefused) (no_fault : ListsHaveNoFault) (one_answer : OneAnswer) (no_unfit : TracesLeaveNoneUnfit) (bytes : List ℕ) (files others : Files)
+module _ (valid : ValidIsNotRefused) (no_fault : ListsHaveNoFault) (one_answer : OneAnswer) (no_unfit : TracesLeaveNoneUnfit) (one_reading : OneReading) (one_line : AtMostOneLine) (bytes : List ℕ) (files others : Files)
     (here : IsRead bytes (Ok files)) (there : IsRead bytes (Ok others)) where
   same-held : (path : Path) → held files path ≡ held others path
   same-held path = here.3 path ∙ sym (there.3 path)
@@ -83,6 +92,12 @@ module _ (valid : ValidIsNotRefused) (no_fault : ListsHaveNoFault) (one_answer :
       let same : Ok es ≡ Ok ds = one_answer others [] handed 0 0 0 0 (Ok es) (Ok ds) (Ok es) (Ok ds) (parsed-there handed (Ok es) q) p refl refl in
       cc
 
+  one-document : (handed : List Path) (ds es : List DefinitionTree) → Parses others handed (Ok ds) → Parses others handed (Ok es) → es ≡ ds
+  unfolding IsParsed
+  one-document handed ds es p q =
+      let same : Ok es ≡ Ok ds = one_answer others [] handed 0 0 0 0 (Ok es) (Ok ds) (Ok es) (Ok ds) q p refl refl in
+      cc
+
   listing-excluded : (arguments : List (List ℕ)) (ds : List DefinitionTree) (sides : List Sides) (report : List ℕ) → ListingReads others arguments ds sides
       → ListingFails files arguments report → ⊥
   unfolding IsUnfitListing
@@ -93,10 +108,33 @@ module _ (valid : ValidIsNotRefused) (no_fault : ListsHaveNoFault) (one_answer :
       no_unfit (listed_for ds) listing number sides gives
       (subst (λ t. IsUnfit (listed_for ds) t number) equal (subst (λ xs. IsUnfit (listed_for xs) text number) document unfit))
 
-  tool-excluded : (t : Tool) (arguments : List (List ℕ)) (report : List ℕ) → IsOwnValid t others arguments → OwnRefuses t files arguments report → ⊥
-  tool-excluded tool.Shim arguments report v h = mapping-excluded arguments report v h
-  tool-excluded tool.Verify arguments report v h = listing-excluded arguments v.0 v.1 report v.2 h
-  tool-excluded tool.Imports arguments report v h = list-excluded (first_path arguments) v.0 report v.1 h
+  named-excluded : (n : Names) (values : List ℕ) (e : Entry) (o : Option Entry) (report : List ℕ) → function_fits e.owned.func ≡ true → CanCall e values → o ≡ Some e
+      → NamedFails n o values report → ⊥
+  unfolding NamedFails
+  named-excluded n values e None report fit can same h = cc
+  named-excluded n values e (Some x) report fit can same h =
+      let here : x ≡ e = cc in call-excluded one_line e fit values report can (subst (λ e. CallFails e values report) here h)
+
+  refused-excluded : (arguments : List (List ℕ)) (report : List ℕ) → CanAdaptAll others (adapted_files tool.Invoke arguments) → CallReads others arguments
+      → CallRefuses files arguments report → ⊥
+  refused-excluded arguments report ((bs, r, able), rest) (ds, values, (k, p), e, named, can) (es, text, (h, q), fails) =
+      let words = behind_names arguments in
+      let same : held files (first_path words) ≡ held others (first_path words) = same-held (first_path words) in
+      let equal : text ≡ values = cc in
+      let document : es ≡ ds = same-document (paths_of (arguments_of words)) ds es p q in
+      let adapted : bs ≡ ds = one-document (paths_of (arguments_of words)) ds bs p r in
+      let closed : IsClosed ds = parsed-closed one_reading others (paths_of (arguments_of words)) ds p in
+      let fit = found-fits (has_names (named_by arguments)) (all_functions ds) e (functions-fit ds closed (subst (λ xs. first_misfit xs ≡ None) adapted able.fits)) named in
+      let fails_there = subst (λ xs. NamedFails (named_by arguments) (first_named (named_by arguments) (entries_of xs)) text report) document fails in
+      named-excluded (named_by arguments) values e (first_named (named_by arguments) (entries_of ds)) report fit can named
+      (subst (λ t. NamedFails (named_by arguments) (first_named (named_by arguments) (entries_of ds)) t report) equal fails_there)
+
+  tool-excluded : (t : Tool) (arguments : List (List ℕ)) (report : List ℕ) → CanAdaptAll others (adapted_files t arguments) → IsOwnValid t others arguments
+      → OwnRefuses t files arguments report → ⊥
+  tool-excluded tool.Shim arguments report all v h = mapping-excluded arguments report v h
+  tool-excluded tool.Verify arguments report all v h = listing-excluded arguments v.0 v.1 report v.2 h
+  tool-excluded tool.Invoke arguments report all v h = refused-excluded arguments report all v h
+  tool-excluded tool.Imports arguments report all v h = list-excluded (first_path arguments) v.0 report v.1 h
 
   by-part : (t : Tool) (arguments : List (List ℕ)) (report : List ℕ) → HoldsOwn (own_file t arguments) others → CanAdaptAll others (adapted_files t arguments)
       → IsOwnValid t others arguments
@@ -106,19 +144,23 @@ module _ (valid : ValidIsNotRefused) (no_fault : ListsHaveNoFault) (one_answer :
       → ⊥
   by-part t arguments report own all valid_for (inl h) = own-excluded (own_file t arguments) report own h
   by-part t arguments report own all valid_for (inr (k, inl h)) = unadapted-excluded (adapted_files t arguments) report all h
-  by-part t arguments report own all valid_for (inr (k, inr h)) = tool-excluded t arguments report valid_for h.1
+  by-part t arguments report own all valid_for (inr (k, inr h)) = tool-excluded t arguments report all valid_for h.1
 
   valid-excluded : (t : Tool) (arguments : List (List ℕ)) (report : List ℕ) → IsValidForTool t others arguments → ToolRefuses t files arguments report → ⊥
   unfolding IsValidForTool ToolRefuses
   valid-excluded t arguments report v h = by-part t arguments report v.0 v.1 v.2 h
 
-pub valid-is-not-refused : ValidIsNotRefused → ListsHaveNoFault → OneAnswer → TracesLeaveNoneUnfit → ValidIsNotRefusedByTools
-valid-is-not-refused valid no_fault one_answer no_unfit = λ bytes files others here there arguments t report v h.
-    valid-excluded valid no_fault one_answer no_unfit bytes files others here there t arguments report v h
+pub valid-is-not-refused : ValidIsNotRefused → ListsHaveNoFault → OneAnswer → TracesLeaveNoneUnfit → OneReading → AtMostOneLine → ValidIsNotRefusedByTools
+valid-is-not-refused valid no_fault one_answer no_unfit one_reading one_line = λ bytes files others here there arguments t report v h.
+    valid-excluded valid no_fault one_answer no_unfit one_reading one_line bytes files others here there t arguments report v h
+
+call-valid : (e : Entry) (values text : List ℕ) → IsCallText e values text → CanCall e values
+call-valid e values text c = record { handed = c.handed; given = c.given; kept = c.answered.kept; room = c.answered.room }
 
 text-valid : (t : Tool) (files : Files) (arguments : List (List ℕ)) (text : List ℕ) → IsToolText t files arguments text → IsOwnValid t files arguments
 text-valid tool.Shim files arguments text (new, old, both, modules, e, k) = (new, old, both, modules, e)
 text-valid tool.Verify files arguments text (ds, sides, reads, k) = (ds, sides, reads)
+text-valid tool.Invoke files arguments text (ds, values, own, told) = (ds, values, own, told.entry, told.named, call-valid told.entry values text told.called)
 text-valid tool.Imports files arguments text h = (h.0, h.1)
 
 -- what a tool tells

@@ -1,6 +1,6 @@
 -- What a tool tells over the files of a bundle, and why it has no text, by what its calls answer.
-use Rattle.std.specs.Prelude.{◌≡◌, ◌⊎◌, ℕ, List, [], ◌∷◌, Some, Ok, Err, map}
-use Rattle.std.proofs.Common.{refl, subst, inl, inr, arith}
+use Rattle.std.specs.Prelude.{◌≡◌, ◌⊎◌, ℕ, List, [], ◌∷◌, All, Some, Ok, Err, map}
+use Rattle.std.proofs.Common.{refl, sym, ap, ◌∙◌, subst, inl, inr, arith}
 use Rattle.witx_base.specs.Paths.{Path}
 use Rattle.witx_files.specs.Answers.{IsText}
 use Rattle.witx_files.specs.Files.{Files, held}
@@ -9,8 +9,12 @@ use Rattle.witx_files.specs.declared.fault.IoFault.{IoFault}
 use Rattle.witx_files.specs.declared.fault.IoFault.TheVariants as io_fault
 use Rattle.witx_walk.specs.ErrorReports.{io_report}
 use Rattle.witx_walk.specs.declared.error.WitxError.TheVariants as witx_error
-use Rattle.witx_adapt.specs.Entries.{all_functions}
+use Rattle.witx_walk.specs.Readings.{OneReading}
+use Rattle.witx_adapt.proofs.Fitting.{functions-fit}
+use Rattle.witx_adapt.specs.Entries.{Entry, all_functions, entry_of}
 use Rattle.witx_adapt.specs.declared.adapted.Adapted.{Adapted}
+use Rattle.witx_adapt.specs.declared.adapted.AdaptedFunc.{AdaptedFunc}
+use Rattle.witx_bytes.specs.Follow.{TakeWritable}
 use Rattle.witx_verify.specs.Passages.{sides_of}
 use Rattle.witx_verify.specs.Refusals.{Refuses}
 use Rattle.witx_verify.specs.Traces.{GivesTraces, Listed, listed}
@@ -30,12 +34,16 @@ use Rattle.witx.specs.Stops.{StopsWith}
 use Rattle.witx.specs.Words.{arguments_of, paths_of}
 use Rattle.witx.specs.declared.refusal.Stop.{Stop}
 use Rattle.witx.proofs.Refusing.{memory-stops, stops-as}
+use Rattle.witx_tools.specs.Callable.{IsCallable}
+use Rattle.witx_tools.specs.Calls.{IsNamedText, NamedFails, entries_of, first_named}
 use Rattle.witx_tools.specs.ImportTexts.{IsBadList, bad_report, faults_text}
 use Rattle.witx_tools.specs.ShimTexts.{shims_text}
 use Rattle.witx_tools.specs.ToolCauses.{CanAdaptAll, HoldsOwn, IsToolOutput, LacksOwn, OneIsUnadapted, OwnRefuses, ToolRefuses}
-use Rattle.witx_tools.specs.ToolWords.{first_path}
+use Rattle.witx_tools.specs.ToolWords.{behind_names, first_path, named_by}
 use Rattle.witx_tools.specs.VerdictTexts.{IsUnfitListing, listed_for, owned_of, unfit_report, verdicts_text}
 use Rattle.witx_tools.specs.declared.tool.Tool.TheVariants as tool
+use Rattle.witx_tools.proofs.Calling.{entries-callable}
+use Rattle.witx_tools.proofs.Closing.{parsed-closed}
 use Rattle.witx_tools.proofs.Shims.{answers-mapped}
 use Rattle.witx_tools.proofs.Verdicts.{ReadAsTrees, each-entry, listed-for, owned-for}
 
@@ -210,6 +218,52 @@ faults-told files mid arguments words path text made a imports e w f h p q r k =
     ((text, holds), (can-adapt files (arguments_of arguments) a means q, tt), (imports, (text, holds, r), a, means, q, k))
 
 pub ruleset import_rules = (memory-stops, lacking-stops, document-stops, list-stops, faults-told)
+
+-- ---- calls
+
+pub all-callable : OneReading → TakeWritable → (files : Files) (handed : List Path) (a : Adapted) (fs : List AdaptedFunc) → fs ≡ a.functions
+    → Parses files handed (Ok (defined a)) → IsAdapted a → All IsCallable fs
+all-callable one law files handed a fs e p k =
+    subst (All IsCallable) (sym e)
+    (entries-callable law a.functions (all_functions (defined a)) k.functions
+    (functions-fit (defined a) (parsed-closed one files handed (defined a) p) k.adaptable.fits) k.adaptable.lowerable k.faithful)
+
+pub lacking-values : (files : Files) (arguments words : List (List ℕ)) (path : Path) (s : Stop) → words ≡ behind_names arguments → path ≡ first_path words
+    → StopsWith (LacksOwn (Some path) files) s → StopsWith (ToolRefuses tool.Invoke files arguments) s
+unfolding ToolRefuses
+lacking-values files arguments words path s n e k =
+    lacking (OwnRefuses tool.Invoke files arguments) files (behind_names arguments) path s (e ∙ ap first_path n) k
+
+pub unadapted-values : (files mid : Files) (arguments words behind : List (List ℕ)) (path : Path) (text : List ℕ) (s : Stop) → words ≡ behind_names arguments
+    → path ≡ first_path words → behind ≡ arguments_of words → mid ≡ files → held files path ≡ Some text → StopsWith (AdaptingFails mid (paths_of behind)) s
+    → StopsWith (ToolRefuses tool.Invoke files arguments) s
+unfolding ToolRefuses
+unadapted-values files mid arguments words behind path text s n e b f h k =
+    unadapted (OwnRefuses tool.Invoke files arguments) files mid (behind_names arguments) behind path text s (e ∙ ap first_path n) (b ∙ ap arguments_of n) f h k
+
+pub call-stops : (files mid : Files) (arguments words behind : List (List ℕ)) (path : Path) (text : List ℕ) (a : Adapted) (s : Stop) → words ≡ behind_names arguments
+    → path ≡ first_path words → behind ≡ arguments_of words → mid ≡ files → held files path ≡ Some text → Parses mid (paths_of behind) (Ok (defined a)) → IsAdapted a
+    → StopsWith (NamedFails (named_by arguments) (first_named (named_by arguments) (map entry_of a.functions)) text) s → StopsWith (ToolRefuses tool.Invoke files arguments) s
+unfolding ToolRefuses
+call-stops files mid arguments words behind path text a s n e b f h p q k =
+    let own = e ∙ ap first_path n in
+    let more = b ∙ ap arguments_of n in
+    let fails : List Entry → List ℕ → Type 0 = λ es. NamedFails (named_by arguments) (first_named (named_by arguments) es) text in
+    refusing (OwnRefuses tool.Invoke files arguments) (fails (entries_of (defined a))) files mid (behind_names arguments) behind path text a s own more f h p q
+    (λ report r. (defined a, text, (own-held files (behind_names arguments) path text own h, said files mid behind (arguments_of (behind_names arguments)) a more f p), r))
+    (subst (λ es. StopsWith (fails es) s) q.functions k)
+
+pub call-told : (files mid : Files) (arguments words behind : List (List ℕ)) (path : Path) (text made : List ℕ) (a : Adapted) → words ≡ behind_names arguments
+    → path ≡ first_path words → behind ≡ arguments_of words → mid ≡ files → held files path ≡ Some text → Parses mid (paths_of behind) (Ok (defined a)) → IsAdapted a
+    → IsNamedText (named_by arguments) (map entry_of a.functions) text made → IsToolOutput tool.Invoke files arguments made
+unfolding IsToolOutput
+call-told files mid arguments words behind path text made a n e b f h p q k =
+    let holds = own-held files (behind_names arguments) path text (e ∙ ap first_path n) h in
+    let means = said files mid behind (arguments_of (behind_names arguments)) a (b ∙ ap arguments_of n) f p in
+    let tells : IsNamedText (named_by arguments) (entries_of (defined a)) text made = subst (λ es. IsNamedText (named_by arguments) es text made) q.functions k in
+    ((text, holds), (can-adapt files (arguments_of (behind_names arguments)) a means q, tt), (defined a, text, (holds, means), tells))
+
+pub ruleset call_rules = (memory-stops, lacking-values, unadapted-values, call-stops, call-told)
 
 -- ---- verdicts
 

@@ -6,7 +6,7 @@ use Rattle.witx_base.specs.Texts.{same_text}
 use Rattle.witx.specs.Words.{command_called, command_of}
 use Rattle.witx.specs.declared.words.Command.{Command}
 use Rattle.witx_tools.specs.ToolLaws.{CommandsAreNoTools}
-use Rattle.witx_tools.specs.ToolWords.{shim_of, tool_of, with_own_file}
+use Rattle.witx_tools.specs.ToolWords.{invoke_of, shim_of, tool_of, with_own_file}
 use Rattle.witx_tools.specs.declared.tool.Tool.{Tool}
 use Rattle.witx_tools.specs.declared.tool.Tool.TheVariants as tool
 
@@ -21,6 +21,10 @@ no-shim arguments c e = cc
 no-verify : (arguments : List (List ℕ)) (c : Command) → command_called (codes "verify") arguments ≡ Some c → ⊥
 unfolding same_text
 no-verify arguments c e = cc
+
+no-invoke : (arguments : List (List ℕ)) (c : Command) → command_called (codes "invoke") arguments ≡ Some c → ⊥
+unfolding same_text
+no-invoke arguments c e = cc
 
 no-imports : (arguments : List (List ℕ)) (c : Command) → command_called (codes "imports") arguments ≡ Some c → ⊥
 unfolding same_text
@@ -37,7 +41,8 @@ commands-are-no-tools [] c e = refl
 commands-are-no-tools (word ∷ arguments) c e =
     past word (codes "shim") arguments c (shim_of arguments) _ e (no-shim arguments c)
     (past word (codes "verify") arguments c (with_own_file tool.Verify arguments) _ e (no-verify arguments c)
-    (past word (codes "imports") arguments c (with_own_file tool.Imports arguments) None e (no-imports arguments c) refl))
+    (past word (codes "invoke") arguments c (invoke_of arguments) _ e (no-invoke arguments c)
+    (past word (codes "imports") arguments c (with_own_file tool.Imports arguments) None e (no-imports arguments c) refl)))
 
 -- where the words have the form of a command they have none of a tool
 no-tool-of : (words : List (List ℕ)) (form : Option Command) (t : Tool) → command_of words ≡ form → is_some form ≡ true → tool_of words ≡ Some t → ⊥

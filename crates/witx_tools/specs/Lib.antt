@@ -1,4 +1,7 @@
+pub mod Callable
+pub mod Calls
 pub mod ImportTexts
+pub mod InvokeTexts
 pub mod MappedBy
 pub mod ShimTexts
 pub mod ToolCauses

@@ -9,7 +9,7 @@ use Rattle.witx_files.specs.declared.fault.IoFault.TheVariants.{NotFound}
 use Rattle.witx_ast.specs.Definitions.{DefinitionTree}
 use Rattle.witx_compat.specs.Polyfills.{MappedModule, polyfill_answer}
 use Rattle.witx_walk.specs.ErrorReports.{io_report}
-use Rattle.witx_adapt.specs.Entries.{all_functions}
+use Rattle.witx_adapt.specs.Entries.{Entry, all_functions}
 use Rattle.witx_adapt.specs.declared.adapted.Adapted.{Adapted}
 use Rattle.witx_verify.specs.Traces.{GivesTraces, Sides}
 use Rattle.witx_imports.specs.Faults.{offered}
@@ -26,9 +26,10 @@ use Rattle.witx.specs.declared.refusal.Refusal.{Refusal}
 use Rattle.witx.specs.declared.refusal.Refusal.TheVariants as refusal
 use Rattle.witx.specs.declared.refusal.Stop.{Stop}
 use Rattle.witx.specs.declared.refusal.Stop.TheVariants as stop
+use Rattle.witx_tools.specs.Calls.{CanCall, IsNamedText, NamedFails, entries_of, first_named}
 use Rattle.witx_tools.specs.ImportTexts.{IsBadList, faults_text}
 use Rattle.witx_tools.specs.ShimTexts.{shims_text}
-use Rattle.witx_tools.specs.ToolWords.{adapted_files, first_path, own_file}
+use Rattle.witx_tools.specs.ToolWords.{adapted_files, behind_names, first_path, named_by, own_file}
 use Rattle.witx_tools.specs.VerdictTexts.{IsUnfitListing, listed_for, verdicts_text}
 use Rattle.witx_tools.specs.declared.tool.Tool.{Tool}
 use Rattle.witx_tools.specs.declared.tool.Tool.TheVariants as tool
@@ -38,6 +39,7 @@ abbrev pub tool_lines : List (List ℕ)
 tool_lines =
     codes "       witx shim NEW OLD [NEWMODULE OLDMODULE].."
     ∷ codes "       witx verify LISTING PATH.."
+    ∷ codes "       witx invoke MODULE FUNC VALUES PATH.."
     ∷ codes "       witx imports LIST PATH.."
     ∷ []
 
@@ -65,19 +67,31 @@ abbrev pub OneIsUnadapted : Files → List (List (List ℕ)) → List ℕ → Ty
 OneIsUnadapted files [] report = ⊥
 OneIsUnadapted files (words ∷ more) report = AdaptingFails files (paths_of words) report ⊎ (CanAdapt files (paths_of words) × OneIsUnadapted files more report)
 
--- the bundle holds this listing, and the files behind it mean this document
-abbrev pub IsListingOf : Files → List (List ℕ) → List ℕ → List DefinitionTree → Type 0
-IsListingOf files arguments listing ds =
-    (held files (first_path arguments) ≡ Some listing) × Parses files (paths_of (arguments_of arguments)) (Ok ds)
+-- the bundle holds this text, and the files behind it mean this document
+abbrev pub IsOwnText : Files → List (List ℕ) → List ℕ → List DefinitionTree → Type 0
+IsOwnText files words text ds =
+    (held files (first_path words) ≡ Some text) × Parses files (paths_of (arguments_of words)) (Ok ds)
 
 -- the listing gives the functions of the document these traces
 abbrev pub ListingReads : Files → List (List ℕ) → List DefinitionTree → List Sides → Type 0
-ListingReads files arguments ds sides = (listing : List ℕ) × IsListingOf files arguments listing ds × GivesTraces (listed_for ds) listing sides
+ListingReads files arguments ds sides = (listing : List ℕ) × IsOwnText files arguments listing ds × GivesTraces (listed_for ds) listing sides
 
 -- a line of it can't stand there, and this is the report of the first such
 abbrev pub ListingFails : Files → List (List ℕ) → List ℕ → Type 0
 ListingFails files arguments report =
-    (ds : List DefinitionTree) × (listing : List ℕ) × IsListingOf files arguments listing ds × IsUnfitListing (listed_for ds) listing report
+    (ds : List DefinitionTree) × (listing : List ℕ) × IsOwnText files arguments listing ds × IsUnfitListing (listed_for ds) listing report
+
+-- the function that the words name can be called with these values
+abbrev pub CallReads : Files → List (List ℕ) → Type 0
+CallReads files arguments =
+    (ds : List DefinitionTree) × (values : List ℕ) × IsOwnText files (behind_names arguments) values ds
+    × (e : Entry) × (first_named (named_by arguments) (entries_of ds) ≡ Some e) × CanCall e values
+
+-- there is no such call, and this is the report
+abbrev pub CallRefuses : Files → List (List ℕ) → List ℕ → Type 0
+CallRefuses files arguments report =
+    (ds : List DefinitionTree) × (values : List ℕ) × IsOwnText files (behind_names arguments) values ds
+    × NamedFails (named_by arguments) (first_named (named_by arguments) (entries_of ds)) values report
 
 -- the list of imports is read so
 abbrev pub ListReads : Files → Path → List WasmImport → Type 0
@@ -91,6 +105,7 @@ ListFails files path report = (text : List ℕ) × (held files path ≡ Some tex
 abbrev pub OwnRefuses : Tool → Files → List (List ℕ) → List ℕ → Type 0
 OwnRefuses tool.Shim files arguments report = MappingFails files arguments report
 OwnRefuses tool.Verify files arguments report = ListingFails files arguments report
+OwnRefuses tool.Invoke files arguments report = CallRefuses files arguments report
 OwnRefuses tool.Imports files arguments report = ListFails files (first_path arguments) report
 
 -- WHEN A TOOL REFUSES the files of a bundle, and with which report
@@ -111,6 +126,12 @@ abbrev pub AreVerdicts : Files → List (List ℕ) → List ℕ → Type 0
 AreVerdicts files arguments text =
     (ds : List DefinitionTree) × (sides : List Sides) × ListingReads files arguments ds sides × (text ≡ verdicts_text (all_functions ds) sides)
 
+-- the call of the function that the words name, with the values of the file
+abbrev pub IsCall : Files → List (List ℕ) → List ℕ → Type 0
+IsCall files arguments text =
+    (ds : List DefinitionTree) × (values : List ℕ) × IsOwnText files (behind_names arguments) values ds
+    × IsNamedText (named_by arguments) (entries_of ds) values text
+
 -- the faults of the imports of the list, held against the document of the files behind it
 abbrev pub AreFaults : Files → List (List ℕ) → List ℕ → Type 0
 AreFaults files arguments text =
@@ -121,6 +142,7 @@ AreFaults files arguments text =
 abbrev pub IsToolText : Tool → Files → List (List ℕ) → List ℕ → Type 0
 IsToolText tool.Shim files arguments text = AreShims files arguments text
 IsToolText tool.Verify files arguments text = AreVerdicts files arguments text
+IsToolText tool.Invoke files arguments text = IsCall files arguments text
 IsToolText tool.Imports files arguments text = AreFaults files arguments text
 
 -- WHAT A TOOL TELLS over the files of a bundle, where it doesn't refuse them
@@ -132,6 +154,7 @@ IsToolOutput t files arguments text =
 abbrev pub IsOwnValid : Tool → Files → List (List ℕ) → Type 0
 IsOwnValid tool.Shim files arguments = CanMap files arguments
 IsOwnValid tool.Verify files arguments = (ds : List DefinitionTree) × (sides : List Sides) × ListingReads files arguments ds sides
+IsOwnValid tool.Invoke files arguments = CallReads files arguments
 IsOwnValid tool.Imports files arguments = (imports : List WasmImport) × ListReads files (first_path arguments) imports
 
 -- the bundle holds what the tool works on, and its documents can be adapted

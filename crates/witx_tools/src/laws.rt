@@ -4,8 +4,9 @@ ghost use Rattle.witx_tools.specs.ToolLaws.{CommandsAreNoTools, ValidIsNotRefuse
 
 use witx::valid_is_not_refused;
 use witx_imports::no_fault_where_imports_are_read;
+use witx_invoke::lines_tell_values;
 use witx_verify::traces_leave_no_line_unfit;
-use witx_walk::one_answer;
+use witx_walk::{one_answer, one_reading};
 
 /// No words are both a command's and a tool's.
 pub fn commands_are_no_tools()
@@ -20,4 +21,6 @@ pub fn valid_is_not_refused_by_tools()
     no_fault_where_imports_are_read();
     one_answer();
     traces_leave_no_line_unfit();
+    one_reading();
+    lines_tell_values();
 }

@@ -2,6 +2,7 @@
 #![tactic(auto)]
 
 mod import_texts;
+mod invoke_texts;
 mod laws;
 mod own;
 mod performing;

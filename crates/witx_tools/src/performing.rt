@@ -4,6 +4,7 @@ ghost use Rattle.witx.specs.Stops.{StopsWith};
 ghost use Rattle.witx_tools.specs.ToolCauses.{IsToolOutput, ToolRefuses};
 
 use crate::import_texts::faults_of_files;
+use crate::invoke_texts::call_of_files;
 use crate::shim_texts::shims_of_files;
 use crate::tool::Tool;
 use crate::verdict_texts::verdicts_of_files;
@@ -25,6 +26,7 @@ pub fn perform(
     match tool {
         Tool::Shim => shims_of_files(alloc, arguments, files),
         Tool::Verify => verdicts_of_files(alloc, arguments, files),
+        Tool::Invoke => call_of_files(alloc, arguments, files),
         Tool::Imports => faults_of_files(alloc, arguments, files),
     }
 }

@@ -1,6 +1,6 @@
 //! The tools, and the forms of their words.
 ghost use Rattle.std.specs.Prelude.{◌≡◌};
-ghost use Rattle.witx_tools.specs.ToolWords.{first_word, shim_of, tool_called, tool_of, with_own_file};
+ghost use Rattle.witx_tools.specs.ToolWords.{first_word, invoke_of, shim_of, tool_called, tool_of, with_own_file};
 
 use witx_base::Text;
 
@@ -11,6 +11,8 @@ pub enum Tool {
     Shim,
     /// What the verdict says of the traces of a listing.
     Verify,
+    /// What one call comes to, run over a memory of bytes.
+    Invoke,
     /// What is wrong with the imports of a WebAssembly module.
     Imports,
 }
@@ -35,6 +37,9 @@ fn tool_called(word: &str, arguments: &[Text]) -> Option<Tool>
     if word == "verify" {
         return with_own_file(Tool::Verify, arguments);
     }
+    if word == "invoke" {
+        return invoke_of(arguments);
+    }
     if word == "imports" {
         return with_own_file(Tool::Imports, arguments);
     }
@@ -47,6 +52,16 @@ fn shim_of(arguments: &[Text]) -> Option<Tool>
 {
     if 2 <= arguments.len() && arguments.len() % 2 == 0 {
         return Some(Tool::Shim);
+    }
+    None
+}
+
+/// The call of a function of a module, with the values in the file of the third word.
+fn invoke_of(arguments: &[Text]) -> Option<Tool>
+    ensures { result ≡ invoke_of arguments.now }
+{
+    if 3 <= arguments.len() {
+        return Some(Tool::Invoke);
     }
     None
 }

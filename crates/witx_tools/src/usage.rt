@@ -21,6 +21,7 @@ usage: witx adapt PATH..
        witx sample N
        witx shim NEW OLD [NEWMODULE OLDMODULE]..
        witx verify LISTING PATH..
+       witx invoke MODULE FUNC VALUES PATH..
        witx imports LIST PATH..
 "
 }
