@@ -49,6 +49,8 @@ mod import_faults;
 #[cfg(test)]
 mod imports;
 #[cfg(test)]
+mod invoke;
+#[cfg(test)]
 mod layout;
 #[cfg(test)]
 mod lex;

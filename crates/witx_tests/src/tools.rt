@@ -15,6 +15,7 @@ usage: witx adapt PATH..
        witx sample N
        witx shim NEW OLD [NEWMODULE OLDMODULE]..
        witx verify LISTING PATH..
+       witx invoke MODULE FUNC VALUES PATH..
        witx imports LIST PATH..
 ";
 
@@ -202,6 +203,7 @@ static OTHERS: &[Case] = &[
     ("shim /n", TURNED, 2, "", ALL_USAGE),
     ("shim /n /o m", TURNED, 2, "", ALL_USAGE),
     ("verify", TRACES, 2, "", ALL_USAGE),
+    ("invoke m f", TURNED, 2, "", ALL_USAGE),
     ("imports", LISTS, 2, "", ALL_USAGE),
     ("polyfill /n", TURNED, 2, "", ALL_USAGE),
     // Commands.
@@ -232,7 +234,7 @@ fn run_all_on(
 }
 
 /// Calls of the source, of the output and of the sink of refusals that fail.
-type Fails = (&'static [u64], &'static [u64], &'static [u64]);
+pub type Fails = (&'static [u64], &'static [u64], &'static [u64]);
 
 /// A run over a source that gives 50 bytes a call, and sinks that take 10.
 pub fn run_failing(
@@ -254,7 +256,7 @@ fn gives(alloc: Global, case: &Case, fails: Fails) -> bool {
     }
 }
 
-fn all_give(alloc: Global, cases: &[Case]) -> bool {
+pub fn all_give(alloc: Global, cases: &[Case]) -> bool {
     for case in cases {
         if !gives(alloc, case, (&[], &[], &[])) {
             return false;
@@ -300,8 +302,8 @@ static FAILING: &[(Fails, Case)] = &[
     ((&[0], &[], &[0]), ("shim /n /o", TURNED, 4, "", "")),
 ];
 
-fn all_fail(alloc: Global) -> bool {
-    for (fails, case) in FAILING {
+pub fn all_fail(alloc: Global, cases: &[(Fails, Case)]) -> bool {
+    for (fails, case) in cases {
         if !gives(alloc, case, *fails) {
             return false;
         }
@@ -311,7 +313,7 @@ fn all_fail(alloc: Global) -> bool {
 
 #[test]
 fn failing_devices(rt: HostRuntime) {
-    assert!(rt; all_fail(rt.alloc()));
+    assert!(rt; all_fail(rt.alloc(), FAILING));
 }
 
 /// Whether a line has this tool.
@@ -327,6 +329,8 @@ fn all_are_tools(alloc: Global) -> bool {
         && is_tool(alloc, "shim a b c d e", None)
         && is_tool(alloc, "verify a b c", Some(Tool::Verify))
         && is_tool(alloc, "verify", None)
+        && is_tool(alloc, "invoke m f v", Some(Tool::Invoke))
+        && is_tool(alloc, "invoke m f", None)
         && is_tool(alloc, "imports a", Some(Tool::Imports))
         && is_tool(alloc, "imports", None)
         && is_tool(alloc, "adapt a", None)
