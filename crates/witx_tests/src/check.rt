@@ -42,7 +42,7 @@ fn typename(span: Span) -> DeclSyntax<'static> {
     })
 }
 
-fn no_comments(alloc: Global) -> CommentSyntax<'static> {
+pub fn no_comments(alloc: Global) -> CommentSyntax<'static> {
     CommentSyntax {
         comments: Items::new(alloc),
     }
@@ -75,7 +75,7 @@ fn validate(
 }
 
 /// Whether a declaration is taken in.
-fn takes(
+pub fn takes(
     scope: &mut DocValidationScope<'_>,
     declaration: DeclSyntax<'_>,
     comments: &CommentSyntax<'_>,

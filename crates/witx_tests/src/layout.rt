@@ -316,10 +316,19 @@ fn layouts_are_printed(rt: HostRuntime) {
 
 /// The begin of a type, how many names it has, and how many it may have at most, if it has more.
 const TAGS: &[(&str, usize, Option<u64>)] = &[
+    ("(flags (@witx repr u8)", 8, None),
+    ("(flags (@witx repr u8)", 9, Some(8)),
+    ("(flags (@witx repr u16)", 16, None),
+    ("(flags (@witx repr u16)", 17, Some(16)),
     ("(flags (@witx repr u32)", 32, None),
     ("(flags (@witx repr u32)", 33, Some(32)),
+    ("(flags (@witx repr u64)", 64, None),
+    ("(flags (@witx repr u64)", 65, Some(64)),
     ("(enum (@witx tag u8)", 256, None),
     ("(enum (@witx tag u8)", 257, Some(256)),
+    // Texts of half a megabyte.
+    ("(enum (@witx tag u16)", 65_536, None),
+    ("(enum (@witx tag u16)", 65_537, Some(65_536)),
 ];
 
 fn is_checked(answer: Result<(), TagTooNarrow>, count: usize, most: Option<u64>) -> bool {

@@ -1,5 +1,6 @@
-//! All tests of the repository: rows that were worked out by hand, printed text, devices and readers
-//! that fail, and each public call once where there is memory.
+//! All tests of the repository: rows that were worked out by hand, printed text, and devices and readers
+//! that fail. Calls of the libraries are made where there is memory, by themselves or through the program;
+//! not every small reader has a test.
 //!
 //! They stand in one crate at the top, since a crate with tests is proved twice. A test function has no
 //! `?` and one assertion: a `const` table, a `bool` helper for one row and a `bool` helper that goes

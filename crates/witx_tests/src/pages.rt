@@ -148,7 +148,7 @@ Alignment: 4
 const ADDS: &str =
     r#"(module $m (@interface func (export "add") (param $x u32) (param $y u64) (result $r u32)))"#;
 
-const ADDS_PAGE: &str = r##"# Types
+pub const ADDS_PAGE: &str = r##"# Types
 # Modules
 ## <a href="#m" name="m"></a> m
 ### Imports

@@ -2,12 +2,18 @@
 //! in the end everything stands there once. With memory each is made once; `rt try --test --fail-alloc N`
 //! refuses the allocation numbered N.
 
+use crate::check::{no_comments, takes};
+use crate::declared::typename_of;
 use std::alloc::Global;
-use witx_ast::{Constant, Definition, Definitions};
+use std::rc::Rc;
+use witx_ast::{Constant, Definition, Definitions, NamedType};
 use witx_base::{Id, Items, NameMap, Text, WitxPath};
 use witx_bytes::ByteMemory;
-use witx_docs::{MdContent, MdHeading, MdSection, MdTree};
+use witx_check::DocValidation;
+use witx_docs::{MdContent, MdHeading, MdNamedType, MdSection, MdTree, Numbers, ToMarkdown};
 use witx_files::{MockFs, WitxIo};
+use witx_lex::Span;
+use witx_syntax::{BuiltinSyntax, DeclSyntax, IdSyntax, TypedefSyntax, TypenameSyntax};
 
 fn id(alloc: Global, text: &str) -> Option<Id> {
     match Id::new(alloc, text) {
@@ -133,6 +139,17 @@ fn grow(alloc: Global, tree: &mut MdTree, title: &str) -> Option<usize> {
     }
 }
 
+/// The nodes above one, from its parent on.
+fn above(tree: &MdTree, node: usize) -> Option<Numbers> {
+    if node >= tree.len() {
+        return None;
+    }
+    match tree.ancestors(node) {
+        Ok(above) => Some(above),
+        Err(_) => tree.ancestors(node).ok(),
+    }
+}
+
 /// Each node below the one before.
 fn tree_is_kept(alloc: Global) -> Option<bool> {
     let mut tree = new_tree(alloc)?;
@@ -140,14 +157,96 @@ fn tree_is_kept(alloc: Global) -> Option<bool> {
     for (place, name) in NAMES.iter().enumerate() {
         are_numbers = are_numbers && grow(alloc, &mut tree, name)? == place.saturating_add(1);
     }
-    if tree.len() != 7 {
-        return Some(false);
+    let above = above(&tree, 6)?;
+    Some(are_numbers && tree.len() == 7 && above.as_slice() == [5, 4, 3, 2, 1, 0].as_slice())
+}
+
+/// The typename that is shown.
+fn record(alloc: Global) -> Option<Rc<NamedType>> {
+    let text = "(typename $t (record (field $x u8) (field $pair (tuple u8 u8))))";
+    match typename_of(alloc, text) {
+        Some(record) => Some(record),
+        None => typename_of(alloc, text),
     }
-    let above = match tree.ancestors(6) {
-        Ok(above) => above,
-        Err(_) => tree.ancestors(6).ok()?,
-    };
-    Some(are_numbers && above.as_slice() == [5, 4, 3, 2, 1, 0].as_slice())
+}
+
+fn named(alloc: Global) -> Option<MdContent> {
+    let bullet = MdHeading::new_bullet();
+    match MdNamedType::new(alloc, bullet, "n", "n", "") {
+        Ok(named) => Some(MdContent::Named(named)),
+        Err(_) => Some(MdContent::Named(MdNamedType::new(alloc, bullet, "n", "n", "").ok()?)),
+    }
+}
+
+/// Adds the node of a type below the root, where it isn't refused.
+fn is_named(alloc: Global, tree: &mut MdTree) -> Option<bool> {
+    let content = named(alloc)?;
+    if tree.len() != 1 {
+        return None;
+    }
+    Some(tree.new_child(0, content).is_ok())
+}
+
+/// Shows a type at the node numbered 1, where it isn't refused.
+fn is_shown(tree: &mut MdTree, record: &NamedType) -> bool {
+    if tree.len() < 2 {
+        return false;
+    }
+    record.generate(tree, 1).is_ok()
+}
+
+fn show(tree: &mut MdTree, record: &NamedType) -> bool {
+    is_shown(tree, record) || is_shown(tree, record)
+}
+
+/// The nodes of a record that is shown twice, each with its id and the nodes above it. What stands in a
+/// section comes behind it, below the same node.
+const SHOWN: &[(usize, &str, &[usize])] = &[
+    (0, "-", &[]),
+    (1, "n", &[0]),
+    (2, "-", &[1, 0]),
+    (3, "n.x", &[1, 0]),
+    (4, "n.pair", &[1, 0]),
+    (5, "-", &[4, 1, 0]),
+    (6, "n.pair.0", &[4, 1, 0]),
+    (7, "n.pair.1", &[4, 1, 0]),
+    (8, "-", &[1, 0]),
+    (9, "n.x", &[1, 0]),
+    (10, "n.pair", &[1, 0]),
+    (11, "-", &[10, 1, 0]),
+    (12, "n.pair.0", &[10, 1, 0]),
+    (13, "n.pair.1", &[10, 1, 0]),
+];
+
+fn has_id(tree: &MdTree, node: usize, id: &str) -> bool {
+    if node >= tree.len() {
+        return false;
+    }
+    tree.content(node).id().unwrap_or("-") == id
+}
+
+fn is_below(tree: &MdTree, node: usize, numbers: &[usize]) -> bool {
+    match above(tree, node) {
+        Some(above) => above.as_slice() == numbers,
+        None => false,
+    }
+}
+
+fn are_shown(tree: &MdTree) -> bool {
+    for (node, id, numbers) in SHOWN {
+        if !has_id(tree, *node, id) || !is_below(tree, *node, numbers) {
+            return false;
+        }
+    }
+    tree.len() == SHOWN.len()
+}
+
+fn shown_nodes_are_kept(alloc: Global) -> Option<bool> {
+    let record = record(alloc)?;
+    let mut tree = new_tree(alloc)?;
+    let is_named = is_named(alloc, &mut tree)? || is_named(alloc, &mut tree)?;
+    let is_shown = show(&mut tree, &record) && show(&mut tree, &record);
+    Some(is_named && is_shown && are_shown(&tree))
 }
 
 fn constant(alloc: Global, name: &str) -> Option<Definition> {
@@ -188,6 +287,51 @@ fn definitions_are_kept(alloc: Global) -> Option<bool> {
     Some(are_named)
 }
 
+/// The typename of a number of two bytes, whose name is the whole text.
+fn typename(name: &str) -> DeclSyntax<'_> {
+    DeclSyntax::Typename(TypenameSyntax {
+        ident: IdSyntax {
+            name,
+            span: Span { start: 0, end: 1 },
+        },
+        def: TypedefSyntax::Builtin(BuiltinSyntax::U16),
+    })
+}
+
+/// Whether a new validator takes a typename in: after a refusal the old one may know its name.
+fn is_declared(alloc: Global, path: &WitxPath, definitions: &mut Definitions, name: &str) -> bool {
+    let Ok(mut validation) = DocValidation::new(alloc) else {
+        return false;
+    };
+    let mut scope = validation.scope(name, path);
+    takes(&mut scope, typename(name), &no_comments(alloc), definitions)
+}
+
+fn declare(alloc: Global, path: &WitxPath, definitions: &mut Definitions, name: &str) -> bool {
+    is_declared(alloc, path, definitions, name) || is_declared(alloc, path, definitions, name)
+}
+
+fn is_typename(definition: &Definition, name: &str) -> bool {
+    match definition {
+        Definition::Typename(named) => named.name.is(name),
+        Definition::Constant(_) | Definition::Module(_) => false,
+    }
+}
+
+fn declarations_are_kept(alloc: Global) -> Option<bool> {
+    let path = path(alloc, "/a")?;
+    let mut definitions = Definitions::new(alloc);
+    let mut are_named = true;
+    for name in NAMES {
+        are_named = are_named && declare(alloc, &path, &mut definitions, name);
+    }
+    are_named = are_named && definitions.len() == NAMES.len();
+    for (definition, wanted) in definitions.iter().zip(NAMES.iter()) {
+        are_named = are_named && is_typename(definition, wanted);
+    }
+    Some(are_named)
+}
+
 /// A second call for a range of which a byte is held would be refused as taken.
 fn place(memory: &mut ByteMemory, at: u32) -> Option<()> {
     if at == 0 || at > 1000 {
@@ -218,6 +362,8 @@ fn refused_calls_change_nothing(rt: HostRuntime) {
     let alloc = rt.alloc();
     let lists = list_is_kept(alloc) == Some(true) && map_is_kept(alloc) == Some(true);
     let files = files_are_kept(alloc) == Some(true) && bytes_are_kept(alloc) == Some(true);
-    let nodes = tree_is_kept(alloc) == Some(true) && definitions_are_kept(alloc) == Some(true);
-    assert!(rt; lists && files && nodes);
+    let nodes = tree_is_kept(alloc) == Some(true) && shown_nodes_are_kept(alloc) == Some(true);
+    let definitions = definitions_are_kept(alloc) == Some(true)
+        && declarations_are_kept(alloc) == Some(true);
+    assert!(rt; lists && files && nodes && definitions);
 }

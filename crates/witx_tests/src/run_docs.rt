@@ -1,6 +1,7 @@
 //! The command that documents: worked bundles with what a run gives, also where a sink fails.
 
-use crate::run::{Built, Case, Gave, all_built_give, all_give, run_on, sink_of, source_of};
+use crate::pages::ADDS_PAGE;
+use crate::run::{ADD, Built, Case, Gave, all_built_give, all_give, run_on, sink_of, source_of};
 use std::alloc::Global;
 use witx_base::OutOfMemory;
 
@@ -43,6 +44,7 @@ Alignment: 4
 static PAGES: &[Case] = &[
     ("docs", "", 0, "# Types\n# Modules\n", ""),
     ("docs /a", NUMBER, 0, NUMBER_PAGE, ""),
+    ("docs /a", ADD, 0, ADDS_PAGE, ""),
     ("docs /a", LINKED, 0, LINKED_PAGE, LINKED_LINES),
     ("docs /a /a", LINKED, 0, LINKED_PAGE, LINKED_LINES),
     (

@@ -1,7 +1,9 @@
-//! The sample: its bundle, its summary, and the program over it, whose source isn't read.
+//! The sample: its bundle, its summary, and the program over it, whose source isn't read. And which words
+//! have a form.
 
-use crate::run::{Case, USAGE, all_give, run_on, sink_of, source_of};
+use crate::run::{Case, USAGE, all_give, run_on, sink_of, source_of, words_of};
 use std::alloc::Global;
+use witx::has_form;
 use witx_base::OutOfMemory;
 use witx_sample::{sample_bundle, sample_files};
 
@@ -50,6 +52,66 @@ fn samples(rt: HostRuntime) {
     assert!(rt; all_give(rt.alloc(), SAMPLES));
 }
 
+/// Words, and whether they have a form.
+const FORMS: &[(&str, bool)] = &[
+    ("", false),
+    // No path is a number of paths, too.
+    ("adapt", true),
+    ("adapt /a", true),
+    ("adapt /a /b", true),
+    ("print", true),
+    ("print /a /b", true),
+    ("layouts", true),
+    ("layouts /a", true),
+    ("docs", true),
+    ("docs /a", true),
+    ("polyfill", false),
+    ("polyfill /n", false),
+    ("polyfill /n /o", true),
+    ("polyfill /n /o m", false),
+    ("polyfill /n /o m m", true),
+    ("polyfill /n /o m m k", false),
+    ("polyfill /n /o m m k k", true),
+    ("sample", false),
+    ("sample 0", false),
+    ("sample 1", true),
+    ("sample 01", false),
+    ("sample 4096", true),
+    ("sample 4097", false),
+    ("sample 1 1", false),
+    // No commands: the tools have a call of their own.
+    ("adopt /a", false),
+    ("Adapt /a", false),
+    ("adapted /a", false),
+    (" adapt /a", false),
+    ("/a adapt", false),
+    ("shim /n /o m m", false),
+    ("verify /l /a", false),
+    ("invoke m f /v /a", false),
+    ("imports /l /a", false),
+];
+
+fn is_as_told(alloc: Global, line: &str, wanted: bool) -> bool {
+    match words_of(alloc, line) {
+        Ok(words) => has_form(words.as_slice()) == wanted,
+        Err(_) => false,
+    }
+}
+
+fn all_as_told(alloc: Global) -> bool {
+    for (line, wanted) in FORMS {
+        if !is_as_told(alloc, line, *wanted) {
+            return false;
+        }
+    }
+    true
+}
+
+#[test]
+fn words_with_a_form(rt: HostRuntime) {
+    assert!(rt; all_as_told(rt.alloc()));
+}
+
 /// A run over a source whose first read fails.
 fn leaves_its_source(alloc: Global) -> Result<bool, OutOfMemory> {
     let source = source_of(alloc, b"x", 1, &[0])?;
@@ -85,4 +147,27 @@ fn is_written(alloc: Global) -> bool {
 #[test]
 fn bundle_of_a_sample(rt: HostRuntime) {
     assert!(rt; is_written(rt.alloc()));
+}
+
+/// The length of the largest bundle: 82 bytes stand once (69 before the types, 11 before the functions, 2
+/// behind them). Each number below 4,096 has lines of 260 bytes beside itself (67 its record, 82 its variant,
+/// 111 its function), in which it stands seven times (1, 3 and 3), and all these numbers have 15,274 digits.
+const LARGEST_LEN: usize = 1_171_960;
+
+const LARGEST_END: &str = r#"
+(@interface func (export "f4094") (param $p $v4094) (param $q string) (result $s (expected (tuple $r4094 $e) (error $e))))
+(@interface func (export "f4095") (param $p $v4095) (param $q string) (result $s (expected (tuple $r4095 $e) (error $e))))
+)
+"#;
+
+fn largest_is_written(alloc: Global) -> bool {
+    match sample_bundle(alloc, 4096) {
+        Ok(text) => text.as_str().len() == LARGEST_LEN && text.as_str().ends_with(LARGEST_END),
+        Err(_) => false,
+    }
+}
+
+#[test]
+fn bundle_of_the_largest_sample(rt: HostRuntime) {
+    assert!(rt; largest_is_written(rt.alloc()));
 }
