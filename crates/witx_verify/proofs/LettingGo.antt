@@ -64,6 +64,16 @@ joined-smaller s ps rest more all left v e h k j =
     let d : count_in all + count_in left ≡ count_in rest + count_in more = sym (count-append all left) ∙ ap count_in j ∙ count-append rest more in
     let f = count-tuple all in omega arith
 
+-- a case's payload takes the place of the case
+pub payload-smaller : (s : Symbol) (ps rest all : List (Rc Symbol Global)) (v p : Rc Symbol Global) (i : ℕ) → s ≡ symbol.Tuple ps → ps ≡ rest ++ v ∷ [] → v.value ≡ symbol.Made i p → all ≡ rest ++ p ∷ [] → count (symbol.Tuple all) < count s
+payload-smaller s ps rest all v p i e h k j =
+    let a : count s ≡ count_in ps = ap count e ∙ count-tuple ps in
+    let b = last-count ps rest v h in
+    let c : count v.value ≡ 1 + count p.value = ap count k ∙ count-made i p in
+    let d = last-count all rest p j in
+    let f = count-tuple all in
+    omega arith
+
 -- how deep a part is
 abbrev depth : Rc Symbol Global → ℕ
 depth = Rattle.witx_verify.specs.declared.symbol.Symbol.TheShapes.weighed-Symbol-Tuple-0-at-1.weight Rattle.witx_verify.specs.declared.symbol.Symbol.TheBlock.the_data the_size

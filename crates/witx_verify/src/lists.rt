@@ -21,3 +21,15 @@ pub(crate) fn joined<T>(items: Items<T>, more: Items<T>) -> (Items<T>, Items<T>)
     if items.append(&mut more).is_err() {}
     (Items::from_vec(items), Items::from_vec(more))
 }
+
+/// A list with another item behind it; where memory is refused the list as it was, and the item.
+pub(crate) fn with_last<T>(items: Items<T>, item: T) -> (Items<T>, Option<T>)
+    ensures { MatchOption result.1 (result.0 ≡ items ++ item ∷ []) (λ left. (result.0 ≡ items) × (left ≡ item)) }
+{
+    let mut items = items.into_vec();
+    let left = match items.push(item) {
+        Ok(()) => None,
+        Err(refused) => Some(refused.value),
+    };
+    (Items::from_vec(items), left)
+}

@@ -1,9 +1,9 @@
-ghost use Rattle.std.specs.Prelude.{◌≡◌, IfErr, IfOk, map};
+ghost use Rattle.std.specs.Prelude.{◌≡◌, ℕ, IfErr, IfOk, IfSome, map};
 ghost use Rattle.witx_verify.specs.declared.symbol.Symbol.TheVariants as declared;
 ghost use Rattle.witx_verify.specs.SymbolViews.{source_of, symbol_of, symbols_read};
 ghost use Rattle.witx_verify.specs.Symbols.{same_source, same_symbol, same_members};
 
-use crate::lists::{joined, without_last};
+use crate::lists::{joined, with_last, without_last};
 use crate::types::alike;
 use std::rc::Rc;
 use witx_ast::TypeRef;
@@ -24,7 +24,7 @@ pub enum Source {
 
 /// What stands for a value of which only its type and where it comes from are known.
 ///
-/// However deep a tuple is, it is dropped without recursion.
+/// However deep it is, it is dropped without recursion.
 #[cycle(symbol)]
 pub enum Symbol {
     /// A value of a type that is no tuple.
@@ -40,8 +40,8 @@ pub enum Symbol {
 /// Symbols, in order.
 pub type Symbols = Items<Rc<Symbol>>;
 
-// The parts of a tuple of tuples are put into one list, from its end; where memory is refused they are let go
-// one in the other.
+// What the last part of a tuple is made of takes its place, so that all parts come to stand in one list; where memory
+// is refused they are let go one in the other.
 impl Drop for Symbol {
     #[tactic(auto, using(crate::proofs::LettingGo::drop_rules))]
     fn drop(mut self) {
@@ -66,24 +66,21 @@ impl Drop for Symbol {
                         }
                         Some(last) => match Rc::into_inner(last) {
                             None => self = Symbol::Tuple(rest),
-                            Some(inner) => {
-                                if inner.is_leaf() {
-                                    drop(inner);
-                                    self = Symbol::Tuple(rest);
-                                } else {
-                                    match inner.into_parts() {
-                                        Ok(more) => {
-                                            let (all, left) = joined(rest, more);
-                                            drop(left);
-                                            self = Symbol::Tuple(all);
-                                        }
-                                        Err(made) => {
-                                            drop(rest);
-                                            self = made;
-                                        }
-                                    }
+                            Some(inner) => match inner.into_parts() {
+                                Ok(more) => {
+                                    let (all, left) = joined(rest, more);
+                                    drop(left);
+                                    self = Symbol::Tuple(all);
                                 }
-                            }
+                                Err(None) => self = Symbol::Tuple(rest),
+                                Err(Some(payload)) => {
+                                    let (all, left) = with_last(rest, payload);
+                                    if let Some(payload) = left {
+                                        drop(payload);
+                                    }
+                                    self = Symbol::Tuple(all);
+                                }
+                            },
                         },
                     }
                 }
@@ -93,28 +90,20 @@ impl Drop for Symbol {
 }
 
 impl Symbol {
-    // Whether it is made of no other symbol.
-    fn is_leaf(&self) -> bool {
-        match self {
-            Symbol::Atom { source: _, ty: _ } | Symbol::BareMade { case: _ } => true,
-            Symbol::Tuple(_)
-            | Symbol::Made {
-                case: _,
-                payload: _,
-            } => false,
-        }
-    }
-
-    // The parts of a tuple; else the symbol itself.
-    fn into_parts(self) -> Result<Symbols, Symbol>
+    // The parts of a tuple; else what a case carries, where it carries something.
+    fn into_parts(self) -> Result<Symbols, Option<Rc<Symbol>>>
         ensures parts { IfOk result (λ parts. self ≡ declared.Tuple parts) }
-        ensures other { IfErr result (λ other. self ≡ other) }
+        ensures payload { IfErr result (λ left. IfSome left (λ payload. (case : ℕ) × (self ≡ declared.Made case payload))) }
     {
         match self {
             Symbol::Tuple(parts) => Ok(parts),
-            Symbol::Atom { source, ty } => Err(Symbol::Atom { source, ty }),
-            Symbol::Made { case, payload } => Err(Symbol::Made { case, payload }),
-            Symbol::BareMade { case } => Err(Symbol::BareMade { case }),
+            Symbol::Atom { source, ty } => {
+                drop(source);
+                drop(ty);
+                Err(None)
+            }
+            Symbol::Made { case: _, payload } => Err(Some(payload)),
+            Symbol::BareMade { case: _ } => Err(None),
         }
     }
 }
