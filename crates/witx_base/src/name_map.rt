@@ -1,4 +1,4 @@
-ghost use Rattle.std.specs.Prelude.{◌≡◌, ◌==◌, ◌&&◌, [], length, option_map, OnOk, OnErr, cond, Some};
+ghost use Rattle.std.specs.Prelude.{◌≡◌, ◌==◌, ◌&&◌, [], length, option_map, IsTrue, OnOk, OnErr, cond, None, Some};
 ghost use Rattle.std.specs.Ordering.{is_eq, nat_cmp};
 ghost use Rattle.std.specs.Cmp.{and_equiv, and_per, on_equiv, on_per, partial_equiv_from_equiv};
 ghost use Rattle.std.specs.Cmp.Lexicographic.{lists_equiv, lists_per, nat_list_eq_equiv, pointwise, slice_cmp};
@@ -74,6 +74,26 @@ impl<V> NameMap<V> {
         ensures { option_map (λ v. v.now) result ≡ found self.now key.now }
     {
         self.map.get(key)
+    }
+
+    /// Whether the name is behind all names of the map.
+    fn ends_before(&self, name: &Id) -> bool
+        ensures { IsTrue result → found self.now name.now ≡ None }
+    {
+        match self.map.last_key_value() {
+            Some((last, _)) => last.cmp(name).is_lt(),
+            None => false,
+        }
+    }
+
+    /// The value at a name; the same as `get`, sooner where the name is behind all names of the map.
+    pub fn get_new(&self, name: &Id) -> Option<&V>
+        ensures { option_map (λ v. v.now) result ≡ found self.now name.now }
+    {
+        if self.ends_before(name) {
+            return None;
+        }
+        self.get(name)
     }
 
     /// The entries, in the order of their names.

@@ -11,7 +11,6 @@ pub mod Fits
 pub mod Funcs
 pub mod ModuleItems
 pub mod NamePlaces
-pub mod NameTables
 pub mod Onward
 pub mod Orders
 pub mod Params

@@ -11,7 +11,6 @@ pub mod Integers
 pub mod Kept
 pub mod Messages
 pub mod Modules
-pub mod NameNumbers
 pub mod NamePlaces
 pub mod Names
 pub mod Places

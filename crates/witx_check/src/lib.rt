@@ -7,7 +7,6 @@ mod error;
 mod functions;
 mod laws;
 mod modules;
-mod name_table;
 mod parts;
 mod place;
 mod report;

@@ -13,7 +13,6 @@ ghost use Rattle.std.specs.Map.{keys_of};
 
 use crate::cases::{TagNames, case_names, case_with, ordered};
 use crate::error::CheckError;
-use crate::name_table::NameKey;
 use crate::room::with_room;
 use crate::scope::{
     Marks, Scope, bad_field, bad_tag, introduce_mark, mark, repr, wrong_kind, wrong_size,
@@ -336,7 +335,7 @@ pub fn checked_size(
 }
 
 /// Whether the name is one of those taken in.
-fn is_marked(marks: &Marks, name: &NameKey) -> bool
+fn is_marked(marks: &Marks, name: &Id) -> bool
     ensures { result ≡ has_name (keys_of marks.now) name.now }
 {
     marks.get(name).is_some()
@@ -355,9 +354,8 @@ fn take_case(
     ensures kept { (q : _) → OnOk result (found seen.new q ≡ found ((name.now, at) ∷ seen.old) q) }
     ensures fault { IfErr result (λ e. Blames e (case_check (Some names.now) (keys_of seen.old) name.now ((here_of scope.now).place at))) }
 {
-    let key = NameKey::new(scope.alloc, name.as_str())?;
-    if names.has(name) && !is_marked(seen, &key) {
-        Ok(mark(seen, key, at)?)
+    if names.has(name) && !is_marked(seen, name) {
+        Ok(mark(seen, name.copy()?, at)?)
     } else {
         Err(bad_field(
             scope,

@@ -9,21 +9,20 @@ ghost use Rattle.witx_check.specs.SyntaxChecks.{used_check, denoted_tree};
 ghost use Rattle.witx_ast.specs.Views.{tree_of, named_tree};
 
 use crate::error::{CheckError, ValidationError};
-use crate::name_table::{NameKey, NameTable};
 use crate::place::SharedPlace;
 use std::alloc::Global;
 use std::rc::Rc;
 use witx_ast::{BuiltinType, Entries, Entry, NamedType, TypeRef};
-use witx_base::{Duplicate, Id, OutOfMemory, Text, WitxPath};
+use witx_base::{Duplicate, Id, NameMap, OutOfMemory, Text, WitxPath};
 use witx_files::Location;
 use witx_lex::line_column;
 use witx_syntax_tree::IdSyntax;
 
 /// Names of the document, and where each stands.
-pub type Names = NameTable<SharedPlace>;
+pub type Names = NameMap<SharedPlace>;
 
 /// Names inside one declaration, and the offset at which each stands.
-pub type Marks = NameTable<usize>;
+pub type Marks = NameMap<usize>;
 
 /// The location of the byte at an offset.
 #[tactic(auto, unfolding(crate::specs::Places::location_in))]
@@ -232,11 +231,10 @@ pub fn introduce_mark(
     ensures fault { IfErr result (λ e. Blames e (new_mark (here_of scope.now) marks.old name.now at)) }
 {
     let id = Id::new(scope.alloc, name)?;
-    let key = NameKey::new(scope.alloc, name)?;
-    match marks.get_new(&key) {
+    match marks.get_new(&id) {
         Some(before) => Err(known_mark(scope, &id, at, *before)),
         None => {
-            marks.insert(key, at)?;
+            marks.insert(id.copy()?, at)?;
             Ok(id)
         }
     }
@@ -244,7 +242,7 @@ pub fn introduce_mark(
 
 /// Takes a name that may stand there into a scope inside the declaration.
 #[tactic(auto, using(crate::proofs::Steps::step_rules))]
-pub fn mark(marks: &mut Marks, name: NameKey, at: usize) -> Result<(), OutOfMemory>
+pub fn mark(marks: &mut Marks, name: Id, at: usize) -> Result<(), OutOfMemory>
     ensures { (q : _) → OnOk result (found marks.new q ≡ found ((name, at) ∷ marks.old) q) }
 {
     marks.insert(name, at)?;
@@ -266,11 +264,10 @@ pub fn introduce(
     ensures err { IfErr result (λ _. names.new ≡ names.old) }
 {
     let id = Id::new(alloc, name)?;
-    let key = NameKey::new(alloc, name)?;
-    match names.get_new(&key) {
+    match names.get_new(&id) {
         Some(before) => Err(known(alloc, &id, &at, before)),
         None => {
-            names.insert(key, at)?;
+            names.insert(id.copy()?, at)?;
             Ok(id)
         }
     }
@@ -284,11 +281,11 @@ pub fn denoted<'a>(scope: &Scope<'a>, name: &IdSyntax<'_>) -> Result<&'a Rc<Name
     ensures fault { IfErr result (λ e. Blames e (used_check (here_of scope.now) name.now)) }
 {
     let at = name.span.start;
-    let key = NameKey::new(scope.alloc, name.name)?;
-    if scope.names.get(&key).is_none() {
+    let id = Id::new(scope.alloc, name.name)?;
+    if scope.names.get(&id).is_none() {
         return Err(unknown(scope, name.name, at));
     }
-    match scope.entries.get(key.id()) {
+    match scope.entries.get(&id) {
         Some(Entry::Typename(named)) => Ok(named),
         Some(Entry::Module(_)) => Err(wrong_kind(scope, name.name, "datatype", "module", at)),
         None => Err(recursive(scope, name.name, at)),

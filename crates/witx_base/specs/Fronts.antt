@@ -1,0 +1,11 @@
+-- The number by which most names are told apart before their bytes are compared: that of a name's first eight bytes, the
+-- first one greatest, with zeros behind a shorter name.
+use Rattle.std.specs.Prelude.{ℕ, zero, suc, List, ◌+◌, ◌*◌, get_or, drop}
+
+-- a number with the next bytes behind it, so many
+abbrev pub behind : ℕ → ℕ → List ℕ → ℕ
+behind number zero bytes = number
+behind number (suc count) bytes = behind (number * 256 + get_or bytes 0 0) count (drop 1 bytes)
+
+unfoldable pub front_of : List ℕ → ℕ
+front_of bytes = behind 0 8 bytes
