@@ -1,6 +1,7 @@
-//! The program: it reads a bundle of interface texts and writes what its command asks for. And the whole
-//! library, in one crate to be named: what the crates below offer to a caller stands here too. The laws
-//! about their definitions, which nobody calls, stay where they are.
+//! The front door: `run`, which reads a bundle of interface texts and writes what its command asks for; `adapt`,
+//! the call behind the first command; and again, under their own names, the calls and types that a caller of
+//! these needs of the crates below. Not here: the laws of those crates about their definitions; calls that they
+//! have for each other; and the crates of the tools, which are named by themselves.
 #![tactic(auto)]
 
 mod adapting;

@@ -10,7 +10,8 @@ pub trait Documentation {
     /// The answer where memory lasts: the text, or the refusal.
     ghost answer: { Self → Result (List ℕ) DocsError };
 
-    /// The documentation, in Markdown.
+    /// The documentation, in Markdown: the text of `answer`, or its refusal. Want of memory may come in place of
+    /// either.
     fn to_md(&self, alloc: Global) -> Result<Text, DocsError>
         ensures text { IfOk result (λ text. answer self.now ≡ Ok text) }
         ensures refusal { IfErr result (λ refused. (refused ≡ DocsError.OutOfMemory) ⊎ (answer self.now ≡ Err refused)) };

@@ -176,6 +176,9 @@ impl Documentation for Document {
 
     ghost answer = { λ d. page_answer (map definition_tree d.definitions) };
 
+    /// The page of `document_md`. Refused as that is: `UnknownConstantType` comes exactly where a constant's type
+    /// is no typename of the document, for the first such; `TooLarge` exactly where else a number that the page
+    /// needs exceeds `usize::MAX`; want of memory may come in place of each.
     fn to_md(&self, alloc: Global) -> Result<Text, DocsError> {
         match document_md(alloc, self) {
             Ok((text, _)) => Ok(text),

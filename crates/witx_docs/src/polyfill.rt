@@ -80,7 +80,7 @@ fn put_true_conversions(out: &mut String, polyfill: &Polyfill) -> Result<(), Out
 impl Documentation for Polyfill {
     ghost answer = { λ p. Ok (polyfill_text (map module_view p.modules)) };
 
-    /// The modules, and the conversions between types that are not alike.
+    /// The modules, and the conversions between types that are not alike. Refused only for want of memory.
     fn to_md(&self, alloc: Global) -> Result<Text, DocsError>
         ensures text { IfOk result (λ text. text ≡ polyfill_text (map module_view self.now.modules)) }
         ensures memory { IfErr result (λ refused. refused ≡ DocsError.OutOfMemory) }
@@ -92,7 +92,7 @@ impl Documentation for Polyfill {
 impl Documentation for ModulePolyfill {
     ghost answer = { λ m. Ok (module_text (module_view m)) };
 
-    /// The two modules, and each old function.
+    /// The two modules, and each old function. Refused only for want of memory.
     fn to_md(&self, alloc: Global) -> Result<Text, DocsError>
         ensures text { IfOk result (λ text. text ≡ module_text (module_view self.now)) }
         ensures memory { IfErr result (λ refused. refused ≡ DocsError.OutOfMemory) }
@@ -104,7 +104,7 @@ impl Documentation for ModulePolyfill {
 impl Documentation for FuncPolyfill {
     ghost answer = { λ f. Ok (function_text (function_view f)) };
 
-    /// The function, in full or with each of its parts.
+    /// The function, in full or with each of its parts. Refused only for want of memory.
     fn to_md(&self, alloc: Global) -> Result<Text, DocsError>
         ensures text { IfOk result (λ text. text ≡ function_text (function_view self.now)) }
         ensures memory { IfErr result (λ refused. refused ≡ DocsError.OutOfMemory) }
@@ -116,7 +116,7 @@ impl Documentation for FuncPolyfill {
 impl Documentation for ParamPolyfill {
     ghost answer = { λ p. Ok (mapped_text (mapped_view p)) };
 
-    /// The names, and how the types are to each other.
+    /// The names, and how the types are to each other. Refused only for want of memory.
     fn to_md(&self, alloc: Global) -> Result<Text, DocsError>
         ensures text { IfOk result (λ text. text ≡ mapped_text (mapped_view self.now)) }
         ensures memory { IfErr result (λ refused. refused ≡ DocsError.OutOfMemory) }
@@ -128,7 +128,8 @@ impl Documentation for ParamPolyfill {
 impl Documentation for TypePolyfill {
     ghost answer = { λ c. Ok (conversion_text (conversion_view c)) };
 
-    /// The two types, and how the one that receives values is represented by the other.
+    /// The two types, and how the one that receives values is represented by the other. Refused only for want
+    /// of memory.
     fn to_md(&self, alloc: Global) -> Result<Text, DocsError>
         ensures text { IfOk result (λ text. text ≡ conversion_text (conversion_view self.now)) }
         ensures memory { IfErr result (λ refused. refused ≡ DocsError.OutOfMemory) }

@@ -27,7 +27,8 @@ impl From<OutOfMemory> for ValuesError {
 pub enum InvokeError {
     /// The reply is an error that is passed as the word 0, which can't be told from ok.
     ZeroError,
-    /// The two traces together have more than 2^30 events, or a range would end above 2^20.
+    /// The two traces together have more than 2^30 events, or no run at the addresses that `invoke` gives keeps
+    /// all its ranges within the first 2^20 bytes.
     NoRoom,
     /// Want of memory.
     OutOfMemory,

@@ -36,8 +36,8 @@ const MOST_EVENTS: u128 = 1 << 30;
 /// a reply exactly where there is a result.
 ///
 /// Refused as `ZeroError` where the reply is an error that is passed as the word 0, which the function's ABI
-/// can't tell from ok; else as `NoRoom` where the traces together have more than 2^30 events, or a range
-/// would end above 2^20.
+/// can't tell from ok; else as `NoRoom` where the traces together have more than 2^30 events, or where no
+/// run at these addresses keeps all its ranges within the first 2^20 bytes.
 pub fn invoke(
     alloc: Global,
     entry: &AdaptedFunc,
