@@ -27,6 +27,9 @@ pub struct GivenValues {
 
 /// The values that the lines of a text are: one line for each parameter and one for a result, each
 /// the text of a value of its type, ended by a line feed.
+///
+/// Asked of a function with at most one result, whose types fit their tags. Refused as `Line` for the first
+/// line that isn't the text of a value of its type, or is one too many or missing.
 pub fn read_values(
     alloc: Global,
     func: &InterfaceFunc,

@@ -37,10 +37,10 @@ use witx_base::{Sink, Source, Text};
 /// writes the usage text on `err`.
 ///
 /// With `adapt` it ends with status 0 only having written the listing of the document that the texts
-/// mean and each function's caller and callee traces. On the machine, given unused nonzero addresses,
-/// caller against callee passes the ABI's words, hands over any arguments of the declared types and
-/// brings back any result, under `Preview1` any whose error word isn't 0, leaving an empty stack and
-/// memory in use unchanged.
+/// mean and each function's caller and callee traces. On the machine, given as many distinct unused
+/// addresses from 1 to 2^32 - 1 as both traces have events, caller against callee passes the ABI's words,
+/// hands over any arguments of the declared types and brings back any result, under `Preview1` any whose
+/// error word isn't 0, leaving an empty stack and memory in use unchanged.
 #[tactic(auto, using(crate::proofs::Words::word_rules))]
 pub fn run_all<S: Source, O: Sink, E: Sink>(
     alloc: Global,

@@ -129,7 +129,8 @@ impl Cells {
         })
     }
 
-    /// What stands at an address that was made for a type alike to this one.
+    /// What stands at an address that was made for a type alike to this one; none where the word is no such
+    /// address, or nothing stands there.
     #[tactic(auto, using(crate::proofs::CellLemmas::cell_rules))]
     pub fn get(&self, ty: &NamedType, word: &Word) -> Result<Option<Rc<Symbol>>, OutOfMemory>
         ensures { IfOk result (λ symbol. option_of symbol ≡ get_symbol (named_tree ty.now) (word_of word.now) (memory_of self.now)) }
@@ -148,7 +149,7 @@ impl Cells {
     }
 
     /// Puts a symbol of the type at an address that was made for a type alike to it, and answers whether
-    /// it did.
+    /// it did; else nothing changes.
     #[tactic(auto, using(crate::proofs::CellLemmas::cell_rules))]
     pub fn set(&mut self, ty: &NamedType, word: &Word, symbol: Rc<Symbol>) -> bool
         ensures stored { when result (Some (memory_of self.new)) ≡ set_symbol (named_tree ty.now) (word_of word.now) (shared_of symbol) (memory_of self.old) }

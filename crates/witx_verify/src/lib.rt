@@ -1,4 +1,5 @@
-//! Whether two traces are faithful to a function: the machine runs them over symbols.
+//! Whether two traces are faithful to a function: the machine runs them over symbols. And the traces that a text
+//! gives, in the form of a listing.
 #![tactic(auto)]
 
 mod candidates;

@@ -76,8 +76,9 @@ impl From<OutOfMemory> for TracesError {
 /// that name; else for the first such type of those that lists and pointers of the function are of, and
 /// of its result's ok and err types, which come first where a result is lowered.
 ///
-/// `adapted` has one entry for each function of its document. Refused for the first line that can't
-/// stand there. Each line `call_interface` takes memory for the types of all parameters.
+/// Asked of an `adapted` with one entry for each function of its document. Refused as `Line` for the first
+/// line that can't stand there, or for lines that are missing. Each line `call_interface` takes memory for
+/// the types of all parameters.
 #[tactic(auto, using(crate::proofs::Refusing::trace_rules))]
 pub fn read_traces(alloc: Global, adapted: &Adapted, text: &str) -> Result<TracePairs, TracesError>
     requires { HasEachEntry (listed adapted.now) }

@@ -24,7 +24,8 @@ pub enum Source {
 
 /// What stands for a value of which only its type and where it comes from are known.
 ///
-/// However deep it is, it is dropped without recursion.
+/// However deep it is, it is dropped without recursion; where memory is refused meanwhile, parts are let go one in
+/// the other.
 #[cycle(symbol)]
 pub enum Symbol {
     /// A value of a type that is no tuple.

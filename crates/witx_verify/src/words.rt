@@ -94,7 +94,7 @@ pub fn lift(conversion: &Conversion<'_>, word: &Word) -> Result<Option<Rc<Symbol
     }
 }
 
-/// The address and the length of a symbol of a list type.
+/// The address and the length of a symbol of a list type; none of another symbol.
 #[tactic(auto, using(crate::proofs::WordLemmas::word_rules))]
 pub fn list_words(symbol: &Rc<Symbol>) -> Result<Option<(Word, Word)>, OutOfMemory>
     ensures { IfOk result (λ words. option_map (λ p. (word_of p.0, word_of p.1)) words ≡ list_words (shared_of symbol.now)) }
@@ -122,7 +122,7 @@ fn is_a_list(symbol: &Symbol) -> bool
     }
 }
 
-/// The list of this address and this length, where they are its own.
+/// The list of this address and this length, where they are its own; else none.
 #[tactic(auto, using(crate::proofs::WordLemmas::word_rules))]
 pub fn list_of_words(address: &Word, length: &Word) -> Result<Option<Rc<Symbol>>, OutOfMemory>
     ensures { IfOk result (λ symbol. option_of symbol ≡ list_of_words (word_of address.now) (word_of length.now)) }
@@ -139,7 +139,7 @@ pub fn list_of_words(address: &Word, length: &Word) -> Result<Option<Rc<Symbol>>
     }
 }
 
-/// The members of a tuple of so many.
+/// The members of a tuple of so many; none of another symbol.
 #[tactic(auto, using(crate::proofs::WordLemmas::word_rules))]
 pub fn parts_of(count: usize, symbol: &Symbol) -> Option<&[Rc<Symbol>]>
     ensures { option_map (λ parts. shared_symbols parts.now) result ≡ parts_of count (symbol_of symbol.now) }

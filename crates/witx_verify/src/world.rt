@@ -19,6 +19,7 @@ use witx_run::{name_of, same_type};
 /// What is known of the reply.
 #[derive(Drop)]
 pub struct World {
+    /// The ABI of the function.
     pub abi: Abi,
     /// The reply, where the function has a result.
     pub whole: Option<Rc<Symbol>>,
