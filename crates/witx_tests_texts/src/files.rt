@@ -1,0 +1,288 @@
+//! Files in memory, listed calls that fail, and places in a file as a report shows them.
+
+use std::alloc::Global;
+use witx_base::{Duplicate, Items, OutOfMemory, Text, WitxPath};
+use witx_files::{FailingFs, IoError, IoFault, Location, MockFs, WitxIo};
+use witx_fixtures::{calls_of, files_of, links_of, long_text};
+
+const NOT_FOUND: IoError = IoError::Fault(IoFault::NotFound);
+
+const LINE_NOT_FOUND: IoError = IoError::Fault(IoFault::LineNotFound);
+
+const FAILED: IoError = IoError::Fault(IoFault::Failed);
+
+/// What a call answers: a text, or why there is none.
+type Wanted = Result<&'static str, IoError>;
+
+fn is_answer(answer: &Result<Text, IoError>, wanted: Wanted) -> bool {
+    match (answer, wanted) {
+        (Ok(text), Ok(wanted)) => text.as_str() == wanted,
+        (Err(error), Err(wanted)) => *error == wanted,
+        _ => false,
+    }
+}
+
+/// Paths, of which the last spells the first another way.
+const HELD: &[(&str, &str)] = &[("/a", "old"), ("/b", ""), ("//a/.", "new")];
+
+const TEXTS: &[(&str, Wanted)] = &[
+    ("/a", Ok("new")),
+    ("/b", Ok("")),
+    ("a", Err(NOT_FOUND)),
+    ("/", Err(NOT_FOUND)),
+];
+
+fn gives<I: WitxIo>(alloc: Global, io: &mut I, path: &WitxPath, wanted: Wanted) -> bool {
+    is_answer(&io.fgets(alloc, path), wanted)
+}
+
+fn holds(
+    alloc: Global,
+    files: &mut MockFs,
+    path: &str,
+    wanted: Wanted,
+) -> Result<bool, OutOfMemory> {
+    let path = WitxPath::new(alloc, path)?;
+    Ok(gives(alloc, files, &path, wanted))
+}
+
+fn gives_all(alloc: Global, mut files: MockFs) -> bool {
+    for (path, wanted) in TEXTS {
+        if !holds(alloc, &mut files, path, *wanted).unwrap_or(false) {
+            return false;
+        }
+    }
+    true
+}
+
+fn is_canonical(alloc: Global) -> Result<bool, OutOfMemory> {
+    let path = WitxPath::new(alloc, "x/./y")?;
+    Ok(gives_path(alloc, &mut MockFs::new(alloc), &path, Ok("x/y")))
+}
+
+#[test]
+fn texts_in_memory(rt: HostRuntime) {
+    let alloc = rt.alloc();
+    let gives_all = files_of(alloc, HELD).is_ok_and(|files| gives_all(alloc, files));
+    assert!(rt; gives_all && is_canonical(alloc).unwrap_or(false));
+}
+
+const LINED: &[(&str, &str)] = &[("/a", "one\r\n\ntwo\r"), ("/b", ""), ("/c", "x\n")];
+
+/// A path, the number of a line, and the line.
+const LINES: &[(&str, usize, Wanted)] = &[
+    ("/a", 0, Err(LINE_NOT_FOUND)),
+    ("/a", 1, Ok("one")),
+    ("/a", 2, Ok("")),
+    ("/a", 3, Ok("two\r")),
+    ("/a", 4, Err(LINE_NOT_FOUND)),
+    ("/b", 1, Err(LINE_NOT_FOUND)),
+    ("/c", 1, Ok("x")),
+    ("/c", 2, Err(LINE_NOT_FOUND)),
+    ("/c", usize::MAX, Err(LINE_NOT_FOUND)),
+    ("/d", 0, Err(NOT_FOUND)),
+    ("/d", 1, Err(NOT_FOUND)),
+];
+
+fn gives_line<I: WitxIo>(
+    alloc: Global,
+    io: &mut I,
+    path: &WitxPath,
+    line: usize,
+    wanted: Wanted,
+) -> bool {
+    is_answer(&io.fget_line(alloc, path, line), wanted)
+}
+
+fn holds_line(
+    alloc: Global,
+    files: &mut MockFs,
+    path: &str,
+    line: usize,
+    wanted: Wanted,
+) -> Result<bool, OutOfMemory> {
+    let path = WitxPath::new(alloc, path)?;
+    Ok(gives_line(alloc, files, &path, line, wanted))
+}
+
+fn gives_lines(alloc: Global, mut files: MockFs) -> bool {
+    for (path, line, wanted) in LINES {
+        if !holds_line(alloc, &mut files, path, *line, *wanted).unwrap_or(false) {
+            return false;
+        }
+    }
+    true
+}
+
+#[test]
+fn lines_in_memory(rt: HostRuntime) {
+    let alloc = rt.alloc();
+    assert!(rt; files_of(alloc, LINED).is_ok_and(|files| gives_lines(alloc, files)));
+}
+
+/// The answers of three calls.
+type Answers = (Wanted, Wanted, Wanted);
+
+/// A text, a line of it and the path that it stands for are asked for in turn, of which these calls
+/// fail: the answers, and how many calls failed.
+const FAILING: &[(&[u64], Answers, u64)] = &[
+    (&[], (Ok("one\ntwo"), Ok("two"), Ok("/b")), 0),
+    (&[0], (Err(FAILED), Ok("two"), Ok("/b")), 1),
+    (&[1, 7], (Ok("one\ntwo"), Err(FAILED), Ok("/b")), 1),
+    (&[2], (Ok("one\ntwo"), Ok("two"), Err(FAILED)), 1),
+    (&[2, 0, 1], (Err(FAILED), Err(FAILED), Err(FAILED)), 3),
+];
+
+/// Two links of one path, of which the first counts.
+const LINKS: &[(&str, &str)] = &[("/c", "/a"), ("/a", "/b"), ("/a", "/c")];
+
+fn failing(alloc: Global, numbers: &[u64]) -> Result<FailingFs, OutOfMemory> {
+    let files = files_of(alloc, &[("/a", "one\ntwo"), ("/b", "")])?;
+    let links = links_of(alloc, LINKS)?;
+    Ok(FailingFs::new(files, links, calls_of(alloc, numbers)?))
+}
+
+fn gives_path<I: WitxIo>(alloc: Global, io: &mut I, path: &WitxPath, wanted: Wanted) -> bool {
+    match (io.canonicalize(alloc, path), wanted) {
+        (Ok(found), Ok(wanted)) => found.as_str() == wanted,
+        (Err(error), Err(wanted)) => error == wanted,
+        _ => false,
+    }
+}
+
+/// One call of each kind, in turn, and then one of a missing file, which is no fault.
+fn answers(alloc: Global, io: &mut FailingFs, wanted: Answers) -> Result<bool, OutOfMemory> {
+    let path = WitxPath::new(alloc, "/a")?;
+    let missing = WitxPath::new(alloc, "/c")?;
+    let (text, line, linked) = wanted;
+    Ok(
+        gives(alloc, io, &path, text)
+            && gives_line(alloc, io, &path, 2, line)
+            && gives_path(alloc, io, &path, linked)
+            && gives(alloc, io, &missing, Err(NOT_FOUND)),
+    )
+}
+
+fn fails(
+    alloc: Global,
+    numbers: &[u64],
+    wanted: Answers,
+    faults: u64,
+) -> Result<bool, OutOfMemory> {
+    let mut io = failing(alloc, numbers)?;
+    Ok(answers(alloc, &mut io, wanted)? && io.faults() == faults)
+}
+
+fn all_fail(alloc: Global) -> bool {
+    for (numbers, wanted, faults) in FAILING {
+        if !fails(alloc, numbers, *wanted, *faults).unwrap_or(false) {
+            return false;
+        }
+    }
+    true
+}
+
+#[test]
+fn listed_calls_fail(rt: HostRuntime) {
+    assert!(rt; all_fail(rt.alloc()));
+}
+
+/// A path, a line and a column of it, the call that fails, and the text of the place.
+#[rattlefmt::skip]
+const LOCATED: &[(&str, usize, usize, u64, &str)] = &[
+    ("/a", 1, 14, 9, r#"in "/a":
+    1 | (typename $a $b)
+                      ^"#),
+    ("/a", 2, 1, 9, "in \"/a\":\n    2 | \n         ^"),
+    ("/a", 3, 0, 9, r#"in "/a":
+    3 | x
+         ^"#),
+    ("/a", 4, 1, 9, "in \"/a\":\n"),
+    ("/a", 0, 1, 9, "in \"/a\":\n"),
+    ("/d/../b", 1, 1, 9, "in \"/d/../b\":\n"),
+    ("/a", 1, 14, 0, "in \"/a\":\n"),
+];
+
+fn located(alloc: Global, fails: u64) -> Result<FailingFs, OutOfMemory> {
+    let files = files_of(alloc, &[("/a", "(typename $a $b)\n\nx\n")])?;
+    Ok(FailingFs::new(files, Items::new(alloc), calls_of(alloc, &[fails])?))
+}
+
+/// Whether the place is shown so, and so is its copy.
+fn is_shown<I: WitxIo>(
+    alloc: Global,
+    io: &mut I,
+    location: &Location,
+    wanted: &str,
+) -> Result<bool, OutOfMemory> {
+    let text = location.highlight_source_with(alloc, io)?;
+    Ok(text.as_str() == wanted && location.copy()? == *location)
+}
+
+fn shows(
+    alloc: Global,
+    (path, line, column): (&str, usize, usize),
+    fails: u64,
+    wanted: &str,
+) -> Result<bool, OutOfMemory> {
+    let path = WitxPath::new(alloc, path)?;
+    let mut io = located(alloc, fails)?;
+    let location = Location { path, line, column };
+    is_shown(alloc, &mut io, &location, wanted)
+}
+
+fn all_show(alloc: Global) -> bool {
+    for (path, line, column, fails, wanted) in LOCATED {
+        if !shows(alloc, (path, *line, *column), *fails, wanted).unwrap_or(false) {
+            return false;
+        }
+    }
+    true
+}
+
+#[test]
+fn located_texts(rt: HostRuntime) {
+    assert!(rt; all_show(rt.alloc()));
+}
+
+/// Columns, and how far to the right the sign stands.
+const WIDE: &[(usize, usize)] = &[(65535, 65535), (65536, 65535), (usize::MAX, 65535)];
+
+/// A file of 123,456 lines, of which the last is `last`.
+fn wide_files(alloc: Global) -> Result<MockFs, OutOfMemory> {
+    let text = long_text(alloc, "", "\n", 123_455, "last")?;
+    files_of(alloc, &[("/a", text.as_str())])
+}
+
+fn is_drawn(
+    alloc: Global,
+    files: &mut MockFs,
+    column: usize,
+    drawn: usize,
+) -> Result<bool, OutOfMemory> {
+    let path = WitxPath::new(alloc, "/a")?;
+    let line = 123_456;
+    let location = Location { path, line, column };
+    let text = location.highlight_source_with(alloc, files)?;
+    let front = "in \"/a\":\n123456 | last\n          ";
+    Ok(
+        text.as_str().starts_with(front)
+            && text.len() == front.len().saturating_sub(1).saturating_add(drawn)
+            && text.as_str().ends_with(" ^"),
+    )
+}
+
+fn all_drawn(alloc: Global, mut files: MockFs) -> bool {
+    for (column, drawn) in WIDE {
+        if !is_drawn(alloc, &mut files, *column, *drawn).unwrap_or(false) {
+            return false;
+        }
+    }
+    true
+}
+
+#[test]
+fn wide_located_texts(rt: HostRuntime) {
+    let alloc = rt.alloc();
+    assert!(rt; wide_files(alloc).is_ok_and(|files| all_drawn(alloc, files)));
+}

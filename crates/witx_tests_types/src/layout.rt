@@ -1,0 +1,377 @@
+//! Sizes, alignments and offsets of types, the text of layouts, and tags.
+
+ghost use Rattle.std.specs.Prelude.{◌≡◌, ◌<◌, IfSome, map};
+ghost use Rattle.witx_ast.specs.Definitions.{definition_tree};
+ghost use Rattle.witx_ast.specs.Ordered.{IsOrdered};
+
+use std::alloc::Global;
+use std::marker::Brand;
+use std::sync::ledger::{Blank, Ledger};
+use witx::parse;
+use witx_ast::{Datatype, Document, NamedType, RecordDatatype};
+use witx_fixtures::{built_text, typename_of};
+use witx_layout::{
+    Layout, LayoutError, LayoutsError, RecordMembers, SizeAlign, SizeAligns, Steps, TagTooNarrow,
+    VariantOffset, fits_tags, layouts, layouts_text,
+};
+
+/// A record of an enum on u32, twice a u64, and flags on u16.
+const CLOCK: &str = "\
+(typename $id (enum (@witx tag u32) $a $b $c $d))
+(typename $options (flags (@witx repr u16) $a))
+(typename $t (record (field $a $id) (field $b u64) (field $c u64) (field $d $options)))";
+
+/// A union of a clock and a record of one handle.
+const EVENT: &str = "\
+(typename $id (enum (@witx tag u32) $a $b $c $d))
+(typename $options (flags (@witx repr u16) $a))
+(typename $clock (record (field $a $id) (field $b u64) (field $c u64) (field $d $options)))
+(typename $handle (handle))
+(typename $file (record (field $a $handle)))
+(typename $t (union (@witx tag u8) $clock $file))";
+
+/// A variant of five bytes, and of a word.
+const UNEVEN: &str = "\
+(typename $bytes (record (field $a u8) (field $b u8) (field $c u8) (field $d u8) (field $e u8)))
+(typename $t (variant (@witx tag u8) (case $a $bytes) (case $b u32)))";
+
+/// A byte, a word and two bytes.
+const MIXED: &str = "(typename $t (record (field $m u8) (field $n u32) (field $o u16)))";
+
+/// A u64 in pairs of pairs, ten times.
+const TEN_DOUBLINGS: &str = "\
+(typename $t1 (tuple u64 u64))
+(typename $t2 (tuple $t1 $t1))
+(typename $t3 (tuple $t2 $t2))
+(typename $t4 (tuple $t3 $t3))
+(typename $t5 (tuple $t4 $t4))
+(typename $t6 (tuple $t5 $t5))
+(typename $t7 (tuple $t6 $t6))
+(typename $t8 (tuple $t7 $t7))
+(typename $t9 (tuple $t8 $t8))
+(typename $t (tuple $t9 $t9))";
+
+/// Texts, the size and the alignment of `t`, and the offset of its payload, if it is a variant.
+static SIZES: &[(&str, usize, usize, Option<usize>)] = &[
+    (CLOCK, 32, 8, None),
+    (MIXED, 12, 4, None),
+    (TEN_DOUBLINGS, 8192, 8, None),
+    ("(typename $t (tuple))", 0, 1, None),
+    (EVENT, 40, 8, Some(8)),
+    (UNEVEN, 12, 4, Some(4)),
+    ("(typename $t (variant (@witx tag u64)))", 8, 8, Some(8)),
+    ("(typename $t u8)", 1, 1, None),
+    ("(typename $t s16)", 2, 2, None),
+    ("(typename $t char)", 4, 4, None),
+    ("(typename $t f64)", 8, 8, None),
+    ("(typename $t (handle))", 4, 4, None),
+    ("(typename $t (list u64))", 8, 4, None),
+    ("(typename $t (@witx pointer u64))", 4, 4, None),
+    ("(typename $t (@witx const_pointer u64))", 4, 4, None),
+];
+
+fn has<L: Layout>(layout: &L, size: usize, align: usize) -> bool {
+    layout.mem_size_align() == Ok(SizeAlign { size, align })
+        && layout.mem_size() == Ok(size)
+        && layout.mem_align() == align
+}
+
+fn datatype_has(datatype: &Datatype, size: usize, align: usize, payload: Option<usize>) -> bool {
+    match datatype {
+        Datatype::Record(record) => payload.is_none() && has(record, size, align),
+        Datatype::Variant(variant) => {
+            payload == Some(variant.payload_offset()) && has(variant, size, align)
+        }
+        _ => payload.is_none() && has(datatype, size, align),
+    }
+}
+
+fn named_has(named: &NamedType, size: usize, align: usize, payload: Option<usize>) -> bool {
+    has(named, size, align)
+        && has(&named.tref, size, align)
+        && datatype_has(named.type_(), size, align, payload)
+}
+
+fn text_has(alloc: Global, text: &str, size: usize, align: usize, payload: Option<usize>) -> bool {
+    match typename_of(alloc, text) {
+        Some(named) => named_has(&named, size, align, payload),
+        None => false,
+    }
+}
+
+fn all_have(alloc: Global) -> bool {
+    for (text, size, align, payload) in SIZES {
+        if !text_has(alloc, text, *size, *align, *payload) {
+            return false;
+        }
+    }
+    true
+}
+
+#[test]
+fn sizes(rt: HostRuntime) {
+    assert!(rt; all_have(rt.alloc()));
+}
+
+/// Texts, how many typenames they have, and the size and the alignment of the last one.
+static COUNTED: &[(&str, usize, usize, usize)] = &[
+    (CLOCK, 3, 32, 8),
+    (EVENT, 6, 40, 8),
+    (TEN_DOUBLINGS, 10, 8192, 8),
+    ("(module $m)", 0, 0, 0),
+];
+
+/// The document of a text, which is ordered.
+fn ordered_document(alloc: Global, text: &str) -> Option<Document>
+    ensures { IfSome result (λ document. IsOrdered (map definition_tree document.definitions)) }
+{
+    match parse(alloc, text) {
+        Ok(document) => Some(document),
+        Err(_) => None,
+    }
+}
+
+/// The layouts of an ordered document, whose steps a new ledger counts.
+fn counted_layouts<L: Ledger>(
+    alloc: Global,
+    document: &Document,
+    blank: Blank,
+) -> Result<SizeAligns, LayoutsError>
+    requires ordered { IsOrdered (map definition_tree document.now.definitions) }
+    requires name { blank.name ≡ L.name }
+    requires parts { blank.parts ≡ L.parts }
+    requires some { 0 < blank.parts }
+{
+    let mut steps = Steps::<L>::new(blank);
+    layouts(alloc, document, &mut steps)
+}
+
+fn end_with(layouts: &[SizeAlign], len: usize, size: usize, align: usize) -> bool {
+    match layouts.last() {
+        Some(last) => layouts.len() == len && last.size == size && last.align == align,
+        None => len == 0,
+    }
+}
+
+fn document_is_counted(
+    alloc: Global,
+    document: &Document,
+    len: usize,
+    size: usize,
+    align: usize,
+) -> bool
+    requires { IsOrdered (map definition_tree document.now.definitions) }
+{
+    match counted_layouts::<Brand>(alloc, document, Blank::new(1)) {
+        Ok(layouts) => end_with(layouts.as_slice(), len, size, align),
+        Err(_) => false,
+    }
+}
+
+fn text_is_counted(alloc: Global, text: &str, len: usize, size: usize, align: usize) -> bool {
+    match ordered_document(alloc, text) {
+        Some(document) => document_is_counted(alloc, &document, len, size, align),
+        None => false,
+    }
+}
+
+fn all_counted(alloc: Global) -> bool {
+    for (text, len, size, align) in COUNTED {
+        if !text_is_counted(alloc, text, *len, *size, *align) {
+            return false;
+        }
+    }
+    true
+}
+
+#[test]
+fn layouts_are_counted(rt: HostRuntime) {
+    assert!(rt; all_counted(rt.alloc()));
+}
+
+/// So many bytes, what follows them, and where that begins.
+static ALIGNED: &[(usize, &str, usize)] = &[
+    (0, "u8", 0),
+    (0, "u16", 0),
+    (0, "u32", 0),
+    (0, "u64", 0),
+    (1, "u8", 1),
+    (1, "u16", 2),
+    (1, "u32", 4),
+    (1, "u64", 8),
+    (2, "u8", 2),
+    (2, "u16", 2),
+    (2, "u32", 4),
+    (2, "u64", 8),
+    (5, "u8", 5),
+    (5, "u16", 6),
+    (5, "u32", 8),
+    (5, "u64", 8),
+];
+
+/// Whether there are so many members, of which the last begins there.
+fn ends_at(
+    alloc: Global,
+    record: &RecordDatatype,
+    len: usize,
+    offset: usize,
+) -> Result<bool, LayoutError> {
+    let layouts = record.member_layout(alloc)?;
+    let last = layouts.as_slice().last();
+    Ok(layouts.len() == len && last.map(|member| member.offset) == Some(offset))
+}
+
+fn named_ends_at(alloc: Global, named: &NamedType, len: usize, offset: usize) -> bool {
+    match &**named.type_() {
+        Datatype::Record(record) => ends_at(alloc, record, len, offset).unwrap_or(false),
+        _ => false,
+    }
+}
+
+fn is_aligned(alloc: Global, bytes: usize, last: &str, offset: usize) -> Option<bool> {
+    let pieces = [
+        ("(typename $t (record", 1),
+        (" (field $b# u8)", bytes),
+        (" (field $last ", 1),
+        (last, 1),
+        (")))", 1),
+    ];
+    let text = built_text(alloc, &pieces).ok()?;
+    let named = typename_of(alloc, text.as_str())?;
+    Some(named_ends_at(alloc, &named, bytes.saturating_add(1), offset))
+}
+
+fn all_aligned(alloc: Global) -> bool {
+    for (bytes, last, offset) in ALIGNED {
+        if !is_aligned(alloc, *bytes, last, *offset).unwrap_or(false) {
+            return false;
+        }
+    }
+    true
+}
+
+#[test]
+fn members_begin(rt: HostRuntime) {
+    assert!(rt; all_aligned(rt.alloc()));
+}
+
+/// Texts, and the text of their layouts.
+const PRINTED: &[(&str, &str)] = &[
+    (
+        MIXED,
+        "\
+typename t size 12 align 4
+  field m offset 0
+  field n offset 4
+  field o offset 8
+",
+    ),
+    (
+        "(typename $t (variant (@witx tag u8) (case $a (tuple u8 u8 u8 u8 u8)) (case $b u32)))",
+        "\
+typename t size 12 align 4
+  tag 1 payload 4
+",
+    ),
+    (
+        "(typename $t (flags (@witx repr u16) $a $b $c))",
+        "\
+typename t size 2 align 2
+  flags u16
+",
+    ),
+    // Names are looked through.
+    (
+        "(typename $b (flags (@witx repr u8) $a)) (typename $a $b)",
+        "\
+typename b size 1 align 1
+  flags u8
+typename a size 1 align 1
+  flags u8
+",
+    ),
+];
+
+fn is_printed(alloc: Global, document: &Document, wanted: &str) -> bool {
+    match layouts_text(alloc, document) {
+        Ok(text) => text.as_str() == wanted,
+        Err(_) => false,
+    }
+}
+
+fn all_printed(alloc: Global) -> bool {
+    for (text, wanted) in PRINTED {
+        if !parse(alloc, text).is_ok_and(|document| is_printed(alloc, &document, wanted)) {
+            return false;
+        }
+    }
+    true
+}
+
+#[test]
+fn layouts_are_printed(rt: HostRuntime) {
+    assert!(rt; all_printed(rt.alloc()));
+}
+
+/// The begin of a type, how many names it has, and how many it may have at most, if it has more.
+const TAGS: &[(&str, usize, Option<u64>)] = &[
+    ("(flags (@witx repr u8)", 8, None),
+    ("(flags (@witx repr u8)", 9, Some(8)),
+    ("(flags (@witx repr u16)", 16, None),
+    ("(flags (@witx repr u16)", 17, Some(16)),
+    ("(flags (@witx repr u32)", 32, None),
+    ("(flags (@witx repr u32)", 33, Some(32)),
+    ("(flags (@witx repr u64)", 64, None),
+    ("(flags (@witx repr u64)", 65, Some(64)),
+    ("(enum (@witx tag u8)", 256, None),
+    ("(enum (@witx tag u8)", 257, Some(256)),
+    // Texts of half a megabyte.
+    ("(enum (@witx tag u16)", 65_536, None),
+    ("(enum (@witx tag u16)", 65_537, Some(65_536)),
+];
+
+fn is_checked(answer: Result<(), TagTooNarrow>, count: usize, most: Option<u64>) -> bool {
+    match (answer, most) {
+        (Ok(()), None) => true,
+        (Err(tag), Some(most)) => tag.definition == 0 && tag.count == count && tag.most == most,
+        _ => false,
+    }
+}
+
+fn text_is_checked(alloc: Global, begin: &str, count: usize, most: Option<u64>) -> Option<bool> {
+    let pieces = [("(typename $t ", 1), (begin, 1), (" $x#", count), ("))", 1)];
+    let text = built_text(alloc, &pieces).ok()?;
+    let document = parse(alloc, text.as_str()).ok()?;
+    Some(is_checked(fits_tags(&document), count, most))
+}
+
+fn all_checked(alloc: Global) -> bool {
+    for (begin, count, most) in TAGS {
+        if !text_is_checked(alloc, begin, *count, *most).unwrap_or(false) {
+            return false;
+        }
+    }
+    true
+}
+
+#[test]
+fn tags_are_checked(rt: HostRuntime) {
+    assert!(rt; all_checked(rt.alloc()));
+}
+
+/// More flags than their number has bits: it has its own size, and each has an offset, as a `bool` of four bytes.
+fn flags_have_members(alloc: Global) -> Option<bool> {
+    let pieces = [
+        ("(typename $t (flags (@witx repr u64)", 1),
+        (" $x#", 65),
+        ("))", 1),
+    ];
+    let text = built_text(alloc, &pieces).ok()?;
+    let named = typename_of(alloc, text.as_str())?;
+    Some(named_has(&named, 8, 8, None) && named_ends_at(alloc, &named, 65, 256))
+}
+
+#[test]
+fn members_of_flags(rt: HostRuntime) {
+    assert!(rt; flags_have_members(rt.alloc()).unwrap_or(false));
+}
