@@ -1,7 +1,7 @@
 //! Listings with traces of any making: what `verify` tells of them, lines that can't stand in them, and
 //! the reader of traces and the verdict, each called once.
 
-ghost use Rattle.witx_verify.specs.Traces.{HasEachEntry, listed};
+ghost use Rattle.witx_traces.specs.Traces.{HasEachEntry, listed};
 
 use crate::run::ADD_LISTING;
 use crate::tools::run_failing;
@@ -13,7 +13,8 @@ use witx_ast::InterfaceFunc;
 use witx_base::{Id, Items, OutOfMemory};
 use witx_fixtures::func_of;
 use witx_machine::Place;
-use witx_verify::{Doubt, TracePair, TracesError, Verdict, read_traces, verify};
+use witx_traces::{TracePair, TracesError, read_traces};
+use witx_verify::{Doubt, Verdict, verify};
 
 /// A document with its listing.
 type Listed = (&'static str, &'static str);

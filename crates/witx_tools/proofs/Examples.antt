@@ -20,7 +20,7 @@ use Rattle.witx_machine.specs.declared.surface.WasmType.{WasmType}
 use Rattle.witx_adapt.specs.Entries.{Owned}
 use Rattle.witx_bytes.specs.Bytes.{Bytes}
 use Rattle.witx_invoke.specs.Runs.{CallSeen}
-use Rattle.witx_verify.specs.Traces.{Sides}
+use Rattle.witx_traces.specs.Traces.{Sides}
 use Rattle.witx_verify.specs.declared.surface.Doubt.{Doubt}
 use Rattle.witx_verify.specs.declared.surface.Verdict.{Verdict}
 use Rattle.witx_tools.specs.Calls.{absent_report, line_report}

@@ -17,7 +17,7 @@ use Rattle.witx_ast.specs.Tags.{function_fits}
 use Rattle.witx_adapt.proofs.Fitting.{functions-fit}
 use Rattle.witx_adapt.specs.Entries.{Entry, all_functions}
 use Rattle.witx_invoke.specs.Laws.{AtMostOneLine}
-use Rattle.witx_verify.specs.Traces.{IsUnfit, Sides, TracesLeaveNoneUnfit}
+use Rattle.witx_traces.specs.Traces.{IsUnfit, Sides, TracesLeaveNoneUnfit}
 use Rattle.witx_imports.specs.Reads as list
 use Rattle.witx_imports.specs.declared.import.WasmImport.{WasmImport}
 use Rattle.witx.specs.Adapting.{IsParsed, Parses}

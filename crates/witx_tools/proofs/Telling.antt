@@ -15,11 +15,11 @@ use Rattle.witx_adapt.specs.Entries.{Entry, all_functions, entry_of}
 use Rattle.witx_adapt.specs.declared.adapted.Adapted.{Adapted}
 use Rattle.witx_adapt.specs.declared.adapted.AdaptedFunc.{AdaptedFunc}
 use Rattle.witx_bytes.specs.Follow.{TakeWritable}
-use Rattle.witx_verify.specs.Passages.{sides_of}
-use Rattle.witx_verify.specs.Refusals.{Refuses}
-use Rattle.witx_verify.specs.Traces.{GivesTraces, Listed, listed}
-use Rattle.witx_verify.specs.declared.reading.TracePair.{TracePair}
-use Rattle.witx_verify.specs.declared.reading.TracesError.TheVariants as traces_error
+use Rattle.witx_traces.specs.Passages.{sides_of}
+use Rattle.witx_traces.specs.Refusals.{Refuses}
+use Rattle.witx_traces.specs.Traces.{GivesTraces, Listed, listed}
+use Rattle.witx_traces.specs.declared.reading.TracePair.{TracePair}
+use Rattle.witx_traces.specs.declared.reading.TracesError.TheVariants as traces_error
 use Rattle.witx_compat.specs.Polyfills.{polyfill_answer}
 use Rattle.witx_compat.specs.Views.{module_view}
 use Rattle.witx_compat.specs.declared.modules.ModulePolyfill.{ModulePolyfill}

@@ -13,10 +13,10 @@ use Rattle.witx_adapt.specs.Entries.{Entry, Owned, all_functions, entry_for, ent
 use Rattle.witx_adapt.specs.Listings.{func_count}
 use Rattle.witx_adapt.specs.declared.adapted.Adapted.{Adapted}
 use Rattle.witx_adapt.specs.declared.adapted.AdaptedFunc.{AdaptedFunc}
-use Rattle.witx_verify.specs.Passages.{sides_of}
-use Rattle.witx_verify.specs.Traces as traces
-use Rattle.witx_verify.specs.Traces.{HasEachEntry, Sides, function_number, listed}
-use Rattle.witx_verify.specs.declared.reading.TracePair.{TracePair}
+use Rattle.witx_traces.specs.Passages.{sides_of}
+use Rattle.witx_traces.specs.Traces as traces
+use Rattle.witx_traces.specs.Traces.{HasEachEntry, Sides, function_number, listed}
+use Rattle.witx_traces.specs.declared.reading.TracePair.{TracePair}
 use Rattle.witx.specs.Adapting.{IsAdapted, defined}
 use Rattle.witx_tools.specs.VerdictTexts.{judged_line, listed_for, offered_by, owned_of}
 

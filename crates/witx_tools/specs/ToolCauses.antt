@@ -11,7 +11,7 @@ use Rattle.witx_compat.specs.Polyfills.{MappedModule, polyfill_answer}
 use Rattle.witx_walk.specs.ErrorReports.{io_report}
 use Rattle.witx_adapt.specs.Entries.{Entry, all_functions}
 use Rattle.witx_adapt.specs.declared.adapted.Adapted.{Adapted}
-use Rattle.witx_verify.specs.Traces.{GivesTraces, Sides}
+use Rattle.witx_traces.specs.Traces.{GivesTraces, Sides}
 use Rattle.witx_imports.specs.Faults.{offered}
 use Rattle.witx_imports.specs.Reads as list
 use Rattle.witx_imports.specs.declared.import.WasmImport.{WasmImport}

@@ -9,8 +9,8 @@ use Rattle.witx_layout.specs.Layouts.{all_layouts}
 use Rattle.witx_adapt.specs.Entries.{Entry, Owned, all_functions, entry_for, entry_of}
 use Rattle.witx_adapt.specs.Names.{quoted}
 use Rattle.witx_adapt.specs.declared.adapted.AdaptedFunc.{AdaptedFunc}
-use Rattle.witx_verify.specs.Traces as traces
-use Rattle.witx_verify.specs.Traces.{IsUnfit, Listed, Sides}
+use Rattle.witx_traces.specs.Traces as traces
+use Rattle.witx_traces.specs.Traces.{IsUnfit, Listed, Sides}
 use Rattle.witx_verify.specs.Verdicts.{verdict}
 use Rattle.witx_verify.specs.declared.surface.Doubt.{Doubt}
 use Rattle.witx_verify.specs.declared.surface.Verdict.{Verdict}

@@ -5,7 +5,7 @@ ghost use Rattle.witx_tools.specs.ToolLaws.{CommandsAreNoTools, ValidIsNotRefuse
 use witx::valid_is_not_refused;
 use witx_imports::no_fault_where_imports_are_read;
 use witx_invoke::lines_tell_values;
-use witx_verify::traces_leave_no_line_unfit;
+use witx_traces::traces_leave_no_line_unfit;
 use witx_walk::{one_answer, one_reading};
 
 /// No words are both a command's and a tool's.

@@ -2,8 +2,8 @@
 ghost use Rattle.std.specs.Prelude.{◌≡◌, ◌++◌, IfErr, IfOk, OnOk, codes, map, string_bytes};
 ghost use Rattle.std.specs.Fmt.{decimal};
 ghost use Rattle.std.specs.List.{flat_map, zip};
-ghost use Rattle.witx_verify.specs.Passages.{sides_of};
-ghost use Rattle.witx_verify.specs.Traces.{GivesTraces, listed};
+ghost use Rattle.witx_traces.specs.Passages.{sides_of};
+ghost use Rattle.witx_traces.specs.Traces.{GivesTraces, listed};
 ghost use Rattle.witx.specs.Adapting.{IsAdapted};
 ghost use Rattle.witx.specs.Stops.{StopsWith};
 ghost use Rattle.witx_tools.specs.ToolCauses.{IsToolOutput, ToolRefuses};
@@ -18,7 +18,8 @@ use witx_abi::functions_are_read_as_their_trees;
 use witx_adapt::{Adapted, AdaptedFunc, put_quoted};
 use witx_base::{OutOfMemory, Text};
 use witx_files::MockFs;
-use witx_verify::{Doubt, TracePair, TracePairs, TracesError, Verdict, read_traces, verify};
+use witx_traces::{TracePair, TracePairs, TracesError, read_traces};
+use witx_verify::{Doubt, Verdict, verify};
 
 /// A line for each function of the document of the files behind the first word: the verdict on the
 /// traces that the listing in the file of the first word gives it.

@@ -10,12 +10,5 @@ pub mod Payloads
 pub mod SymbolViews
 pub mod Typing
 pub mod WordViews
-pub mod Traces
 pub mod WorldViews
 pub mod Putting
-pub mod LineParts
-pub mod Passages
-pub mod ReadTypes
-pub mod LineReading
-pub mod Refusals
-pub mod Answers

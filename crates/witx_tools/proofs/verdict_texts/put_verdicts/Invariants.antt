@@ -1,6 +1,6 @@
 use Rattle.std.proofs.Common.{◌≡◌, ◌++◌, map, string_bytes}
 use Rattle.std.specs.List.{flat_map, zip}
-use Rattle.witx_verify.specs.Passages.{sides_of}
+use Rattle.witx_traces.specs.Passages.{sides_of}
 use Rattle.witx_tools.specs.VerdictTexts.{judged_line, owned_of}
 use Rattle.witx_tools.proofs.verdict_texts.put_verdicts.Given as goal
 

@@ -1,0 +1,11 @@
+use Rattle.std.proofs.Common.{◌≡◌, ◌++◌, drop, map}
+use Rattle.std.specs.List.{flat_map}
+use Rattle.witx_abi.specs.Views.{param_types}
+use Rattle.witx_traces.specs.ReadTypes.{candidate_type}
+use Rattle.witx_traces.specs.Traces.{err_types, ok_types}
+use Rattle.witx_traces.proofs.known_types.push_payloads.Given as goal
+
+abbrev pub invariant-loop-returned : goal.invariant-loop-returned
+invariant-loop-returned l =
+    map candidate_type l.candidates.items ++ flat_map (λ t. ok_types t ++ err_types t) (param_types (drop l.returned-index l.results))
+    ≡ map candidate_type l.initial.candidates.items ++ flat_map (λ t. ok_types t ++ err_types t) (param_types l.results)

@@ -1,0 +1,7 @@
+pub mod Traces
+pub mod LineParts
+pub mod Passages
+pub mod ReadTypes
+pub mod LineReading
+pub mod Refusals
+pub mod Answers

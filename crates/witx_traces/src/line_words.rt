@@ -1,0 +1,319 @@
+//! The words with which the lines of events begin.
+
+ghost use Rattle.std.specs.Prelude.{◌≡◌, map};
+ghost use Rattle.witx_ast.specs.Views.{tree_of, named_tree};
+ghost use Rattle.witx_abi.specs.Views.{event_of, kept_step};
+ghost use Rattle.witx_traces.specs.LineParts.{named_step, number_step, plain_event, shown_step, spelled_word, the_words, word_spelled};
+
+use std::rc::Rc;
+use witx_abi::{Event, Step};
+use witx_ast::{NamedType, TypeRef};
+
+/// A word that is the whole line.
+#[derive(Clone, Copy)]
+pub(crate) enum PlainWord {
+    AddrOf,
+    I32FromChar,
+    I64FromU64,
+    I64FromS64,
+    I32FromU32,
+    I32FromS32,
+    I32FromUsize,
+    I32FromU16,
+    I32FromS16,
+    I32FromU8,
+    I32FromS8,
+    I32FromChar8,
+    I32FromPointer,
+    I32FromConstPointer,
+    F32FromIf32,
+    F64FromIf64,
+    ListPointerLength,
+    S8FromI32,
+    U8FromI32,
+    S16FromI32,
+    U16FromI32,
+    S32FromI32,
+    U32FromI32,
+    S64FromI64,
+    U64FromI64,
+    CharFromI32,
+    Char8FromI32,
+    UsizeFromI32,
+    If32FromF32,
+    If64FromF64,
+    VariantPayload,
+    ReuseReturn,
+    ResultLift,
+    PushBlock,
+}
+
+/// A word with a number behind it.
+#[derive(Clone, Copy)]
+pub(crate) enum NumberWord {
+    GetArg,
+    ReturnPointerGet,
+    TupleLift,
+    TupleLower,
+    Return,
+}
+
+/// A word with a typename behind it.
+#[derive(Clone, Copy)]
+pub(crate) enum NamedWord {
+    I32FromHandle,
+    I32FromBitflags,
+    I64FromBitflags,
+    HandleFromI32,
+    BitflagsFromI32,
+    BitflagsFromI64,
+    Load,
+    Store,
+    EnumLift,
+    EnumLower,
+}
+
+/// A word with any type behind it.
+#[derive(Clone, Copy)]
+pub(crate) enum ShownWord {
+    ListFromPointerLength,
+    PointerFromI32,
+    ConstPointerFromI32,
+}
+
+/// The first word of an event's line.
+#[derive(Clone, Copy)]
+pub(crate) enum LineWord {
+    Plain(PlainWord),
+    Number(NumberWord),
+    Named(NamedWord),
+    Shown(ShownWord),
+    CallWasm,
+    CallInterface,
+    ResultLower,
+    Space,
+    FinishBlock,
+}
+
+/// A word and its spelling.
+#[derive(Clone, Copy)]
+pub(crate) struct Spelled {
+    word: LineWord,
+    text: &'static str,
+}
+
+macro_rules! plain {
+    ($word:ident, $text:literal) => {
+        Spelled {
+            word: LineWord::Plain(PlainWord::$word),
+            text: $text,
+        }
+    };
+}
+
+macro_rules! number {
+    ($word:ident, $text:literal) => {
+        Spelled {
+            word: LineWord::Number(NumberWord::$word),
+            text: $text,
+        }
+    };
+}
+
+macro_rules! named {
+    ($word:ident, $text:literal) => {
+        Spelled {
+            word: LineWord::Named(NamedWord::$word),
+            text: $text,
+        }
+    };
+}
+
+macro_rules! shown {
+    ($word:ident, $text:literal) => {
+        Spelled {
+            word: LineWord::Shown(ShownWord::$word),
+            text: $text,
+        }
+    };
+}
+
+macro_rules! other {
+    ($word:ident, $text:literal) => {
+        Spelled {
+            word: LineWord::$word,
+            text: $text,
+        }
+    };
+}
+
+static WORDS: [Spelled; 57] = [
+    number!(GetArg, "get_arg"),
+    plain!(AddrOf, "addr_of"),
+    plain!(I32FromChar, "i32_from_char"),
+    plain!(I64FromU64, "i64_from_u64"),
+    plain!(I64FromS64, "i64_from_s64"),
+    plain!(I32FromU32, "i32_from_u32"),
+    plain!(I32FromS32, "i32_from_s32"),
+    plain!(I32FromUsize, "i32_from_usize"),
+    plain!(I32FromU16, "i32_from_u16"),
+    plain!(I32FromS16, "i32_from_s16"),
+    plain!(I32FromU8, "i32_from_u8"),
+    plain!(I32FromS8, "i32_from_s8"),
+    plain!(I32FromChar8, "i32_from_char8"),
+    plain!(I32FromPointer, "i32_from_pointer"),
+    plain!(I32FromConstPointer, "i32_from_const_pointer"),
+    named!(I32FromHandle, "i32_from_handle"),
+    named!(I32FromBitflags, "i32_from_bitflags"),
+    named!(I64FromBitflags, "i64_from_bitflags"),
+    plain!(F32FromIf32, "f32_from_if32"),
+    plain!(F64FromIf64, "f64_from_if64"),
+    plain!(ListPointerLength, "list_pointer_length"),
+    shown!(ListFromPointerLength, "list_from_pointer_length"),
+    other!(CallWasm, "call_wasm"),
+    other!(CallInterface, "call_interface"),
+    plain!(S8FromI32, "s8_from_i32"),
+    plain!(U8FromI32, "u8_from_i32"),
+    plain!(S16FromI32, "s16_from_i32"),
+    plain!(U16FromI32, "u16_from_i32"),
+    plain!(S32FromI32, "s32_from_i32"),
+    plain!(U32FromI32, "u32_from_i32"),
+    plain!(S64FromI64, "s64_from_i64"),
+    plain!(U64FromI64, "u64_from_i64"),
+    plain!(CharFromI32, "char_from_i32"),
+    plain!(Char8FromI32, "char8_from_i32"),
+    plain!(UsizeFromI32, "usize_from_i32"),
+    plain!(If32FromF32, "if32_from_f32"),
+    plain!(If64FromF64, "if64_from_f64"),
+    named!(HandleFromI32, "handle_from_i32"),
+    shown!(PointerFromI32, "pointer_from_i32"),
+    shown!(ConstPointerFromI32, "const_pointer_from_i32"),
+    named!(BitflagsFromI32, "bitflags_from_i32"),
+    named!(BitflagsFromI64, "bitflags_from_i64"),
+    number!(ReturnPointerGet, "return_pointer_get"),
+    named!(Load, "load"),
+    named!(Store, "store"),
+    number!(TupleLift, "tuple_lift"),
+    number!(TupleLower, "tuple_lower"),
+    named!(EnumLift, "enum_lift"),
+    named!(EnumLower, "enum_lower"),
+    plain!(VariantPayload, "variant_payload"),
+    plain!(ReuseReturn, "reuse_return"),
+    other!(ResultLower, "result_lower"),
+    plain!(ResultLift, "result_lift"),
+    number!(Return, "return"),
+    other!(Space, "space"),
+    plain!(PushBlock, "push_block"),
+    other!(FinishBlock, "finish_block"),
+];
+
+/// The words of the lines of events.
+fn words() -> &'static [Spelled]
+    ensures { map spelled_word result.now ≡ the_words }
+{
+    &WORDS
+}
+
+/// The word that is spelled so.
+pub(crate) fn line_word(text: &str) -> Option<LineWord>
+    ensures { result ≡ word_spelled the_words text.now }
+{
+    word_among(words(), text)
+}
+
+/// The first of these words that is spelled so.
+#[tactic(auto, unfolding(witx_base::specs::Texts::same_text))]
+fn word_among(words: &[Spelled], text: &str) -> Option<LineWord>
+    ensures { result ≡ word_spelled (map spelled_word words.now) text.now }
+{
+    for spelled in words {
+        if spelled.text == text {
+            return Some(spelled.word);
+        }
+    }
+    None
+}
+
+/// The event of a word that is the whole line.
+pub(crate) fn plain_event(word: PlainWord) -> Event
+    ensures { event_of result ≡ plain_event word }
+{
+    match word {
+        PlainWord::AddrOf => Event::Emit(Step::AddrOf),
+        PlainWord::I32FromChar => Event::Emit(Step::I32FromChar),
+        PlainWord::I64FromU64 => Event::Emit(Step::I64FromU64),
+        PlainWord::I64FromS64 => Event::Emit(Step::I64FromS64),
+        PlainWord::I32FromU32 => Event::Emit(Step::I32FromU32),
+        PlainWord::I32FromS32 => Event::Emit(Step::I32FromS32),
+        PlainWord::I32FromUsize => Event::Emit(Step::I32FromUsize),
+        PlainWord::I32FromU16 => Event::Emit(Step::I32FromU16),
+        PlainWord::I32FromS16 => Event::Emit(Step::I32FromS16),
+        PlainWord::I32FromU8 => Event::Emit(Step::I32FromU8),
+        PlainWord::I32FromS8 => Event::Emit(Step::I32FromS8),
+        PlainWord::I32FromChar8 => Event::Emit(Step::I32FromChar8),
+        PlainWord::I32FromPointer => Event::Emit(Step::I32FromPointer),
+        PlainWord::I32FromConstPointer => Event::Emit(Step::I32FromConstPointer),
+        PlainWord::F32FromIf32 => Event::Emit(Step::F32FromIf32),
+        PlainWord::F64FromIf64 => Event::Emit(Step::F64FromIf64),
+        PlainWord::ListPointerLength => Event::Emit(Step::ListPointerLength),
+        PlainWord::S8FromI32 => Event::Emit(Step::S8FromI32),
+        PlainWord::U8FromI32 => Event::Emit(Step::U8FromI32),
+        PlainWord::S16FromI32 => Event::Emit(Step::S16FromI32),
+        PlainWord::U16FromI32 => Event::Emit(Step::U16FromI32),
+        PlainWord::S32FromI32 => Event::Emit(Step::S32FromI32),
+        PlainWord::U32FromI32 => Event::Emit(Step::U32FromI32),
+        PlainWord::S64FromI64 => Event::Emit(Step::S64FromI64),
+        PlainWord::U64FromI64 => Event::Emit(Step::U64FromI64),
+        PlainWord::CharFromI32 => Event::Emit(Step::CharFromI32),
+        PlainWord::Char8FromI32 => Event::Emit(Step::Char8FromI32),
+        PlainWord::UsizeFromI32 => Event::Emit(Step::UsizeFromI32),
+        PlainWord::If32FromF32 => Event::Emit(Step::If32FromF32),
+        PlainWord::If64FromF64 => Event::Emit(Step::If64FromF64),
+        PlainWord::VariantPayload => Event::Emit(Step::VariantPayload),
+        PlainWord::ReuseReturn => Event::Emit(Step::ReuseReturn),
+        PlainWord::ResultLift => Event::Emit(Step::ResultLift),
+        PlainWord::PushBlock => Event::Push,
+    }
+}
+
+/// The step of a word and the number behind it.
+pub(crate) fn number_step(word: NumberWord, number: usize) -> Step
+    ensures { kept_step result ≡ number_step word number }
+{
+    match word {
+        NumberWord::GetArg => Step::GetArg { nth: number },
+        NumberWord::ReturnPointerGet => Step::ReturnPointerGet { n: number },
+        NumberWord::TupleLift => Step::TupleLift { amt: number },
+        NumberWord::TupleLower => Step::TupleLower { amt: number },
+        NumberWord::Return => Step::Return { amt: number },
+    }
+}
+
+/// The step of a word and the typename behind it.
+pub(crate) fn named_step(word: NamedWord, ty: Rc<NamedType>) -> Step
+    ensures { kept_step result ≡ named_step word (named_tree ty.value) }
+{
+    match word {
+        NamedWord::I32FromHandle => Step::I32FromHandle { ty },
+        NamedWord::I32FromBitflags => Step::I32FromBitflags { ty },
+        NamedWord::I64FromBitflags => Step::I64FromBitflags { ty },
+        NamedWord::HandleFromI32 => Step::HandleFromI32 { ty },
+        NamedWord::BitflagsFromI32 => Step::BitflagsFromI32 { ty },
+        NamedWord::BitflagsFromI64 => Step::BitflagsFromI64 { ty },
+        NamedWord::Load => Step::Load { ty },
+        NamedWord::Store => Step::Store { ty },
+        NamedWord::EnumLift => Step::EnumLift { ty },
+        NamedWord::EnumLower => Step::EnumLower { ty },
+    }
+}
+
+/// The step of a word and the type behind it.
+pub(crate) fn shown_step(word: ShownWord, ty: TypeRef) -> Step
+    ensures { kept_step result ≡ shown_step word (tree_of ty) }
+{
+    match word {
+        ShownWord::ListFromPointerLength => Step::ListFromPointerLength { ty },
+        ShownWord::PointerFromI32 => Step::PointerFromI32 { ty },
+        ShownWord::ConstPointerFromI32 => Step::ConstPointerFromI32 { ty },
+    }
+}

@@ -1,5 +1,0 @@
-use Rattle.witx_verify.specs.ReadTypes.{types_in}
-use Rattle.witx_verify.proofs.event_texts.read_fields.Goals as goal
-
-pub returns-in-FinishBlock : goal.returns-in-FinishBlock
-returns-in-FinishBlock c = rw c.in-FinishBlock.is (c.finish_event.ensures (types_in c.args.types.now))

@@ -1,5 +1,0 @@
-use Rattle.witx_verify.proofs.HeadLemmas.{stripped}
-use Rattle.witx_verify.proofs.heads.behind.Goals as goal
-
-pub returns : goal.returns
-returns c = stripped _ _ _ c.strip_prefix.ensures.cases

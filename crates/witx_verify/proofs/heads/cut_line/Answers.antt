@@ -1,5 +1,0 @@
-use Rattle.witx_verify.proofs.HeadLemmas.{line-cut-once}
-use Rattle.witx_verify.proofs.heads.cut_line.Goals as goal
-
-pub returns : goal.returns
-returns c = line-cut-once _ _ c.split_once.ensures.cases

@@ -1,5 +1,0 @@
-use Rattle.witx_verify.proofs.HeadLemmas.{word-cut-once}
-use Rattle.witx_verify.proofs.heads.cut_word.Goals as goal
-
-pub returns : goal.returns
-returns c = word-cut-once _ _ c.split_once.ensures.cases

@@ -1,7 +1,0 @@
-use Rattle.std.proofs.Common.{◌≡◌, drop, map}
-use Rattle.witx_verify.specs.ReadTypes.{candidate_type}
-use Rattle.witx_verify.specs.Traces.{first_shown}
-use Rattle.witx_verify.proofs.known_types.first_candidate.Given as goal
-
-abbrev pub invariant-loop-candidate : goal.invariant-loop-candidate
-invariant-loop-candidate l = first_shown (map candidate_type (drop l.candidate-index l.candidates)) l.text ≡ first_shown (map candidate_type l.candidates) l.text

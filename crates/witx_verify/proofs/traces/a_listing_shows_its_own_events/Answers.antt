@@ -1,5 +1,0 @@
-use Rattle.witx_verify.proofs.OwnListing.{own-listing}
-use Rattle.witx_verify.proofs.traces.a_listing_shows_its_own_events.Goals as goal
-
-pub returns : goal.returns
-returns c = own-listing

@@ -1,5 +1,0 @@
-use Rattle.witx_verify.proofs.UnfitLines.{no-unfit}
-use Rattle.witx_verify.proofs.traces.traces_leave_no_line_unfit.Goals as goal
-
-pub returns : goal.returns
-returns c = no-unfit
