@@ -1,9 +1,10 @@
 //! Declarations as texts: those that are accepted, and those that are refused with their reports.
 
-use crate::run::{holds, run_over};
+use crate::run::holds;
 use std::alloc::{AllocError, Global};
 use witx::{WitxError, parse};
 use witx_base::OutOfMemory;
+use witx_fixtures_run::run_over;
 
 /// Texts, each with the report of the first thing that is wrong with it.
 #[rattlefmt::skip]

@@ -2,10 +2,11 @@
 
 ghost use Rattle.std.specs.Prelude.{◌<◌};
 
-use crate::run::{ADD, ADD_LISTING, Gave, USAGE, run_on, run_over, sink_of, source_of};
+use crate::run::USAGE;
 use crate::run_docs::{LINKED, LINKED_LINES, LINKED_PAGE, NUMBER, NUMBER_PAGE};
 use std::alloc::Global;
 use witx_base::{MemSink, OutOfMemory};
+use witx_fixtures_run::{ADD, ADD_LISTING, Gave, run_on, run_over, sink_of, source_of};
 
 const UNKNOWN: &str = "\
 ;;;; file /a

@@ -1,21 +1,13 @@
-//! Tests of the program: each command and each tool over bundles in memory, hostile documents, devices that
-//! fail, and the walk over files. Rows were worked out by hand, with the whole text that a run prints.
+//! Tests of the program, by `run`: each command over bundles in memory, texts that are refused with their
+//! report, and devices that fail.
 //!
-//! Tests stand in crates at the top, since a crate with tests is proved twice. A test function has no `?`
-//! and one assertion: a `const` table, a `bool` helper for one row and a `bool` helper that goes through the
-//! rows are the cheapest form to prove.
+//! Rows were worked out by hand. docs/PROVING.md tells why tests stand apart, and the form of one.
 #![tactic(auto)]
 
 #[cfg(test)]
 mod declarations;
 #[cfg(test)]
 mod devices;
-#[cfg(test)]
-mod hostile;
-#[cfg(test)]
-mod invoke;
-#[cfg(test)]
-mod listings;
 #[cfg(test)]
 mod run;
 #[cfg(test)]
@@ -28,7 +20,3 @@ mod run_print;
 mod run_sample;
 #[cfg(test)]
 mod stored;
-#[cfg(test)]
-mod tools;
-#[cfg(test)]
-mod walk;

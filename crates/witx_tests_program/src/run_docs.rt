@@ -1,9 +1,11 @@
 //! The command that documents: worked bundles with what a run gives, also where a sink fails.
 
-use crate::run::{ADD, Built, Case, Gave, all_built_give, all_give, run_on, sink_of, source_of};
 use std::alloc::Global;
 use witx_base::OutOfMemory;
 use witx_fixtures::ADDS_PAGE;
+use witx_fixtures_run::{
+    ADD, Built, Case, Gave, all_built_give, all_give, run_on, sink_of, source_of,
+};
 
 pub const LINKED: &str = "\
 ;;;; file /a

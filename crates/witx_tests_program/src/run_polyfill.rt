@@ -1,6 +1,7 @@
 //! The command that compares: worked bundles with what a run gives.
 
-use crate::run::{Case, USAGE, all_give};
+use crate::run::USAGE;
+use witx_fixtures_run::{Case, all_give};
 
 /// A function of one parameter, which is wider in `/n`; a further function in `/o`, and a module of another
 /// name in both.

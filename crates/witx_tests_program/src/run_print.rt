@@ -1,6 +1,6 @@
 //! The command that prints: worked bundles with what a run gives.
 
-use crate::run::{Case, all_give};
+use witx_fixtures_run::{Case, all_give};
 
 #[rattlefmt::skip]
 static PRINTS: &[Case] = &[

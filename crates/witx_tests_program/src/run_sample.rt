@@ -1,10 +1,11 @@
 //! The sample: its bundle, its summary, and the program over it, whose source isn't read. And which words
 //! have a form.
 
-use crate::run::{Case, USAGE, all_give, run_on, sink_of, source_of, words_of};
+use crate::run::USAGE;
 use std::alloc::Global;
 use witx::has_form;
 use witx_base::OutOfMemory;
+use witx_fixtures_run::{Case, all_give, run_on, sink_of, source_of, words_of};
 use witx_sample::{sample_bundle, sample_files};
 
 /// The source holds no bundle, and would be refused if it were read.

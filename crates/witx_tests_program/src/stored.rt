@@ -1,6 +1,6 @@
 //! Functions whose whole result comes back through one return pointer.
 
-use crate::run::{Case, all_give};
+use witx_fixtures_run::{Case, all_give};
 
 /// A text in, a number or an error back, of which the error of case 0 is like any other; and what may be
 /// stored.

@@ -8,7 +8,8 @@ use witx_abi::{
 };
 use witx_ast::{Abi, InterfaceFunc};
 use witx_base::{Duplicate, Id, Items, OutOfMemory, Text};
-use witx_fixtures::{calls_of, func_of};
+use witx_fixtures::calls_of;
+use witx_fixtures_run::func_of;
 
 const ADDS: &str =
     r#"(module $m (@interface func (export "f") (param $x u32) (param $y u64) (result $r u32)))"#;

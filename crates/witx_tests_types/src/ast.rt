@@ -6,7 +6,8 @@ use std::hash::{DefaultHasher, Hash, Hasher};
 use witx::parse;
 use witx_ast::{Case, Cases, Datatype, Document, Module, NamedType, TypeRefs};
 use witx_base::{Duplicate, Id, OutOfMemory};
-use witx_fixtures::{built_text, typename_of};
+use witx_fixtures::built_text;
+use witx_fixtures_run::typename_of;
 
 /// Texts, and the name of the type that stands behind the name `t`.
 const NAMED: &[(&str, &str)] = &[

@@ -5,7 +5,7 @@ use witx_ast::{BuiltinType, TypeRef};
 use witx_bytes::{
     ByteMemory, PlaceError, ReadError, Value, is_value, read_value, writable, write_value,
 };
-use witx_fixtures::typename_of;
+use witx_fixtures_run::typename_of;
 use witx_layout::Layout;
 
 /// A byte of an image that stands for padding.

@@ -9,7 +9,8 @@ use std::marker::Brand;
 use std::sync::ledger::{Blank, Ledger};
 use witx::parse;
 use witx_ast::{Datatype, Document, NamedType, RecordDatatype};
-use witx_fixtures::{built_text, typename_of};
+use witx_fixtures::built_text;
+use witx_fixtures_run::typename_of;
 use witx_layout::{
     Layout, LayoutError, LayoutsError, RecordMembers, SizeAlign, SizeAligns, Steps, TagTooNarrow,
     VariantOffset, fits_tags, layouts, layouts_text,

@@ -7,7 +7,7 @@ use std::rc::Rc;
 use witx_ast::InterfaceFunc;
 use witx_base::{Duplicate, OutOfMemory};
 use witx_compat::FuncPolyfill;
-use witx_fixtures::func_of;
+use witx_fixtures_run::func_of;
 use witx_machine::Place;
 use witx_shim::{Places, ShimError, shim};
 

@@ -1,0 +1,183 @@
+//! The program over a source and two sinks in memory: a row with what a run gives, and whether it does.
+
+ghost use Rattle.std.specs.Prelude.{◌<◌};
+
+use std::alloc::Global;
+use witx::run;
+use witx_base::{Bytes, Items, MemSink, MemSource, OutOfMemory, Text};
+use witx_fixtures::{Pieces, built_text, calls_of};
+
+/// A bundle of one document, whose function `add` takes two numbers.
+pub const ADD: &str = r#";;;; file /a
+(module $m (@interface func (export "add") (param $x u32) (param $y u64) (result $r u32)))"#;
+
+/// Its listing.
+pub const ADD_LISTING: &str = r#"module m
+func "add" (i32 i64) -> (i32)
+caller
+  get_arg 0
+  i32_from_u32
+  get_arg 1
+  i64_from_u64
+  call_wasm "m" "add" (i32 i64) -> (i32)
+  u32_from_i32
+  return 1
+callee
+  get_arg 0
+  u32_from_i32
+  get_arg 1
+  u64_from_i64
+  call_interface "m" "add"
+  i32_from_u32
+  return 1
+"#;
+
+/// Words, the bundle, the status, and what is written on the output and of the refusal.
+pub type Case = (&'static str, &'static str, u8, &'static str, &'static str);
+
+/// Words, the pieces of the bundle, the status, what the output ends with, and the refusal.
+pub type Built = (
+    &'static str,
+    Pieces<'static>,
+    u8,
+    &'static str,
+    &'static str,
+);
+
+fn bytes_of(alloc: Global, bytes: &[u8]) -> Result<Bytes, OutOfMemory> {
+    let mut list = Items::new(alloc);
+    for byte in bytes {
+        list.push(*byte)?;
+    }
+    Ok(list)
+}
+
+/// A source that gives so many bytes a call, of whose calls these fail.
+pub fn source_of(
+    alloc: Global,
+    bytes: &[u8],
+    gives: usize,
+    fails: &[u64],
+) -> Result<MemSource, OutOfMemory>
+    requires { 0 < gives }
+{
+    Ok(MemSource::new(bytes_of(alloc, bytes)?, gives, calls_of(alloc, fails)?))
+}
+
+/// A sink that takes so many bytes a call, of whose calls these fail.
+pub fn sink_of(alloc: Global, takes: usize, fails: &[u64]) -> Result<MemSink, OutOfMemory>
+    requires { 0 < takes }
+{
+    MemSink::new(alloc, 4096, takes, calls_of(alloc, fails)?)
+}
+
+/// The words of a line; an empty line has none.
+pub fn words_of(alloc: Global, line: &str) -> Result<Items<Text>, OutOfMemory> {
+    let mut words = Items::new(alloc);
+    if line.is_empty() {
+        return Ok(words);
+    }
+    for word in line.split(' ') {
+        words.push(Text::new(alloc, word)?)?;
+    }
+    Ok(words)
+}
+
+/// What a run gives: its status, whether it has a value, and its devices.
+#[derive(Drop)]
+pub struct Gave {
+    /// The status.
+    pub status: u8,
+    /// Whether it has a value.
+    pub has_value: bool,
+    /// The source, behind what was read.
+    pub source: MemSource,
+    /// The output.
+    pub out: MemSink,
+    /// The sink of refusals.
+    pub err: MemSink,
+}
+
+impl Gave {
+    /// Whether the run ended so, with a value exactly where `adapt` or `sample` is done.
+    fn ended(&self, line: &str, status: u8) -> bool {
+        let is_adapting = line.starts_with("adapt") || line.starts_with("sample");
+        self.status == status && self.has_value == (status == 0 && is_adapting)
+    }
+
+    /// Whether the run ended so, with these texts written.
+    pub fn is(&self, line: &str, status: u8, listing: &str, refusal: &str) -> bool {
+        self.ended(line, status)
+            && self.out.bytes() == listing.as_bytes()
+            && self.err.bytes() == refusal.as_bytes()
+    }
+}
+
+/// A run of the words of a line over these devices.
+pub fn run_on(
+    alloc: Global,
+    line: &str,
+    mut source: MemSource,
+    mut out: MemSink,
+    mut err: MemSink,
+) -> Result<Gave, OutOfMemory> {
+    let words = words_of(alloc, line)?;
+    let ran = run(alloc, words.as_slice(), &mut source, &mut out, &mut err);
+    let has_value = ran.adapted.is_some();
+    Ok(Gave {
+        status: ran.status,
+        has_value,
+        source,
+        out,
+        err,
+    })
+}
+
+/// A run over devices that don't fail.
+pub fn run_over(alloc: Global, line: &str, bundle: &[u8]) -> Result<Gave, OutOfMemory> {
+    let source = source_of(alloc, bundle, 50_000, &[])?;
+    let out = sink_of(alloc, 500, &[])?;
+    run_on(alloc, line, source, out, sink_of(alloc, 500, &[])?)
+}
+
+/// Whether a run gives this over devices that don't fail.
+fn gives(alloc: Global, (line, bundle, status, listing, refusal): &Case) -> bool {
+    match run_over(alloc, line, bundle.as_bytes()) {
+        Ok(gave) => gave.is(line, *status, listing, refusal),
+        Err(_) => false,
+    }
+}
+
+/// Whether each of these runs gives what its row says.
+pub fn all_give(alloc: Global, cases: &[Case]) -> bool {
+    for case in cases {
+        if !gives(alloc, case) {
+            return false;
+        }
+    }
+    true
+}
+
+fn built_gives(
+    alloc: Global,
+    (line, pieces, status, end, refusal): &Built,
+) -> Result<bool, OutOfMemory> {
+    let text = built_text(alloc, pieces)?;
+    let gave = run_over(alloc, line, text.as_str().as_bytes())?;
+    Ok(
+        gave.ended(line, *status)
+            && gave.out.bytes().ends_with(end.as_bytes())
+            && gave.out.bytes().is_empty() == end.is_empty()
+            && gave.err.bytes() == refusal.as_bytes(),
+    )
+}
+
+/// Whether each of these runs over a built bundle gives what its row says.
+pub fn all_built_give(alloc: Global, built: &[Built]) -> bool {
+    for row in built {
+        if !built_gives(alloc, row).unwrap_or(false) {
+            return false;
+        }
+    }
+    true
+}

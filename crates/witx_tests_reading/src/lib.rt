@@ -1,0 +1,18 @@
+//! Tests of what is read of a text: the checks of declarations, constants, files that use one another, printed
+//! text that reads back, calls that find no memory, and the library by its one crate.
+//!
+//! Rows were worked out by hand. docs/PROVING.md tells why tests stand apart, and the form of one.
+#![tactic(auto)]
+
+#[cfg(test)]
+mod check;
+#[cfg(test)]
+mod constants;
+#[cfg(test)]
+mod read_back;
+#[cfg(test)]
+mod refused;
+#[cfg(test)]
+mod surface;
+#[cfg(test)]
+mod walk;

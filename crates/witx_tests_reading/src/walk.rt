@@ -1,0 +1,745 @@
+//! Files in order: what a use finds, which fault comes first, that each file is read once, and each
+//! call of the reader of files failing.
+
+ghost use Rattle.std.specs.Prelude.{None};
+
+use std::alloc::{AllocError, Global};
+use witx::{WitxError, parse, parse_witx_with};
+use witx_ast::{Document, NamedType};
+use witx_base::{CallCounter, Duplicate, Items, OutOfMemory, Text, WitxPath};
+use witx_files::{FailingFs, IoError, MockFs, WitxIo};
+use witx_fixtures::{Files, Links, calls_of, files_of, links_of};
+use witx_fixtures_run::{Built, Case, all_built_give, all_give};
+
+#[rattlefmt::skip]
+static WALKS: &[Case] = &[
+    // A file that two use, and two files that use each other, with a module.
+    (
+        "adapt /a",
+        r#";;;; file /a
+(use "b")(use "c")
+;;;; file /b
+(use "d")
+;;;; file /c
+(use "d")
+;;;; file /d
+(module $m)"#,
+        0,
+        "module m\n",
+        "",
+    ),
+    (
+        "adapt /a",
+        r#";;;; file /a
+(use "b")
+;;;; file /b
+(use "a")(module $m)"#,
+        0,
+        "module m\n",
+        "",
+    ),
+    // A file that uses itself, and two that use each other.
+    (
+        "adapt /a",
+        r#";;;; file /a
+(use "a")(typename $t u8)"#,
+        0,
+        "typename t size 1 align 1\n",
+        "",
+    ),
+    (
+        "adapt /a",
+        r#";;;; file /a
+(use "b")(typename $t u8)
+;;;; file /b
+(use "a")(typename $u u16)"#,
+        0,
+        "\
+typename u size 2 align 2
+typename t size 1 align 1
+",
+        "",
+    ),
+    // What a used file declares stands before what follows the use, and the handed files in turn.
+    (
+        "adapt /a",
+        r#";;;; file /a
+(typename $s u8)(use "b")(typename $t $u)
+;;;; file /b
+(typename $u $s)"#,
+        0,
+        "\
+typename s size 1 align 1
+typename u size 1 align 1
+typename t size 1 align 1
+",
+        "",
+    ),
+    (
+        "adapt /b /a",
+        "\
+;;;; file /a
+(typename $t u16)
+;;;; file /b
+(typename $s u8)",
+        0,
+        "\
+typename s size 1 align 1
+typename t size 2 align 2
+",
+        "",
+    ),
+    (
+        "adapt a/.",
+        r#";;;; file a
+(use "b")"#,
+        1,
+        "",
+        r#"witx: with file "b": file not found
+"#,
+    ),
+    (
+        "adapt /a /",
+        "\
+;;;; file /a
+(",
+        1,
+        "",
+        "\
+witx: unexpected token
+     --> /a:1:2
+",
+    ),
+    (
+        "adapt /a /",
+        ";;;; file /a\n",
+        1,
+        "",
+        r#"witx: path "/" has no file name
+"#,
+    ),
+    // A file is read whole before its uses are followed, and a used file before what follows the use.
+    (
+        "adapt /a",
+        r#";;;; file /b
+(typename
+;;;; file /a
+(use "b")(typename"#,
+        1,
+        "",
+        "\
+witx: expected an identifier
+     --> /a:1:19
+",
+    ),
+    (
+        "adapt /a",
+        r#";;;; file /a
+(use "b")(typename $t $x)
+;;;; file /b
+(typename"#,
+        1,
+        "",
+        "\
+witx: expected an identifier
+     --> /b:1:10
+",
+    ),
+    // The fault of a declaration before a bad use, and behind it.
+    (
+        "adapt /a",
+        r#";;;; file /a
+(typename $t $x)(use "b")"#,
+        1,
+        "",
+        r#"witx: in "/a":
+    1 | (typename $t $x)(use "b")
+                      ^
+Unknown name `x`
+"#,
+    ),
+    (
+        "adapt /a",
+        r#";;;; file /a
+(use "b")(typename $t $x)"#,
+        1,
+        "",
+        r#"witx: with file "/b": file not found
+"#,
+    ),
+    // A name that two files declare.
+    (
+        "adapt /a",
+        r#";;;; file /a
+(use "b")(typename $t u8)
+;;;; file /b
+(typename $t u8)"#,
+        1,
+        "",
+        r#"witx: in "/a":
+    1 | (use "b")(typename $t u8)
+                            ^
+Redefinition of name `t`
+Originally defined at:
+in "/b":
+    1 | (typename $t u8)
+                   ^
+"#,
+    ),
+];
+
+#[test]
+fn walks(rt: HostRuntime) {
+    assert!(rt; all_give(rt.alloc(), WALKS));
+}
+
+/// Files, the handed path, and the typenames that are found with their types, in order.
+type Used = (Files, &'static str, &'static [(&'static str, &'static str)]);
+
+#[rattlefmt::skip]
+const USED: &[Used] = &[
+    (&[("/a", ";; empty")], "/a", &[]),
+    (&[("/a", "(use \"b\")"), ("/b", ";; empty")], "/a", &[]),
+    (
+        &[
+            ("/a", "(use \"b\")"),
+            ("/b", "(use \"c\")\n(typename $b_float f64)"),
+            ("/c", "(typename $c_int u32)"),
+        ],
+        "/a",
+        &[("c_int", "u32"), ("b_float", "f64")],
+    ),
+    (
+        &[
+            ("/a", "(use \"b\")\n(use \"c\")"),
+            ("/b", "(use \"d\")"),
+            ("/c", "(use \"d\")"),
+            ("/d", "(typename $d_char u8)"),
+        ],
+        "/a",
+        &[("d_char", "u8")],
+    ),
+    (
+        &[
+            ("/root.witx", "(use \"subdir/child.witx\")"),
+            ("/subdir/child.witx", "(use \"sibling.witx\")\n(typename $b_float f64)"),
+            ("/subdir/sibling.witx", "(typename $c_int u32)"),
+            ("/sibling.witx", "(typename $c_int u64)"),
+        ],
+        "/root.witx",
+        &[("c_int", "u32"), ("b_float", "f64")],
+    ),
+];
+
+fn is_typename(
+    alloc: Global,
+    named: &NamedType,
+    name: &str,
+    type_name: &str,
+) -> Result<bool, OutOfMemory> {
+    Ok(named.name.is(name) && named.tref.type_name(alloc)?.as_str() == type_name)
+}
+
+fn has_typenames(alloc: Global, document: &Document, wanted: &[(&str, &str)]) -> bool {
+    let mut typenames = document.typenames();
+    for (name, type_name) in wanted {
+        match typenames.next() {
+            Some(named) => {
+                if !is_typename(alloc, named, name, type_name).unwrap_or(false) {
+                    return false;
+                }
+            }
+            None => return false,
+        }
+    }
+    typenames.next().is_none()
+}
+
+fn is_used(alloc: Global, (files, handed, wanted): &Used) -> Result<bool, OutOfMemory> {
+    let path = WitxPath::new(alloc, handed)?;
+    let mut files = files_of(alloc, files)?;
+    match parse_witx_with(alloc, &[path], &mut files) {
+        Ok(document) => Ok(has_typenames(alloc, &document, wanted)),
+        Err(_) => Ok(false),
+    }
+}
+
+fn all_used(alloc: Global) -> bool {
+    for row in USED {
+        if !is_used(alloc, row).unwrap_or(false) {
+            return false;
+        }
+    }
+    true
+}
+
+#[test]
+fn used_files(rt: HostRuntime) {
+    assert!(rt; all_used(rt.alloc()));
+}
+
+/// How many definitions the document has, or the report of the refusal.
+fn text_of<I: WitxIo>(
+    alloc: Global,
+    answer: Result<Document, WitxError>,
+    io: &mut I,
+) -> Result<Text, OutOfMemory> {
+    match answer {
+        Ok(document) => {
+            let count = document.definitions().len();
+            Ok(Text::from_string(format!(in alloc; "{count} definitions")?))
+        }
+        Err(error) => error.report_with(alloc, io),
+    }
+}
+
+/// Texts by themselves, each with its answer.
+#[rattlefmt::skip]
+const SOURCES: &[(&str, &str)] = &[
+    ("", "0 definitions"),
+    (r#"(use "-")"#, "0 definitions"),
+    (r#"(use "./-")"#, r#"with file "./-": file not found"#),
+    (r#"(use "b")"#, r#"with file "b": file not found"#),
+    ("(typename $t u8)", "1 definitions"),
+    (
+        "(typename",
+        "\
+expected an identifier
+     --> -:1:10",
+    ),
+];
+
+fn is_read(alloc: Global, source: &str, wanted: &str) -> Result<bool, OutOfMemory> {
+    let mut io = MockFs::new(alloc);
+    let text = text_of(alloc, parse(alloc, source), &mut io)?;
+    Ok(text.as_str() == wanted)
+}
+
+fn all_read(alloc: Global) -> bool {
+    for (source, wanted) in SOURCES {
+        if !is_read(alloc, source, wanted).unwrap_or(false) {
+            return false;
+        }
+    }
+    true
+}
+
+#[test]
+fn sources(rt: HostRuntime) {
+    assert!(rt; all_read(rt.alloc()));
+}
+
+fn paths_of(alloc: Global, handed: &[&str]) -> Result<Items<WitxPath>, OutOfMemory> {
+    let mut paths = Items::new(alloc);
+    for path in handed {
+        paths.push(WitxPath::new(alloc, path)?)?;
+    }
+    Ok(paths)
+}
+
+fn answer_of<I: WitxIo>(alloc: Global, handed: &[&str], io: &mut I) -> Result<Text, OutOfMemory> {
+    let paths = paths_of(alloc, handed)?;
+    let answer = parse_witx_with(alloc, paths.as_slice(), io);
+    text_of(alloc, answer, io)
+}
+
+/// The answer over files of which these calls fail, and how many failed.
+fn answer_failing(
+    alloc: Global,
+    files: &[(&str, &str)],
+    links: &[(&str, &str)],
+    handed: &[&str],
+    fails: &[u64],
+) -> Result<(Text, u64), OutOfMemory> {
+    let files = files_of(alloc, files)?;
+    let links = links_of(alloc, links)?;
+    let mut io = FailingFs::new(files, links, calls_of(alloc, fails)?);
+    let text = answer_of(alloc, handed, &mut io)?;
+    Ok((text, io.faults()))
+}
+
+/// Files, the handed paths, the path of each call, and the answer where no call fails.
+type Reading = (
+    Files,
+    &'static [&'static str],
+    &'static [&'static str],
+    &'static str,
+);
+
+/// Each path is made canonical where it is mentioned, and read at the first mention alone.
+#[rattlefmt::skip]
+const READINGS: &[Reading] = &[
+    (
+        &[("/a", r#"(use "a")(typename $t u8)"#)],
+        &["/a", "/a"],
+        &["/a", "/a", "/a", "/a"],
+        "1 definitions",
+    ),
+    (
+        &[("/a", r#"(use "b")(typename $t u8)"#), ("/b", r#"(use "a")(typename $u u8)"#)],
+        &["/a"],
+        &["/a", "/a", "/b", "/b", "/a"],
+        "2 definitions",
+    ),
+    (
+        &[("/a", r#"(use "b")(use "c")"#), ("/b", r#"(use "d")"#), ("/c", r#"(use "d")"#), ("/d", "(typename $d_char u8)")],
+        &["/a"],
+        &["/a", "/a", "/b", "/b", "/d", "/d", "/c", "/c", "/d"],
+        "1 definitions",
+    ),
+    (
+        &[
+            ("/root.witx", "(use \"subdir/child.witx\")"),
+            ("/subdir/child.witx", "(use \"sibling.witx\")(typename $b_float f64)"),
+            ("/subdir/sibling.witx", "(typename $c_int u32)"),
+        ],
+        &["/root.witx"],
+        &[
+            "/root.witx",
+            "/root.witx",
+            "/subdir/child.witx",
+            "/subdir/child.witx",
+            "/subdir/sibling.witx",
+            "/subdir/sibling.witx",
+        ],
+        "2 definitions",
+    ),
+];
+
+/// Whether the failure of a call is told with its path.
+fn tells(alloc: Global, reading: &Reading, call: usize, path: &str) -> Result<bool, OutOfMemory> {
+    let (files, handed, _, _) = reading;
+    let (text, faults) = answer_failing(alloc, files, &[], handed, &[call as u64])?;
+    let wanted = format!(in alloc; "with file \"{path}\": read failed")?;
+    Ok(text.as_str() == wanted.as_str() && faults == 1)
+}
+
+fn tells_each(alloc: Global, reading: &Reading) -> bool {
+    for (call, path) in reading.2.iter().enumerate() {
+        if !tells(alloc, reading, call, path).unwrap_or(false) {
+            return false;
+        }
+    }
+    true
+}
+
+/// Whether there is no further call.
+fn is_all(alloc: Global, reading: &Reading) -> Result<bool, OutOfMemory> {
+    let (files, handed, paths, wanted) = reading;
+    let (text, faults) = answer_failing(alloc, files, &[], handed, &[paths.len() as u64])?;
+    Ok(text.as_str() == *wanted && faults == 0)
+}
+
+fn all_tell(alloc: Global) -> bool {
+    for reading in READINGS {
+        if !tells_each(alloc, reading) || !is_all(alloc, reading).unwrap_or(false) {
+            return false;
+        }
+    }
+    true
+}
+
+#[test]
+fn each_call_failing(rt: HostRuntime) {
+    assert!(rt; all_tell(rt.alloc()));
+}
+
+/// Files, links, the handed path, the failing calls, the answer, and how many calls failed.
+type Linked = (
+    Files,
+    Links,
+    &'static str,
+    &'static [u64],
+    &'static str,
+    u64,
+);
+
+#[rattlefmt::skip]
+static LINKED: &[Linked] = &[
+    // Two spellings of one path.
+    (
+        &[("/a", r#"(use "x/../b")(use "b")"#), ("/b", "(typename $t u8)")],
+        &[("/x/../b", "/b")],
+        "/a",
+        &[],
+        "1 definitions",
+        0,
+    ),
+    // A use is seen from the folder of the path that its file stands for, or else from the folder of
+    // its mention.
+    (
+        &[("/sub/a", r#"(use "b")"#)],
+        &[("/link", "/sub/a")],
+        "/link",
+        &[],
+        r#"with file "/sub/b": file not found"#,
+        0,
+    ),
+    (
+        &[("/", r#"(use "b")"#), ("/d/b", "(typename $t u8)")],
+        &[("/d/a", "/")],
+        "/d/a",
+        &[],
+        "1 definitions",
+        0,
+    ),
+    // The path as it is mentioned, or the one that it stands for.
+    (&[("/a", r#"(use "b")"#)], &[("/b", "/c")], "/a", &[2], r#"with file "/b": read failed"#, 1),
+    (&[("/a", r#"(use "b")"#)], &[("/b", "/c")], "/a", &[3], r#"with file "/c": read failed"#, 1),
+    (
+        &[("/a", r#"(use "b")"#)],
+        &[("/b", "/c")],
+        "/a",
+        &[4],
+        r#"with file "/c": file not found"#,
+        0,
+    ),
+    // A report without the lines whose reading fails.
+    (
+        &[("/a", "(typename $a $b)")],
+        &[],
+        "/a",
+        &[2],
+        r#"in "/a":
+
+Unknown name `b`"#,
+        1,
+    ),
+    (
+        &[("/a", "(module $m)(typename $t $m)")],
+        &[],
+        "/a",
+        &[2],
+        r#"in "/a":
+
+Wrong kind of name `m`: expected datatype, got module"#,
+        1,
+    ),
+    (
+        &[("/a", r#"(module $m (@interface func (export "f") (param $x $m)))"#)],
+        &[],
+        "/a",
+        &[2],
+        r#"in "/a":
+
+Recursive definition of name `m`"#,
+        1,
+    ),
+    (
+        &[("/a", "\
+(typename $a u8)
+(typename $a u8)")],
+        &[],
+        "/a",
+        &[2],
+        r#"in "/a":
+
+Redefinition of name `a`
+Originally defined at:
+in "/a":
+    1 | (typename $a u8)
+                   ^"#,
+        1,
+    ),
+    (
+        &[("/a", "\
+(typename $a u8)
+(typename $a u8)")],
+        &[],
+        "/a",
+        &[3],
+        r#"in "/a":
+    2 | (typename $a u8)
+                   ^
+Redefinition of name `a`
+Originally defined at:
+in "/a":
+"#,
+        1,
+    ),
+    (
+        &[("/a", "\
+(typename $a u8)
+(typename $a u8)")],
+        &[],
+        "/a",
+        &[4],
+        r#"in "/a":
+    2 | (typename $a u8)
+                   ^
+Redefinition of name `a`
+Originally defined at:
+in "/a":
+    1 | (typename $a u8)
+                   ^"#,
+        0,
+    ),
+];
+
+fn is_linked(
+    alloc: Global,
+    (files, links, handed, fails, wanted, failed): &Linked,
+) -> Result<bool, OutOfMemory> {
+    let (text, faults) = answer_failing(alloc, files, links, &[*handed], fails)?;
+    Ok(text.as_str() == *wanted && faults == *failed)
+}
+
+fn all_linked(alloc: Global) -> bool {
+    for row in LINKED {
+        if !is_linked(alloc, row).unwrap_or(false) {
+            return false;
+        }
+    }
+    true
+}
+
+#[test]
+fn linked_files(rt: HostRuntime) {
+    assert!(rt; all_linked(rt.alloc()));
+}
+
+/// A reader that tells nothing. Each file that it gives uses the next one, and a file that it hasn't
+/// is a fault.
+#[derive(Drop)]
+struct Untold {
+    reads: u64,
+    calls: CallCounter,
+}
+
+impl WitxIo for Untold {
+    ghost files = { λ t. None };
+
+    ghost aliases = { λ t. None };
+
+    ghost faults = { λ t. t.calls.faults };
+
+    fn fgets(&mut self, alloc: Global, _path: &WitxPath) -> Result<Text, IoError> {
+        self.calls.count()?;
+        self.reads = self.reads.saturating_add(1);
+        let text = format!(in alloc; "(use \"f{}\")", self.reads)?;
+        Ok(Text::from_string(text))
+    }
+
+    fn fget_line(
+        &mut self,
+        alloc: Global,
+        _path: &WitxPath,
+        _line_num: usize,
+    ) -> Result<Text, IoError> {
+        Ok(Text::new(alloc, "")?)
+    }
+
+    fn canonicalize(&mut self, _alloc: Global, path: &WitxPath) -> Result<WitxPath, IoError> {
+        Ok(path.copy()?)
+    }
+}
+
+/// Whether that is the answer over a reader whose file of this number is missing, after so many files.
+fn is_untold(alloc: Global, missing: u64, wanted: &str, reads: u64) -> Result<bool, OutOfMemory> {
+    let calls = CallCounter::new(calls_of(alloc, &[missing])?);
+    let mut io = Untold { reads: 0, calls };
+    let text = answer_of(alloc, &["/f0"], &mut io)?;
+    Ok(text.as_str() == wanted && io.reads == reads)
+}
+
+#[test]
+fn untold_files(rt: HostRuntime) {
+    let wanted = "with file \"/f5\": read failed";
+    assert!(rt; is_untold(rt.alloc(), 5, wanted, 5).unwrap_or(false));
+}
+
+/// Files, each of which uses the next one, as many as may be and one more.
+#[rattlefmt::skip]
+const CHAINS: &[Built] = &[
+    (
+        "adapt /f0",
+        &[(r#";;;; file /f#
+(use "f^")
+"#, 1023), ("\
+;;;; file /f1023
+(typename $t u8)", 1)],
+        0,
+        "typename t size 1 align 1\n",
+        "",
+    ),
+    (
+        "adapt /f0",
+        &[(r#";;;; file /f#
+(use "f^")
+"#, 1024), ("\
+;;;; file /f1024
+(typename $t u8)", 1)],
+        1,
+        "",
+        r#"witx: more than 1024 files at "/f1024"
+"#,
+    ),
+];
+
+#[test]
+fn long_chains(rt: HostRuntime) {
+    let wanted = "more than 1024 files at \"/f1024\"";
+    let is_untold = is_untold(rt.alloc(), 2000, wanted, 1024).unwrap_or(false);
+    assert!(rt; is_untold && all_built_give(rt.alloc(), CHAINS));
+}
+
+/// An error as it displays, with what it holds.
+fn displayed(alloc: Global, error: &WitxError) -> Result<String, AllocError> {
+    match error {
+        WitxError::Parse(fault) => format!(in alloc; "{error}: {fault}"),
+        WitxError::Validation(fault) => format!(in alloc; "{error}: {fault}"),
+        _ => format!(in alloc; "{error}"),
+    }
+}
+
+fn displays(alloc: Global, error: &WitxError, wanted: &str) -> bool {
+    match displayed(alloc, error) {
+        Ok(text) => text.as_str() == wanted,
+        Err(_) => false,
+    }
+}
+
+/// Texts, each with its error as it displays.
+#[rattlefmt::skip]
+const DISPLAYED: &[(&str, &str)] = &[
+    (r#"(use "b")"#, r#"IO error with file "b""#),
+    (
+        "(typename",
+        "\
+Parse error: expected an identifier
+     --> -:1:10",
+    ),
+    ("(typename $a $b)", "Validation error: Unknown name `b`"),
+];
+
+fn error_displays(alloc: Global, text: &str, wanted: &str) -> bool {
+    match parse(alloc, text) {
+        Ok(_) => false,
+        Err(error) => displays(alloc, &error, wanted),
+    }
+}
+
+fn all_display(alloc: Global) -> bool {
+    for (text, wanted) in DISPLAYED {
+        if !error_displays(alloc, text, wanted) {
+            return false;
+        }
+    }
+    true
+}
+
+/// The refusals that no single text has.
+fn others_display(alloc: Global) -> Result<bool, OutOfMemory> {
+    let bad = WitxError::BadPath(WitxPath::new(alloc, "/")?);
+    let many = WitxError::TooManyFiles(WitxPath::new(alloc, "/a")?);
+    Ok(
+        displays(alloc, &bad, "path \"/\" has no file name")
+            && displays(alloc, &many, "more than 1024 files at \"/a\"")
+            && displays(alloc, &WitxError::OutOfMemory, "out of memory"),
+    )
+}
+
+#[test]
+fn displayed_errors(rt: HostRuntime) {
+    assert!(rt; all_display(rt.alloc()) && others_display(rt.alloc()).unwrap_or(false));
+}
