@@ -27,7 +27,15 @@ fn are_texts(alloc: Global) -> bool {
 }
 
 /// Pairs of names, the lesser first.
-const NAMES: &[(&str, &str)] = &[("a", "ab"), ("ab", "b"), ("B", "a")];
+const NAMES: &[(&str, &str)] = &[
+    ("a", "ab"),
+    ("ab", "b"),
+    ("B", "a"),
+    ("a", "a\0"),
+    ("abcdefgh", "abcdefghi"),
+    ("abcdefghi", "abcdefghj"),
+    ("abcdefgz", "abcdefh"),
+];
 
 fn is_named(name: &Id, text: &str, other: &str) -> Result<bool, OutOfMemory> {
     let is_named = name.as_str() == text && name.is(text) && !name.is(other);
@@ -250,7 +258,7 @@ fn finds(
     wanted: Option<u64>,
 ) -> Result<bool, OutOfMemory> {
     let name = Id::new(alloc, name)?;
-    Ok(map.get(&name).copied() == wanted)
+    Ok(map.get(&name).copied() == wanted && map.get_new(&name).copied() == wanted)
 }
 
 fn map_equals_its_copy(map: &NameMap<u64>) -> Result<bool, OutOfMemory> {
