@@ -71,7 +71,9 @@ fn validate(
     comments: &CommentSyntax<'_>,
     definitions: &mut Definitions,
 ) -> Result<(), CheckError> {
-    scope.validate_decl(&declaration, comments, definitions)
+    let taken = scope.validate_decl(&declaration, comments, definitions);
+    drop(declaration);
+    taken
 }
 
 /// Whether a declaration is taken in.

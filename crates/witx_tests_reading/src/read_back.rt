@@ -119,10 +119,8 @@ fn prints_as(alloc: Global, document: &Document, text: &str) -> bool {
 }
 
 fn reads_back(alloc: Global, document: &Document, text: &str) -> bool {
-    let Ok(again) = print_and_parse(alloc, document) else {
-        return false;
-    };
-    again == *document && prints_as(alloc, &again, text)
+    print_and_parse(alloc, document).is_ok_and(|again| again == *document
+        && prints_as(alloc, &again, text))
 }
 
 fn text_is_fixed(alloc: Global, text: &str) -> bool {
@@ -177,9 +175,9 @@ static OTHERS: &[(&str, bool)] = &[
 ];
 
 fn is_other(alloc: Global, document: &Document, is_document: bool) -> bool {
-    match print_and_parse(alloc, document) {
-        Ok(again) => is_document && again != *document,
-        Err(_) => !is_document,
+    match print_and_parse(alloc, document).ok() {
+        Some(again) => is_document && again != *document,
+        None => !is_document,
     }
 }
 

@@ -180,10 +180,10 @@ fn named(alloc: Global) -> Option<MdContent> {
 
 /// Adds the node of a type below the root, where it isn't refused.
 fn is_named(alloc: Global, tree: &mut MdTree) -> Option<bool> {
-    let content = named(alloc)?;
     if tree.len() != 1 {
         return None;
     }
+    let content = named(alloc)?;
     Some(tree.new_child(0, content).is_ok())
 }
 
