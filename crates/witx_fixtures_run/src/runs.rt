@@ -111,6 +111,14 @@ impl Gave {
             && self.out.bytes() == listing.as_bytes()
             && self.err.bytes() == refusal.as_bytes()
     }
+
+    /// Whether the run ended so, with a text that ends so, or none, and with this refusal.
+    fn ends(&self, line: &str, status: u8, end: &str, refusal: &str) -> bool {
+        self.ended(line, status)
+            && self.out.bytes().ends_with(end.as_bytes())
+            && self.out.bytes().is_empty() == end.is_empty()
+            && self.err.bytes() == refusal.as_bytes()
+    }
 }
 
 /// A run of the words of a line over these devices.
@@ -123,9 +131,11 @@ pub fn run_on(
 ) -> Result<Gave, OutOfMemory> {
     let words = words_of(alloc, line)?;
     let ran = run(alloc, words.as_slice(), &mut source, &mut out, &mut err);
+    let status = ran.status;
     let has_value = ran.adapted.is_some();
+    drop(ran);
     Ok(Gave {
-        status: ran.status,
+        status,
         has_value,
         source,
         out,
@@ -135,17 +145,17 @@ pub fn run_on(
 
 /// A run over devices that don't fail.
 pub fn run_over(alloc: Global, line: &str, bundle: &[u8]) -> Result<Gave, OutOfMemory> {
-    let source = source_of(alloc, bundle, 50_000, &[])?;
     let out = sink_of(alloc, 500, &[])?;
-    run_on(alloc, line, source, out, sink_of(alloc, 500, &[])?)
+    let err = sink_of(alloc, 500, &[])?;
+    let source = source_of(alloc, bundle, 50_000, &[])?;
+    run_on(alloc, line, source, out, err)
 }
 
 /// Whether a run gives this over devices that don't fail.
 fn gives(alloc: Global, (line, bundle, status, listing, refusal): &Case) -> bool {
-    match run_over(alloc, line, bundle.as_bytes()) {
-        Ok(gave) => gave.is(line, *status, listing, refusal),
-        Err(_) => false,
-    }
+    run_over(alloc, line, bundle.as_bytes()).is_ok_and(|gave| gave.is(
+        line, *status, listing, refusal,
+    ))
 }
 
 /// Whether each of these runs gives what its row says.
@@ -158,18 +168,16 @@ pub fn all_give(alloc: Global, cases: &[Case]) -> bool {
     true
 }
 
-fn built_gives(
-    alloc: Global,
-    (line, pieces, status, end, refusal): &Built,
-) -> Result<bool, OutOfMemory> {
-    let text = built_text(alloc, pieces)?;
-    let gave = run_over(alloc, line, text.as_str().as_bytes())?;
-    Ok(
-        gave.ended(line, *status)
-            && gave.out.bytes().ends_with(end.as_bytes())
-            && gave.out.bytes().is_empty() == end.is_empty()
-            && gave.err.bytes() == refusal.as_bytes(),
-    )
+/// Whether a run over a bundle gives what the row says.
+fn bundle_gives(alloc: Global, bundle: &str, (line, _, status, end, refusal): &Built) -> bool {
+    run_over(alloc, line, bundle.as_bytes()).is_ok_and(|gave| gave.ends(
+        line, *status, end, refusal,
+    ))
+}
+
+fn built_gives(alloc: Global, row: &Built) -> Result<bool, OutOfMemory> {
+    let text = built_text(alloc, row.1)?;
+    Ok(bundle_gives(alloc, text.as_str(), row))
 }
 
 /// Whether each of these runs over a built bundle gives what its row says.
