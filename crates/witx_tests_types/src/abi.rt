@@ -44,15 +44,15 @@ fn module(alloc: Global) -> Result<Id, AbiError> {
 fn has_caller(alloc: Global, func: &InterfaceFunc) -> Result<bool, AbiError> {
     let module = module(alloc)?;
     let mut trace = Trace::new(alloc);
-    func.call_wasm(alloc, &module, &mut trace)?;
-    Ok(are_of_caller(trace.events()))
+    let is_told = func.call_wasm(alloc, &module, &mut trace).is_ok();
+    Ok(is_told && are_of_caller(trace.events()))
 }
 
 fn has_callee(alloc: Global, func: &InterfaceFunc) -> Result<bool, AbiError> {
     let module = module(alloc)?;
     let mut trace = Trace::new(alloc);
-    func.call_interface(alloc, &module, &mut trace)?;
-    Ok(are_of_callee(trace.events()))
+    let is_told = func.call_interface(alloc, &module, &mut trace).is_ok();
+    Ok(is_told && are_of_callee(trace.events()))
 }
 
 fn is_lowered(alloc: Global, func: &InterfaceFunc) -> bool {
@@ -121,12 +121,10 @@ fn stops_at(
     call: usize,
     whole: &Events,
 ) -> bool {
-    match played(alloc, func, is_caller, call) {
-        Ok((bindgen, answer)) => answer == Err(AbiError::BindgenFailed)
-            && whole.as_slice().get(..call) == Some(bindgen.events().as_slice())
-            && bindgen.faults() == 1,
-        Err(_) => false,
-    }
+    played(alloc, func, is_caller, call).is_ok_and(|(bindgen, answer)| answer
+        == Err(AbiError::BindgenFailed)
+        && whole.as_slice().get(..call) == Some(bindgen.events().as_slice())
+        && bindgen.faults() == 1)
 }
 
 fn stops_at_each(alloc: Global, func: &InterfaceFunc, is_caller: bool, whole: &Events) -> bool {
@@ -140,13 +138,10 @@ fn stops_at_each(alloc: Global, func: &InterfaceFunc, is_caller: bool, whole: &E
 
 /// Whether there are so many calls, no further one fails, and each of them failing ends the events.
 fn fails_at_each(alloc: Global, func: &InterfaceFunc, is_caller: bool, calls: usize) -> bool {
-    match played(alloc, func, is_caller, calls) {
-        Ok((bindgen, answer)) => answer.is_ok()
-            && bindgen.faults() == 0
-            && bindgen.events().len() == calls
-            && stops_at_each(alloc, func, is_caller, bindgen.events()),
-        Err(_) => false,
-    }
+    played(alloc, func, is_caller, calls).is_ok_and(|(bindgen, answer)| answer.is_ok()
+        && bindgen.faults() == 0
+        && bindgen.events().len() == calls
+        && stops_at_each(alloc, func, is_caller, bindgen.events()))
 }
 
 fn text_fails(alloc: Global, text: &str, caller: usize, callee: usize) -> bool {
@@ -194,11 +189,12 @@ fn refuses_second(alloc: Global, func: &InterfaceFunc) -> Result<bool, AbiError>
 fn turned(alloc: Global, func: &InterfaceFunc) -> Result<InterfaceFunc, OutOfMemory> {
     let name = Id::new(alloc, "f")?;
     let docs = Text::new(alloc, "")?;
+    let results = func.params.copy()?;
     Ok(InterfaceFunc {
         abi: Abi::Preview1,
         name,
         params: Items::new(alloc),
-        results: func.params.copy()?,
+        results,
         noreturn: false,
         docs,
     })

@@ -139,26 +139,37 @@ fn put_refusal(out: &mut String, refusal: &AdaptError) -> Result<(), AllocError>
     }
 }
 
-fn is_refused(alloc: Global, refusal: &AdaptError, wanted: &str) -> Result<bool, OutOfMemory> {
+fn is_refused(alloc: Global, refusal: &AdaptError, wanted: &str) -> bool {
     let mut out = String::new(alloc);
-    put_refusal(&mut out, refusal)?;
-    Ok(out.as_str() == wanted)
+    put_refusal(&mut out, refusal).is_ok() && out.as_str() == wanted
 }
 
-fn file(alloc: Global, text: String) -> Result<MockFs, OutOfMemory> {
+/// Whether that is the refusal; none is wanted where there is none.
+fn is_as_wanted(alloc: Global, refusal: Option<AdaptError>, wanted: &str) -> bool {
+    match refusal {
+        Some(refusal) => {
+            let is_wanted = is_refused(alloc, &refusal, wanted);
+            drop(refusal);
+            is_wanted
+        }
+        None => wanted.is_empty(),
+    }
+}
+
+fn file(alloc: Global, pieces: Pieces<'_>) -> Result<MockFs, OutOfMemory> {
+    let path = WitxPath::new(alloc, "/a")?;
+    let text = built_text(alloc, pieces)?;
     let mut files = MockFs::new(alloc);
-    files.insert(WitxPath::new(alloc, "/a")?, Text::from_string(text))?;
+    files.insert(path, Text::from_string(text))?;
     Ok(files)
 }
 
 /// Whether that is the answer over one file.
 fn answers(alloc: Global, pieces: Pieces<'_>, wanted: &str) -> Result<bool, OutOfMemory> {
     let path = WitxPath::new(alloc, "/a")?;
-    let mut files = file(alloc, built_text(alloc, pieces)?)?;
-    match adapt(alloc, &[path], &mut files) {
-        Ok(_) => Ok(wanted.is_empty()),
-        Err(refusal) => is_refused(alloc, &refusal, wanted),
-    }
+    let mut files = file(alloc, pieces)?;
+    let refusal = adapt(alloc, &[path], &mut files).err();
+    Ok(is_as_wanted(alloc, refusal, wanted))
 }
 
 fn all_answer(alloc: Global) -> bool {

@@ -4,7 +4,7 @@
 use std::alloc::{AllocError, Global};
 use std::hash::{DefaultHasher, Hash, Hasher};
 use witx::parse;
-use witx_ast::{Case, Cases, Datatype, Document, Module, NamedType, TypeRefs};
+use witx_ast::{Case, Cases, Datatype, Document, Module, NamedType, TypeRef, TypeRefs};
 use witx_base::{Duplicate, Id, OutOfMemory};
 use witx_fixtures::built_text;
 use witx_fixtures_run::typename_of;
@@ -22,15 +22,21 @@ const NAMED: &[(&str, &str)] = &[
     ),
 ];
 
+fn has_name(alloc: Global, tref: &TypeRef, name: &str) -> bool {
+    tref.type_name(alloc).is_ok_and(|own| own.as_str() == name)
+}
+
 /// Whether a copy of the type is equal to it and has that name.
-fn shows(alloc: Global, named: &NamedType, name: &str) -> Result<bool, OutOfMemory> {
-    let copy = named.tref.copy()?;
-    Ok(copy == named.tref && copy.type_name(alloc)?.as_str() == name)
+fn shows(alloc: Global, named: &NamedType, name: &str) -> bool {
+    named
+        .tref
+        .copy()
+        .is_ok_and(|copy| copy == named.tref && has_name(alloc, &copy, name))
 }
 
 fn text_shows(alloc: Global, text: &str, name: &str) -> bool {
     match typename_of(alloc, text) {
-        Some(named) => shows(alloc, &named, name).unwrap_or(false),
+        Some(named) => shows(alloc, &named, name),
         None => false,
     }
 }
@@ -76,16 +82,19 @@ fn hash_of(document: &Document) -> u64 {
 }
 
 /// Whether documents whose definitions stand in another order are equal, and a copy is.
-fn are_equal(one: &Document, other: &Document) -> Result<bool, OutOfMemory> {
-    let are_equal = one == other && hash_of(one) == hash_of(other);
-    Ok(are_equal && one.definitions() != other.definitions() && one.copy()? == *other)
+fn are_equal(one: &Document, other: &Document) -> bool {
+    one == other
+        && hash_of(one) == hash_of(other)
+        && one.definitions() != other.definitions()
+        && one.copy().is_ok_and(|copy| copy == *other)
+}
+
+fn equals_the_other(alloc: Global, one: &Document) -> bool {
+    parse(alloc, SIZE_FIRST).is_ok_and(|other| are_equal(one, &other))
 }
 
 fn orders_are_equal(alloc: Global) -> bool {
-    match (parse(alloc, ERRNO_FIRST), parse(alloc, SIZE_FIRST)) {
-        (Ok(one), Ok(other)) => are_equal(&one, &other).unwrap_or(false),
-        _ => false,
-    }
+    parse(alloc, ERRNO_FIRST).is_ok_and(|one| equals_the_other(alloc, &one))
 }
 
 #[test]
@@ -130,15 +139,17 @@ fn has_one_constant(document: &Document) -> bool {
     constants.next().is_some() && constants.next().is_none()
 }
 
-fn has_one_error_type(alloc: Global, document: &Document) -> Result<bool, OutOfMemory> {
-    Ok(document.error_types(alloc)?.len() == 1)
+fn has_one_error_type(alloc: Global, document: &Document) -> bool {
+    document
+        .error_types(alloc)
+        .is_ok_and(|trefs| trefs.len() == 1)
 }
 
 fn is_looked_up(alloc: Global, document: &Document) -> bool {
     finds_all(alloc, document)
         && has_two_typenames(document)
         && has_one_constant(document)
-        && has_one_error_type(alloc, document).unwrap_or(false)
+        && has_one_error_type(alloc, document)
 }
 
 #[test]
@@ -162,8 +173,8 @@ fn has_two_funcs(module: &Module) -> bool {
     funcs.next().is_some() && funcs.next().is_some() && funcs.next().is_none()
 }
 
-fn equals_its_copy(module: &Module) -> Result<bool, OutOfMemory> {
-    Ok(module.copy()? == *module)
+fn equals_its_copy(module: &Module) -> bool {
+    module.copy().is_ok_and(|copy| copy == *module)
 }
 
 fn has_items(alloc: Global, document: &Document) -> bool {
@@ -171,7 +182,7 @@ fn has_items(alloc: Global, document: &Document) -> bool {
         Some(module) => has_read(alloc, module).unwrap_or(false)
             && has_one_import(module)
             && has_two_funcs(module)
-            && equals_its_copy(module).unwrap_or(false),
+            && equals_its_copy(module),
         None => false,
     }
 }
@@ -214,31 +225,29 @@ const ERRORS: &[(&str, &[&str])] = &[
     ),
 ];
 
-fn are_named(alloc: Global, trefs: &TypeRefs, names: &[&str]) -> Result<bool, OutOfMemory> {
-    let mut wanted = names.iter();
-    for tref in trefs {
-        let name = tref.type_name(alloc)?;
-        if wanted.next().copied() != Some(name.as_str()) {
-            return Ok(false);
+fn are_named(alloc: Global, trefs: &TypeRefs, names: &[&str]) -> bool {
+    for (tref, name) in trefs.iter().zip(names) {
+        if !has_name(alloc, tref, name) {
+            return false;
         }
     }
-    Ok(wanted.next().is_none())
+    trefs.len() == names.len()
 }
 
-fn has_errors(alloc: Global, document: &Document, names: &[&str]) -> Result<bool, OutOfMemory> {
-    let trefs = document.error_types(alloc)?;
-    are_named(alloc, &trefs, names)
+fn has_errors(alloc: Global, document: &Document, names: &[&str]) -> bool {
+    document
+        .error_types(alloc)
+        .is_ok_and(|trefs| are_named(alloc, &trefs, names))
+}
+
+fn text_has_errors(alloc: Global, text: &str, names: &[&str]) -> bool {
+    parse(alloc, text).is_ok_and(|document| has_errors(alloc, &document, names))
 }
 
 fn all_have_errors(alloc: Global) -> bool {
     for (text, names) in ERRORS {
-        match parse(alloc, text) {
-            Ok(document) => {
-                if !has_errors(alloc, &document, names).unwrap_or(false) {
-                    return false;
-                }
-            }
-            Err(_) => return false,
+        if !text_has_errors(alloc, text, names) {
+            return false;
         }
     }
     true
@@ -277,36 +286,36 @@ const CASES: &[(&str, &[(&str, Option<&str>)])] = &[
     ("(typename $t (enum $x $y))", &[("x", None), ("y", None)]),
 ];
 
-fn is_case(
-    alloc: Global,
-    case: &Case,
-    name: &str,
-    payload: Option<&str>,
-) -> Result<bool, OutOfMemory> {
-    let is_payload = match &case.tref {
-        Some(tref) => Some(tref.type_name(alloc)?.as_str()) == payload,
-        None => payload.is_none(),
-    };
-    Ok(is_payload && case.name.is(name))
+fn has_payload(alloc: Global, case: &Case, payload: Option<&str>) -> bool {
+    match (&case.tref, payload) {
+        (Some(tref), Some(payload)) => has_name(alloc, tref, payload),
+        (None, None) => true,
+        _ => false,
+    }
+}
+
+fn is_case(alloc: Global, case: &Case, name: &str, payload: Option<&str>) -> bool {
+    has_payload(alloc, case, payload) && case.name.is(name)
 }
 
 fn are_cases(alloc: Global, cases: &Cases, wanted: &[(&str, Option<&str>)]) -> bool {
     for (case, (name, payload)) in cases.iter().zip(wanted) {
-        if !is_case(alloc, case, name, *payload).unwrap_or(false) {
+        if !is_case(alloc, case, name, *payload) {
             return false;
         }
     }
     cases.len() == wanted.len()
 }
 
-fn has_cases(alloc: Global, text: &str, wanted: &[(&str, Option<&str>)]) -> bool {
-    match typename_of(alloc, text) {
-        Some(named) => match &**named.type_() {
-            Datatype::Variant(variant) => are_cases(alloc, &variant.cases, wanted),
-            _ => false,
-        },
-        None => false,
+fn named_has_cases(alloc: Global, named: &NamedType, wanted: &[(&str, Option<&str>)]) -> bool {
+    match &**named.type_() {
+        Datatype::Variant(variant) => are_cases(alloc, &variant.cases, wanted),
+        _ => false,
     }
+}
+
+fn has_cases(alloc: Global, text: &str, wanted: &[(&str, Option<&str>)]) -> bool {
+    typename_of(alloc, text).is_some_and(|named| named_has_cases(alloc, &named, wanted))
 }
 
 fn all_have_cases(alloc: Global) -> bool {
@@ -335,16 +344,21 @@ fn chain(alloc: Global) -> Result<String, AllocError> {
     )
 }
 
-/// The document is let go last: names that are let go by themselves are let go each within the next.
-fn chain_ends(alloc: Global) -> Option<bool> {
-    let text = chain(alloc).ok()?;
+fn is_builtin(alloc: Global, document: &Document) -> Option<bool> {
     let name = Id::new(alloc, "t").ok()?;
-    let document = parse(alloc, text.as_str()).ok()?;
-    let kind = document.typename(&name)?.type_().kind();
-    Some(kind == "builtin")
+    Some(document.typename(&name)?.type_().kind() == "builtin")
+}
+
+fn ends_builtin(alloc: Global, text: &str) -> bool {
+    parse(alloc, text).is_ok_and(|document| is_builtin(alloc, &document) == Some(true))
+}
+
+/// The document is let go last: names that are let go by themselves are let go each within the next.
+fn chain_ends(alloc: Global) -> bool {
+    chain(alloc).is_ok_and(|text| ends_builtin(alloc, text.as_str()))
 }
 
 #[test]
 fn a_long_chain_of_names(rt: HostRuntime) {
-    assert!(rt; chain_ends(rt.alloc()).unwrap_or(false));
+    assert!(rt; chain_ends(rt.alloc()));
 }

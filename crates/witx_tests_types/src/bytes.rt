@@ -248,61 +248,87 @@ fn is_printed(alloc: Global, value: &Value, wanted: &str) -> bool {
     }
 }
 
+fn value_at(alloc: Global, memory: &ByteMemory, at: u32, ty: &TypeRef) -> Option<Value> {
+    found(alloc, memory, at, ty)?.ok()
+}
+
 fn reads(alloc: Global, memory: &ByteMemory, at: u32, ty: &TypeRef, wanted: &str) -> bool {
-    match found(alloc, memory, at, ty) {
-        Some(Ok(value)) => is_printed(alloc, &value, wanted),
-        _ => false,
-    }
+    value_at(alloc, memory, at, ty).is_some_and(|value| is_printed(alloc, &value, wanted))
+}
+
+/// Whether the value of the typename `t` of a text is printed so.
+fn text_reads(alloc: Global, memory: &ByteMemory, at: u32, text: &str, wanted: &str) -> bool {
+    typename_of(alloc, text).is_some_and(|named| reads(alloc, memory, at, &named.tref, wanted))
 }
 
 fn has_no_value(alloc: Global, memory: &ByteMemory, at: u32, ty: &TypeRef) -> bool {
-    matches!(found(alloc, memory, at, ty), Some(Err(ReadError::NoValue)))
+    found(alloc, memory, at, ty).is_some_and(|read| read.err() == Some(ReadError::NoValue))
+}
+
+fn text_has_no_value(alloc: Global, memory: &ByteMemory, at: u32, text: &str) -> bool {
+    typename_of(alloc, text).is_some_and(|named| has_no_value(alloc, memory, at, &named.tref))
 }
 
 fn reads_again(alloc: Global, memory: &ByteMemory, ty: &TypeRef, value: &Value) -> bool {
-    match found(alloc, memory, COPY, ty) {
-        Some(Ok(again)) => again == *value,
-        _ => false,
-    }
+    value_at(alloc, memory, COPY, ty).is_some_and(|again| again == *value)
 }
 
-/// Writes at `COPY` what is read at `IMAGE`, where two ranges were filled with other bytes.
-fn is_copied(alloc: Global, memory: &mut ByteMemory, ty: &TypeRef, image: &[u16]) -> bool {
-    let Some(Ok(value)) = found(alloc, memory, IMAGE, ty) else {
-        return false;
-    };
-    if !written(memory, COPY, ty, &value) || !reads_again(alloc, memory, ty, &value) {
-        return false;
-    }
+fn is_put(alloc: Global, memory: &mut ByteMemory, ty: &TypeRef, value: &Value) -> bool {
+    written(memory, COPY, ty, value) && reads_again(alloc, memory, ty, value)
+}
+
+fn is_between(memory: &ByteMemory, image: &[u16]) -> bool {
     match end_of(memory, COPY, image, 0x55) {
         Some(end) => memory.byte(BEFORE) == Some(0x55) && memory.byte(end) == Some(0x55),
         None => false,
     }
 }
 
-/// A memory with one image at `IMAGE`, and 0x55 at the bytes around `COPY`.
-fn prepared(alloc: Global, image: &[u16]) -> Option<ByteMemory> {
-    let unit = typename_of(alloc, "(typename $t u8)")?;
+/// Writes at `COPY` what is read at `IMAGE`, where two ranges were filled with other bytes.
+fn is_copied(alloc: Global, memory: &mut ByteMemory, ty: &TypeRef, image: &[u16]) -> bool {
+    let Some(value) = value_at(alloc, memory, IMAGE, ty) else {
+        return false;
+    };
+    let is_put = is_put(alloc, memory, ty, &value);
+    drop(value);
+    is_put && is_between(memory, image)
+}
+
+/// A memory in which the places of the image and of its copy are held.
+fn places(alloc: Global) -> Option<ByteMemory> {
     let mut memory = ByteMemory::new(alloc);
     memory.place(IMAGE, 20).ok()?;
     memory.place(BEFORE, 20).ok()?;
-    if fill(&mut memory, &unit.tref, IMAGE, image, 0xEE)
-        && fill(&mut memory, &unit.tref, BEFORE, &[PAD; 20], 0x55)
-    {
-        Some(memory)
-    } else {
-        None
-    }
+    Some(memory)
+}
+
+/// A memory with one image at `IMAGE`, and 0x55 at the bytes around `COPY`.
+fn prepared(alloc: Global, image: &[u16]) -> Option<ByteMemory> {
+    let unit = typename_of(alloc, "(typename $t u8)")?;
+    let mut memory = places(alloc)?;
+    let is_filled = fill(&mut memory, &unit.tref, IMAGE, image, 0xEE)
+        && fill(&mut memory, &unit.tref, BEFORE, &[PAD; 20], 0x55);
+    drop(unit);
+    if is_filled { Some(memory) } else { None }
+}
+
+/// Whether the image reads as the value, and is still there once that is written elsewhere.
+fn reads_and_stays(
+    alloc: Global,
+    memory: &mut ByteMemory,
+    ty: &TypeRef,
+    image: &[u16],
+    wanted: &str,
+) -> bool {
+    reads(alloc, memory, IMAGE, ty, wanted)
+        && is_copied(alloc, memory, ty, image)
+        && end_of(memory, IMAGE, image, 0xEE).is_some()
 }
 
 fn is_image(alloc: Global, text: &str, image: &[u16], wanted: &str) -> Option<bool> {
     let named = typename_of(alloc, text)?;
     let mut memory = prepared(alloc, image)?;
-    Some(
-        reads(alloc, &memory, IMAGE, &named.tref, wanted)
-            && is_copied(alloc, &mut memory, &named.tref, image)
-            && end_of(&memory, IMAGE, image, 0xEE).is_some(),
-    )
+    Some(reads_and_stays(alloc, &mut memory, &named.tref, image, wanted))
 }
 
 fn all_images(alloc: Global) -> bool {
@@ -350,9 +376,8 @@ static NO_VALUES: &[(&str, &[u16])] = &[
 ];
 
 fn spells_nothing(alloc: Global, text: &str, image: &[u16]) -> Option<bool> {
-    let named = typename_of(alloc, text)?;
     let memory = prepared(alloc, image)?;
-    Some(has_no_value(alloc, &memory, IMAGE, &named.tref))
+    Some(text_has_no_value(alloc, &memory, IMAGE, text))
 }
 
 fn none_spelled(alloc: Global) -> bool {
@@ -369,30 +394,29 @@ fn no_values(rt: HostRuntime) {
     assert!(rt; none_spelled(rt.alloc()));
 }
 
+/// Writes the bytes of such a value into two places that are held.
+fn fill_uneven(alloc: Global, memory: &mut ByteMemory) -> bool {
+    let Some(unit) = typename_of(alloc, "(typename $t u8)") else {
+        return false;
+    };
+    fill(memory, &unit.tref, 16, &[1], 0) && fill(memory, &unit.tref, 20, &[2, 1, 0], 0)
+}
+
 /// Bytes that aren't held spell nothing, save at padding.
 fn reads_held_alone(alloc: Global) -> Option<bool> {
-    let unit = typename_of(alloc, "(typename $t u8)")?;
-    let named = typename_of(alloc, UNEVEN)?;
     let mut memory = ByteMemory::new(alloc);
     memory.place(16, 1).ok()?;
     memory.place(20, 3).ok()?;
-    if !fill(&mut memory, &unit.tref, 16, &[1], 0)
-        || !fill(&mut memory, &unit.tref, 20, &[2, 1, 0], 0)
-    {
+    if !fill_uneven(alloc, &mut memory) {
         return None;
     }
-    let short = has_no_value(alloc, &memory, 16, &named.tref);
+    let short = text_has_no_value(alloc, &memory, 16, UNEVEN);
     memory.place(23, 1).ok()?;
+    let wanted = "Case(1, Some(Num(U32 { lang_ptr_size: false }, 258)))";
     Some(
         short
-            && has_no_value(alloc, &memory, 40, &named.tref)
-            && reads(
-                alloc,
-                &memory,
-                16,
-                &named.tref,
-                "Case(1, Some(Num(U32 { lang_ptr_size: false }, 258)))",
-            ),
+            && text_has_no_value(alloc, &memory, 40, UNEVEN)
+            && text_reads(alloc, &memory, 16, UNEVEN, wanted),
     )
 }
 
@@ -403,15 +427,13 @@ fn held_bytes(rt: HostRuntime) {
 
 /// Nothing stands from 2^32 on, and what has no size is read anywhere.
 fn reads_at_the_end(alloc: Global) -> Option<bool> {
-    let two = typename_of(alloc, "(typename $t u16)")?;
-    let one = typename_of(alloc, "(typename $t s8)")?;
-    let none = typename_of(alloc, "(typename $t (tuple))")?;
     let mut memory = ByteMemory::new(alloc);
     memory.place(u32::MAX, 1).ok()?;
+    let none = "(typename $t (tuple))";
     Some(
-        reads(alloc, &memory, u32::MAX, &one.tref, "Num(S8, 0)")
-            && has_no_value(alloc, &memory, u32::MAX, &two.tref)
-            && reads(alloc, &memory, 7, &none.tref, "Tuple(Items { items: [] })"),
+        text_reads(alloc, &memory, u32::MAX, "(typename $t s8)", "Num(S8, 0)")
+            && text_has_no_value(alloc, &memory, u32::MAX, "(typename $t u16)")
+            && text_reads(alloc, &memory, 7, none, "Tuple(Items { items: [] })"),
     )
 }
 

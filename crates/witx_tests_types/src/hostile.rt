@@ -2,10 +2,11 @@
 //! types that double at each step, through the program.
 
 use std::alloc::Global;
+use std::rc::Rc;
 use witx::parse;
 use witx_abi::{AbiError, AbiFunc, Place, Trace, WasmType, WasmTypes, lowerable};
-use witx_ast::{Abi, Document, InterfaceFunc, InterfaceFuncParam, Params, TypeRef};
-use witx_base::{Calls, Id, Items, MemSink, OutOfMemory, Text};
+use witx_ast::{Abi, Document, InterfaceFunc, InterfaceFuncParam, NamedType, Params, TypeRef};
+use witx_base::{Calls, Id, Items, MemSink, MemSource, OutOfMemory, Text};
 use witx_fixtures::{Pieces, built_text};
 use witx_fixtures_run::{Built, Gave, all_built_give, run_on, source_of};
 
@@ -78,14 +79,17 @@ static STORED: &[Handmade] = &[
     (&[], &["n", "n"], Some(Place::Result(1)), Some((&[I32], &[]))),
 ];
 
-fn tref_of(alloc: Global, document: &Document, word: &str) -> Option<TypeRef> {
-    let name = Id::new(alloc, word.strip_prefix('*').unwrap_or(word)).ok()?;
-    let named = document.typename(&name)?;
-    if word.starts_with('*') {
+fn tref_to(named: &Rc<NamedType>, is_value: bool) -> Option<TypeRef> {
+    if is_value {
         Some(TypeRef::Value(named.type_().clone().ok()?))
     } else {
         Some(TypeRef::Name(named.clone().ok()?))
     }
+}
+
+fn tref_of(alloc: Global, document: &Document, word: &str) -> Option<TypeRef> {
+    let name = Id::new(alloc, word.strip_prefix('*').unwrap_or(word)).ok()?;
+    tref_to(document.typename(&name)?, word.starts_with('*'))
 }
 
 fn param_of(alloc: Global, document: &Document, word: &str) -> Option<InterfaceFuncParam> {
@@ -103,11 +107,16 @@ fn params_of(alloc: Global, document: &Document, words: &[&str]) -> Option<Param
     Some(params)
 }
 
+/// The parameters and the results of a row.
+fn sides_of(alloc: Global, document: &Document, row: &Handmade) -> Option<(Params, Params)> {
+    let params = params_of(alloc, document, row.0)?;
+    Some((params, params_of(alloc, document, row.1)?))
+}
+
 fn func_of(alloc: Global, document: &Document, abi: Abi, row: &Handmade) -> Option<InterfaceFunc> {
     let name = Id::new(alloc, "f").ok()?;
     let docs = Text::new(alloc, "").ok()?;
-    let params = params_of(alloc, document, row.0)?;
-    let results = params_of(alloc, document, row.1)?;
+    let (params, results) = sides_of(alloc, document, row)?;
     Some(InterfaceFunc {
         abi,
         name,
@@ -174,11 +183,12 @@ fn are_as_wanted(alloc: Global, document: &Document, abi: Abi, rows: &[Handmade]
 }
 
 fn all_as_wanted(alloc: Global) -> bool {
-    let Ok(document) = parse(alloc, TYPES) else {
-        return false;
-    };
-    are_as_wanted(alloc, &document, Abi::Preview1, PREVIEW1)
-        && are_as_wanted(alloc, &document, Abi::Stored, STORED)
+    parse(alloc, TYPES).is_ok_and(|document| are_as_wanted(
+        alloc,
+        &document,
+        Abi::Preview1,
+        PREVIEW1,
+    ) && are_as_wanted(alloc, &document, Abi::Stored, STORED))
 }
 
 #[test]
@@ -305,16 +315,19 @@ witx: expected `(`
 ];
 
 /// Twenty thousand names, each of which is the one before, over an output that holds the whole listing.
-fn long_chain(alloc: Global) -> Result<Gave, OutOfMemory> {
+fn chain_source(alloc: Global) -> Result<MemSource, OutOfMemory> {
     let pieces: Pieces<'_> = &[
         (";;;; file /a\n(typename $t0 u8)", 1),
         ("\n(typename $t^ $t#)", 20_000),
     ];
     let text = built_text(alloc, pieces)?;
-    let source = source_of(alloc, text.as_str().as_bytes(), 50_000, &[])?;
+    source_of(alloc, text.as_str().as_bytes(), 50_000, &[])
+}
+
+fn long_chain(alloc: Global) -> Result<Gave, OutOfMemory> {
     let out = MemSink::new(alloc, 1 << 20, 50_000, Calls::new(alloc))?;
     let err = MemSink::new(alloc, 16, 16, Calls::new(alloc))?;
-    run_on(alloc, "adapt /a", source, out, err)
+    run_on(alloc, "adapt /a", chain_source(alloc)?, out, err)
 }
 
 fn long_chain_ends(alloc: Global) -> bool {

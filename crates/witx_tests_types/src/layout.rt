@@ -128,7 +128,10 @@ fn ordered_document(alloc: Global, text: &str) -> Option<Document>
 {
     match parse(alloc, text) {
         Ok(document) => Some(document),
-        Err(_) => None,
+        Err(refusal) => {
+            drop(refusal);
+            None
+        }
     }
 }
 
@@ -294,10 +297,7 @@ typename a size 1 align 1
 ];
 
 fn is_printed(alloc: Global, document: &Document, wanted: &str) -> bool {
-    match layouts_text(alloc, document) {
-        Ok(text) => text.as_str() == wanted,
-        Err(_) => false,
-    }
+    layouts_text(alloc, document).is_ok_and(|text| text.as_str() == wanted)
 }
 
 fn all_printed(alloc: Global) -> bool {
@@ -339,11 +339,14 @@ fn is_checked(answer: Result<(), TagTooNarrow>, count: usize, most: Option<u64>)
     }
 }
 
+fn document_is_checked(alloc: Global, text: &str, count: usize, most: Option<u64>) -> bool {
+    parse(alloc, text).is_ok_and(|document| is_checked(fits_tags(&document), count, most))
+}
+
 fn text_is_checked(alloc: Global, begin: &str, count: usize, most: Option<u64>) -> Option<bool> {
     let pieces = [("(typename $t ", 1), (begin, 1), (" $x#", count), ("))", 1)];
     let text = built_text(alloc, &pieces).ok()?;
-    let document = parse(alloc, text.as_str()).ok()?;
-    Some(is_checked(fits_tags(&document), count, most))
+    Some(document_is_checked(alloc, text.as_str(), count, most))
 }
 
 fn all_checked(alloc: Global) -> bool {

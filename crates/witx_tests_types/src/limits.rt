@@ -53,19 +53,16 @@ const LIMITS: &[Limit] = &[
     ),
 ];
 
-fn ends_as(answer: Result<SizeAligns, LayoutsError>, wanted: Result<SizeAlign, usize>) -> bool {
+fn ends_as(answer: &Result<SizeAligns, LayoutsError>, wanted: Result<SizeAlign, usize>) -> bool {
     match (answer, wanted) {
         (Ok(layouts), Ok(last)) => layouts.as_slice().last() == Some(&last),
-        (Err(LayoutsError::TooLarge { definition }), Err(wanted)) => definition == wanted,
+        (Err(LayoutsError::TooLarge { definition }), Err(wanted)) => *definition == wanted,
         _ => false,
     }
 }
 
 fn text_ends_as(alloc: Global, text: &str, wanted: Result<SizeAlign, usize>) -> bool {
-    match parse(alloc, text) {
-        Ok(document) => ends_as(uncounted_layouts(alloc, &document), wanted),
-        Err(_) => false,
-    }
+    parse(alloc, text).is_ok_and(|document| ends_as(&uncounted_layouts(alloc, &document), wanted))
 }
 
 fn built_ends_as(alloc: Global, pieces: Pieces<'_>, wanted: Result<SizeAlign, usize>) -> bool {

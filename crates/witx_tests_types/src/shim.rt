@@ -9,7 +9,7 @@ use witx_base::{Duplicate, OutOfMemory};
 use witx_compat::FuncPolyfill;
 use witx_fixtures_run::func_of;
 use witx_machine::Place;
-use witx_shim::{Places, ShimError, shim};
+use witx_shim::{Places, Shim, ShimError, shim};
 
 /// Texts with an old function and with a new one, and what is told of the shim.
 #[rattlefmt::skip]
@@ -98,6 +98,18 @@ fn put_refusal(out: &mut String, refusal: &ShimError) -> Result<(), AllocError> 
     }
 }
 
+fn put_answer(out: &mut String, answer: &Result<Shim, ShimError>) -> Result<(), AllocError> {
+    match answer {
+        Ok(made) => put_pass(out, &made.pass),
+        Err(refusal) => put_refusal(out, refusal),
+    }
+}
+
+fn is_told(alloc: Global, answer: &Result<Shim, ShimError>, wanted: &str) -> bool {
+    let mut out = String::new(alloc);
+    put_answer(&mut out, answer).is_ok() && out.as_str() == wanted
+}
+
 /// Whether that is told of the shim of the two functions.
 fn tells(
     alloc: Global,
@@ -106,24 +118,20 @@ fn tells(
     wanted: &str,
 ) -> Result<bool, OutOfMemory> {
     let poly = FuncPolyfill::new(alloc, new, old)?;
-    let mut out = String::new(alloc);
-    match shim(alloc, &poly) {
-        Ok(made) => put_pass(&mut out, &made.pass)?,
-        Err(refusal) => put_refusal(&mut out, &refusal)?,
-    }
-    Ok(out.as_str() == wanted)
+    let answer = shim(alloc, &poly);
+    drop(poly);
+    Ok(is_told(alloc, &answer, wanted))
 }
 
-fn texts_tell(alloc: Global, old: &str, new: &str, wanted: &str) -> bool {
-    match (func_of(alloc, old), func_of(alloc, new)) {
-        (Some(old), Some(new)) => tells(alloc, old, new, wanted).unwrap_or(false),
-        _ => false,
-    }
+fn texts_tell(alloc: Global, old: &str, new: &str, wanted: &str) -> Option<bool> {
+    let old = func_of(alloc, old)?;
+    let new = func_of(alloc, new)?;
+    tells(alloc, old, new, wanted).ok()
 }
 
 fn all_tell(alloc: Global) -> bool {
     for (old, new, wanted) in ROWS {
-        if !texts_tell(alloc, old, new, wanted) {
+        if !texts_tell(alloc, old, new, wanted).unwrap_or(false) {
             return false;
         }
     }
@@ -170,16 +178,20 @@ fn function(alloc: Global, text: &str, numbers: &[usize]) -> Option<Rc<Interface
     with_again(alloc, &func, numbers).ok()
 }
 
+fn is_refused(
+    alloc: Global,
+    (old, old_again): (&str, &[usize]),
+    (new, new_again): (&str, &[usize]),
+    wanted: &str,
+) -> Option<bool> {
+    let old = function(alloc, old, old_again)?;
+    let new = function(alloc, new, new_again)?;
+    tells(alloc, old, new, wanted).ok()
+}
+
 fn all_are_refused(alloc: Global) -> bool {
     for (old, old_again, new, new_again, wanted) in REPEATED {
-        let is_told = match (
-            function(alloc, old, old_again),
-            function(alloc, new, new_again),
-        ) {
-            (Some(old), Some(new)) => tells(alloc, old, new, wanted).unwrap_or(false),
-            _ => false,
-        };
-        if !is_told {
+        if !is_refused(alloc, (old, old_again), (new, new_again), wanted).unwrap_or(false) {
             return false;
         }
     }
