@@ -4,13 +4,15 @@ use std::alloc::{AllocError, Global};
 use std::fmt::Write;
 use std::rc::Rc;
 use witx::parse;
-use witx_ast::{Datatype, Document, IntRepr, InterfaceFunc, Module, NamedType};
+use witx_ast::{
+    Datatype, Document, IntRepr, InterfaceFunc, InterfaceFuncParam, Module, NamedType, Params,
+};
 use witx_base::{Duplicate, Id, OutOfMemory, Text};
 use witx_compat::{
     FuncPolyfill, ModuleMap, ModulePolyfill, ParamPolyfill, Polyfill, PolyfillError, RepEquality,
     Representable, TypePolyfill,
 };
-use witx_docs::{DocsError, Documentation};
+use witx_docs::Documentation;
 
 /// Types, and how each is represented by every type of the table, in order: `=` as an equal, `<` by
 /// one that has room for more, `.` not at all. The second type is named `t1`.
@@ -166,11 +168,12 @@ fn table_answers(document: &Document) -> bool {
     true
 }
 
+fn text_answers(alloc: Global, text: &str) -> bool {
+    parse(alloc, text).is_ok_and(|document| table_answers(&document))
+}
+
 fn table_holds(alloc: Global) -> bool {
-    match table_text(alloc) {
-        Ok(text) => parse(alloc, text.as_str()).is_ok_and(|document| table_answers(&document)),
-        Err(_) => false,
-    }
+    table_text(alloc).is_ok_and(|text| text_answers(alloc, text.as_str()))
 }
 
 #[test]
@@ -259,13 +262,12 @@ fn pair_text(alloc: Global, one: &str, other: &str) -> Result<String, AllocError
     Ok(text)
 }
 
+fn text_pairs(alloc: Global, text: &str, wanted: &str) -> bool {
+    parse(alloc, text).is_ok_and(|document| pair_answers(&document, wanted))
+}
+
 fn pair_holds(alloc: Global, one: &str, other: &str, wanted: &str) -> bool {
-    match pair_text(alloc, one, other) {
-        Ok(text) => {
-            parse(alloc, text.as_str()).is_ok_and(|document| pair_answers(&document, wanted))
-        }
-        Err(_) => false,
-    }
+    pair_text(alloc, one, other).is_ok_and(|text| text_pairs(alloc, text.as_str(), wanted))
 }
 
 fn pairs_hold(alloc: Global) -> bool {
@@ -547,9 +549,15 @@ fn refusal(alloc: Global, error: &PolyfillError) -> Result<Text, OutOfMemory> {
 }
 
 /// Whether the report is this one, and a copy is equal.
-fn reports(alloc: Global, polyfill: &Polyfill, wanted: &str) -> Result<bool, DocsError> {
-    let copy = polyfill.copy()?;
-    Ok(polyfill.to_md(alloc)?.as_str() == wanted && copy == *polyfill)
+fn reports(alloc: Global, polyfill: &Polyfill, wanted: &str) -> bool {
+    polyfill
+        .to_md(alloc)
+        .is_ok_and(|text| text.as_str() == wanted)
+        && polyfill.copy().is_ok_and(|copy| copy == *polyfill)
+}
+
+fn is_refusal(alloc: Global, error: &PolyfillError, wanted: &str) -> bool {
+    refusal(alloc, error).is_ok_and(|text| text.as_str() == wanted)
 }
 
 fn polyfill_is(
@@ -560,8 +568,16 @@ fn polyfill_is(
     wanted: &str,
 ) -> bool {
     match Polyfill::new(alloc, new, old, modules) {
-        Ok(polyfill) => reports(alloc, &polyfill, wanted).unwrap_or(false),
-        Err(error) => refusal(alloc, &error).is_ok_and(|text| text.as_str() == wanted),
+        Ok(polyfill) => {
+            let reports = reports(alloc, &polyfill, wanted);
+            drop(polyfill);
+            reports
+        }
+        Err(error) => {
+            let is_refusal = is_refusal(alloc, &error, wanted);
+            drop(error);
+            is_refusal
+        }
     }
 }
 
@@ -572,17 +588,22 @@ fn documents_report(
     pairs: &[(&str, &str)],
     wanted: &str,
 ) -> bool {
-    match module_map(alloc, pairs) {
-        Ok(modules) => polyfill_is(alloc, new, old, &modules, wanted),
-        Err(_) => false,
-    }
+    module_map(alloc, pairs).is_ok_and(|modules| polyfill_is(alloc, new, old, &modules, wanted))
+}
+
+/// Whether that is reported of a document in terms of a text's.
+fn document_reports(
+    alloc: Global,
+    new: &Document,
+    old: &str,
+    pairs: &[(&str, &str)],
+    wanted: &str,
+) -> bool {
+    parse(alloc, old).is_ok_and(|old| documents_report(alloc, new, &old, pairs, wanted))
 }
 
 fn texts_report(alloc: Global, new: &str, old: &str, pairs: &[(&str, &str)], wanted: &str) -> bool {
-    match (parse(alloc, new), parse(alloc, old)) {
-        (Ok(new), Ok(old)) => documents_report(alloc, &new, &old, pairs, wanted),
-        _ => false,
-    }
+    parse(alloc, new).is_ok_and(|new| document_reports(alloc, &new, old, pairs, wanted))
 }
 
 fn all_report(alloc: Global) -> bool {
@@ -634,23 +655,30 @@ fn func(alloc: Global, module: &Module, name: &str) -> Option<Rc<InterfaceFunc>>
 }
 
 /// Whether a function's Markdown is this, and its mapped parts are two conversions.
-fn function_is(alloc: Global, mapped: &FuncPolyfill, wanted: &str) -> Result<bool, DocsError> {
-    let kinds = mapped.type_polyfills(alloc)?;
+fn function_is(alloc: Global, mapped: &FuncPolyfill, wanted: &str) -> bool {
     let parts = mapped
         .mapped_params
         .len()
         .saturating_add(mapped.mapped_results.len());
-    Ok(mapped.to_md(alloc)?.as_str() == wanted && kinds.len() == parts && mapped.copy()? == *mapped)
+    mapped
+        .to_md(alloc)
+        .is_ok_and(|text| text.as_str() == wanted)
+        && mapped
+            .type_polyfills(alloc)
+            .is_ok_and(|kinds| kinds.len() == parts)
+        && mapped.copy().is_ok_and(|copy| copy == *mapped)
 }
 
-fn functions_are(alloc: Global, module: &Module, new: &str, old: &str, wanted: &str) -> bool {
-    match (func(alloc, module, new), func(alloc, module, old)) {
-        (Some(new), Some(old)) => match FuncPolyfill::new(alloc, new, old) {
-            Ok(mapped) => function_is(alloc, &mapped, wanted).unwrap_or(false),
-            Err(_) => false,
-        },
-        _ => false,
-    }
+fn functions_are(
+    alloc: Global,
+    module: &Module,
+    new: &str,
+    old: &str,
+    wanted: &str,
+) -> Option<bool> {
+    let new = func(alloc, module, new)?;
+    let old = func(alloc, module, old)?;
+    Some(FuncPolyfill::new(alloc, new, old).is_ok_and(|mapped| function_is(alloc, &mapped, wanted)))
 }
 
 fn all_functions_are(alloc: Global, document: &Document) -> bool {
@@ -658,7 +686,7 @@ fn all_functions_are(alloc: Global, document: &Document) -> bool {
         return false;
     };
     for (new, old, wanted) in FUNCTIONS {
-        if !functions_are(alloc, module, new, old, wanted) {
+        if !functions_are(alloc, module, new, old, wanted).unwrap_or(false) {
             return false;
         }
     }
@@ -717,15 +745,10 @@ const PARTS: &[(&str, &str, &str, &str, &str)] = &[
 ];
 
 fn conversion_is(alloc: Global, conversion: &TypePolyfill, wanted: &str) -> bool {
-    match conversion.copy() {
-        Ok(copy) => {
-            copy == *conversion
-                && conversion
-                    .to_md(alloc)
-                    .is_ok_and(|text| text.as_str() == wanted)
-        }
-        Err(_) => false,
-    }
+    conversion.copy().is_ok_and(|copy| copy == *conversion)
+        && conversion
+            .to_md(alloc)
+            .is_ok_and(|text| text.as_str() == wanted)
 }
 
 /// Whether a part's Markdown and that of its conversion are these.
@@ -735,15 +758,19 @@ fn part_is(alloc: Global, part: &ParamPolyfill, wanted: &str, conversion: &str) 
         && part.copy().is_ok_and(|copy| copy == *part)
 }
 
+fn first_of(params: &Params) -> Option<InterfaceFuncParam> {
+    params.get(0)?.copy().ok()
+}
+
 fn first_param(new: &InterfaceFunc, old: &InterfaceFunc) -> Option<ParamPolyfill> {
-    let new = new.params.get(0)?.copy().ok()?;
-    let old = old.params.get(0)?.copy().ok()?;
+    let new = first_of(&new.params)?;
+    let old = first_of(&old.params)?;
     ParamPolyfill::param(new, old).ok()
 }
 
 fn first_result(new: &InterfaceFunc, old: &InterfaceFunc) -> Option<ParamPolyfill> {
-    let new = new.results.get(0)?.copy().ok()?;
-    let old = old.results.get(0)?.copy().ok()?;
+    let new = first_of(&new.results)?;
+    let old = first_of(&old.results)?;
     ParamPolyfill::result(new, old).ok()
 }
 
@@ -753,20 +780,21 @@ fn parts_are(alloc: Global, new: &InterfaceFunc, old: &InterfaceFunc, wanted: [&
         && first_result(new, old).is_some_and(|part| part_is(alloc, &part, result, result_types))
 }
 
-fn all_parts_are(alloc: Global, document: &Document) -> bool {
-    let Some(module) = document.modules().next() else {
-        return false;
-    };
-    let Some(new) = func(alloc, module, "f") else {
-        return false;
-    };
+fn all_parts_of(alloc: Global, module: &Module, new: &InterfaceFunc) -> bool {
     for (old, param, result, param_types, result_types) in PARTS {
         let wanted = [*param, *result, *param_types, *result_types];
-        if !func(alloc, module, old).is_some_and(|old| parts_are(alloc, &new, &old, wanted)) {
+        if !func(alloc, module, old).is_some_and(|old| parts_are(alloc, new, &old, wanted)) {
             return false;
         }
     }
     true
+}
+
+fn all_parts_are(alloc: Global, document: &Document) -> bool {
+    let Some(module) = document.modules().next() else {
+        return false;
+    };
+    func(alloc, module, "f").is_some_and(|new| all_parts_of(alloc, module, &new))
 }
 
 #[test]
@@ -782,28 +810,24 @@ fn module_of(alloc: Global, text: &str) -> Option<Rc<Module>> {
 }
 
 /// A module's Markdown, and the number of its conversions and of its copy's.
-fn module_is(alloc: Global, mapped: &ModulePolyfill) -> Result<bool, DocsError> {
-    let copy = mapped.copy()?;
-    let conversions = mapped.type_polyfills(alloc)?;
-    let text = mapped.to_md(alloc)?;
-    Ok(
-        copy == *mapped
-            && conversions.len() == 2
-            && text.as_str() == "## `k` in terms of `k`\n* `g`: full compatibility",
-    )
+fn module_is(alloc: Global, mapped: &ModulePolyfill) -> bool {
+    let wanted = "## `k` in terms of `k`\n* `g`: full compatibility";
+    mapped.copy().is_ok_and(|copy| copy == *mapped)
+        && mapped
+            .type_polyfills(alloc)
+            .is_ok_and(|conversions| conversions.len() == 2)
+        && mapped
+            .to_md(alloc)
+            .is_ok_and(|text| text.as_str() == wanted)
 }
 
-fn a_module_is_mapped(alloc: Global) -> bool {
-    match (module_of(alloc, TWO_MODULES), module_of(alloc, TWO_MODULES)) {
-        (Some(new), Some(old)) => match ModulePolyfill::new(alloc, new, old) {
-            Ok(mapped) => module_is(alloc, &mapped).unwrap_or(false),
-            Err(_) => false,
-        },
-        _ => false,
-    }
+fn a_module_is_mapped(alloc: Global) -> Option<bool> {
+    let new = module_of(alloc, TWO_MODULES)?;
+    let old = module_of(alloc, TWO_MODULES)?;
+    Some(ModulePolyfill::new(alloc, new, old).is_ok_and(|mapped| module_is(alloc, &mapped)))
 }
 
 #[test]
 fn a_module_in_terms_of_itself(rt: HostRuntime) {
-    assert!(rt; a_module_is_mapped(rt.alloc()));
+    assert!(rt; a_module_is_mapped(rt.alloc()).unwrap_or(false));
 }

@@ -139,17 +139,13 @@ fn put_document(out: &mut String, document: &Document) -> Result<(), AllocError>
     Ok(())
 }
 
-fn has_docs(alloc: Global, document: &Document) -> Result<bool, AllocError> {
+fn has_docs(alloc: Global, document: &Document) -> bool {
     let mut out = String::new(alloc);
-    put_document(&mut out, document)?;
-    Ok(out.as_str() == DOCS)
+    put_document(&mut out, document).is_ok() && out.as_str() == DOCS
 }
 
 fn is_documented(alloc: Global) -> bool {
-    match parse(alloc, DOCUMENTED) {
-        Ok(document) => has_docs(alloc, &document).unwrap_or(false),
-        Err(_) => false,
-    }
+    parse(alloc, DOCUMENTED).is_ok_and(|document| has_docs(alloc, &document))
 }
 
 #[test]

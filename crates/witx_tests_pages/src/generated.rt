@@ -66,10 +66,19 @@ fn has_ids(alloc: Global, tree: &MdTree, wanted: &str) -> bool {
     put_ids(&mut out, tree).is_ok() && out.as_str() == wanted
 }
 
+/// A tree with one node of this content below its root.
+fn rooted(alloc: Global, content: MdContent) -> Option<MdTree> {
+    let Ok(mut tree) = MdTree::new(alloc) else {
+        drop(content);
+        return None;
+    };
+    add(&mut tree, 0, content).ok()?;
+    Some(tree)
+}
+
 /// A tree of a root and this content, with what is shown of a type.
 fn grown<M: ToMarkdown>(alloc: Global, shown: &M, content: MdContent) -> Option<MdTree> {
-    let mut tree = MdTree::new(alloc).ok()?;
-    add(&mut tree, 0, content).ok()?;
+    let mut tree = rooted(alloc, content)?;
     if tree.len() != 2 {
         return None;
     }
@@ -152,10 +161,7 @@ fn document_shows(alloc: Global, document: &Document) -> bool {
 }
 
 fn all_show(alloc: Global) -> bool {
-    let Ok(document) = parse(alloc, TEXT) else {
-        return false;
-    };
-    document_shows(alloc, &document)
+    parse(alloc, TEXT).is_ok_and(|document| document_shows(alloc, &document))
 }
 
 #[test]
@@ -182,10 +188,19 @@ fn titled(alloc: Global, title: &str) -> Result<MdContent, OutOfMemory> {
     Ok(MdContent::Section(section))
 }
 
+fn put_title(
+    alloc: Global,
+    tree: &mut MdTree,
+    parent: usize,
+    title: &str,
+) -> Result<usize, OutOfMemory> {
+    add(tree, parent, titled(alloc, title)?)
+}
+
 fn titles(alloc: Global) -> Result<MdTree, OutOfMemory> {
     let mut tree = MdTree::new(alloc)?;
     for (parent, title) in NODES {
-        add(&mut tree, *parent, titled(alloc, title)?)?;
+        put_title(alloc, &mut tree, *parent, title)?;
     }
     Ok(tree)
 }
@@ -238,18 +253,17 @@ fn text_of(alloc: Global, document: &Document) -> Option<Text> {
     tree.text().ok()
 }
 
+fn is_page(alloc: Global, document: &Document, text: &Text) -> bool {
+    document_md(alloc, document).is_ok_and(|(page, _links)| page == *text)
+}
+
+fn has_its_text(alloc: Global, document: &Document) -> bool {
+    text_of(alloc, document).is_some_and(|text| is_page(alloc, document, &text))
+}
+
 /// The page of a document whose documentation has no links is that text.
 fn page_is_text(alloc: Global) -> bool {
-    let Ok(document) = parse(alloc, TEXT) else {
-        return false;
-    };
-    let Some(text) = text_of(alloc, &document) else {
-        return false;
-    };
-    match document_md(alloc, &document) {
-        Ok((page, _)) => page == text,
-        Err(_) => false,
-    }
+    parse(alloc, TEXT).is_ok_and(|document| has_its_text(alloc, &document))
 }
 
 #[test]

@@ -234,17 +234,12 @@ fn prints_as(alloc: Global, document: &Document, text: &str) -> bool {
 
 /// The text is an equal document, which prints the same text.
 fn reads_back(alloc: Global, document: &Document, text: &str) -> bool {
-    let Ok(again) = parse(alloc, text) else {
-        return false;
-    };
-    again == *document && prints_as(alloc, &again, text)
+    parse(alloc, text).is_ok_and(|again| again == *document && prints_as(alloc, &again, text))
 }
 
 fn is_printed(alloc: Global, source: &str, text: &str) -> bool {
-    let Ok(document) = parse(alloc, source) else {
-        return false;
-    };
-    prints_as(alloc, &document, text) && reads_back(alloc, &document, text)
+    parse(alloc, source).is_ok_and(|document| prints_as(alloc, &document, text)
+        && reads_back(alloc, &document, text))
 }
 
 fn all_are_printed(alloc: Global) -> bool {
@@ -279,10 +274,8 @@ fn reads_back_otherwise(alloc: Global, document: &Document, text: &str) -> bool 
 }
 
 fn loses_its_tag(alloc: Global, source: &str, text: &str) -> bool {
-    let Ok(document) = parse(alloc, source) else {
-        return false;
-    };
-    prints_as(alloc, &document, text) && reads_back_otherwise(alloc, &document, text)
+    parse(alloc, source).is_ok_and(|document| prints_as(alloc, &document, text)
+        && reads_back_otherwise(alloc, &document, text))
 }
 
 fn all_lose_their_tags(alloc: Global) -> bool {
@@ -305,18 +298,28 @@ fn shows(alloc: Global, expr: &SExpr, text: &str) -> bool {
     write!(out, "{expr}").is_ok() && out.as_str() == text
 }
 
-fn carries_documentation(alloc: Global) -> Result<bool, OutOfMemory> {
-    let bare = SExpr::docs(alloc, "", SExpr::quote(alloc, "a b")?)?;
-    let noted = SExpr::docs(alloc, "d", SExpr::annot(alloc, "c")?)?;
-    Ok(
-        bare == SExpr::quote(alloc, "a b")?
-            && shows(alloc, &bare, "\"a b\"")
-            && noted.copy()? == noted
-            && shows(alloc, &noted, "(;; d ;) @c"),
-    )
+fn bare(alloc: Global) -> Result<SExpr, OutOfMemory> {
+    SExpr::docs(alloc, "", SExpr::quote(alloc, "a b")?)
+}
+
+fn noted(alloc: Global) -> Result<SExpr, OutOfMemory> {
+    SExpr::docs(alloc, "d", SExpr::annot(alloc, "c")?)
+}
+
+fn is_bare(alloc: Global, expr: &SExpr) -> bool {
+    SExpr::quote(alloc, "a b").is_ok_and(|quote| *expr == quote) && shows(alloc, expr, "\"a b\"")
+}
+
+fn is_noted(alloc: Global, expr: &SExpr) -> bool {
+    expr.copy().is_ok_and(|copy| copy == *expr) && shows(alloc, expr, "(;; d ;) @c")
+}
+
+fn carries_documentation(alloc: Global) -> bool {
+    bare(alloc).is_ok_and(|expr| is_bare(alloc, &expr))
+        && noted(alloc).is_ok_and(|expr| is_noted(alloc, &expr))
 }
 
 #[test]
 fn empty_documentation_is_none(rt: HostRuntime) {
-    assert!(rt; carries_documentation(rt.alloc()).unwrap_or(false));
+    assert!(rt; carries_documentation(rt.alloc()));
 }
