@@ -3,7 +3,6 @@
 use crate::run::holds;
 use std::alloc::{AllocError, Global};
 use witx::{WitxError, parse};
-use witx_base::OutOfMemory;
 use witx_fixtures_run::run_over;
 
 /// Texts, each with the report of the first thing that is wrong with it.
@@ -562,40 +561,61 @@ fn bundle(alloc: Global, text: &str) -> Result<String, AllocError> {
     format!(in alloc; ";;;; file /a\n{text}")
 }
 
-/// The message of the fault of a text, in a line of its own.
-fn message(alloc: Global, text: &str) -> Result<String, AllocError> {
-    match parse(alloc, text) {
-        Err(WitxError::Validation(error)) => format!(in alloc; "\n{error}\n"),
+/// The message of a validation's fault, between line ends; nothing of any other.
+fn message_of(alloc: Global, error: &WitxError) -> Result<String, AllocError> {
+    match error {
+        WitxError::Validation(error) => format!(in alloc; "\n{error}\n"),
         _ => Ok(String::new(alloc)),
     }
 }
 
+/// The message of the fault of a text, in a line of its own.
+fn message(alloc: Global, text: &str) -> Result<String, AllocError> {
+    match parse(alloc, text).err() {
+        Some(error) => {
+            let message = message_of(alloc, &error);
+            drop(error);
+            message
+        }
+        None => Ok(String::new(alloc)),
+    }
+}
+
+/// Whether the report holds it.
+fn is_reported(alloc: Global, text: &str, report: &str) -> bool {
+    message(alloc, text).is_ok_and(|message| holds(report.as_bytes(), message.as_str().as_bytes()))
+}
+
+fn run_refuses(alloc: Global, line: &str, bundle: &str, report: &str) -> bool {
+    run_over(alloc, line, bundle.as_bytes()).is_ok_and(|gave| gave.is(line, 1, "", report))
+}
+
 /// Whether the command refuses the text with this report, which holds the message of the fault.
-fn refuses(alloc: Global, line: &str, text: &str, report: &str) -> Result<bool, OutOfMemory> {
-    let bundle = bundle(alloc, text)?;
-    let gave = run_over(alloc, line, bundle.as_str().as_bytes())?;
-    let message = message(alloc, text)?;
-    Ok(gave.is(line, 1, "", report) && holds(report.as_bytes(), message.as_str().as_bytes()))
+fn refuses(alloc: Global, line: &str, text: &str, report: &str) -> bool {
+    bundle(alloc, text).is_ok_and(|bundle| run_refuses(alloc, line, bundle.as_str(), report))
+        && is_reported(alloc, text, report)
 }
 
 fn all_refused(alloc: Global, line: &str) -> bool {
     for (text, report) in REFUSED {
-        if !refuses(alloc, line, text, report).unwrap_or(false) {
+        if !refuses(alloc, line, text, report) {
             return false;
         }
     }
     true
 }
 
-fn accepts(alloc: Global, text: &str) -> Result<bool, OutOfMemory> {
-    let bundle = bundle(alloc, text)?;
-    let gave = run_over(alloc, "layouts /a", bundle.as_str().as_bytes())?;
-    Ok(gave.status == 0)
+fn run_accepts(alloc: Global, bundle: &str) -> bool {
+    run_over(alloc, "layouts /a", bundle.as_bytes()).is_ok_and(|gave| gave.status == 0)
+}
+
+fn accepts(alloc: Global, text: &str) -> bool {
+    bundle(alloc, text).is_ok_and(|bundle| run_accepts(alloc, bundle.as_str()))
 }
 
 fn all_accepted(alloc: Global) -> bool {
     for text in ACCEPTED {
-        if !accepts(alloc, text).unwrap_or(false) {
+        if !accepts(alloc, text) {
             return false;
         }
     }

@@ -144,19 +144,20 @@ f",
     ),
 ];
 
-fn run_failing(
+pub fn run_failing(
     alloc: Global,
     line: &str,
     bundle: &str,
     gives: usize,
-    fails: Fails,
+    fails: (&[u64], &[u64], &[u64]),
 ) -> Result<Gave, OutOfMemory>
     requires { 0 < gives }
 {
-    let (source_fails, out_fails, err_fails, _) = fails;
-    let source = source_of(alloc, bundle.as_bytes(), gives, source_fails)?;
+    let (source_fails, out_fails, err_fails) = fails;
     let out = sink_of(alloc, 10, out_fails)?;
-    run_on(alloc, line, source, out, sink_of(alloc, 10, err_fails)?)
+    let err = sink_of(alloc, 10, err_fails)?;
+    let source = source_of(alloc, bundle.as_bytes(), gives, source_fails)?;
+    run_on(alloc, line, source, out, err)
 }
 
 /// How many calls failed.
@@ -172,10 +173,9 @@ fn gives(alloc: Global, gives: usize, case: &Case) -> bool
     requires { 0 < gives }
 {
     let (line, bundle, fails, status, listing, refusal) = case;
-    match run_failing(alloc, line, bundle, gives, *fails) {
-        Ok(gave) => gave.is(line, *status, listing, refusal) && faults(&gave) == fails.3,
-        Err(_) => false,
-    }
+    run_failing(alloc, line, bundle, gives, (fails.0, fails.1, fails.2)).is_ok_and(|gave| gave.is(
+        line, *status, listing, refusal,
+    ) && faults(&gave) == fails.3)
 }
 
 fn all_give(alloc: Global, count: usize) -> bool
@@ -216,9 +216,7 @@ fn run_cut(
     out_fails: &[u64],
     err_fails: &[u64],
 ) -> Result<Gave, OutOfMemory> {
-    let source = source_of(alloc, row.1.as_bytes(), 1000, &[])?;
-    let out = sink_of(alloc, 10, out_fails)?;
-    run_on(alloc, row.0, source, out, sink_of(alloc, 10, err_fails)?)
+    run_failing(alloc, row.0, row.1, 1000, (&[], out_fails, err_fails))
 }
 
 /// Whether the run ended with status 4, and one call failed.
@@ -233,34 +231,25 @@ fn holds_front(sink: &MemSink, text: &str, calls: usize) -> bool {
 
 /// The output holds the front of its text, and nothing is told.
 fn out_is_cut(alloc: Global, row: &Written, call: usize) -> bool {
-    match run_cut(alloc, row, &[call as u64], &[]) {
-        Ok(gave) => is_unwritten(&gave)
-            && holds_front(&gave.out, row.2, call)
-            && gave.err.bytes().is_empty(),
-        Err(_) => false,
-    }
+    run_cut(alloc, row, &[call as u64], &[]).is_ok_and(|gave| is_unwritten(&gave)
+        && holds_front(&gave.out, row.2, call)
+        && gave.err.bytes().is_empty())
 }
 
 /// The output holds its whole text, and the other sink the front of its own.
 fn err_is_cut(alloc: Global, row: &Written, call: usize) -> bool {
-    match run_cut(alloc, row, &[], &[call as u64]) {
-        Ok(gave) => is_unwritten(&gave)
-            && gave.out.bytes() == row.2.as_bytes()
-            && holds_front(&gave.err, row.3, call),
-        Err(_) => false,
-    }
+    run_cut(alloc, row, &[], &[call as u64]).is_ok_and(|gave| is_unwritten(&gave)
+        && gave.out.bytes() == row.2.as_bytes()
+        && holds_front(&gave.err, row.3, call))
 }
 
 /// Nothing is cut where the calls behind the last ones fail, which don't come.
 fn is_whole(alloc: Global, row: &Written) -> bool {
     let outs = row.2.len().div_ceil(10) as u64;
     let errs = row.3.len().div_ceil(10) as u64;
-    match run_cut(alloc, row, &[outs], &[errs]) {
-        Ok(gave) => faults(&gave) == 0
-            && gave.out.bytes() == row.2.as_bytes()
-            && gave.err.bytes() == row.3.as_bytes(),
-        Err(_) => false,
-    }
+    run_cut(alloc, row, &[outs], &[errs]).is_ok_and(|gave| faults(&gave) == 0
+        && gave.out.bytes() == row.2.as_bytes()
+        && gave.err.bytes() == row.3.as_bytes())
 }
 
 fn cut_anywhere(alloc: Global, row: &Written) -> bool {
@@ -299,10 +288,7 @@ const NOT_UTF8: &[(&[u8], &str)] = &[
 ];
 
 fn refuses(alloc: Global, bytes: &[u8], refusal: &str) -> bool {
-    match run_over(alloc, "adapt /a", bytes) {
-        Ok(gave) => gave.is("adapt /a", 6, "", refusal),
-        Err(_) => false,
-    }
+    run_over(alloc, "adapt /a", bytes).is_ok_and(|gave| gave.is("adapt /a", 6, "", refusal))
 }
 
 fn all_refused(alloc: Global) -> bool {

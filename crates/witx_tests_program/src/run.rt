@@ -621,10 +621,10 @@ pub fn holds(bytes: &[u8], part: &[u8]) -> bool {
 }
 
 fn lists(alloc: Global, bundle: &str, lines: &str) -> bool {
-    match run_over(alloc, "adapt /a", bundle.as_bytes()) {
-        Ok(gave) => holds(gave.out.bytes(), lines.as_bytes()),
-        Err(_) => false,
-    }
+    run_over(alloc, "adapt /a", bundle.as_bytes()).is_ok_and(|gave| holds(
+        gave.out.bytes(),
+        lines.as_bytes(),
+    ))
 }
 
 fn all_list(alloc: Global) -> bool {

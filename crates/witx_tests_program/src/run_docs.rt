@@ -1,11 +1,10 @@
 //! The command that documents: worked bundles with what a run gives, also where a sink fails.
 
+use crate::devices::run_failing;
 use std::alloc::Global;
 use witx_base::OutOfMemory;
 use witx_fixtures::ADDS_PAGE;
-use witx_fixtures_run::{
-    ADD, Built, Case, Gave, all_built_give, all_give, run_on, sink_of, source_of,
-};
+use witx_fixtures_run::{ADD, Built, Case, Gave, all_built_give, all_give};
 
 pub const LINKED: &str = "\
 ;;;; file /a
@@ -96,10 +95,8 @@ fn documented(rt: HostRuntime) {
 }
 
 /// A run over sinks that take ten bytes a call and of whose calls these fail.
-fn run_failing(alloc: Global, out: &[u64], err: &[u64]) -> Result<Gave, OutOfMemory> {
-    let source = source_of(alloc, LINKED.as_bytes(), 1000, &[])?;
-    let out = sink_of(alloc, 10, out)?;
-    run_on(alloc, "docs /a", source, out, sink_of(alloc, 10, err)?)
+fn run_cut(alloc: Global, out: &[u64], err: &[u64]) -> Result<Gave, OutOfMemory> {
+    run_failing(alloc, "docs /a", LINKED, 1000, (&[], out, err))
 }
 
 /// Whether these are the first bytes of a text, so many tens of them.
@@ -109,26 +106,16 @@ fn are_tens(bytes: &[u8], text: &str, tens: usize) -> bool {
 
 /// The page breaks off, and nothing is noted.
 fn page_is_cut(alloc: Global, call: usize) -> bool {
-    match run_failing(alloc, &[call as u64], &[]) {
-        Ok(gave) => {
-            gave.status == 4
-                && are_tens(gave.out.bytes(), LINKED_PAGE, call)
-                && gave.err.bytes().is_empty()
-        }
-        Err(_) => false,
-    }
+    run_cut(alloc, &[call as u64], &[]).is_ok_and(|gave| gave.status == 4
+        && are_tens(gave.out.bytes(), LINKED_PAGE, call)
+        && gave.err.bytes().is_empty())
 }
 
 /// The notes break off behind a whole page.
 fn notes_are_cut(alloc: Global, call: usize) -> bool {
-    match run_failing(alloc, &[], &[call as u64]) {
-        Ok(gave) => {
-            gave.status == 4
-                && gave.out.bytes() == LINKED_PAGE.as_bytes()
-                && are_tens(gave.err.bytes(), LINKED_LINES, call)
-        }
-        Err(_) => false,
-    }
+    run_cut(alloc, &[], &[call as u64]).is_ok_and(|gave| gave.status == 4
+        && gave.out.bytes() == LINKED_PAGE.as_bytes()
+        && are_tens(gave.err.bytes(), LINKED_LINES, call))
 }
 
 fn pages_are_cut(alloc: Global) -> bool {

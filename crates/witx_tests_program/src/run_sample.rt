@@ -5,7 +5,7 @@ use crate::run::USAGE;
 use std::alloc::Global;
 use witx::has_form;
 use witx_base::OutOfMemory;
-use witx_fixtures_run::{Case, all_give, run_on, sink_of, source_of, words_of};
+use witx_fixtures_run::{Case, Gave, all_give, run_on, sink_of, source_of, words_of};
 use witx_sample::{sample_bundle, sample_files};
 
 /// The source holds no bundle, and would be refused if it were read.
@@ -93,10 +93,7 @@ const FORMS: &[(&str, bool)] = &[
 ];
 
 fn is_as_told(alloc: Global, line: &str, wanted: bool) -> bool {
-    match words_of(alloc, line) {
-        Ok(words) => has_form(words.as_slice()) == wanted,
-        Err(_) => false,
-    }
+    words_of(alloc, line).is_ok_and(|words| has_form(words.as_slice()) == wanted)
 }
 
 fn all_as_told(alloc: Global) -> bool {
@@ -114,16 +111,20 @@ fn words_with_a_form(rt: HostRuntime) {
 }
 
 /// A run over a source whose first read fails.
-fn leaves_its_source(alloc: Global) -> Result<bool, OutOfMemory> {
-    let source = source_of(alloc, b"x", 1, &[0])?;
+fn run_unread(alloc: Global) -> Result<Gave, OutOfMemory> {
     let out = sink_of(alloc, 500, &[])?;
-    let gave = run_on(alloc, "sample 2", source, out, sink_of(alloc, 500, &[])?)?;
-    Ok(gave.status == 0 && gave.source.faults() == 0)
+    let err = sink_of(alloc, 500, &[])?;
+    let source = source_of(alloc, b"x", 1, &[0])?;
+    run_on(alloc, "sample 2", source, out, err)
+}
+
+fn leaves_its_source(alloc: Global) -> bool {
+    run_unread(alloc).is_ok_and(|gave| gave.status == 0 && gave.source.faults() == 0)
 }
 
 #[test]
 fn unread_source(rt: HostRuntime) {
-    assert!(rt; leaves_its_source(rt.alloc()).unwrap_or(false));
+    assert!(rt; leaves_its_source(rt.alloc()));
 }
 
 const TWO: &str = r#";;;; file /sample.witx
@@ -139,10 +140,7 @@ const TWO: &str = r#";;;; file /sample.witx
 "#;
 
 fn is_written(alloc: Global) -> bool {
-    match sample_bundle(alloc, 2) {
-        Ok(text) => text.as_str() == TWO && sample_files(alloc, 2).is_ok(),
-        Err(_) => false,
-    }
+    sample_bundle(alloc, 2).is_ok_and(|text| text.as_str() == TWO) && sample_files(alloc, 2).is_ok()
 }
 
 #[test]
@@ -162,10 +160,8 @@ const LARGEST_END: &str = r#"
 "#;
 
 fn largest_is_written(alloc: Global) -> bool {
-    match sample_bundle(alloc, 4096) {
-        Ok(text) => text.as_str().len() == LARGEST_LEN && text.as_str().ends_with(LARGEST_END),
-        Err(_) => false,
-    }
+    sample_bundle(alloc, 4096).is_ok_and(|text| text.as_str().len() == LARGEST_LEN
+        && text.as_str().ends_with(LARGEST_END))
 }
 
 #[test]
