@@ -3,7 +3,7 @@
 use std::alloc::Global;
 use witx::parse;
 use witx_adapt::{Adapted, adapt_document};
-use witx_imports::{ImportFault, check_imports, read_imports};
+use witx_imports::{ImportFault, WasmImports, check_imports, read_imports};
 
 /// Two functions of one module, and one of another that has the name of the first.
 const OFFERED: &str = r#"
@@ -61,21 +61,26 @@ static FAULTS: &[(&str, &[ImportFault])] = &[
 ];
 
 fn adapted_of(alloc: Global, text: &str) -> Option<Adapted> {
-    match parse(alloc, text) {
-        Ok(document) => adapt_document(alloc, document).ok(),
-        Err(_) => None,
-    }
+    let document = parse(alloc, text).ok()?;
+    adapt_document(alloc, document).ok()
 }
 
-fn are_found(alloc: Global, adapted: &Adapted, text: &str, wanted: &[ImportFault]) -> Option<bool> {
-    let imports = read_imports(alloc, text).ok()?;
-    let faults = check_imports(alloc, adapted, &imports).ok()?;
-    Some(faults.as_slice() == wanted)
+fn has_faults(
+    alloc: Global,
+    adapted: &Adapted,
+    imports: &WasmImports,
+    wanted: &[ImportFault],
+) -> bool {
+    check_imports(alloc, adapted, imports).is_ok_and(|faults| faults.as_slice() == wanted)
+}
+
+fn are_found(alloc: Global, adapted: &Adapted, text: &str, wanted: &[ImportFault]) -> bool {
+    read_imports(alloc, text).is_ok_and(|imports| has_faults(alloc, adapted, &imports, wanted))
 }
 
 fn all_found(alloc: Global, adapted: &Adapted) -> bool {
     for (text, wanted) in FAULTS {
-        if !are_found(alloc, adapted, text, wanted).unwrap_or(false) {
+        if !are_found(alloc, adapted, text, wanted) {
             return false;
         }
     }

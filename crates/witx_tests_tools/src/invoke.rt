@@ -300,10 +300,7 @@ fn has_text(alloc: Global, value: Option<&Value>, text: &str) -> bool {
     let Some(value) = value else {
         return false;
     };
-    match value_text(alloc, value) {
-        Ok(written) => written.as_str() == text,
-        Err(_) => false,
-    }
+    value_text(alloc, value).is_ok_and(|written| written.as_str() == text)
 }
 
 /// What is seen of the call with a list and the length 258.
@@ -325,10 +322,8 @@ fn has_bytes(invoked: &Invoked) -> bool {
 }
 
 fn is_called(alloc: Global) -> bool {
-    match call_of(alloc, LENGTH, "@1000+5\n(#0 258)\n") {
-        Some(invoked) => is_seen(alloc, &invoked) && has_bytes(&invoked),
-        None => false,
-    }
+    call_of(alloc, LENGTH, "@1000+5\n(#0 258)\n").is_some_and(|invoked| is_seen(alloc, &invoked)
+        && has_bytes(&invoked))
 }
 
 #[test]

@@ -10,7 +10,7 @@ use witx::parse;
 use witx_adapt::{Adapted, AdaptedFunc, adapt_document, listing};
 use witx_ast::InterfaceFunc;
 use witx_base::{Id, Items, OutOfMemory};
-use witx_fixtures_run::{ADD_LISTING, func_of};
+use witx_fixtures_run::{ADD_LISTING, Gave, func_of};
 use witx_machine::Place;
 use witx_traces::{TracePair, TracesError, read_traces};
 use witx_verify::{Doubt, Verdict, verify};
@@ -367,16 +367,19 @@ fn bundle_with(alloc: Global, listed: Listed, change: Change) -> Option<String> 
     Some(text)
 }
 
-/// Whether a run tells this over the bundle: a refusal, or what is found.
-fn run_tells(alloc: Global, bundle: &str, told: &str) -> bool {
-    let line = "verify /l /a";
-    let Ok(gave) = run_failing(alloc, line, bundle, (&[], &[], &[])) else {
-        return false;
-    };
+/// Whether a run ended with this: a refusal, or what is written.
+fn has_told(gave: &Gave, line: &str, told: &str) -> bool {
     if told.starts_with("witx: ") {
         return gave.is(line, 1, "", told);
     }
     gave.is(line, 0, told, "")
+}
+
+/// Whether a run tells this over the bundle: a refusal, or what is found.
+fn run_tells(alloc: Global, bundle: &str, told: &str) -> bool {
+    let line = "verify /l /a";
+    let gave = run_failing(alloc, line, bundle, (&[], &[], &[]));
+    gave.is_ok_and(|gave| has_told(&gave, line, told))
 }
 
 fn tells(alloc: Global, listed: Listed, change: Change) -> bool {
@@ -462,8 +465,8 @@ fn own_get_yes(alloc: Global, adapted: &Adapted) -> Option<bool>
 fn unfit_line(alloc: Global, adapted: &Adapted, text: &str) -> Option<usize>
     requires { HasEachEntry (listed adapted.now) }
 {
-    match read_traces(alloc, adapted, text) {
-        Err(TracesError::Line { line }) => Some(line),
+    match read_traces(alloc, adapted, text).err() {
+        Some(TracesError::Line { line }) => Some(line),
         _ => None,
     }
 }
@@ -508,12 +511,13 @@ fn empty_verdict(alloc: Global, func: &InterfaceFunc) -> Result<Verdict, OutOfMe
     verify(alloc, &module, func, &Items::new(alloc), &Items::new(alloc))
 }
 
+fn is_doubtful(alloc: Global, func: &InterfaceFunc, place: Place) -> bool {
+    empty_verdict(alloc, func) == Ok(Verdict::No(Doubt::Function(place)))
+}
+
 fn all_doubtful(alloc: Global) -> bool {
     for (text, place) in DOUBTFUL {
-        let Some(func) = func_of(alloc, text) else {
-            return false;
-        };
-        if empty_verdict(alloc, &func) != Ok(Verdict::No(Doubt::Function(*place))) {
+        if !func_of(alloc, text).is_some_and(|func| is_doubtful(alloc, &func, *place)) {
             return false;
         }
     }

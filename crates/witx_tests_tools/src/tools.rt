@@ -223,9 +223,11 @@ fn run_all_on(
 ) -> Result<Gave, OutOfMemory> {
     let words = words_of(alloc, line)?;
     let ran = run_all(alloc, words.as_slice(), &mut source, &mut out, &mut err);
+    let status = ran.status;
     let has_value = ran.adapted.is_some();
+    drop(ran);
     Ok(Gave {
-        status: ran.status,
+        status,
         has_value,
         source,
         out,
@@ -243,17 +245,17 @@ pub fn run_failing(
     bundle: &str,
     fails: Fails,
 ) -> Result<Gave, OutOfMemory> {
-    let source = source_of(alloc, bundle.as_bytes(), 50, fails.0)?;
     let out = sink_of(alloc, 10, fails.1)?;
-    run_all_on(alloc, line, source, out, sink_of(alloc, 10, fails.2)?)
+    let err = sink_of(alloc, 10, fails.2)?;
+    let source = source_of(alloc, bundle.as_bytes(), 50, fails.0)?;
+    run_all_on(alloc, line, source, out, err)
 }
 
 fn gives(alloc: Global, case: &Case, fails: Fails) -> bool {
     let (line, bundle, status, listing, refusal) = case;
-    match run_failing(alloc, line, bundle, fails) {
-        Ok(gave) => gave.is(line, *status, listing, refusal),
-        Err(_) => false,
-    }
+    run_failing(alloc, line, bundle, fails).is_ok_and(|gave| gave.is(
+        line, *status, listing, refusal,
+    ))
 }
 
 pub fn all_give(alloc: Global, cases: &[Case]) -> bool {
@@ -318,10 +320,7 @@ fn failing_devices(rt: HostRuntime) {
 
 /// Whether a line has this tool.
 fn is_tool(alloc: Global, line: &str, tool: Option<Tool>) -> bool {
-    match words_of(alloc, line) {
-        Ok(words) => tool_of(words.as_slice()) == tool,
-        Err(_) => false,
-    }
+    words_of(alloc, line).is_ok_and(|words| tool_of(words.as_slice()) == tool)
 }
 
 fn all_are_tools(alloc: Global) -> bool {

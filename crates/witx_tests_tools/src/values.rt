@@ -149,12 +149,17 @@ fn line(alloc: Global, text: &str) -> Option<String> {
     Some(line)
 }
 
+/// The text of the first value that a line gives.
+fn first_text(alloc: Global, func: &InterfaceFunc, line: &str) -> Option<Text> {
+    let given = given(alloc, func, line)?.ok()?;
+    value_text(alloc, given.args.get(0)?).ok()
+}
+
 /// What is written of the value that a text of a type is.
 fn round_trip(alloc: Global, declared: &str, text: &str) -> Option<Text> {
-    let func = with_type(alloc, declared)?;
     let line = line(alloc, text)?;
-    let given = given(alloc, &func, line.as_str())?.ok()?;
-    value_text(alloc, given.args.get(0)?).ok()
+    let func = with_type(alloc, declared)?;
+    first_text(alloc, &func, line.as_str())
 }
 
 fn comes_back(alloc: Global, declared: &str, text: &str) -> bool {
@@ -179,8 +184,8 @@ fn each_form_comes_back(rt: HostRuntime) {
 }
 
 fn first_fault(alloc: Global, declared: &str, text: &str) -> Option<usize> {
-    let func = with_type(alloc, declared)?;
     let line = line(alloc, text)?;
+    let func = with_type(alloc, declared)?;
     fault(alloc, &func, line.as_str())
 }
 
@@ -227,8 +232,8 @@ fn repeated(alloc: Global, character: char, count: usize) -> Option<String> {
 }
 
 fn fault_of_many(alloc: Global, declared: &str, character: char) -> Option<usize> {
-    let func = with_type(alloc, declared)?;
     let text = repeated(alloc, character, 4 << 20)?;
+    let func = with_type(alloc, declared)?;
     fault(alloc, &func, text.as_str())
 }
 

@@ -58,14 +58,17 @@ fn are_parts(parts: &[Rc<Symbol>]) -> bool {
     true
 }
 
+fn is_made(symbol: &Symbol, count: Option<usize>) -> bool {
+    match count {
+        Some(count) => parts_of(count, symbol).is_some_and(are_parts),
+        None => is_argument(symbol, 2),
+    }
+}
+
 fn symbol_is(alloc: Global, text: &str, count: Option<usize>) -> Option<bool> {
     let named = typename_of(alloc, text)?;
     let symbol = argument(alloc, &named, 2).ok()?;
-    let is_made = match count {
-        Some(count) => parts_of(count, &symbol).is_some_and(are_parts),
-        None => is_argument(&symbol, 2),
-    };
-    Some(is_made && is_of(&symbol, &named.tref))
+    Some(is_made(&symbol, count) && is_of(&symbol, &named.tref))
 }
 
 fn all_symbols_are(alloc: Global) -> bool {
@@ -86,16 +89,19 @@ const TAKES_THREE: &str = r#"
 (typename $t (flags (@witx repr u8) $a $b))
 (module $m (@interface func (export "f") (param $x u32) (param $s string) (param $f $t)))"#;
 
-fn arguments_are(alloc: Global, func: &InterfaceFunc) -> bool {
-    let Ok(arguments) = arguments_from(alloc, func.params.as_slice()) else {
-        return false;
-    };
+fn are_three(arguments: &[Rc<Symbol>]) -> bool {
     for i in 0..arguments.len() {
         if !is_argument(&arguments[i], i) {
             return false;
         }
     }
     arguments.len() == 3
+}
+
+fn arguments_are(alloc: Global, func: &InterfaceFunc) -> bool {
+    arguments_from(alloc, func.params.as_slice()).is_ok_and(|arguments| are_three(
+        arguments.as_slice(),
+    ))
 }
 
 #[test]
@@ -125,6 +131,14 @@ fn let_go(conversion: Conversion<'_>) {
     }
 }
 
+fn lifts(
+    conversion: &Conversion<'_>,
+    word: &Word,
+    symbol: &Rc<Symbol>,
+) -> Result<bool, OutOfMemory> {
+    Ok(lift(conversion, word)?.is_some_and(|back| same(&back, symbol)))
+}
+
 /// Whether a symbol has a word of the type by the conversion, and is had back from it.
 fn has_word(
     symbol: &Rc<Symbol>,
@@ -134,8 +148,10 @@ fn has_word(
     let Some(word) = lower(conversion, symbol)? else {
         return Ok(false);
     };
-    let back = lift(conversion, &word)?;
-    Ok(word.has_type(ty) && back.is_some_and(|back| same(&back, symbol)))
+    let lifts = lifts(conversion, &word, symbol);
+    let has_type = word.has_type(ty);
+    drop(word);
+    Ok(lifts? && has_type)
 }
 
 /// Whether it has a word by the number's conversion, and none by another.
@@ -169,15 +185,22 @@ fn words_of_symbols(rt: HostRuntime) {
     assert!(rt; all_have_words(rt.alloc()));
 }
 
+fn is_list_of(list: &Symbol, address: &Word, length: &Word) -> Result<bool, OutOfMemory> {
+    Ok(list_of_words(address, length)?.is_some_and(|back| same(&back, list)))
+}
+
+/// Whether these are the words of the list, and are none of any list the other way round.
+fn are_words_of(list: &Symbol, address: &Word, length: &Word) -> Result<bool, OutOfMemory> {
+    Ok(is_list_of(list, address, length)? && list_of_words(length, address)?.is_none())
+}
+
 /// Whether a list has two words, and is had back from them in their order alone.
 fn has_two_words(alloc: Global, named: &NamedType) -> Result<bool, OutOfMemory> {
     let list = argument(alloc, named, 0)?;
     let Some((address, length)) = list_words(&list)? else {
         return Ok(false);
     };
-    let back = list_of_words(&address, &length)?;
-    let turned = list_of_words(&length, &address)?;
-    Ok(turned.is_none() && back.is_some_and(|back| same(&back, &list)))
+    Ok(are_words_of(&list, &address, &length).unwrap_or(false))
 }
 
 #[test]
@@ -203,25 +226,45 @@ fn holds(
     )
 }
 
+/// Whether nothing stands at the first address, and the symbol once it is put there; at the second
+/// it stands.
+fn are_cells(
+    cells: &mut Cells,
+    named: &NamedType,
+    (empty, full): (&Word, &Word),
+    symbol: &Rc<Symbol>,
+) -> Result<bool, OutOfMemory> {
+    let is_empty = cells.get(named, empty)?.is_none();
+    let is_put = cells.set(named, empty, Rc::clone(symbol)?);
+    Ok(
+        is_empty
+            && is_put
+            && holds(cells, named, full, symbol)?
+            && holds(cells, named, empty, symbol)?,
+    )
+}
+
+/// Whether there are two addresses, of which the second is made with the symbol, and no third.
+fn gives_two(
+    cells: &mut Cells,
+    named: &Rc<NamedType>,
+    symbol: &Rc<Symbol>,
+) -> Result<bool, OutOfMemory> {
+    let Some(empty) = cells.give(named, None)? else {
+        return Ok(false);
+    };
+    let Some(full) = cells.give(named, Some(Rc::clone(symbol)?))? else {
+        return Ok(false);
+    };
+    let has_third = cells.give(named, None)?.is_some();
+    Ok(!has_third && are_cells(cells, named, (&empty, &full), symbol).unwrap_or(false))
+}
+
 /// Two addresses, of which one is given empty: what is put there stands there.
 fn cells_hold(alloc: Global, named: &Rc<NamedType>) -> Result<bool, OutOfMemory> {
     let symbol = argument(alloc, named, 0)?;
     let mut cells = Cells::new(alloc, 2);
-    let empty = cells.give(named, None)?;
-    let full = cells.give(named, Some(Rc::clone(&symbol)?))?;
-    let none = cells.give(named, None)?;
-    let (Some(empty), Some(full)) = (empty, full) else {
-        return Ok(false);
-    };
-    let nothing = cells.get(named, &empty)?;
-    let is_put = cells.set(named, &empty, Rc::clone(&symbol)?);
-    Ok(
-        none.is_none()
-            && nothing.is_none()
-            && is_put
-            && holds(&cells, named, &full, &symbol)?
-            && holds(&cells, named, &empty, &symbol)?,
-    )
+    Ok(gives_two(&mut cells, named, &symbol).unwrap_or(false))
 }
 
 #[test]
@@ -238,11 +281,13 @@ fn cells_of_symbols(rt: HostRuntime) {
 fn second_case(alloc: Global, named: &NamedType) -> Result<World, OutOfMemory> {
     let reply = Rc::new(alloc, Source::Reply)?;
     let payload = Rc::new(alloc, Source::Payload)?;
+    let whole = symbol_from(alloc, &named.tref, &reply)?;
+    let load = symbol_from(alloc, &named.tref, &payload)?;
     Ok(World {
         abi: Abi::Preview1,
-        whole: Some(symbol_from(alloc, &named.tref, &reply)?),
+        whole: Some(whole),
         error: Some(true),
-        load: Some(symbol_from(alloc, &named.tref, &payload)?),
+        load: Some(load),
     })
 }
 
@@ -253,31 +298,71 @@ fn is_second(picked: &Picked, load: &Symbol) -> bool {
     }
 }
 
+fn picks_second(
+    world: &World,
+    ty: &TypeRef,
+    whole: &Symbol,
+    load: &Symbol,
+) -> Result<bool, OutOfMemory> {
+    Ok(
+        world
+            .picks(None, Some(ty), whole)?
+            .is_some_and(|picked| is_second(&picked, load)),
+    )
+}
+
+/// Whether the whole reply is picked apart, and its payload isn't.
+fn picks_its_case(world: &World, ty: &TypeRef) -> bool {
+    let (Some(whole), Some(load)) = (&world.whole, &world.load) else {
+        return false;
+    };
+    picks_second(world, ty, whole, load).unwrap_or(false)
+        && world
+            .picks(None, Some(ty), load)
+            .is_ok_and(|other| other.is_none())
+}
+
+/// The result of the first or the second case, with the payload.
+fn result_with(
+    alloc: Global,
+    world: &World,
+    error: bool,
+    load: &Rc<Symbol>,
+) -> Result<Rc<Symbol>, OutOfMemory> {
+    world.result(alloc, error, Some(Rc::clone(load)?))
+}
+
+fn is_first_case(symbol: &Symbol) -> bool {
+    matches!(
+        symbol,
+        Symbol::Made {
+            case: 0,
+            payload: _
+        }
+    )
+}
+
+fn is_bare_case(symbol: &Symbol) -> bool {
+    matches!(symbol, Symbol::BareMade { case: 1 })
+}
+
+/// Whether its own case with the payload is the whole reply again, and others are made.
+fn has_results(alloc: Global, world: &World) -> bool {
+    let (Some(whole), Some(load)) = (&world.whole, &world.load) else {
+        return false;
+    };
+    result_with(alloc, world, true, load).is_ok_and(|again| same(&again, whole))
+        && result_with(alloc, world, false, load).is_ok_and(|made| is_first_case(&made))
+        && world
+            .result(alloc, true, None)
+            .is_ok_and(|bare| is_bare_case(&bare))
+}
+
 /// Whether the reply has its second case, and is made again of that case and its payload alone.
 fn knows_its_case(alloc: Global, named: Rc<NamedType>) -> Result<bool, OutOfMemory> {
     let world = second_case(alloc, &named)?;
-    let (Some(whole), Some(load)) = (&world.whole, &world.load) else {
-        return Ok(false);
-    };
     let ty = TypeRef::Name(named);
-    let picked = world.picks(None, Some(&ty), whole)?;
-    let other = world.picks(None, Some(&ty), load)?;
-    let again = world.result(alloc, true, Some(Rc::clone(load)?))?;
-    let made = world.result(alloc, false, Some(Rc::clone(load)?))?;
-    let bare = world.result(alloc, true, None)?;
-    Ok(
-        picked.is_some_and(|picked| is_second(&picked, load))
-            && other.is_none()
-            && same(&again, whole)
-            && matches!(
-                *made,
-                Symbol::Made {
-                    case: 0,
-                    payload: _
-                }
-            )
-            && matches!(*bare, Symbol::BareMade { case: 1 }),
-    )
+    Ok(picks_its_case(&world, &ty) && has_results(alloc, &world))
 }
 
 #[test]
