@@ -14,7 +14,7 @@ fn is_text(alloc: Global, bytes: &str) -> Result<bool, OutOfMemory> {
     let is_read = text.as_str() == bytes
         && text.len() == bytes.len()
         && text.is_empty() == bytes.is_empty();
-    Ok(is_read && text.copy()? == text)
+    Ok(is_read && text.copy().is_ok_and(|copy| copy == text))
 }
 
 fn are_texts(alloc: Global) -> bool {
@@ -77,13 +77,18 @@ fn begins(list: &Items<Text>) -> bool {
         && list.get(3).is_none()
 }
 
+/// Whether a copy is equal to its list, and without its end comes before it.
+fn comes_before(mut copy: Items<Text>, list: &Items<Text>) -> bool {
+    let is_equal = copy == *list;
+    copy.truncate(2);
+    is_equal && copy.len() == 2 && copy < *list
+}
+
 /// A list, its copy, and the copy without its end, which comes before the list.
 fn lists_hold(alloc: Global) -> Result<bool, OutOfMemory> {
     let list = three_texts(alloc)?;
-    let mut copy = list.copy()?;
-    let is_equal = begins(&list) && copy == list;
-    copy.truncate(2);
-    Ok(is_equal && copy.len() == 2 && copy < list && Items::<Text>::new(alloc).is_empty())
+    let is_copied = list.copy().is_ok_and(|copy| comes_before(copy, &list));
+    Ok(is_copied && begins(&list) && Items::<Text>::new(alloc).is_empty())
 }
 
 fn plain_values_are_copied() -> Result<bool, OutOfMemory> {
@@ -104,8 +109,10 @@ fn borrowed(alloc: Global) -> Result<Items<&'static str>, OutOfMemory> {
 
 fn borrowed_are_copied(alloc: Global) -> Result<bool, OutOfMemory> {
     let list = borrowed(alloc)?;
-    let copy = list.copy()?;
-    Ok(copy == list && copy.get(1).copied() == Some("two"))
+    Ok(
+        list.copy()
+            .is_ok_and(|copy| copy == list && copy.get(1).copied() == Some("two")),
+    )
 }
 
 #[test]
@@ -157,13 +164,17 @@ static PATHS: &[(&str, &str, Option<&str>, Option<&str>)] = &[
     ("ä/b c", "ä/b c", Some("b c"), Some("ä")),
 ];
 
-fn has_parent(path: &WitxPath, parent: Option<&str>) -> Result<bool, OutOfMemory> {
-    let found = path.parent()?;
-    Ok(found.as_ref().map(WitxPath::as_str) == parent)
+fn has_parent(path: &WitxPath, parent: Option<&str>) -> bool {
+    path.parent()
+        .is_ok_and(|found| found.as_ref().map(WitxPath::as_str) == parent)
 }
 
-fn equals_its_copy(path: &WitxPath) -> Result<bool, OutOfMemory> {
-    Ok(path.copy()? == *path)
+fn equals_its_copy(path: &WitxPath) -> bool {
+    path.copy().is_ok_and(|copy| copy == *path)
+}
+
+fn is_read(path: &WitxPath, written: &str, name: Option<&str>) -> bool {
+    path.as_str() == written && path.file_name() == name
 }
 
 fn is_path(
@@ -174,12 +185,7 @@ fn is_path(
     parent: Option<&str>,
 ) -> Result<bool, OutOfMemory> {
     let path = WitxPath::new(alloc, text)?;
-    Ok(
-        path.as_str() == written
-            && path.file_name() == name
-            && has_parent(&path, parent).unwrap_or(false)
-            && equals_its_copy(&path).unwrap_or(false),
-    )
+    Ok(is_read(&path, written, name) && has_parent(&path, parent) && equals_its_copy(&path))
 }
 
 fn are_paths(alloc: Global) -> bool {
@@ -232,11 +238,16 @@ fn joined_paths(rt: HostRuntime) {
     assert!(rt; are_joined(rt.alloc()));
 }
 
+fn put(alloc: Global, map: &mut NameMap<u64>, name: &str, value: u64) -> Result<(), OutOfMemory> {
+    let name = Id::new(alloc, name)?;
+    map.insert(name, value)
+}
+
 /// A map into which `b` was put twice.
 fn map(alloc: Global) -> Result<NameMap<u64>, OutOfMemory> {
     let mut map = NameMap::new(alloc);
     for (name, value) in [("b", 1u64), ("a", 2), ("c", 3), ("b", 4)] {
-        map.insert(Id::new(alloc, name)?, value)?;
+        put(alloc, &mut map, name, value)?;
     }
     Ok(map)
 }
@@ -297,13 +308,17 @@ fn reads(source: &mut MemSource, answer: Result<usize, Failed>, moved: [u8; 3]) 
     source.read(&mut buffer) == answer && buffer == moved
 }
 
-fn gives_all(mut source: MemSource) -> bool {
+fn gives_each(source: &mut MemSource) -> bool {
     for (answer, moved) in READS {
-        if !reads(&mut source, *answer, *moved) {
+        if !reads(source, *answer, *moved) {
             return false;
         }
     }
-    source.faults() == 2
+    true
+}
+
+fn gives_all(mut source: MemSource) -> bool {
+    gives_each(&mut source) && source.faults() == 2
 }
 
 fn source(alloc: Global) -> Result<MemSource, OutOfMemory> {
@@ -326,13 +341,17 @@ const WRITES: &[([u8; 3], Result<usize, Failed>)] = &[
     ([6, 7, 8], Err(Failed)),
 ];
 
-fn takes_all(mut sink: MemSink) -> bool {
+fn takes_each(sink: &mut MemSink) -> bool {
     for (piece, answer) in WRITES {
         if sink.write(piece) != *answer {
             return false;
         }
     }
-    sink.bytes() == [1, 2, 3, 4, 5].as_slice() && sink.faults() == 2
+    true
+}
+
+fn takes_all(mut sink: MemSink) -> bool {
+    takes_each(&mut sink) && sink.bytes() == [1, 2, 3, 4, 5].as_slice() && sink.faults() == 2
 }
 
 fn sink(alloc: Global) -> Result<MemSink, OutOfMemory> {

@@ -48,18 +48,20 @@ fn holds(
     path: &str,
     wanted: Option<&str>,
 ) -> Result<bool, OutOfMemory> {
-    match files.fgets(alloc, &WitxPath::new(alloc, path)?) {
+    let path = WitxPath::new(alloc, path)?;
+    match files.fgets(alloc, &path) {
         Ok(text) => Ok(Some(text.as_str()) == wanted),
         Err(IoError::Fault(IoFault::NotFound)) => Ok(wanted.is_none()),
         Err(_) => Ok(false),
     }
 }
 
+fn files_hold(alloc: Global, mut files: MockFs, path: &str, wanted: Option<&str>) -> bool {
+    holds(alloc, &mut files, path, wanted).unwrap_or(false)
+}
+
 fn bundle_holds(alloc: Global, bundle: &str, path: &str, wanted: Option<&str>) -> bool {
-    match Bundle::read(alloc, bundle.as_bytes()) {
-        Ok(mut files) => holds(alloc, &mut files, path, wanted).unwrap_or(false),
-        Err(_) => false,
-    }
+    Bundle::read(alloc, bundle.as_bytes()).is_ok_and(|files| files_hold(alloc, files, path, wanted))
 }
 
 fn all_hold(alloc: Global) -> bool {
@@ -95,10 +97,7 @@ static REFUSED: &[(&[u8], BundleError)] = &[
 ];
 
 fn is_refused(alloc: Global, bytes: &[u8], wanted: BundleError) -> bool {
-    match Bundle::read(alloc, bytes) {
-        Ok(_) => false,
-        Err(error) => error == wanted,
-    }
+    Bundle::read(alloc, bytes).err() == Some(wanted)
 }
 
 fn all_refused(alloc: Global) -> bool {

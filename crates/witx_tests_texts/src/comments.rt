@@ -21,10 +21,7 @@ const DOCUMENTED: &[(&[&str], &str)] = &[
 ];
 
 fn gives(alloc: Global, comments: &[&str], wanted: &str) -> bool {
-    match documentation(alloc, comments) {
-        Ok(text) => text.as_str() == wanted,
-        Err(_) => false,
-    }
+    documentation(alloc, comments).is_ok_and(|text| text.as_str() == wanted)
 }
 
 fn all_give(alloc: Global) -> bool {

@@ -36,23 +36,24 @@ fn gives<I: WitxIo>(alloc: Global, io: &mut I, path: &WitxPath, wanted: Wanted) 
     is_answer(&io.fgets(alloc, path), wanted)
 }
 
-fn holds(
-    alloc: Global,
-    files: &mut MockFs,
-    path: &str,
-    wanted: Wanted,
-) -> Result<bool, OutOfMemory> {
-    let path = WitxPath::new(alloc, path)?;
-    Ok(gives(alloc, files, &path, wanted))
+fn holds<I: WitxIo>(alloc: Global, io: &mut I, path: &str, wanted: Wanted) -> bool {
+    match WitxPath::new(alloc, path) {
+        Ok(path) => gives(alloc, io, &path, wanted),
+        Err(_) => false,
+    }
 }
 
-fn gives_all(alloc: Global, mut files: MockFs) -> bool {
+fn gives_each(alloc: Global, files: &mut MockFs) -> bool {
     for (path, wanted) in TEXTS {
-        if !holds(alloc, &mut files, path, *wanted).unwrap_or(false) {
+        if !holds(alloc, files, path, *wanted) {
             return false;
         }
     }
     true
+}
+
+fn gives_all(alloc: Global, mut files: MockFs) -> bool {
+    gives_each(alloc, &mut files)
 }
 
 fn is_canonical(alloc: Global) -> Result<bool, OutOfMemory> {
@@ -94,24 +95,30 @@ fn gives_line<I: WitxIo>(
     is_answer(&io.fget_line(alloc, path, line), wanted)
 }
 
-fn holds_line(
+fn holds_line<I: WitxIo>(
     alloc: Global,
-    files: &mut MockFs,
+    io: &mut I,
     path: &str,
     line: usize,
     wanted: Wanted,
-) -> Result<bool, OutOfMemory> {
-    let path = WitxPath::new(alloc, path)?;
-    Ok(gives_line(alloc, files, &path, line, wanted))
+) -> bool {
+    match WitxPath::new(alloc, path) {
+        Ok(path) => gives_line(alloc, io, &path, line, wanted),
+        Err(_) => false,
+    }
 }
 
-fn gives_lines(alloc: Global, mut files: MockFs) -> bool {
+fn gives_each_line(alloc: Global, files: &mut MockFs) -> bool {
     for (path, line, wanted) in LINES {
-        if !holds_line(alloc, &mut files, path, *line, *wanted).unwrap_or(false) {
+        if !holds_line(alloc, files, path, *line, *wanted) {
             return false;
         }
     }
     true
+}
+
+fn gives_lines(alloc: Global, mut files: MockFs) -> bool {
+    gives_each_line(alloc, &mut files)
 }
 
 #[test]
@@ -150,17 +157,19 @@ fn gives_path<I: WitxIo>(alloc: Global, io: &mut I, path: &WitxPath, wanted: Wan
     }
 }
 
+fn is_linked(alloc: Global, io: &mut FailingFs, path: &str, wanted: Wanted) -> bool {
+    match WitxPath::new(alloc, path) {
+        Ok(path) => gives_path(alloc, io, &path, wanted),
+        Err(_) => false,
+    }
+}
+
 /// One call of each kind, in turn, and then one of a missing file, which is no fault.
-fn answers(alloc: Global, io: &mut FailingFs, wanted: Answers) -> Result<bool, OutOfMemory> {
-    let path = WitxPath::new(alloc, "/a")?;
-    let missing = WitxPath::new(alloc, "/c")?;
-    let (text, line, linked) = wanted;
-    Ok(
-        gives(alloc, io, &path, text)
-            && gives_line(alloc, io, &path, 2, line)
-            && gives_path(alloc, io, &path, linked)
-            && gives(alloc, io, &missing, Err(NOT_FOUND)),
-    )
+fn answers(alloc: Global, io: &mut FailingFs, (text, line, linked): Answers) -> bool {
+    holds(alloc, io, "/a", text)
+        && holds_line(alloc, io, "/a", 2, line)
+        && is_linked(alloc, io, "/a", linked)
+        && holds(alloc, io, "/c", Err(NOT_FOUND))
 }
 
 fn fails(
@@ -170,7 +179,7 @@ fn fails(
     faults: u64,
 ) -> Result<bool, OutOfMemory> {
     let mut io = failing(alloc, numbers)?;
-    Ok(answers(alloc, &mut io, wanted)? && io.faults() == faults)
+    Ok(answers(alloc, &mut io, wanted) && io.faults() == faults)
 }
 
 fn all_fail(alloc: Global) -> bool {
@@ -208,15 +217,22 @@ fn located(alloc: Global, fails: u64) -> Result<FailingFs, OutOfMemory> {
     Ok(FailingFs::new(files, Items::new(alloc), calls_of(alloc, &[fails])?))
 }
 
-/// Whether the place is shown so, and so is its copy.
-fn is_shown<I: WitxIo>(
+fn location_at(
     alloc: Global,
-    io: &mut I,
-    location: &Location,
-    wanted: &str,
-) -> Result<bool, OutOfMemory> {
-    let text = location.highlight_source_with(alloc, io)?;
-    Ok(text.as_str() == wanted && location.copy()? == *location)
+    path: &str,
+    line: usize,
+    column: usize,
+) -> Result<Location, OutOfMemory> {
+    let path = WitxPath::new(alloc, path)?;
+    Ok(Location { path, line, column })
+}
+
+/// Whether the place is shown so, and so is its copy.
+fn is_shown<I: WitxIo>(alloc: Global, io: &mut I, location: &Location, wanted: &str) -> bool {
+    location
+        .highlight_source_with(alloc, io)
+        .is_ok_and(|text| text.as_str() == wanted)
+        && location.copy().is_ok_and(|copy| copy == *location)
 }
 
 fn shows(
@@ -225,10 +241,9 @@ fn shows(
     fails: u64,
     wanted: &str,
 ) -> Result<bool, OutOfMemory> {
-    let path = WitxPath::new(alloc, path)?;
+    let location = location_at(alloc, path, line, column)?;
     let mut io = located(alloc, fails)?;
-    let location = Location { path, line, column };
-    is_shown(alloc, &mut io, &location, wanted)
+    Ok(is_shown(alloc, &mut io, &location, wanted))
 }
 
 fn all_show(alloc: Global) -> bool {
@@ -254,31 +269,38 @@ fn wide_files(alloc: Global) -> Result<MockFs, OutOfMemory> {
     files_of(alloc, &[("/a", text.as_str())])
 }
 
+fn is_wide(text: &Text, drawn: usize) -> bool {
+    let front = "in \"/a\":\n123456 | last\n          ";
+    text.as_str().starts_with(front)
+        && text.len() == front.len().saturating_sub(1).saturating_add(drawn)
+        && text.as_str().ends_with(" ^")
+}
+
 fn is_drawn(
     alloc: Global,
     files: &mut MockFs,
     column: usize,
     drawn: usize,
 ) -> Result<bool, OutOfMemory> {
-    let path = WitxPath::new(alloc, "/a")?;
-    let line = 123_456;
-    let location = Location { path, line, column };
-    let text = location.highlight_source_with(alloc, files)?;
-    let front = "in \"/a\":\n123456 | last\n          ";
+    let location = location_at(alloc, "/a", 123_456, column)?;
     Ok(
-        text.as_str().starts_with(front)
-            && text.len() == front.len().saturating_sub(1).saturating_add(drawn)
-            && text.as_str().ends_with(" ^"),
+        location
+            .highlight_source_with(alloc, files)
+            .is_ok_and(|text| is_wide(&text, drawn)),
     )
 }
 
-fn all_drawn(alloc: Global, mut files: MockFs) -> bool {
+fn each_drawn(alloc: Global, files: &mut MockFs) -> bool {
     for (column, drawn) in WIDE {
-        if !is_drawn(alloc, &mut files, *column, *drawn).unwrap_or(false) {
+        if !is_drawn(alloc, files, *column, *drawn).unwrap_or(false) {
             return false;
         }
     }
     true
+}
+
+fn all_drawn(alloc: Global, mut files: MockFs) -> bool {
+    each_drawn(alloc, &mut files)
 }
 
 #[test]

@@ -219,15 +219,18 @@ fn ends_as(alloc: Global, text: &str, fault: &str) -> bool {
     }
 }
 
+fn row_ends(alloc: Global, (front, unit, times, back, fault): &LongText) -> bool {
+    long_text(alloc, front, unit, *times, back).is_ok_and(|text| ends_as(
+        alloc,
+        text.as_str(),
+        fault,
+    ))
+}
+
 fn all_end(alloc: Global, rows: &[LongText]) -> bool {
-    for (front, unit, times, back, fault) in rows {
-        match long_text(alloc, front, unit, *times, back) {
-            Ok(text) => {
-                if !ends_as(alloc, text.as_str(), fault) {
-                    return false;
-                }
-            }
-            Err(_) => return false,
+    for row in rows {
+        if !row_ends(alloc, row) {
+            return false;
         }
     }
     true

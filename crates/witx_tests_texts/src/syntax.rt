@@ -203,7 +203,11 @@ fn has_fault(wanted: &Wanted, found: &ParseFault) -> bool {
 
 fn reads_as(alloc: Global, text: &str, wanted: &Wanted) -> bool {
     match parse_document(alloc, text) {
-        Ok(document) => has_forms(wanted, document.items.len()),
+        Ok(document) => {
+            let forms = document.items.len();
+            drop(document);
+            has_forms(wanted, forms)
+        }
         Err(SyntaxError::Parse(found)) => has_fault(wanted, &found),
         Err(SyntaxError::OutOfMemory) => false,
     }
