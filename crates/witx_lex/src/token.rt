@@ -7,7 +7,8 @@ pub struct Span {
     pub end: usize,
 }
 
-/// A token. All but `Quoted` borrow the text.
+/// A token. All but `Quoted` borrow the text; its string stands behind a pointer, so that no token is
+/// larger than one that borrows.
 #[derive(PartialEq, Eq, Drop)]
 pub enum Token<'a> {
     /// `(`.
@@ -23,7 +24,7 @@ pub enum Token<'a> {
     /// An integer as it is spelled, with its sign, its `0x` and each `_`.
     Int(&'a str),
     /// A string, decoded.
-    Quoted(Text),
+    Quoted(Box<Text>),
 }
 
 /// The texts of comments, without the marks that begin and end them.
