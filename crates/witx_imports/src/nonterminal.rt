@@ -7,7 +7,7 @@ use witx_grammar::Kind;
 
 /// A part of a list of imports. One that is a repetition ends with the parenthesis that closes the
 /// form in which it stands.
-#[derive(Clone, Copy, PartialEq, Eq, Debug)]
+#[derive(Clone, Copy, PartialEq, Eq)]
 pub enum Nonterminal {
     /// The whole text.
     Text,

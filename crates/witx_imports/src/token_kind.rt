@@ -6,7 +6,7 @@ ghost use Rattle.witx_imports.specs.contracts.token_kind.TokenKind.{the_type};
 use witx_grammar::Kind;
 
 /// What the grammar sees of a token: its kind, or that the text ends. Each word is a kind of its own.
-#[derive(Clone, Copy, PartialEq, Eq, Debug)]
+#[derive(Clone, Copy, PartialEq, Eq)]
 pub enum TokenKind {
     /// `(`.
     Left,

@@ -6,7 +6,7 @@ ghost use Rattle.witx_syntax.specs.contracts.nonterminal.Nonterminal.{the_type};
 use witx_grammar::Kind;
 
 /// A nonterminal of the grammar.
-#[derive(Clone, Copy, PartialEq, Eq, Debug)]
+#[derive(Clone, Copy, PartialEq, Eq)]
 pub enum Nonterminal {
     /// A whole text.
     Text,

@@ -6,7 +6,7 @@ ghost use Rattle.witx_syntax.specs.contracts.production.ProductionName.{the_type
 use witx_grammar::Kind;
 
 /// The name of a production. What each is stands in the table of the grammar.
-#[derive(Clone, Copy, PartialEq, Eq, Debug)]
+#[derive(Clone, Copy, PartialEq, Eq)]
 pub enum ProductionName {
     NoItems,
     MoreItems,
