@@ -1,9 +1,9 @@
 //! Syntax trees: equal up to places, equal to their copies, and the documentation of items.
 
 use std::alloc::Global;
-use witx_base::Duplicate;
+use witx_base::{Duplicate, OutOfMemory};
 use witx_lex::Span;
-use witx_syntax::{CommentSyntax, IdSyntax, TopLevelDocument, parse_document};
+use witx_syntax::{IdSyntax, TopLevelDocument, parse_document};
 
 /// An identifier that stands at `start`, with its name, and whether it is equal to `$size` at 5.
 const IDENTIFIERS: &[(&str, usize, bool)] = &[
@@ -61,18 +61,23 @@ const TEXTS: &[(&str, bool)] = &[
     ),
 ];
 
-fn equals_its_copy(document: &TopLevelDocument<'_>) -> bool {
-    document.copy().is_ok_and(|copy| copy == *document)
+fn equals_its_copy(document: &TopLevelDocument<'_>) -> Result<bool, OutOfMemory> {
+    Ok(document.copy()? == *document)
 }
 
 /// Whether the text reads as a document that is equal to the other or not.
 fn compares<'x>(alloc: Global, read: &TopLevelDocument<'x>, text: &'x str, is_equal: bool) -> bool {
-    parse_document(alloc, text).is_ok_and(|other| (*read == other) == is_equal
-        && equals_its_copy(&other))
+    match parse_document(alloc, text) {
+        Ok(other) => { (*read == other) == is_equal && equals_its_copy(&other).unwrap_or(false) }
+        Err(_) => false,
+    }
 }
 
 fn is_compared(alloc: Global, text: &str, is_equal: bool) -> bool {
-    parse_document(alloc, READ).is_ok_and(|read| compares(alloc, &read, text, is_equal))
+    match parse_document(alloc, READ) {
+        Ok(read) => compares(alloc, &read, text, is_equal),
+        Err(_) => false,
+    }
 }
 
 fn all_compared(alloc: Global) -> bool {
@@ -98,30 +103,25 @@ const DOCUMENTED: &[(&str, &str)] = &[
     (";; none\n(use \"p\")", ""),
 ];
 
-fn are_docs(alloc: Global, comments: &CommentSyntax<'_>, wanted: &str) -> bool {
-    comments
-        .docs(alloc)
-        .is_ok_and(|docs| docs.as_str() == wanted)
-}
-
-fn has_docs(alloc: Global, document: &TopLevelDocument, wanted: &str) -> bool {
+fn has_docs(alloc: Global, document: &TopLevelDocument, wanted: &str) -> Result<bool, OutOfMemory> {
     match document.items.get(0) {
-        Some(first) => first
-            .comments
-            .copy()
-            .is_ok_and(|comments| are_docs(alloc, &comments, wanted)),
-        None => false,
+        Some(first) => {
+            let docs = first.comments.copy()?.docs(alloc)?;
+            Ok(docs.as_str() == wanted)
+        }
+        None => Ok(false),
     }
-}
-
-fn text_has_docs(alloc: Global, text: &str, wanted: &str) -> bool {
-    parse_document(alloc, text).is_ok_and(|document| has_docs(alloc, &document, wanted))
 }
 
 fn all_have_docs(alloc: Global) -> bool {
     for (text, wanted) in DOCUMENTED {
-        if !text_has_docs(alloc, text, wanted) {
-            return false;
+        match parse_document(alloc, text) {
+            Ok(document) => {
+                if !has_docs(alloc, &document, wanted).unwrap_or(false) {
+                    return false;
+                }
+            }
+            Err(_) => return false,
         }
     }
     true
