@@ -8,7 +8,8 @@ use Rattle.std.proofs.lemmas.List.{map-append}
 use Rattle.witx_base.specs.Found.{found}
 use Rattle.witx_base.proofs.Names.{found-append}
 use Rattle.witx_files.specs.declared.location.Location.{Location}
-use Rattle.witx_syntax_tree.specs.Trees.{Comments, Name}
+use Rattle.witx_comments.specs.Comments.{Comments}
+use Rattle.witx_syntax_tree.specs.Trees.{Name}
 use Rattle.witx_ast.specs.Entries.{by_name}
 use Rattle.witx_ast.specs.Definitions.{DefinitionTree, typename_of, module_of, constant_of, introduced, as_typename, typename_called}
 use Rattle.witx_ast.specs.declared.definition.Constant.{Constant}

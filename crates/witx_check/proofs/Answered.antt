@@ -2,7 +2,7 @@
 use Rattle.std.specs.Prelude.{◌≡◌, ◌⊎◌, ℕ, List, [], ◌∷◌, ◌++◌, ◌&&◌, Some, None, map, cond, Result, Ok, Err, OnOk, OnErr, IfErr}
 use Rattle.std.proofs.Common.{refl, sym, ap, subst, inl, inr, ◌∙◌}
 use Rattle.witx_files.specs.declared.location.Location.{Location}
-use Rattle.witx_syntax_tree.specs.Documentation.{documentation_of}
+use Rattle.witx_comments.specs.Documentation.{documentation_of}
 use Rattle.witx_syntax_tree.specs.Trees.{TypeTree, Name, NotedDecl}
 use Rattle.witx_ast.specs.Tree.{named}
 use Rattle.witx_ast.specs.Closed.{IsClosed}

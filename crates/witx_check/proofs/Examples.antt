@@ -4,7 +4,7 @@ use Rattle.std.specs.Str.{chars, trim_start, trim_end}
 use Rattle.std.specs.Fmt.Cut.{floor_char_boundary}
 use Rattle.std.specs.Fmt.{digits}
 use Rattle.witx_base.specs.Texts.{same_text}
-use Rattle.witx_syntax_tree.specs.Documentation.{documentation_of, margin_of, text_of_lines}
+use Rattle.witx_comments.specs.Documentation.{documentation_of, margin_of, text_of_lines}
 use Rattle.witx_files.specs.declared.location.Location.{Location}
 use Rattle.witx_syntax_tree.specs.Trees.{Name, Member, TypeTree, builtin, ident, string, boolean, expected, enum_of, flags_of, record_of, union_of, variant_of, absent, present, no_fields, one_field, no_union_fields, one_union_field, no_cases, one_case, function}
 use Rattle.witx_syntax_tree.specs.declared.tree.BuiltinSyntax.TheVariants as word

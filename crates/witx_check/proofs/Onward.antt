@@ -4,15 +4,16 @@ use Rattle.std.proofs.Common.{refl, add-one, sym, ap, get_or, append_assoc, â—Œâ
 use Rattle.std.proofs.lemmas.List.{drop_more, drop_all, map-append, append-nil}
 use Rattle.witx_base.specs.Found.{found}
 use Rattle.witx_files.specs.declared.location.Location.{Location}
-use Rattle.witx_syntax_tree.specs.Documentation.{documentation_of}
+use Rattle.witx_comments.specs.Documentation.{documentation_of}
 use Rattle.witx_syntax_tree.specs.Trees.{Member, Fields, no_fields, one_field, no_types, one_type, no_union_fields, one_union_field, Cases, no_cases, one_case, union_of, variant_of, TypeTree, ident, builtin, string, boolean, handle, list_of, pointer_to, const_pointer_to, tuple_of, enum_of, flags_of, record_of, expected}
-use Rattle.witx_syntax_tree.specs.Views.{type_view, name_view, member_view, comments_view, fields_view, types_view, union_fields_view, cases_view, boxed_view, maybe_of}
+use Rattle.witx_comments.specs.Comments.{comments_view}
+use Rattle.witx_syntax_tree.specs.Views.{type_view, name_view, member_view, fields_view, types_view, union_fields_view, cases_view, boxed_view, maybe_of}
 use Rattle.witx_check.specs.SyntaxChecks.{lacks_name, union_checks, variant_checks, member_views, name_check, Sees}
 use Rattle.witx_check.proofs.ArmNames.{arm_names-arm}
 use Rattle.witx_check.proofs.NamePlaces.{has-push, seen-more}
 use Rattle.std.specs.Map.{keys_of}
 use Rattle.witx_check.proofs.SyntaxTrees.{form_rules, field-FieldSyntax, case-CaseSyntax}
-use Rattle.witx_syntax_tree.specs.declared.comment.Documented.{Documented}
+use Rattle.witx_comments.specs.declared.comment.Documented.{Documented}
 use Rattle.witx_syntax_tree.specs.declared.tree.FieldSyntax.{FieldSyntax}
 use Rattle.witx_syntax_tree.specs.declared.tree.CaseSyntax.{CaseSyntax}
 use Rattle.witx_syntax_tree.specs.declared.tree.IdSyntax.{IdSyntax}

@@ -5,7 +5,7 @@ use Rattle.std.proofs.lemmas.List.{map-append, append-nil}
 use Rattle.witx_base.specs.Found.{found}
 use Rattle.witx_syntax_tree.specs.Trees.{Fields, no_fields, one_field}
 use Rattle.witx_syntax_tree.specs.Views.{type_view, fields_view}
-use Rattle.witx_syntax_tree.specs.declared.comment.Documented.{Documented}
+use Rattle.witx_comments.specs.declared.comment.Documented.{Documented}
 use Rattle.witx_syntax_tree.specs.declared.tree.FieldSyntax.{FieldSyntax}
 use Rattle.witx_ast.specs.Tree.{Field}
 use Rattle.witx_ast.specs.Views.{tree_of}

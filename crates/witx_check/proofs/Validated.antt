@@ -8,7 +8,7 @@ use Rattle.std.proofs.lemmas.Map.Lookups.{exact_bytes}
 use Rattle.std.proofs.lemmas.Map.Views.{tells_apart}
 use Rattle.witx_base.specs.Found.{found}
 use Rattle.witx_files.specs.declared.location.Location.{Location}
-use Rattle.witx_syntax_tree.specs.Documentation.{documentation_of}
+use Rattle.witx_comments.specs.Documentation.{documentation_of}
 use Rattle.witx_syntax_tree.specs.Trees.{TypeTree, Name, NotedDecl}
 use Rattle.witx_ast.specs.Definitions.{DefinitionTree, typename_of, module_of, definition_tree, entry_tree, introduced, DefinitionsFit}
 use Rattle.witx_ast.specs.Tree.{behind}

@@ -4,7 +4,7 @@ use Rattle.std.proofs.Common.{refl, sym, ap, subst, inl, ◌∙◌}
 use Rattle.std.specs.Prelude.{option_map}
 use Rattle.witx_base.specs.Found.{found}
 use Rattle.witx_files.specs.declared.location.Location.{Location}
-use Rattle.witx_syntax_tree.specs.Documentation.{documentation_of}
+use Rattle.witx_comments.specs.Documentation.{documentation_of}
 use Rattle.witx_syntax_tree.specs.Trees.{TypeTree, Name, NotedDecl}
 use Rattle.witx_ast.specs.Tree.{Tree, named}
 use Rattle.witx_ast.specs.Views.{tree_of, named_tree}

@@ -2,9 +2,9 @@
 use Rattle.std.specs.Prelude.{ℕ, List, Option, Some, option_map, cond, Bool, ◌&&◌}
 use Rattle.std.specs.Map.{lookup}
 use Rattle.witx_files.specs.declared.location.Location.{Location}
-use Rattle.witx_syntax_tree.specs.Documentation.{documentation_of}
-use Rattle.witx_syntax_tree.specs.Views.{comments_view}
-use Rattle.witx_syntax_tree.specs.declared.comment.Documented.{Documented}
+use Rattle.witx_comments.specs.Documentation.{documentation_of}
+use Rattle.witx_comments.specs.Comments.{comments_view}
+use Rattle.witx_comments.specs.declared.comment.Documented.{Documented}
 use Rattle.witx_syntax_tree.specs.declared.tree.ConstSyntax.{ConstSyntax}
 use Rattle.witx_ast.specs.declared.definition.Constant.{Constant}
 use Rattle.witx_check.specs.declared.constants.ConstantName.{ConstantName}

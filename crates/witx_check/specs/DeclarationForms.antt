@@ -2,8 +2,9 @@
 -- value and its comments.
 use Rattle.std.specs.Prelude.{ℕ, List, map}
 use Rattle.witx_syntax_tree.specs.Trees.{TypeTree, Name, NotedDecl}
-use Rattle.witx_syntax_tree.specs.Views.{type_view, name_view, noted_decl, comments_view}
-use Rattle.witx_syntax_tree.specs.declared.comment.Documented.{Documented}
+use Rattle.witx_comments.specs.Comments.{comments_view}
+use Rattle.witx_syntax_tree.specs.Views.{type_view, name_view, noted_decl}
+use Rattle.witx_comments.specs.declared.comment.Documented.{Documented}
 use Rattle.witx_syntax_tree.specs.declared.tree.ModuleDeclSyntax.{ModuleDeclSyntax}
 use Rattle.witx_syntax_tree.specs.declared.tree.DeclSyntax.{DeclSyntax}
 use Rattle.witx_syntax_tree.specs.declared.tree.DeclSyntax.TheVariants as decl

@@ -2,7 +2,7 @@
 -- A refused typename or module still introduces its name; a refused constant leaves nothing.
 use Rattle.std.specs.Prelude.{ℕ, List, [], ◌∷◌, ◌++◌, map, filter, true}
 use Rattle.witx_base.specs.Found.{found}
-use Rattle.witx_syntax_tree.specs.Documentation.{documentation_of}
+use Rattle.witx_comments.specs.Documentation.{documentation_of}
 use Rattle.witx_files.specs.declared.location.Location.{Location}
 use Rattle.witx_syntax_tree.specs.Trees.{Name}
 use Rattle.witx_ast.specs.Tree.{named}

@@ -4,7 +4,7 @@ use Rattle.witx_files.specs.declared.location.Location.{Location}
 use Rattle.witx_syntax_tree.specs.Trees.{Fields, no_fields, one_field, QuotedText}
 use Rattle.witx_syntax_tree.specs.Views.{fields_view}
 use Rattle.witx_syntax_tree.specs.declared.tree.InterfaceFuncSyntax.{InterfaceFuncSyntax}
-use Rattle.witx_syntax_tree.specs.Documentation.{documentation_of}
+use Rattle.witx_comments.specs.Documentation.{documentation_of}
 use Rattle.witx_ast.specs.declared.function.Abi.{Abi}
 use Rattle.witx_ast.specs.Functions.{FunctionTree}
 use Rattle.witx_ast.specs.Tree.{Field}

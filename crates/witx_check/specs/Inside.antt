@@ -1,7 +1,7 @@
 -- The inside of a typename or a module, as the tables of a validator tell it, and what a refused one leaves in them.
 use Rattle.std.specs.Prelude.{◌≡◌, ℕ, List, [], ◌∷◌, ◌⊎◌, None, true, map}
 use Rattle.witx_base.specs.Found.{found}
-use Rattle.witx_syntax_tree.specs.Documentation.{documentation_of}
+use Rattle.witx_comments.specs.Documentation.{documentation_of}
 use Rattle.witx_files.specs.declared.location.Location.{Location}
 use Rattle.witx_syntax_tree.specs.Trees.{TypeTree, Name}
 use Rattle.witx_ast.specs.Definitions.{ModuleTree}

@@ -2,7 +2,7 @@
 -- Imports and functions share one scope; a function's parameters and results have one of their own.
 use Rattle.std.specs.Prelude.{ℕ, List, [], ◌∷◌, ◌++◌, Option, Some, option_map, cond}
 use Rattle.witx_base.specs.Found.{found}
-use Rattle.witx_syntax_tree.specs.Documentation.{documentation_of}
+use Rattle.witx_comments.specs.Documentation.{documentation_of}
 use Rattle.witx_syntax_tree.specs.Trees.{QuotedText, DeclTree, memory, function, NotedDecl}
 use Rattle.witx_ast.specs.declared.module.ModuleImportVariant.TheVariants.{Memory}
 use Rattle.witx_ast.specs.declared.module.ModuleEntry.{ModuleEntry}

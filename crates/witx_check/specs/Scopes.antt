@@ -3,7 +3,7 @@ use Rattle.std.specs.Prelude.{List, Result}
 use Rattle.witx_ast.specs.declared.definition.Definition.{Definition}
 use Rattle.witx_check.specs.declared.error.CheckError.{CheckError}
 use Rattle.witx_check.specs.declared.validator.DocValidation.{DocValidation}
-use Rattle.witx_syntax_tree.specs.declared.comment.CommentSyntax.{CommentSyntax}
+use Rattle.witx_comments.specs.declared.comment.CommentSyntax.{CommentSyntax}
 use Rattle.witx_syntax_tree.specs.declared.tree.DeclSyntax.{DeclSyntax}
 use Rattle.witx_lex.specs.declared.line_cursor.LineCursor.{LineCursor}
 use Rattle.witx_check.specs.declared.place.SharedPath.{SharedPath}

@@ -1,9 +1,10 @@
 -- A declaration where it stands, as the tables of a validator tell its inside.
 use Rattle.std.specs.Prelude.{List, ℕ}
-use Rattle.witx_syntax_tree.specs.Documentation.{documentation_of}
+use Rattle.witx_comments.specs.Documentation.{documentation_of}
 use Rattle.witx_files.specs.declared.location.Location.{Location}
-use Rattle.witx_syntax_tree.specs.Views.{comments_view, name_view, type_view}
-use Rattle.witx_syntax_tree.specs.declared.comment.Documented.{Documented}
+use Rattle.witx_comments.specs.Comments.{comments_view}
+use Rattle.witx_syntax_tree.specs.Views.{name_view, type_view}
+use Rattle.witx_comments.specs.declared.comment.Documented.{Documented}
 use Rattle.witx_syntax_tree.specs.declared.tree.ConstSyntax.{ConstSyntax}
 use Rattle.witx_syntax_tree.specs.declared.tree.IdSyntax.{IdSyntax}
 use Rattle.witx_syntax_tree.specs.declared.tree.TypenameSyntax.{TypenameSyntax}

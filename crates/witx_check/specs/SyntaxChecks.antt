@@ -2,11 +2,12 @@
 use Rattle.std.specs.Prelude.{◌≡◌, ℕ, Bool, false, not, List, ◌∷◌, [], ◌++◌, Option, Some, None, option_map, length, map}
 use Rattle.witx_base.specs.Found.{found}
 use Rattle.witx_syntax_tree.specs.Trees.{Maybe, Member, TypeTree, handle, enum_of, flags_of, record_of, union_of, variant_of, tuple_of, expected}
-use Rattle.witx_syntax_tree.specs.Views.{comments_view, boxed_view, maybe_of, type_view, fields_view, types_view, union_fields_view, cases_view, member_view}
-use Rattle.witx_syntax_tree.specs.declared.comment.Documented.{Documented}
+use Rattle.witx_comments.specs.Comments.{comments_view}
+use Rattle.witx_syntax_tree.specs.Views.{boxed_view, maybe_of, type_view, fields_view, types_view, union_fields_view, cases_view, member_view}
+use Rattle.witx_comments.specs.declared.comment.Documented.{Documented}
 use Rattle.witx_syntax_tree.specs.declared.tree.IdSyntax.{IdSyntax}
-use Rattle.witx_syntax_tree.specs.Documentation.{documentation_of}
-use Rattle.witx_syntax_tree.specs.declared.comment.CommentSyntax.{CommentSyntax}
+use Rattle.witx_comments.specs.Documentation.{documentation_of}
+use Rattle.witx_comments.specs.declared.comment.CommentSyntax.{CommentSyntax}
 use Rattle.witx_syntax_tree.specs.declared.tree.EnumSyntax.{EnumSyntax}
 use Rattle.witx_syntax_tree.specs.declared.tree.FlagsSyntax.{FlagsSyntax}
 use Rattle.witx_syntax_tree.specs.declared.tree.RecordSyntax.{RecordSyntax, out-RecordSyntax}

@@ -4,7 +4,7 @@ use Rattle.std.specs.Prelude.{ℕ, List, [], ◌∷◌, ◌+◌, Option, Some, N
 use Rattle.std.specs.Fmt.{decimal}
 use Rattle.witx_base.specs.Texts.{same_text}
 use Rattle.witx_syntax_tree.specs.declared.tree.BuiltinSyntax.{BuiltinSyntax}
-use Rattle.witx_syntax_tree.specs.Documentation.{documentation_of}
+use Rattle.witx_comments.specs.Documentation.{documentation_of}
 use Rattle.witx_syntax_tree.specs.Trees.{TypeTree, builtin, ident, string, boolean, handle, list_of, pointer_to, const_pointer_to, tuple_of, expected, enum_of, flags_of, record_of, union_of, variant_of, Member, Maybe, absent, present, Fields, no_fields, one_field, Types, no_types, one_type, UnionFields, no_union_fields, one_union_field, Cases, no_cases, one_case}
 use Rattle.witx_ast.specs.declared.types.IntRepr.{IntRepr}
 use Rattle.witx_ast.specs.declared.types.RecordKind.{RecordKind}

@@ -2,8 +2,8 @@
 use Rattle.std.specs.Prelude.{◌≡◌, ◌⊎◌, ◌++◌, ◌∷◌, ℕ, List, [], None, map, Result, IfErr, OnOk, OnErr}
 use Rattle.witx_base.specs.Paths.{Path}
 use Rattle.witx_files.specs.declared.location.Location.{Location}
-use Rattle.witx_syntax_tree.specs.Views.{comments_view}
-use Rattle.witx_syntax_tree.specs.declared.comment.CommentSyntax.{CommentSyntax}
+use Rattle.witx_comments.specs.Comments.{comments_view}
+use Rattle.witx_comments.specs.declared.comment.CommentSyntax.{CommentSyntax}
 use Rattle.witx_syntax_tree.specs.declared.tree.DeclSyntax.{DeclSyntax}
 use Rattle.witx_ast.specs.Closed.{IsClosed}
 use Rattle.witx_ast.specs.Ordered.{IsOrdered}

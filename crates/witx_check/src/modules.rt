@@ -2,8 +2,9 @@ ghost use Rattle.std.specs.Prelude.{◌≡◌, ◌∷◌, ◌++◌, [], IfOk, If
 ghost use Rattle.witx_base.specs.Found.{found};
 ghost use Rattle.witx_ast.specs.Items.{item_tree, entry_item, ItemsFit};
 ghost use Rattle.witx_ast.specs.Definitions.{module_tree};
-ghost use Rattle.witx_syntax_tree.specs.Documentation.{documentation_of};
-ghost use Rattle.witx_syntax_tree.specs.Views.{noted_decl, comments_view};
+ghost use Rattle.witx_comments.specs.Documentation.{documentation_of};
+ghost use Rattle.witx_comments.specs.Comments.{comments_view};
+ghost use Rattle.witx_syntax_tree.specs.Views.{noted_decl};
 ghost use Rattle.witx_check.specs.Faults.{first_fault};
 ghost use Rattle.witx_check.specs.Names.{new_mark};
 ghost use Rattle.witx_check.specs.Blame.{Blames};

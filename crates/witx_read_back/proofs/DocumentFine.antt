@@ -11,7 +11,8 @@ use Rattle.witx_ast.specs.Tree.{Tree}
 use Rattle.witx_ast.specs.Items.{ItemTree}
 use Rattle.witx_ast.specs.Definitions.{DefinitionTree, ModuleTree, typename_of, module_of, constant_of}
 use Rattle.witx_syntax_tree.specs.Trees as forms
-use Rattle.witx_syntax_tree.specs.Trees.{Comments, Name, TypeTree, NotedDecl, NotedItem}
+use Rattle.witx_comments.specs.Comments.{Comments}
+use Rattle.witx_syntax_tree.specs.Trees.{Name, TypeTree, NotedDecl, NotedItem}
 use Rattle.witx_check.specs.Faults.{Fault, Check, first_fault, name_already_exists}
 use Rattle.witx_check.specs.Names.{Here, Sense, a_type}
 use Rattle.witx_check.specs.Trees.{tree_meant}

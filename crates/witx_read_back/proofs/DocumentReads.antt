@@ -14,7 +14,8 @@ use Rattle.witx_ast.specs.Functions.{FunctionTree}
 use Rattle.witx_ast.specs.Items.{ItemTree, import_of, func_of}
 use Rattle.witx_ast.specs.Definitions.{DefinitionTree, typename_of, module_of, constant_of}
 use Rattle.witx_syntax_tree.specs.Trees as forms
-use Rattle.witx_syntax_tree.specs.Trees.{Comments, Name, QuotedText, TypeTree, Fields, no_fields, one_field, DeclTree, memory, function, NotedDecl, NotedItem}
+use Rattle.witx_comments.specs.Comments.{Comments}
+use Rattle.witx_syntax_tree.specs.Trees.{Name, QuotedText, TypeTree, Fields, no_fields, one_field, DeclTree, memory, function, NotedDecl, NotedItem}
 use Rattle.witx_syntax.specs.declared.nonterminal.Nonterminal.TheVariants as form
 use Rattle.witx_syntax.specs.declared.production.ProductionName.TheVariants as prod
 use Rattle.witx_syntax.specs.declared.token_kind.TokenKind.{TokenKind}

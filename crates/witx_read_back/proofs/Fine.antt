@@ -17,7 +17,8 @@ use Rattle.witx_ast.specs.Tree as ast
 use Rattle.witx_ast.specs.Tree.{Tree, Arm, Field, fields_of, arms_of, arm_list}
 use Rattle.witx_ast.specs.Words.{is_bool_arms}
 use Rattle.witx_syntax_tree.specs.declared.tree.BuiltinSyntax.{BuiltinSyntax}
-use Rattle.witx_syntax_tree.specs.Trees.{Comments, Name, Member, TypeTree, Maybe, Types, Fields, Cases, absent, present, no_types, one_type, no_fields, one_field, no_cases, one_case}
+use Rattle.witx_comments.specs.Comments.{Comments}
+use Rattle.witx_syntax_tree.specs.Trees.{Name, Member, TypeTree, Maybe, Types, Fields, Cases, absent, present, no_types, one_type, no_fields, one_field, no_cases, one_case}
 use Rattle.witx_check.specs.Faults.{Fault, Check, first_fault, name_already_exists, invalid_repr, wrong_kind_name}
 use Rattle.witx_check.specs.Names.{Here, Marks, Sense, a_type, sense_tree, new_mark, use_check}
 use Rattle.witx_check.specs.Tags.{builtin_type, repr_of, repr_check, repr_meant, or_u32, tag_check, tag_checks, tag_repr, tag_names, size_check, case_check, arm_names}

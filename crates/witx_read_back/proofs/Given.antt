@@ -15,7 +15,8 @@ use Rattle.witx_ast.specs.Tree as ast
 use Rattle.witx_ast.specs.Tree.{Tree, Arm, Field, arm, fields_of, arms_of, arm_list}
 use Rattle.witx_ast.specs.Words.{is_bool_arms}
 use Rattle.witx_syntax_tree.specs.declared.tree.BuiltinSyntax.{BuiltinSyntax}
-use Rattle.witx_syntax_tree.specs.Trees.{Comments, Name, Member, TypeTree, Maybe, Types, Fields, UnionFields, Cases, absent, present, no_types, one_type, no_fields, one_field, no_union_fields, one_union_field, no_cases, one_case}
+use Rattle.witx_comments.specs.Comments.{Comments}
+use Rattle.witx_syntax_tree.specs.Trees.{Name, Member, TypeTree, Maybe, Types, Fields, UnionFields, Cases, absent, present, no_types, one_type, no_fields, one_field, no_union_fields, one_union_field, no_cases, one_case}
 use Rattle.witx_check.specs.Faults.{Fault, Check, first_fault, name_already_exists, anonymous_record}
 use Rattle.witx_check.specs.Names.{Here, Marks, Sense, unknown, unfinished, a_module, a_type, sense_tree, new_mark, use_check}
 use Rattle.witx_check.specs.Tags.{repr_check, tag_checks, tag_repr, tag_names, size_check, case_check, repr_meant}

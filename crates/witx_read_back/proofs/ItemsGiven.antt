@@ -7,7 +7,8 @@ use Rattle.witx_ast.specs.Tree.{Tree, Field}
 use Rattle.witx_ast.specs.Functions.{FunctionTree}
 use Rattle.witx_ast.specs.Results.{results_reason}
 use Rattle.witx_ast.specs.Items.{ItemTree, import_of, func_of}
-use Rattle.witx_syntax_tree.specs.Trees.{Comments, Name, QuotedText, TypeTree, Fields, no_fields, one_field, DeclTree, memory, function, NotedDecl}
+use Rattle.witx_comments.specs.Comments.{Comments}
+use Rattle.witx_syntax_tree.specs.Trees.{Name, QuotedText, TypeTree, Fields, no_fields, one_field, DeclTree, memory, function, NotedDecl}
 use Rattle.witx_check.specs.Faults.{Fault, Check, first_fault, abi}
 use Rattle.witx_check.specs.Names.{Here, Marks, new_mark}
 use Rattle.witx_check.specs.Trees.{tree_meant, fields_meant}

@@ -9,7 +9,8 @@ use Rattle.witx_lex.specs.Characters.{is_name, dollar}
 use Rattle.witx_ast.specs.Tree as ast
 use Rattle.witx_ast.specs.Tree.{Tree, Arm, Field, arm, fields_of, arms_of, behind}
 use Rattle.witx_base.specs.Texts.{same_text}
-use Rattle.witx_syntax_tree.specs.Trees.{Comments, Name, Member, TypeTree, Maybe, Types, Fields, UnionFields, Cases, absent, present, no_types, one_type, no_fields, one_field, no_union_fields, one_union_field, no_cases, one_case}
+use Rattle.witx_comments.specs.Comments.{Comments}
+use Rattle.witx_syntax_tree.specs.Trees.{Name, Member, TypeTree, Maybe, Types, Fields, UnionFields, Cases, absent, present, no_types, one_type, no_fields, one_field, no_union_fields, one_union_field, no_cases, one_case}
 use Rattle.witx_syntax.specs.Names.{NamesOfMembers, NamesOfType, NamesOfMaybe, NamesOfTypes, NamesOfFields, NamesOfUnionFields, NamesOfCases}
 use Rattle.witx_check.specs.Faults.{Check, union_size_mismatch}
 use Rattle.witx_check.specs.Names.{Here, Marks, Sense, a_type, sense_tree, new_mark, use_check}

@@ -4,9 +4,10 @@ use Rattle.std.specs.Str.{IsUtf8}
 use Rattle.witx_files.specs.declared.location.Location.{Location}
 use Rattle.witx_ast.specs.Tree.{Tree, Field}
 use Rattle.witx_ast.specs.Definitions.{DefinitionTree}
-use Rattle.witx_syntax_tree.specs.Documentation.{documentation_of}
+use Rattle.witx_comments.specs.Documentation.{documentation_of}
 use Rattle.witx_syntax_tree.specs.Trees as forms
-use Rattle.witx_syntax_tree.specs.Trees.{Comments, Name, QuotedText, Fields, no_fields, one_field, DeclTree, memory, function, NotedDecl}
+use Rattle.witx_comments.specs.Comments.{Comments}
+use Rattle.witx_syntax_tree.specs.Trees.{Name, QuotedText, Fields, no_fields, one_field, DeclTree, memory, function, NotedDecl}
 use Rattle.witx_syntax.specs.Names.{NamesOfFields, NamesOfDecl, NamesOfDecls, NamesOfItem}
 use Rattle.witx_check.specs.Faults.{Fault}
 use Rattle.witx_check.specs.Names.{Here, Marks, Sense, unknown, unfinished, a_module, a_type, new_mark}

@@ -12,7 +12,8 @@ use Rattle.witx_ast.specs.Tree as ast
 use Rattle.witx_ast.specs.Tree.{Tree, arm_list}
 use Rattle.witx_ast.specs.Words.{is_bool_arms}
 use Rattle.witx_syntax_tree.specs.declared.tree.BuiltinSyntax.{BuiltinSyntax}
-use Rattle.witx_syntax_tree.specs.Trees.{Comments, Name, Member, TypeTree, Maybe, Types, Fields, Cases, absent, present, no_types, one_type, no_fields, one_field, no_cases, one_case}
+use Rattle.witx_comments.specs.Comments.{Comments}
+use Rattle.witx_syntax_tree.specs.Trees.{Name, Member, TypeTree, Maybe, Types, Fields, Cases, absent, present, no_types, one_type, no_fields, one_field, no_cases, one_case}
 use Rattle.witx_syntax.specs.declared.nonterminal.Nonterminal.TheVariants as form
 use Rattle.witx_syntax.specs.declared.production.ProductionName.TheVariants as prod
 use Rattle.witx_syntax.specs.declared.token_kind.TokenKind.TheVariants as kind

@@ -6,7 +6,8 @@ use Rattle.witx_ast.specs.Tree.{Tree, arm_list}
 use Rattle.witx_ast.specs.Words.{is_bool_arms}
 use Rattle.witx_ast.specs.Items.{ItemTree, import_of, func_of}
 use Rattle.witx_ast.specs.Definitions.{DefinitionTree, typename_of, module_of, constant_of}
-use Rattle.witx_syntax_tree.specs.Trees.{Comments, Name, TypeTree, Maybe, Fields, absent, present}
+use Rattle.witx_comments.specs.Comments.{Comments}
+use Rattle.witx_syntax_tree.specs.Trees.{Name, TypeTree, Maybe, Fields, absent, present}
 use Rattle.witx_render.specs.TypeExpressions.{are_bare}
 use Rattle.witx_render.specs.ModuleExpressions.{items_in_order}
 use Rattle.witx_read_back.specs.Says.{Says, SaysParams}

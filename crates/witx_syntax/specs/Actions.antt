@@ -7,7 +7,8 @@ use Rattle.witx_syntax.specs.declared.production.ProductionName.TheVariants as p
 use Rattle.witx_syntax.specs.Values.{EntryTree, param, result_of, noreturn, stored, Val, a_name, a_text, an_integer, a_builtin, a_type, some_types, an_error, a_member, some_members, a_field, some_fields, a_union_field, some_union_fields, a_case, some_cases, an_entry, some_entries, a_decl, some_decls, an_item, some_items, comments_of, second_comments}
 use Rattle.witx_syntax_tree.specs.declared.tree.BuiltinSyntax.{BuiltinSyntax}
 use Rattle.witx_syntax_tree.specs.declared.tree.BuiltinSyntax.TheVariants as b
-use Rattle.witx_syntax_tree.specs.Trees.{Comments, Name, QuotedText, Member, TypeTree, ident, builtin, string, boolean, handle, list_of, pointer_to, const_pointer_to, tuple_of, enum_of, flags_of, record_of, union_of, variant_of, expected, Maybe, absent, present, Types, no_types, one_type, Fields, no_fields, one_field, UnionFields, no_union_fields, one_union_field, Cases, no_cases, one_case, NotedDecl, memory, function, ItemTree, uses, typename, module_of, constant, NotedItem}
+use Rattle.witx_comments.specs.Comments.{Comments}
+use Rattle.witx_syntax_tree.specs.Trees.{Name, QuotedText, Member, TypeTree, ident, builtin, string, boolean, handle, list_of, pointer_to, const_pointer_to, tuple_of, enum_of, flags_of, record_of, union_of, variant_of, expected, Maybe, absent, present, Types, no_types, one_type, Fields, no_fields, one_field, UnionFields, no_union_fields, one_union_field, Cases, no_cases, one_case, NotedDecl, memory, function, ItemTree, uses, typename, module_of, constant, NotedItem}
 
 -- ---- the first value, if it is of the kind, for what is made of it
 

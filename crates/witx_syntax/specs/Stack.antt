@@ -1,6 +1,6 @@
 -- What the values on the stack of the code stand for.
 use Rattle.std.specs.Prelude.{◌≡◌, List, ◌∷◌, map, reverse}
-use Rattle.witx_syntax_tree.specs.declared.comment.Documented.{Documented}
+use Rattle.witx_comments.specs.declared.comment.Documented.{Documented}
 use Rattle.witx_syntax_tree.specs.declared.tree.FieldSyntax.{FieldSyntax}
 use Rattle.witx_syntax_tree.specs.declared.tree.CaseSyntax.{CaseSyntax}
 use Rattle.witx_syntax.specs.declared.value.Quoted.{Quoted}
@@ -15,7 +15,8 @@ use Rattle.witx_syntax.specs.Actions.{act}
 use Rattle.witx_syntax.specs.Kinds.{Holds, parts_of}
 use Rattle.witx_syntax_tree.specs.Trees.{QuotedText}
 use Rattle.witx_syntax.specs.Values.{EntryTree, param, result_of, noreturn, stored, Val, a_name, a_text, an_integer, a_builtin, a_type, some_types, an_error, a_member, some_members, a_field, some_fields, a_union_field, some_union_fields, a_case, some_cases, an_entry, some_entries, a_decl, some_decls, an_item, some_items}
-use Rattle.witx_syntax_tree.specs.Views.{comments_view, name_view, member_view, type_view, field_view, case_view, boxed_view, types_view, fields_view, union_fields_view, cases_view, noted_decl, item_view, noted_item}
+use Rattle.witx_comments.specs.Comments.{comments_view}
+use Rattle.witx_syntax_tree.specs.Views.{name_view, member_view, type_view, field_view, case_view, boxed_view, types_view, fields_view, union_fields_view, cases_view, noted_decl, item_view, noted_item}
 
 abbrev pub quoted_view : Quoted → QuotedText
 quoted_view q = record { text = q.text; start = q.span.start; end = q.span.end }

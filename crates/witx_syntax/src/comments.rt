@@ -3,7 +3,7 @@
 ghost use Rattle.std.specs.Prelude.{◌≡◌, ◌∷◌, drop, reverse, map, IfOk};
 ghost use Rattle.witx_lex.specs.Views.{tokens_view};
 ghost use Rattle.witx_syntax.specs.Values.{comments_of, second_comments, token_at};
-ghost use Rattle.witx_syntax_tree.specs.Views.{comments_view};
+ghost use Rattle.witx_comments.specs.Comments.{comments_view};
 
 use std::alloc::Global;
 use witx_base::{Duplicate, OutOfMemory};
@@ -29,7 +29,7 @@ pub fn reversed<T: Drop>(list: Vec<T>) -> Vec<T>
 }
 
 /// The same comments.
-#[tactic(auto, using(witx_syntax_tree::proofs::Copied::copied_texts))]
+#[tactic(auto, using(witx_comments::proofs::Copied::copied_texts))]
 fn copied<'a>(comments: &Comments<'a>) -> Result<CommentSyntax<'a>, OutOfMemory>
     ensures { IfOk result (λ made. comments_view made ≡ map (λ t. t.now) comments.now) }
 {

@@ -4,8 +4,9 @@ use Rattle.std.proofs.Common.{refl}
 use Rattle.std.specs.List.{AllZip}
 use Rattle.std.specs.Borrow.{Bor}
 use Rattle.witx_syntax_tree.specs.Views.{boxed_view, member_view, noted_decl, noted_item, field_view, type_view, case_view, decl_view, item_view, types_view, fields_view, union_fields_view, cases_view}
-use Rattle.witx_syntax_tree.specs.Copies.{IsCopyOfDocumented, ReadsAs}
-use Rattle.witx_syntax_tree.specs.declared.comment.Documented.{Documented}
+use Rattle.witx_comments.specs.Copies.{IsCopyOfDocumented}
+use Rattle.witx_syntax_tree.specs.Copies.{ReadsAs}
+use Rattle.witx_comments.specs.declared.comment.Documented.{Documented}
 use Rattle.witx_syntax_tree.specs.declared.tree.IdSyntax.{IdSyntax}
 use Rattle.witx_syntax_tree.specs.declared.tree.TypedefSyntax.{TypedefSyntax}
 use Rattle.witx_syntax_tree.specs.declared.tree.FieldSyntax.{FieldSyntax}
@@ -19,13 +20,8 @@ use Rattle.witx_syntax_tree.specs.declared.tree.TypedefSyntax.TheVariants as typ
 use Rattle.witx_syntax_tree.specs.declared.tree.TupleSyntax.{TupleSyntax, out-TupleSyntax, roll-TupleSyntax}
 use Rattle.witx_syntax_tree.specs.declared.tree.ExpectedSyntax.{ExpectedSyntax, out-ExpectedSyntax, roll-ExpectedSyntax}
 use Rattle.witx_syntax_tree.specs.declared.tree.UnionSyntax.{UnionSyntax, out-UnionSyntax, roll-UnionSyntax}
+use Rattle.witx_comments.proofs.Copied.{copied_texts}
 use Rattle.witx_syntax_tree.proofs.TypeViews.{view_rules, view-Tuple, view-Expected, view-Union}
-
-pub copied_texts : (xs ys : List (Bor (List ℕ))) → AllZip (λ text made. made ≡ text) xs ys → map (λ t. t.now) ys ≡ map (λ t. t.now) xs
-copied_texts [] [] h = refl
-copied_texts [] (y ∷ ys) h = absurd h
-copied_texts (x ∷ xs) [] h = absurd h
-copied_texts (x ∷ xs) (y ∷ ys) h = rw (h.0, copied_texts xs ys h.1) refl
 
 pub copied-members : (xs ys : List (Documented IdSyntax)) → AllZip (IsCopyOfDocumented (λ id made. made ≡ id)) xs ys → map member_view ys ≡ map member_view xs
 copied-members [] [] h = refl

@@ -8,9 +8,10 @@ use Rattle.witx_syntax_tree.specs.Trees.{QuotedText, Fields, DeclTree, ItemTree}
 use Rattle.witx_syntax_tree.specs.Same.{same_bytes}
 use Rattle.witx_syntax_tree.specs.SameLaws.{both, false-true, bytes-to, bytes-self, comments-to, comments-self, type-to, type-from, fields-to, fields-self, fields-unplaced}
 use Rattle.witx_syntax_tree.specs.Unplaced.{unplaced, unplaced_name, unplaced_fields, unplaced_decl, unplaced_noted_decl, unplaced_item, unplaced_noted_item, unplaced_document}
-use Rattle.witx_syntax_tree.specs.Views.{comments_view, name_view, type_view, fields_view, decl_view, noted_decl, declaration_view, item_view, noted_item, document_view}
-use Rattle.witx_syntax_tree.specs.declared.comment.CommentSyntax.{CommentSyntax}
-use Rattle.witx_syntax_tree.specs.declared.comment.Documented.{Documented}
+use Rattle.witx_comments.specs.Comments.{comments_view}
+use Rattle.witx_syntax_tree.specs.Views.{name_view, type_view, fields_view, decl_view, noted_decl, declaration_view, item_view, noted_item, document_view}
+use Rattle.witx_comments.specs.declared.comment.CommentSyntax.{CommentSyntax}
+use Rattle.witx_comments.specs.declared.comment.Documented.{Documented}
 use Rattle.witx_syntax_tree.specs.declared.tree.IdSyntax.{IdSyntax}
 use Rattle.witx_syntax_tree.specs.declared.tree.TypedefSyntax.{TypedefSyntax}
 use Rattle.witx_syntax_tree.specs.declared.tree.FieldSyntax.{FieldSyntax}
@@ -28,7 +29,7 @@ use Rattle.witx_syntax_tree.specs.declared.tree.DeclSyntax.TheVariants as declar
 use Rattle.witx_syntax_tree.specs.declared.tree.TopLevelSyntax.{TopLevelSyntax}
 use Rattle.witx_syntax_tree.specs.declared.tree.TopLevelSyntax.TheVariants as top
 use Rattle.witx_syntax_tree.specs.declared.tree.TopLevelDocument.{TopLevelDocument}
-use Rattle.witx_syntax_tree.specs.contracts.comment.CommentSyntaxPartialEq.TheImpl as comments
+use Rattle.witx_comments.specs.contracts.comment.CommentSyntaxPartialEq.TheImpl as comments
 use Rattle.witx_syntax_tree.specs.contracts.tree.IdSyntaxPartialEq.TheImpl as ids
 use Rattle.witx_syntax_tree.specs.contracts.tree.TypedefSyntaxPartialEq.TheImpl as typedefs
 use Rattle.witx_syntax_tree.specs.contracts.tree.FieldSyntaxPartialEq.TheImpl as fields

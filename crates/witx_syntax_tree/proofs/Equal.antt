@@ -9,12 +9,12 @@ use Rattle.std.specs.contracts.prelude.RefStrPartialEq.TheImpl as texts
 use Rattle.std.specs.Prelude.{ℕ}
 use Rattle.witx_syntax_tree.specs.Same.{same_comments, same_member, same_type, same_maybe, same_types, same_fields, same_union_fields, same_cases}
 use Rattle.witx_syntax_tree.specs.Views.{type_view, types_view, fields_view, union_fields_view, cases_view, boxed_view, optional_view, member_view}
-use Rattle.witx_syntax_tree.specs.declared.comment.Documented.{Documented}
+use Rattle.witx_comments.specs.declared.comment.Documented.{Documented}
 use Rattle.witx_syntax_tree.specs.declared.tree.IdSyntax.{IdSyntax}
 use Rattle.witx_syntax_tree.specs.declared.tree.TypedefSyntax.{TypedefSyntax}
 use Rattle.witx_syntax_tree.specs.declared.tree.FieldSyntax.{FieldSyntax}
 use Rattle.witx_syntax_tree.specs.declared.tree.CaseSyntax.{CaseSyntax}
-use Rattle.witx_syntax_tree.specs.contracts.comment.CommentSyntaxPartialEq.TheImpl as comments
+use Rattle.witx_comments.specs.contracts.comment.CommentSyntaxPartialEq.TheImpl as comments
 use Rattle.witx_syntax_tree.specs.contracts.tree.IdSyntaxPartialEq.TheImpl as ids
 use Rattle.witx_syntax_tree.specs.contracts.tree.TypedefSyntaxPartialEq.TheImpl as typedefs
 use Rattle.witx_syntax_tree.specs.contracts.tree.FieldSyntaxPartialEq.TheImpl as fields

@@ -3,6 +3,3 @@ pub mod Unlike
 pub mod Equal
 pub mod Copied
 pub mod Decided
-pub mod Cuts
-pub mod Lines
-pub mod DocumentationExamples

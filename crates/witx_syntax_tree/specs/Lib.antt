@@ -1,4 +1,3 @@
-pub mod Documentation
 pub mod Trees
 pub mod Views
 pub mod Unplaced

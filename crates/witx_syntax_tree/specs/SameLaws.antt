@@ -5,7 +5,8 @@ use Rattle.std.specs.Option.{option_eq}
 use Rattle.std.specs.Cmp.{IsEquivalence}
 use Rattle.std.specs.Cmp.Lexicographic.{pointwise}
 use Rattle.witx_syntax_tree.specs.declared.tree.BuiltinSyntax.{BuiltinSyntax}
-use Rattle.witx_syntax_tree.specs.Trees.{Comments, Name, Member, TypeTree, Maybe, Types, Fields, UnionFields, Cases}
+use Rattle.witx_comments.specs.Comments.{Comments}
+use Rattle.witx_syntax_tree.specs.Trees.{Name, Member, TypeTree, Maybe, Types, Fields, UnionFields, Cases}
 use Rattle.witx_syntax_tree.specs.Same.{same_bytes, same_comments, same_name, same_member, same_type, same_maybe, same_types, same_fields, same_union_fields, same_cases}
 use Rattle.witx_syntax_tree.specs.Unplaced.{unplaced_name, unplaced_member, unplaced, unplaced_maybe, unplaced_types, unplaced_fields, unplaced_union_fields, unplaced_cases}
 use Rattle.witx_syntax_tree.specs.contracts.tree.BuiltinSyntaxPartialEq.TheImpl as builtins

@@ -2,10 +2,6 @@
 use Rattle.std.specs.Prelude.{ℕ, Bool, List, Option}
 use Rattle.witx_syntax_tree.specs.declared.tree.BuiltinSyntax.{BuiltinSyntax}
 
--- the texts of comments
-abbrev pub Comments : Type 0
-Comments = List (List ℕ)
-
 -- an identifier without its $, and where it stands with it
 pub record Name : Type 0 where
   pub name : List ℕ

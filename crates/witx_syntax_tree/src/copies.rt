@@ -1,14 +1,15 @@
 //! Copies: each has the reading of what it is made of, names with their places, and comments.
 
 ghost use Rattle.std.specs.Prelude.{◌≡◌, IfOk};
-ghost use Rattle.witx_syntax_tree.specs.Views.{boxed_view, comments_view, case_view, decl_view, declaration_view, document_view, field_view, item_view, type_view};
+ghost use Rattle.witx_comments.specs.Comments.{comments_view};
+ghost use Rattle.witx_syntax_tree.specs.Views.{boxed_view, case_view, decl_view, declaration_view, document_view, field_view, item_view, type_view};
 ghost use Rattle.std.specs.List.{AllZip};
-ghost use Rattle.witx_syntax_tree.specs.Copies.{IsCopyOfDocumented, ReadsAs};
+ghost use Rattle.witx_comments.specs.Copies.{IsCopyOfDocumented};
+ghost use Rattle.witx_syntax_tree.specs.Copies.{ReadsAs};
 ghost use Rattle.witx_syntax_tree.specs.declared.tree.DeclSyntax.TheVariants as declaration;
 ghost use Rattle.witx_syntax_tree.specs.declared.tree.ModuleDeclSyntax.TheVariants as decl;
 ghost use Rattle.witx_syntax_tree.specs.declared.tree.TypedefSyntax.TheVariants as typedef;
 
-use crate::comment::{CommentSyntax, Documented};
 use crate::tree::{
     CaseSyntax, CaseSyntaxes, ConstSyntax, DeclSyntax, EnumSyntax, ExpectedSyntax, FieldSyntax,
     FieldSyntaxes, FlagsSyntax, IdSyntax, InterfaceFuncSyntax, ModuleDeclSyntax,
@@ -18,33 +19,13 @@ use crate::tree::{
 use std::alloc::Global;
 use std::boxed::Box;
 use witx_base::{Duplicate, Items, OutOfMemory};
+use witx_comments::Documented;
 
 impl<'a> Duplicate for IdSyntax<'a> {
     ghost is_copy = { λ id made. made ≡ id };
 
     fn copy(&self) -> Result<IdSyntax<'a>, OutOfMemory> {
         Ok(*self)
-    }
-}
-
-impl<'a> Duplicate for CommentSyntax<'a> {
-    ghost is_copy = { λ noted made. comments_view made ≡ comments_view noted };
-
-    #[tactic(auto, using(crate::proofs::Copied::copied_texts))]
-    fn copy(&self) -> Result<CommentSyntax<'a>, OutOfMemory> {
-        let comments = self.comments.copy()?;
-        Ok(CommentSyntax { comments })
-    }
-}
-
-impl<'a, T: Duplicate + Drop> Duplicate for Documented<'a, T> {
-    ghost is_copy = { IsCopyOfDocumented T.is_copy };
-
-    fn copy(&self) -> Result<Documented<'a, T>, OutOfMemory> {
-        Ok(Documented {
-            comments: self.comments.copy()?,
-            item: self.item.copy()?,
-        })
     }
 }
 

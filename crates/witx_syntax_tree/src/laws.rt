@@ -1,10 +1,6 @@
-//! Laws of equality, as functions whose result is the comparison, and one of documentation, as the
-//! contract of a function that does nothing.
+//! Laws of equality, as functions whose result is the comparison.
 
-ghost use Rattle.std.specs.Prelude.{ℕ, List, ◌≡◌, ◌↔◌, IsTrue};
-ghost use Rattle.std.specs.List.{AllByRecursion};
-ghost use Rattle.std.specs.Str.{IsUtf8};
-ghost use Rattle.witx_syntax_tree.specs.Documentation.{lines_of, AreCutBetweenCharacters};
+ghost use Rattle.std.specs.Prelude.{◌≡◌, ◌↔◌, IsTrue};
 ghost use Rattle.witx_syntax_tree.specs.Unplaced.{unplaced, unplaced_document};
 ghost use Rattle.witx_syntax_tree.specs.Views.{document_view, type_view};
 
@@ -33,8 +29,3 @@ pub fn documents_equal_without_places<'a>(
 {
     a == b
 }
-
-/// No line of documentation that comments give is cut inside a character.
-pub fn lines_are_cut_between_characters()
-    ensures { (comments : List (List ℕ)) → AllByRecursion IsUtf8 comments → AreCutBetweenCharacters (lines_of comments) }
-{}

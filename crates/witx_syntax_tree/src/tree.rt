@@ -1,7 +1,7 @@
 //! Syntax trees. An identifier is a slice of the source, without its `$`.
 
-use crate::comment::Documented;
 use witx_base::{Items, Text};
+use witx_comments::Documented;
 use witx_lex::Span;
 
 /// An identifier, and where it stands with its `$`.

@@ -9,7 +9,7 @@ use Rattle.witx_base.specs.Paths.{Path}
 use Rattle.witx_files.specs.Files.{Files}
 use Rattle.witx_files.specs.declared.location.Location.{Location}
 use Rattle.witx_syntax_tree.specs.Trees as syntax
-use Rattle.witx_syntax_tree.specs.Trees.{Comments}
+use Rattle.witx_comments.specs.Comments.{Comments}
 use Rattle.witx_ast.proofs.EntryLaws.{names-more, names-same}
 use Rattle.witx_ast.specs.Closed.{IsClosed, ItemNamesStand, ParamNamesStand}
 use Rattle.witx_ast.specs.Definitions.{DefinitionTree, as_typename, constant_of, introduced, module_of, typename_of}

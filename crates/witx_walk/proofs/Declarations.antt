@@ -1,7 +1,7 @@
 -- What one more declaration adds to what declarations leave.
 use Rattle.std.proofs.Common.{◌≡◌, ℕ, List, [], ◌∷◌, ◌++◌, refl, sym, ap, ◌∙◌, subst, map, append_assoc, append-nil, Some, None, Ok}
 use Rattle.witx_base.specs.Paths.{Path}
-use Rattle.witx_syntax_tree.specs.Trees.{Comments}
+use Rattle.witx_comments.specs.Comments.{Comments}
 use Rattle.witx_syntax_tree.specs.Views.{declaration_view}
 use Rattle.witx_syntax_tree.specs.declared.tree.DeclSyntax.{DeclSyntax}
 use Rattle.witx_syntax_tree.specs.declared.tree.DeclSyntax.TheVariants as decl

@@ -3,8 +3,9 @@ use Rattle.std.proofs.Common.{◌≡◌, ℕ, ◌+◌, ◌<◌, List, [], ◌∷
 use Rattle.std.proofs.lemmas.List.{drop_more}
 use Rattle.witx_base.specs.Paths.{Path, join, path_of}
 use Rattle.witx_syntax_tree.specs.Trees.{NotedItem, ItemTree}
-use Rattle.witx_syntax_tree.specs.Views.{noted_item, item_view, declaration_view, comments_view}
-use Rattle.witx_syntax_tree.specs.declared.comment.Documented.{Documented}
+use Rattle.witx_comments.specs.Comments.{comments_view}
+use Rattle.witx_syntax_tree.specs.Views.{noted_item, item_view, declaration_view}
+use Rattle.witx_comments.specs.declared.comment.Documented.{Documented}
 use Rattle.witx_syntax_tree.specs.declared.tree.DeclSyntax.{DeclSyntax}
 use Rattle.witx_syntax_tree.specs.declared.tree.DeclSyntax.TheVariants as decl
 use Rattle.witx_syntax_tree.specs.declared.tree.TopLevelSyntax.{TopLevelSyntax}

@@ -4,7 +4,8 @@ use Rattle.std.specs.Prelude.{◌≡◌, ℕ, List, [], ◌∷◌, ◌++◌, Opt
 use Rattle.witx_base.specs.Paths.{Path}
 use Rattle.witx_files.specs.Files.{Files, Aliases, held, canonical}
 use Rattle.witx_files.specs.declared.location.Location.{Location}
-use Rattle.witx_syntax_tree.specs.Trees.{Comments, ItemTree, uses, typename, module_of, constant}
+use Rattle.witx_comments.specs.Comments.{Comments}
+use Rattle.witx_syntax_tree.specs.Trees.{ItemTree, uses, typename, module_of, constant}
 use Rattle.witx_ast.specs.Definitions.{DefinitionTree}
 use Rattle.witx_check.specs.Faults.{Fault, first_fault}
 use Rattle.witx_check.specs.Places.{location_in}

@@ -16,8 +16,9 @@ use Rattle.witx_check.specs.Blame.{fault_of}
 use Rattle.witx_check.specs.Kept.{Keeps}
 use Rattle.witx_check.specs.Validators.{kept_by}
 use Rattle.witx_order.specs.Items.{Declared}
-use Rattle.witx_syntax_tree.specs.Views.{comments_view, declaration_view}
-use Rattle.witx_syntax_tree.specs.declared.comment.CommentSyntax.{CommentSyntax}
+use Rattle.witx_comments.specs.Comments.{comments_view}
+use Rattle.witx_syntax_tree.specs.Views.{declaration_view}
+use Rattle.witx_comments.specs.declared.comment.CommentSyntax.{CommentSyntax}
 use Rattle.witx_syntax_tree.specs.declared.tree.DeclSyntax.{DeclSyntax}
 use Rattle.witx_order.specs.Walks.{World, Place, declared_in, is_taken}
 use Rattle.witx_order.specs.Verdicts.{Leads}

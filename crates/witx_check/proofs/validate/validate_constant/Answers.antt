@@ -1,4 +1,5 @@
-use Rattle.witx_syntax_tree.specs.Views.{name_view, comments_view}
+use Rattle.witx_comments.specs.Comments.{comments_view}
+use Rattle.witx_syntax_tree.specs.Views.{name_view}
 use Rattle.witx_check.proofs.Validating.{constant-made}
 use Rattle.witx_check.proofs.validate.validate_constant.Goals as goal
 

@@ -1,5 +1,6 @@
 use Rattle.std.proofs.lemmas.Result.{err_from_is_err_and}
-use Rattle.witx_syntax_tree.specs.Views.{name_view, type_view, comments_view}
+use Rattle.witx_comments.specs.Comments.{comments_view}
+use Rattle.witx_syntax_tree.specs.Views.{name_view, type_view}
 use Rattle.witx_check.proofs.Validating.{typename-refused, typename-late, typename-made}
 use Rattle.witx_check.proofs.validate.validate_typename.Goals as goal
 

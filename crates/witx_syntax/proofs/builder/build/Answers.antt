@@ -5,7 +5,7 @@ use Rattle.witx_syntax.specs.declared.value.Value.{Value}
 use Rattle.witx_syntax.specs.Stack.{stack_view}
 use Rattle.witx_syntax.specs.Reads.{stands_for}
 use Rattle.witx_syntax.specs.Values.{some_items}
-use Rattle.witx_syntax_tree.specs.declared.comment.Documented.{Documented}
+use Rattle.witx_comments.specs.declared.comment.Documented.{Documented}
 use Rattle.witx_syntax_tree.specs.declared.tree.TopLevelSyntax.{TopLevelSyntax}
 use Rattle.witx_syntax_tree.specs.Views.{noted_item}
 use Rattle.witx_syntax.proofs.Loop.{Here, at_start, before_leaf, after_leaf, before_node, after_node, at_end, only_items}

@@ -1,8 +1,7 @@
 use Rattle.std.proofs.Common.{◌≡◌, sym, subst}
 use Rattle.std.specs.Prelude.{IfOk}
 use Rattle.witx_lex.specs.Views.{tokens_view}
-use Rattle.witx_syntax_tree.specs.Trees.{Comments}
-use Rattle.witx_syntax_tree.specs.Views.{comments_view}
+use Rattle.witx_comments.specs.Comments.{Comments, comments_view}
 use Rattle.witx_syntax.proofs.Before.{second_drop}
 use Rattle.witx_syntax.proofs.comments.comments_behind.Goals as goal
 

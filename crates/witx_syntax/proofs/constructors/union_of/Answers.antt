@@ -1,6 +1,6 @@
 use Rattle.std.proofs.Common.{◌≡◌, List, Option, Some, None, map, reverse, sym, ap, ◌∙◌, subst}
 use Rattle.std.specs.Global.{Box}
-use Rattle.witx_syntax_tree.specs.declared.comment.Documented.{Documented}
+use Rattle.witx_comments.specs.declared.comment.Documented.{Documented}
 use Rattle.witx_syntax_tree.specs.declared.tree.TypedefSyntax.{TypedefSyntax}
 use Rattle.witx_syntax_tree.specs.declared.tree.TypedefSyntax.TheOpen.{TypedefSyntax-F}
 use Rattle.witx_syntax_tree.specs.declared.tree.TypedefSyntax.TheFolds.{fold-roll-TypedefSyntax, fold-roll-UnionSyntax}

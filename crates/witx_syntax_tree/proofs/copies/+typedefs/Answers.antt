@@ -1,6 +1,7 @@
 -- One more copy in a list, and the types whose parts were copied.
 use Rattle.witx_base.proofs.Zipped.{zip-take}
-use Rattle.witx_syntax_tree.specs.Copies.{IsCopyOfDocumented, ReadsAs}
+use Rattle.witx_comments.specs.Copies.{IsCopyOfDocumented}
+use Rattle.witx_syntax_tree.specs.Copies.{ReadsAs}
 use Rattle.witx_syntax_tree.specs.Views.{type_view, field_view, case_view}
 use Rattle.witx_syntax_tree.proofs.Copied.{made-tuple, made-expected, made-union}
 use Rattle.witx_syntax_tree.proofs.copies.+typedefs.Goals as goal

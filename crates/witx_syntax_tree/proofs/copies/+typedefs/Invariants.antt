@@ -1,6 +1,7 @@
 use Rattle.std.proofs.Common.{take}
 use Rattle.std.specs.List.{AllZip}
-use Rattle.witx_syntax_tree.specs.Copies.{IsCopyOfDocumented, ReadsAs}
+use Rattle.witx_comments.specs.Copies.{IsCopyOfDocumented}
+use Rattle.witx_syntax_tree.specs.Copies.{ReadsAs}
 use Rattle.witx_syntax_tree.specs.Views.{type_view, field_view, case_view}
 use Rattle.witx_syntax_tree.proofs.copies.+typedefs.Given as goal
 

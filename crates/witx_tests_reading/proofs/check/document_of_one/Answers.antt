@@ -2,7 +2,7 @@ use Rattle.std.proofs.Common.{◌≡◌, ◌∷◌, ◌++◌, [], ◌∙◌, ℕ
 use Rattle.witx_base.specs.Paths.{Path}
 use Rattle.witx_ast.proofs.EntryLaws.{fits-empty}
 use Rattle.witx_ast.specs.Definitions.{DefinitionTree, DefinitionsFit, definition_tree, entry_tree, introduced}
-use Rattle.witx_syntax_tree.specs.Views.{comments_view}
+use Rattle.witx_comments.specs.Comments.{comments_view}
 use Rattle.witx_check.specs.DeclarationForms.{decl_form_of}
 use Rattle.witx_check.specs.Declarations.{decl_tree, nothing_before}
 use Rattle.witx_check.specs.Places.{location_in}

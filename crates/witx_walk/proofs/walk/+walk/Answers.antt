@@ -3,7 +3,8 @@ use Rattle.std.proofs.lemmas.Result.{err_from_is_err_and}
 use Rattle.std.proofs.lemmas.List.{drop_all}
 use Rattle.witx_base.specs.Paths.{path_of}
 use Rattle.witx_files.specs.Files.{canonical}
-use Rattle.witx_syntax_tree.specs.Views.{noted_item, comments_view, declaration_view}
+use Rattle.witx_comments.specs.Comments.{comments_view}
+use Rattle.witx_syntax_tree.specs.Views.{noted_item, declaration_view}
 use Rattle.witx_order.specs.Items.{items_of}
 use Rattle.witx_order.specs.Walks.{is_taken}
 use Rattle.witx_order.specs.Verdicts.{here}

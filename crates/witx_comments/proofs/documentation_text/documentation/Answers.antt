@@ -1,10 +1,10 @@
 use Rattle.std.proofs.Common.{[], ◌∷◌, ◌++◌, ap, subst, ◌∙◌}
 use Rattle.std.specs.String.{string_bytes}
 use Rattle.std.proofs.lemmas.List.{drop_all}
-use Rattle.witx_syntax_tree.specs.Documentation.{documentation_of, text_of_lines, lines_of}
-use Rattle.witx_syntax_tree.proofs.Lines.{IsAt, shown, at_start, at_end, at_other, at_line}
-use Rattle.witx_syntax_tree.proofs.documentation_text.documentation.Goals as goal
-use Rattle.witx_syntax_tree.proofs.documentation_text.documentation.Goals.{in-Some+in_ok-push_str+in_ok-push, in_default}
+use Rattle.witx_comments.specs.Documentation.{documentation_of, text_of_lines, lines_of}
+use Rattle.witx_comments.proofs.Lines.{IsAt, shown, at_start, at_end, at_other, at_line}
+use Rattle.witx_comments.proofs.documentation_text.documentation.Goals as goal
+use Rattle.witx_comments.proofs.documentation_text.documentation.Goals.{in-Some+in_ok-push_str+in_ok-push, in_default}
 
 pub loop-comment-init : goal.loop-comment-init
 loop-comment-init c = at_start _ _ _ c.margin-margin.ensures c.new-text.ensures.bytes

@@ -1,8 +1,8 @@
 use Rattle.std.proofs.Common.{map, drop}
 use Rattle.std.specs.String.{string_bytes}
-use Rattle.witx_syntax_tree.specs.Documentation.{lines_of}
-use Rattle.witx_syntax_tree.proofs.Lines.{IsAt}
-use Rattle.witx_syntax_tree.proofs.documentation_text.documentation.Given as goal
+use Rattle.witx_comments.specs.Documentation.{lines_of}
+use Rattle.witx_comments.proofs.Lines.{IsAt}
+use Rattle.witx_comments.proofs.documentation_text.documentation.Given as goal
 
 abbrev pub invariant-loop-comment : goal.invariant-loop-comment
 invariant-loop-comment l =

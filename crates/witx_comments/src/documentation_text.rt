@@ -1,5 +1,5 @@
 ghost use Rattle.std.specs.Prelude.{◌≡◌, map, option_map, IfOk};
-ghost use Rattle.witx_syntax_tree.specs.Documentation.{documentation_of, indent_in, indent_of, line_of, lines_of, margin_of};
+ghost use Rattle.witx_comments.specs.Documentation.{documentation_of, indent_in, indent_of, line_of, lines_of, margin_of};
 
 use std::alloc::Global;
 use witx_base::{OutOfMemory, Text};

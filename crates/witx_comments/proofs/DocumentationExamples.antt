@@ -3,7 +3,7 @@ use Rattle.std.proofs.Common.{◌≡◌, [], ◌∷◌, refl}
 use Rattle.std.specs.Str.{chars, trim_start, trim_end}
 use Rattle.std.specs.Fmt.Cut.{floor_char_boundary}
 use Rattle.std.specs.Prelude.{codes}
-use Rattle.witx_syntax_tree.specs.Documentation.{documentation_of, margin_of, text_of_lines}
+use Rattle.witx_comments.specs.Documentation.{documentation_of, margin_of, text_of_lines}
 
 one_comment : documentation_of (codes "; hello" ∷ []) ≡ codes "hello\n"
 unfolding documentation_of margin_of text_of_lines chars trim_start trim_end floor_char_boundary lib.Utf8.encode

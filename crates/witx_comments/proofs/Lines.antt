@@ -10,8 +10,8 @@ use Rattle.std.specs.Str.Pattern.{FindsCharPrefix}
 use Rattle.std.specs.Option.{option_map, unwrap_or}
 use Rattle.std.specs.List.{AllByRecursion, filter, filter_map, cons_option, fold, reduce}
 use Rattle.std.specs.Str.{IsUtf8, chars, trim_end, drop_trailing_whitespace}
-use Rattle.witx_syntax_tree.proofs.Cuts.{tells, IsLastBoundary, cut_is, floor_is_boundary}
-use Rattle.witx_syntax_tree.specs.Documentation.{after_semicolon, indent_in, indent_of, is_nonempty, margin_of, lines_of, line_of, cut_line, text_of_lines, IsCutBetweenCharacters}
+use Rattle.witx_comments.proofs.Cuts.{tells, IsLastBoundary, cut_is, floor_is_boundary}
+use Rattle.witx_comments.specs.Documentation.{after_semicolon, indent_in, indent_of, is_nonempty, margin_of, lines_of, line_of, cut_line, text_of_lines, IsCutBetweenCharacters}
 
 behind_semicolon : (bs : List ℕ) (r : Option (Bor (List ℕ))) → MatchOption r ((rest : List ℕ) → bs ≢ 59 ∷ rest) (λ line. bs ≡ 59 ∷ line.now) → option_map (λ line. line.now) r ≡ after_semicolon bs
 behind_semicolon [] None h = refl

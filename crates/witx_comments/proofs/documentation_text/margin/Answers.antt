@@ -4,9 +4,9 @@ use Rattle.std.specs.List.{reduce}
 use Rattle.std.specs.Option.{unwrap_or}
 use Rattle.std.proofs.lemmas.Iterator.{YieldsList-from_slice}
 use Rattle.std.proofs.lemmas.Iterator.Consumers.{YieldsList-from_filter_map, min_from_yields_List}
-use Rattle.witx_syntax_tree.specs.Documentation.{margin_of, indent_in}
-use Rattle.witx_syntax_tree.proofs.Lines.{indents, same_option}
-use Rattle.witx_syntax_tree.proofs.documentation_text.margin.Goals as goal
+use Rattle.witx_comments.specs.Documentation.{margin_of, indent_in}
+use Rattle.witx_comments.proofs.Lines.{indents, same_option}
+use Rattle.witx_comments.proofs.documentation_text.margin.Goals as goal
 
 pub returns : goal.returns
 unfolding margin_of

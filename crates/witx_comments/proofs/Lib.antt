@@ -1,0 +1,4 @@
+pub mod Cuts
+pub mod Lines
+pub mod Copied
+pub mod DocumentationExamples

@@ -1,0 +1,11 @@
+//! A law of documentation, as the contract of a function that does nothing.
+
+ghost use Rattle.std.specs.Prelude.{ℕ, List};
+ghost use Rattle.std.specs.List.{AllByRecursion};
+ghost use Rattle.std.specs.Str.{IsUtf8};
+ghost use Rattle.witx_comments.specs.Documentation.{lines_of, AreCutBetweenCharacters};
+
+/// No line of documentation that comments give is cut inside a character.
+pub fn lines_are_cut_between_characters()
+    ensures { (comments : List (List ℕ)) → AllByRecursion IsUtf8 comments → AreCutBetweenCharacters (lines_of comments) }
+{}
