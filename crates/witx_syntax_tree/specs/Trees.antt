@@ -1,5 +1,6 @@
 -- Syntax trees as contracts see them: what stands in a text, with names, places and comments, without where these lie in memory.
 use Rattle.std.specs.Prelude.{ℕ, Bool, List, Option}
+use Rattle.witx_comments.specs.Comments.{Comments}
 use Rattle.witx_syntax_tree.specs.declared.tree.BuiltinSyntax.{BuiltinSyntax}
 
 -- an identifier without its $, and where it stands with it

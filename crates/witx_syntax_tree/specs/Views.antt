@@ -1,7 +1,6 @@
 -- The trees that the trees of the code are.
 use Rattle.std.specs.Prelude.{List, [], ◌∷◌, map, Option, Some, None}
 use Rattle.std.specs.Global.{Box}
-use Rattle.witx_comments.specs.declared.comment.CommentSyntax.{CommentSyntax}
 use Rattle.witx_comments.specs.declared.comment.Documented.{Documented}
 use Rattle.witx_syntax_tree.specs.declared.tree.IdSyntax.{IdSyntax}
 use Rattle.witx_syntax_tree.specs.declared.tree.TypedefSyntax.{TypedefSyntax, fold-TypedefSyntax}
@@ -15,7 +14,7 @@ use Rattle.witx_syntax_tree.specs.declared.tree.DeclSyntax.TheVariants as decl
 use Rattle.witx_syntax_tree.specs.declared.tree.TopLevelSyntax.{TopLevelSyntax}
 use Rattle.witx_syntax_tree.specs.declared.tree.TopLevelSyntax.TheVariants as top
 use Rattle.witx_syntax_tree.specs.declared.tree.TopLevelDocument.{TopLevelDocument}
-use Rattle.witx_comments.specs.Comments.{Comments}
+use Rattle.witx_comments.specs.Comments.{comments_view}
 use Rattle.witx_syntax_tree.specs.Trees.{Name, Member, TypeTree, ident, builtin, string, boolean, handle, list_of, pointer_to, const_pointer_to, tuple_of, enum_of, flags_of, record_of, union_of, variant_of, expected, Maybe, absent, present, Types, no_types, one_type, Fields, no_fields, one_field, UnionFields, no_union_fields, one_union_field, Cases, no_cases, one_case, DeclTree, memory, function, NotedDecl, ItemTree, uses, typename, module_of, constant, NotedItem, Document}
 
 abbrev pub name_view : IdSyntax → Name
