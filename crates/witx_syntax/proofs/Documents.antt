@@ -9,14 +9,14 @@ use Rattle.witx_grammar.specs.declared.parser.Parsed.TheVariants.{Derivation, Fa
 use Rattle.witx_grammar.specs.declared.table.Symbol.TheVariants.{Nonterminal as wanted}
 use Rattle.witx_grammar.specs.declared.table.Step.{Step}
 use Rattle.witx_lex.specs.Tokens.{Lexed}
-use Rattle.witx_syntax.specs.declared.nonterminal.Nonterminal.{Nonterminal}
-use Rattle.witx_syntax.specs.declared.nonterminal.Nonterminal.TheVariants.{Text}
-use Rattle.witx_syntax.specs.declared.production.ProductionName.{ProductionName}
-use Rattle.witx_syntax.specs.declared.token_kind.TokenKind.{TokenKind}
-use Rattle.witx_syntax.specs.Grammar.{the_grammar}
+use Rattle.witx_language.specs.declared.nonterminal.Nonterminal.{Nonterminal}
+use Rattle.witx_language.specs.declared.nonterminal.Nonterminal.TheVariants.{Text}
+use Rattle.witx_language.specs.declared.production.ProductionName.{ProductionName}
+use Rattle.witx_language.specs.declared.token_kind.TokenKind.{TokenKind}
+use Rattle.witx_language.specs.Grammar.{the_grammar}
 use Rattle.witx_syntax.specs.Reads.{IsDocument, stands_for}
-use Rattle.witx_syntax.specs.TokenKinds.{token_kinds}
-use Rattle.witx_syntax.specs.Values.{Val, some_items}
+use Rattle.witx_language.specs.TokenKinds.{token_kinds}
+use Rattle.witx_language.specs.Values.{Val, some_items}
 use Rattle.witx_syntax_tree.specs.Trees.{Document}
 
 abbrev pub Grammar : Type 0

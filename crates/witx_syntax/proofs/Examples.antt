@@ -5,16 +5,16 @@ use Rattle.witx_grammar.specs.declared.table.Symbol.TheVariants.{Nonterminal as 
 use Rattle.witx_grammar.specs.declared.table.Step.TheVariants.{Leaf, Node}
 use Rattle.witx_grammar.specs.declared.table.TheConstants.{DEPTH}
 use Rattle.witx_lex.specs.Tokens.{Token, left, right, word, quoted, Lexed}
-use Rattle.witx_syntax.specs.contracts.nonterminal.NonterminalPartialEq.TheImpl as nonterminals
-use Rattle.witx_syntax.specs.declared.nonterminal.Nonterminal.TheVariants.{Text}
-use Rattle.witx_syntax.specs.declared.production.ProductionName.TheVariants.{NoItems, MoreItems, Use}
-use Rattle.witx_syntax.specs.declared.token_kind.TokenKind.{TokenKind}
-use Rattle.witx_syntax.specs.declared.token_kind.TokenKind.TheVariants.{Left, Right, Id, Quoted, Integer, BigInteger, Other, End, AtWitx, UseWord, ConstWord, TypenameWord, UnionWord, PointerWord, TagWord, U8Word}
-use Rattle.witx_syntax.specs.Grammar.{the_grammar}
+use Rattle.witx_language.specs.contracts.nonterminal.NonterminalPartialEq.TheImpl as nonterminals
+use Rattle.witx_language.specs.declared.nonterminal.Nonterminal.TheVariants.{Text}
+use Rattle.witx_language.specs.declared.production.ProductionName.TheVariants.{NoItems, MoreItems, Use}
+use Rattle.witx_language.specs.declared.token_kind.TokenKind.{TokenKind}
+use Rattle.witx_language.specs.declared.token_kind.TokenKind.TheVariants.{Left, Right, Id, Quoted, Integer, BigInteger, Other, End, AtWitx, UseWord, ConstWord, TypenameWord, UnionWord, PointerWord, TagWord, U8Word}
+use Rattle.witx_language.specs.Grammar.{the_grammar}
 use Rattle.witx_syntax.specs.Reads.{stands_for}
-use Rattle.witx_syntax.specs.TokenKinds.{is_kind}
+use Rattle.witx_language.specs.TokenKinds.{is_kind}
 use Rattle.witx_syntax_tree.specs.Trees.{uses}
-use Rattle.witx_syntax.specs.Values.{some_items}
+use Rattle.witx_language.specs.Values.{some_items}
 
 abbrev fault_of : List TokenKind → Option (Found TokenKind)
 fault_of ts = search_fault is_kind nonterminals.ghosts.eq the_grammar DEPTH ((wanted Text ∷ []) ∷ []) 0 ts

@@ -4,13 +4,13 @@ use Rattle.std.specs.List.{list_all}
 use Rattle.std.proofs.lemmas.Bool.{and_parts}
 use Rattle.witx_base.specs.Texts.{same_text}
 use Rattle.witx_lex.specs.Tokens.{Token, left, right, id, word, annot, int, quoted, Lexed}
-use Rattle.witx_syntax.specs.declared.token_kind.TokenKind.{TokenKind}
-use Rattle.witx_syntax.specs.declared.token_kind.TokenKind.TheVariants.{Integer, BigInteger, End}
-use Rattle.witx_syntax.specs.Integers.{is_small, int_value}
+use Rattle.witx_language.specs.declared.token_kind.TokenKind.{TokenKind}
+use Rattle.witx_language.specs.declared.token_kind.TokenKind.TheVariants.{Integer, BigInteger, End}
+use Rattle.witx_language.specs.Integers.{is_small, int_value}
 use Rattle.witx_syntax.specs.Kinds as k
 use Rattle.witx_syntax.specs.Kinds.{Kind, Are, terminal_kinds}
-use Rattle.witx_syntax.specs.TokenKinds.{Spelling, the_words, the_annotations, kind_spelled, token_kind, token_kinds}
-use Rattle.witx_syntax.specs.Values.{Val, an_integer, no_lexed, token_at, token_values, leaf}
+use Rattle.witx_language.specs.TokenKinds.{Spelling, the_words, the_annotations, kind_spelled, token_kind, token_kinds}
+use Rattle.witx_language.specs.Values.{Val, an_integer, no_lexed, token_at, token_values, leaf}
 
 not_both : true ≡ false → ⊥
 not_both e = cc

@@ -8,18 +8,18 @@ use Rattle.witx_grammar.specs.declared.table.Step.{Step}
 use Rattle.witx_grammar.specs.declared.table.Step.TheVariants.{Leaf, Node}
 use Rattle.witx_grammar.proofs.Reading.{Back, back_start, back_before, back_token, back_past, back_wanted, back_production, back_end}
 use Rattle.witx_lex.specs.Tokens.{Lexed}
-use Rattle.witx_syntax.specs.declared.nonterminal.Nonterminal.{Nonterminal as Form}
-use Rattle.witx_syntax.specs.declared.nonterminal.Nonterminal.TheVariants.{Text}
-use Rattle.witx_syntax.specs.declared.production.ProductionName.{ProductionName}
-use Rattle.witx_syntax.specs.declared.token_kind.TokenKind.{TokenKind}
-use Rattle.witx_syntax.specs.declared.token_kind.TokenKind.TheVariants.{End}
-use Rattle.witx_syntax.specs.Actions.{act}
-use Rattle.witx_syntax.specs.Grammar.{written, production, the_names, the_grammar}
+use Rattle.witx_language.specs.declared.nonterminal.Nonterminal.{Nonterminal as Form}
+use Rattle.witx_language.specs.declared.nonterminal.Nonterminal.TheVariants.{Text}
+use Rattle.witx_language.specs.declared.production.ProductionName.{ProductionName}
+use Rattle.witx_language.specs.declared.token_kind.TokenKind.{TokenKind}
+use Rattle.witx_language.specs.declared.token_kind.TokenKind.TheVariants.{End}
+use Rattle.witx_language.specs.Actions.{act}
+use Rattle.witx_language.specs.Grammar.{written, production, the_names, the_grammar}
 use Rattle.witx_syntax.specs.Kinds as k
 use Rattle.witx_syntax.specs.Kinds.{Kind, Are, Holds, parts_of, nonterminal_kind, terminal_kinds, symbol_kinds, wants_kinds}
 use Rattle.witx_syntax.specs.Reads.{stands_for}
-use Rattle.witx_syntax.specs.TokenKinds.{token_kinds}
-use Rattle.witx_syntax.specs.Values.{Val, no_lexed, token_at, leaf}
+use Rattle.witx_language.specs.TokenKinds.{token_kinds}
+use Rattle.witx_language.specs.Values.{Val, no_lexed, token_at, leaf}
 use Rattle.witx_syntax.proofs.Leaves.{leaf_fits, past_kind, past_token, kinds_count}
 use Rattle.witx_syntax.proofs.Shapes.{other_kinds}
 use Rattle.witx_syntax.proofs.Sound.{named, production_fits, none_left}

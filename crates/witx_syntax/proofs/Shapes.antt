@@ -5,7 +5,7 @@ use Rattle.witx_comments.specs.Comments.{Comments}
 use Rattle.witx_syntax_tree.specs.Trees.{Name, QuotedText, Member, TypeTree, Maybe, Types, Fields, UnionFields, Cases, NotedDecl, ItemTree, NotedItem}
 use Rattle.witx_syntax.specs.Kinds as k
 use Rattle.witx_syntax.specs.Kinds.{Kind, kind_of, Are}
-use Rattle.witx_syntax.specs.Values.{EntryTree, Val, a_name, a_text, an_integer, a_builtin, a_type, some_types, an_error, a_member, some_members, a_field, some_fields, a_union_field, some_union_fields, a_case, some_cases, an_entry, some_entries, a_decl, some_decls, an_item, some_items}
+use Rattle.witx_language.specs.Values.{EntryTree, Val, a_name, a_text, an_integer, a_builtin, a_type, some_types, an_error, a_member, some_members, a_field, some_fields, a_union_field, some_union_fields, a_case, some_cases, an_entry, some_entries, a_decl, some_decls, an_item, some_items}
 
 pub no_kinds : (k : Kind) (ks : List Kind) → [] ≡ k ∷ ks → ⊥
 no_kinds k ks e = cc

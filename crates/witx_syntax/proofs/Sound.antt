@@ -10,21 +10,21 @@ use Rattle.witx_grammar.specs.declared.table.Step.TheVariants.{Leaf, Node}
 use Rattle.witx_lex.specs.Slices.{Spells, StandsAt}
 use Rattle.witx_lex.specs.Tokens.{Token, left, right, id, word, annot, int, quoted, Lexed}
 use Rattle.witx_syntax_tree.specs.Trees.{Name, Fields, Document}
-use Rattle.witx_syntax.specs.declared.nonterminal.Nonterminal.{Nonterminal as Form}
-use Rattle.witx_syntax.specs.declared.nonterminal.Nonterminal.TheVariants.{Text}
-use Rattle.witx_syntax.specs.declared.production.ProductionName.{ProductionName}
-use Rattle.witx_syntax.specs.declared.production.ProductionName.TheVariants as p
-use Rattle.witx_syntax.specs.declared.token_kind.TokenKind.{TokenKind}
-use Rattle.witx_syntax.specs.declared.token_kind.TokenKind.TheVariants.{End}
-use Rattle.witx_syntax.specs.Actions.{act, with_entry}
-use Rattle.witx_syntax.specs.Grammar.{written, production, the_names, the_grammar}
-use Rattle.witx_syntax.specs.Integers.{is_small, int_value}
+use Rattle.witx_language.specs.declared.nonterminal.Nonterminal.{Nonterminal as Form}
+use Rattle.witx_language.specs.declared.nonterminal.Nonterminal.TheVariants.{Text}
+use Rattle.witx_language.specs.declared.production.ProductionName.{ProductionName}
+use Rattle.witx_language.specs.declared.production.ProductionName.TheVariants as p
+use Rattle.witx_language.specs.declared.token_kind.TokenKind.{TokenKind}
+use Rattle.witx_language.specs.declared.token_kind.TokenKind.TheVariants.{End}
+use Rattle.witx_language.specs.Actions.{act, with_entry}
+use Rattle.witx_language.specs.Grammar.{written, production, the_names, the_grammar}
+use Rattle.witx_language.specs.Integers.{is_small, int_value}
 use Rattle.witx_syntax.specs.Kinds as k
 use Rattle.witx_syntax.specs.Kinds.{Kind, kind_of, Are, parts_of, nonterminal_kind, terminal_kinds, symbol_kinds, wants_kinds}
 use Rattle.witx_syntax.specs.Names.{StandsInText, NamesOfMembers, NamesOfType, NamesOfMaybe, NamesOfTypes, NamesOfFields, NamesOfUnionFields, NamesOfCases, NamesOfDecl, NamesOfDecls, NamesOfItem, AllNames}
 use Rattle.witx_syntax.specs.Reads.{stands_for}
-use Rattle.witx_syntax.specs.TokenKinds.{token_kind, token_kinds}
-use Rattle.witx_syntax.specs.Values.{EntryTree, param, result_of, noreturn, stored, Val, a_name, a_text, an_integer, a_builtin, a_type, some_types, an_error, a_member, some_members, a_field, some_fields, a_union_field, some_union_fields, a_case, some_cases, an_entry, some_entries, a_decl, some_decls, an_item, some_items, token_values, leaf}
+use Rattle.witx_language.specs.TokenKinds.{token_kind, token_kinds}
+use Rattle.witx_language.specs.Values.{EntryTree, param, result_of, noreturn, stored, Val, a_name, a_text, an_integer, a_builtin, a_type, some_types, an_error, a_member, some_members, a_field, some_fields, a_union_field, some_union_fields, a_case, some_cases, an_entry, some_entries, a_decl, some_decls, an_item, some_items, token_values, leaf}
 use Rattle.witx_syntax.proofs.Leaves.{token_fits}
 use Rattle.witx_syntax.proofs.Shapes.{OfKinds, by_kinds, no_kinds}
 

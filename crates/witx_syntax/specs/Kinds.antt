@@ -4,14 +4,14 @@ use Rattle.std.specs.List.{flat_map}
 use Rattle.witx_grammar.specs.Grammar.{Wants}
 use Rattle.witx_grammar.specs.declared.table.Symbol.{Symbol}
 use Rattle.witx_grammar.specs.declared.table.Symbol.TheVariants.{Terminal, Nonterminal}
-use Rattle.witx_syntax.specs.declared.nonterminal.Nonterminal.{Nonterminal as FormName}
-use Rattle.witx_syntax.specs.declared.nonterminal.Nonterminal.TheVariants as n
-use Rattle.witx_syntax.specs.declared.production.ProductionName.{ProductionName}
-use Rattle.witx_syntax.specs.declared.token_kind.TokenKind.{TokenKind}
-use Rattle.witx_syntax.specs.declared.token_kind.TokenKind.TheVariants.{Id, Quoted, Integer}
-use Rattle.witx_syntax.specs.Grammar.{written}
-use Rattle.witx_syntax.specs.Values as v
-use Rattle.witx_syntax.specs.Values.{Val}
+use Rattle.witx_language.specs.declared.nonterminal.Nonterminal.{Nonterminal as FormName}
+use Rattle.witx_language.specs.declared.nonterminal.Nonterminal.TheVariants as n
+use Rattle.witx_language.specs.declared.production.ProductionName.{ProductionName}
+use Rattle.witx_language.specs.declared.token_kind.TokenKind.{TokenKind}
+use Rattle.witx_language.specs.declared.token_kind.TokenKind.TheVariants.{Id, Quoted, Integer}
+use Rattle.witx_language.specs.Grammar.{written}
+use Rattle.witx_language.specs.Values as v
+use Rattle.witx_language.specs.Values.{Val}
 
 pub data Kind : Type 0 where
   name : Kind

@@ -1,10 +1,4 @@
-pub mod Actions
-pub mod Grammar
-pub mod Integers
 pub mod Kinds
-pub mod Messages
 pub mod Names
 pub mod Reads
 pub mod Stack
-pub mod TokenKinds
-pub mod Values

@@ -1,6 +1,6 @@
 -- The document that a text is, or its fault with line, column and message.
 -- A text reads as a document where its tokens derive from the grammar and the derivation stands for the document.
-use Rattle.std.specs.Prelude.{◌≡◌, ◌⊎◌, ℕ, nat_lt, if◌then◌else◌, List, [], ◌∷◌, length, slice_index_or}
+use Rattle.std.specs.Prelude.{◌≡◌, ◌⊎◌, ℕ, List, [], ◌∷◌, slice_index_or}
 use Rattle.witx_grammar.specs.Grammar.{Derives}
 use Rattle.witx_grammar.specs.Faults.{IsFault}
 use Rattle.witx_grammar.specs.Reading.{values}
@@ -9,20 +9,20 @@ use Rattle.witx_grammar.specs.declared.table.Step.{Step}
 use Rattle.witx_lex.specs.Tokens.{Lexed}
 use Rattle.witx_lex.specs.Meaning.{HasTokens}
 use Rattle.witx_lex.specs.Faults.{HasFault}
-use Rattle.witx_lex.specs.Places.{line_at, column_at}
 use Rattle.witx_lex.specs.declared.error.LexFault.{LexFault}
-use Rattle.witx_syntax.specs.declared.nonterminal.Nonterminal.TheVariants.{Text}
-use Rattle.witx_syntax.specs.declared.production.ProductionName.{ProductionName}
-use Rattle.witx_syntax.specs.declared.token_kind.TokenKind.{TokenKind}
-use Rattle.witx_syntax.specs.declared.token_kind.TokenKind.TheVariants.{End}
-use Rattle.witx_syntax.specs.declared.error.ParseFault.{ParseFault}
-use Rattle.witx_syntax.specs.declared.error.SyntaxError.{SyntaxError}
-use Rattle.witx_syntax.specs.declared.error.SyntaxError.TheVariants.{Parse, OutOfMemory}
-use Rattle.witx_syntax.specs.Actions.{act}
-use Rattle.witx_syntax.specs.Grammar.{the_grammar}
-use Rattle.witx_syntax.specs.Messages.{message_of, lexical_message}
-use Rattle.witx_syntax.specs.TokenKinds.{token_kinds}
-use Rattle.witx_syntax.specs.Values.{Val, leaf, token_at, some_items}
+use Rattle.witx_language.specs.declared.nonterminal.Nonterminal.TheVariants.{Text}
+use Rattle.witx_language.specs.declared.production.ProductionName.{ProductionName}
+use Rattle.witx_language.specs.declared.token_kind.TokenKind.{TokenKind}
+use Rattle.witx_language.specs.declared.token_kind.TokenKind.TheVariants.{End}
+use Rattle.witx_language.specs.declared.error.ParseFault.{ParseFault}
+use Rattle.witx_language.specs.declared.error.SyntaxError.{SyntaxError}
+use Rattle.witx_language.specs.declared.error.SyntaxError.TheVariants.{Parse, OutOfMemory}
+use Rattle.witx_language.specs.Actions.{act}
+use Rattle.witx_language.specs.FaultPlaces.{Told, fault_view, told_at, start_of}
+use Rattle.witx_language.specs.Grammar.{the_grammar}
+use Rattle.witx_language.specs.Messages.{message_of, lexical_message}
+use Rattle.witx_language.specs.TokenKinds.{token_kinds}
+use Rattle.witx_language.specs.Values.{Val, leaf, some_items}
 use Rattle.witx_syntax_tree.specs.Trees.{Document}
 
 -- what the steps of a derivation of the tokens stand for
@@ -40,23 +40,6 @@ pub record Reads (text : List ℕ) (d : Document) : Type 0 where
   pub tokens : List Lexed
   pub lexed : HasTokens text tokens
   pub document : IsDocument tokens d
-
--- a fault as contracts see it: its message, its line and its column
-pub record Told : Type 0 where
-  pub message : List ℕ
-  pub line : ℕ
-  pub column : ℕ
-
-abbrev pub fault_view : ParseFault → Told
-fault_view f = record { message = f.message.now; line = f.line; column = f.column }
-
--- the fault with this message at this offset
-abbrev pub told_at : List ℕ → List ℕ → ℕ → Told
-told_at text message offset = record { message = message; line = line_at text offset; column = column_at text offset }
-
--- where the token with the number starts; behind the last token it is the end of the text
-abbrev pub start_of : List ℕ → List Lexed → ℕ → ℕ
-start_of text ts at = if nat_lt at (length ts) then (token_at ts at).start else length text
 
 -- the text has no tokens, for this reason
 pub record IsLexical (text : List ℕ) (f : Told) : Type 0 where

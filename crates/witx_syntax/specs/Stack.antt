@@ -4,17 +4,15 @@ use Rattle.witx_comments.specs.declared.comment.Documented.{Documented}
 use Rattle.witx_syntax_tree.specs.declared.tree.FieldSyntax.{FieldSyntax}
 use Rattle.witx_syntax_tree.specs.declared.tree.CaseSyntax.{CaseSyntax}
 use Rattle.witx_syntax.specs.declared.value.Quoted.{Quoted}
-use Rattle.witx_syntax.specs.declared.value.Entry.{Entry}
-use Rattle.witx_syntax.specs.declared.value.Entry.TheVariants as entry
-use Rattle.witx_syntax.specs.declared.value.Entries.{Entries}
 use Rattle.witx_syntax.specs.declared.value.Value.{Value}
 use Rattle.witx_syntax.specs.declared.value.Value.TheVariants as value
 use Rattle.witx_lex.specs.Tokens.{Lexed}
-use Rattle.witx_syntax.specs.declared.production.ProductionName.{ProductionName}
-use Rattle.witx_syntax.specs.Actions.{act}
+use Rattle.witx_language.specs.declared.production.ProductionName.{ProductionName}
+use Rattle.witx_language.specs.Actions.{act}
+use Rattle.witx_language.specs.Entries.{entry_view, entries_value}
 use Rattle.witx_syntax.specs.Kinds.{Holds, parts_of}
 use Rattle.witx_syntax_tree.specs.Trees.{QuotedText}
-use Rattle.witx_syntax.specs.Values.{EntryTree, param, result_of, noreturn, stored, Val, a_name, a_text, an_integer, a_builtin, a_type, some_types, an_error, a_member, some_members, a_field, some_fields, a_union_field, some_union_fields, a_case, some_cases, an_entry, some_entries, a_decl, some_decls, an_item, some_items}
+use Rattle.witx_language.specs.Values.{Val, a_name, a_text, an_integer, a_builtin, a_type, some_types, an_error, a_member, some_members, a_field, some_fields, a_union_field, some_union_fields, a_case, some_cases, an_entry, some_entries, a_decl, some_decls, an_item, some_items}
 use Rattle.witx_comments.specs.Comments.{comments_view}
 use Rattle.witx_syntax_tree.specs.Views.{name_view, member_view, type_view, field_view, case_view, boxed_view, types_view, fields_view, union_fields_view, cases_view, noted_decl, item_view, noted_item}
 
@@ -26,15 +24,6 @@ field_value d = a_field (comments_view d.comments) (field_view d.item).name (fie
 
 abbrev pub case_value : Documented CaseSyntax → Val
 case_value d = a_case (comments_view d.comments) (case_view d.item).name (case_view d.item).ty
-
-abbrev pub entry_view : Entry → EntryTree
-entry_view (entry.Param d) = param (comments_view d.comments) (field_view d.item).name (field_view d.item).type_
-entry_view (entry.Result d) = result_of (comments_view d.comments) (field_view d.item).name (field_view d.item).type_
-entry_view entry.NoReturn = noreturn
-entry_view entry.Stored = stored
-
-abbrev pub entries_value : Entries → Val
-entries_value e = some_entries (fields_view (reverse e.params.items)) (fields_view (reverse e.results.items)) e.noreturn e.stored
 
 abbrev pub value_view : Value → Val
 value_view (value.Name n) = a_name (name_view n.id)

@@ -2,22 +2,22 @@
 
 ghost use Rattle.std.specs.Prelude.{◌≡◌, [], ◌∷◌, drop, IfOk};
 ghost use Rattle.witx_lex.specs.Views.{tokens_view};
-ghost use Rattle.witx_syntax.specs.declared.production.ProductionName.TheVariants as production;
+ghost use Rattle.witx_language.specs.declared.production.ProductionName.TheVariants as production;
 ghost use Rattle.witx_syntax.specs.Stack.{Made, Ready, stack_view};
-ghost use Rattle.witx_syntax.specs.Values.{a_builtin, a_type};
+ghost use Rattle.witx_language.specs.Values.{a_builtin, a_type};
 ghost use Rattle.witx_syntax_tree.specs.Trees as tree;
 
 pub mod items;
 pub mod parts;
 pub mod types;
 
-use crate::constructors::builtin;
 use crate::held::Listed;
-use crate::production::ProductionName as P;
 use crate::stack::{add_item, push};
-use crate::value::{BuiltinWord, Entries, Value};
+use crate::value::{BuiltinWord, Value};
 use std::alloc::Global;
 use witx_base::OutOfMemory;
+use witx_language::constructors::builtin;
+use witx_language::{Entries, ProductionName as P};
 use witx_lex::Lexed;
 use witx_syntax_tree::{
     BuiltinSyntax, CaseSyntax, Documented, FieldSyntax, IdSyntax, ModuleDeclSyntax, TopLevelSyntax,

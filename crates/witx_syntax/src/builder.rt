@@ -8,25 +8,25 @@ ghost use Rattle.std.specs.Prelude.{◌≡◌, IfOk, [], ◌∷◌, ◌++◌, ma
 ghost use Rattle.witx_grammar.specs.Grammar.{Derives};
 ghost use Rattle.witx_grammar.specs.declared.table.Symbol.TheVariants.{Nonterminal};
 ghost use Rattle.witx_lex.specs.Views.{lexed_view, tokens_view};
-ghost use Rattle.witx_syntax.specs.declared.nonterminal.Nonterminal.TheVariants.{Text};
-ghost use Rattle.witx_syntax.specs.Grammar.{the_grammar};
+ghost use Rattle.witx_language.specs.declared.nonterminal.Nonterminal.TheVariants.{Text};
+ghost use Rattle.witx_language.specs.Grammar.{the_grammar};
 ghost use Rattle.witx_syntax.specs.Reads.{stands_for};
 ghost use Rattle.witx_syntax.specs.Stack.{quoted_view, stack_view};
-ghost use Rattle.witx_syntax.specs.TokenKinds.{token_kinds};
-ghost use Rattle.witx_syntax.specs.Values.{a_name, a_text, an_integer, leaf, some_items, token_at};
+ghost use Rattle.witx_language.specs.TokenKinds.{token_kinds};
+ghost use Rattle.witx_language.specs.Values.{a_name, a_text, an_integer, leaf, some_items, token_at};
 ghost use Rattle.witx_syntax_tree.specs.Views.{name_view, noted_item};
 
 use crate::actions::perform;
-use crate::comments::reversed;
-use crate::integer::integer;
-use crate::production::ProductionName;
 use crate::stack::{push, take};
 use crate::value::{Named, Number, Quoted, Value};
 use std::alloc::Global;
 use witx_base::{Duplicate, Items, OutOfMemory};
 use witx_grammar::Step;
+use witx_language::constructors::identifier;
+use witx_language::integer::integer;
+use witx_language::{ProductionName, reversed};
 use witx_lex::{Lexed, Token};
-use witx_syntax_tree::{IdSyntax, TopLevelSyntaxes};
+use witx_syntax_tree::TopLevelSyntaxes;
 
 /// Puts an identifier on the stack.
 fn push_name<'a>(name: Named<'a>, stack: &mut Vec<Value<'a>>) -> Result<(), OutOfMemory>
@@ -57,7 +57,7 @@ fn push_leaf<'a>(lexed: &Lexed<'a>, stack: &mut Vec<Value<'a>>) -> Result<(), Ou
     match &lexed.token {
         Token::Id(name) => push_name(
             Named {
-                id: IdSyntax { name, span },
+                id: identifier(name, span),
             },
             stack,
         ),

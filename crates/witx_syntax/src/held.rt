@@ -2,12 +2,14 @@
 
 ghost use Rattle.std.specs.Prelude.{◌≡◌, List, map, reverse};
 ghost use Rattle.witx_syntax.specs.Kinds.{Kind, kind_of, name, text, integer, builtin, type_, types, error, member, members, field, fields, union_field, union_fields, case, cases, entry, entries, decl, decls, item, items};
-ghost use Rattle.witx_syntax.specs.Stack.{value_view, quoted_view, field_value, case_value, entry_view, entries_value};
-ghost use Rattle.witx_syntax.specs.Values.{Val, a_name, a_text, an_integer, a_builtin, a_type, some_types, an_error, a_member, some_members, some_fields, a_union_field, some_union_fields, some_cases, an_entry, a_decl, some_decls, an_item, some_items};
+ghost use Rattle.witx_language.specs.Entries.{entry_view, entries_value};
+ghost use Rattle.witx_syntax.specs.Stack.{value_view, quoted_view, field_value, case_value};
+ghost use Rattle.witx_language.specs.Values.{Val, a_name, a_text, an_integer, a_builtin, a_type, some_types, an_error, a_member, some_members, some_fields, a_union_field, some_union_fields, some_cases, an_entry, a_decl, some_decls, an_item, some_items};
 ghost use Rattle.witx_comments.specs.Comments.{comments_view};
 ghost use Rattle.witx_syntax_tree.specs.Views.{name_view, member_view, type_view, types_view, boxed_view, fields_view, union_fields_view, cases_view, noted_decl, item_view, noted_item};
 
-use crate::value::{BuiltinWord, Entries, Entry, Named, Number, Quoted, Value};
+use crate::value::{BuiltinWord, Named, Number, Quoted, Value};
+use witx_language::{Entries, Entry};
 use witx_syntax_tree::{
     CaseSyntax, Documented, FieldSyntax, IdSyntax, ModuleDeclSyntax, TopLevelSyntax, TypedefSyntax,
 };

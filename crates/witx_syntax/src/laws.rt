@@ -1,29 +1,19 @@
 //! What holds of every text, as functions that do nothing: each contract is a theorem.
 
-ghost use Rattle.std.specs.Prelude.{◌≡◌, ◌≢◌, ◌⊎◌, ℕ, List};
-ghost use Rattle.std.specs.List.{AllPairs};
+ghost use Rattle.std.specs.Prelude.{◌≡◌, ◌⊎◌, ℕ, List};
 ghost use Rattle.witx_syntax.specs.Names.{AllNames, StandsInText};
-ghost use Rattle.witx_syntax.specs.Reads.{IsFaultOf, Reads, Told};
-ghost use Rattle.witx_syntax.specs.TokenKinds.{all_kinds};
+ghost use Rattle.witx_language.specs.FaultPlaces.{Told};
+ghost use Rattle.witx_syntax.specs.Reads.{IsFaultOf, Reads};
 ghost use Rattle.witx_syntax_tree.specs.Trees.{Document};
 
-use crate::grammar::the_table;
-use crate::nonterminal::Nonterminal;
-use crate::production::ProductionName;
-use crate::token_kind::TokenKind;
 use witx_grammar::{
     at_most_one_derivation, at_most_one_fault, derivation_or_fault, no_fault_where_derived,
 };
+use witx_language::{Nonterminal, ProductionName, TokenKind, the_table};
 use witx_lex::{
     a_fault_is_unique, a_text_has_pieces_or_a_fault, pieces_exclude_a_fault, tokens_are_slices,
     tokens_are_unique,
 };
-
-/// No two kinds of tokens are one: each word and each annotation of the grammar is told from each
-/// other, and from all other tokens.
-pub fn token_kinds_are_distinct()
-    ensures { AllPairs (λ kind other. kind ≢ other) all_kinds }
-{}
 
 /// A text is at most one document.
 pub fn at_most_one_document()

@@ -3,28 +3,18 @@
 
 mod actions;
 mod builder;
-mod comments;
-mod constructors;
-mod error;
-mod grammar;
 mod held;
-mod integer;
 mod laws;
-mod messages;
-mod nonterminal;
 mod parser;
-mod production;
 mod stack;
-mod token_kind;
 mod value;
-mod words;
 
-pub use error::{ParseError, ParseFault, SyntaxError};
 pub use laws::{
     a_document_or_a_fault, at_most_one_document, at_most_one_parse_fault,
-    identifiers_stand_in_the_text, no_fault_where_read, token_kinds_are_distinct,
+    identifiers_stand_in_the_text, no_fault_where_read,
 };
 pub use parser::parse_document;
+pub use witx_language::{ParseError, ParseFault, SyntaxError, token_kinds_are_distinct};
 pub use witx_syntax_tree::{
     BuiltinSyntax, CaseSyntax, CaseSyntaxes, CommentSyntax, Comments, ConstSyntax, DeclSyntax,
     Documented, EnumSyntax, ExpectedSyntax, FieldSyntax, FieldSyntaxes, FlagsSyntax, HandleSyntax,

@@ -1,68 +1,19 @@
 //! From a text to its document.
 
-ghost use Rattle.std.specs.Prelude.{◌≡◌, IfOk, IfErr, slice_index_or};
+ghost use Rattle.std.specs.Prelude.{IfOk, IfErr};
 ghost use Rattle.witx_lex.specs.Meaning.{HasTokens};
 ghost use Rattle.witx_lex.specs.Views.{tokens_view};
-ghost use Rattle.witx_syntax.specs.declared.token_kind.TokenKind.TheVariants.{End};
-ghost use Rattle.witx_syntax.specs.Messages.{message_of as message_of_kinds};
-ghost use Rattle.witx_syntax.specs.Reads.{IfParse, IsParseFault, Reads, fault_view, start_of, told_at};
+ghost use Rattle.witx_syntax.specs.Reads.{IfParse, IsParseFault, Reads};
 ghost use Rattle.witx_syntax_tree.specs.Views.{document_view};
 
 use crate::builder::build;
-use crate::error::{ParseFault, SyntaxError};
-use crate::grammar::the_table;
-use crate::messages::{lexical_message, message_of};
-use crate::nonterminal::Nonterminal;
-use crate::token_kind::TokenKind;
-use crate::words::token_kinds;
 use std::alloc::Global;
 use witx_grammar::{Parsed, parse};
-use witx_lex::{LexError, Lexed, lex, line_column};
+use witx_language::{
+    Nonterminal, SyntaxError, fault_at, lexical_message, the_table, token_fault, token_kinds,
+};
+use witx_lex::{LexError, Lexed, lex};
 use witx_syntax_tree::TopLevelDocument;
-
-/// The fault with a message at an offset.
-fn fault_at(text: &str, message: &'static str, offset: usize) -> ParseFault
-    ensures { fault_view result ≡ told_at text.now message.now offset }
-{
-    let (line, column) = line_column(text, offset);
-    ParseFault {
-        message,
-        line,
-        column,
-    }
-}
-
-/// Where the token with the number starts; behind the last token it is the end of the text.
-fn start_of_token(text: &str, tokens: &[Lexed], at: usize) -> usize
-    ensures { result ≡ start_of text.now (tokens_view tokens.now) at }
-{
-    match tokens.get(at) {
-        Some(lexed) => lexed.span.start,
-        None => text.len(),
-    }
-}
-
-/// The fault of tokens that are no document.
-fn token_fault(
-    text: &str,
-    tokens: &[Lexed],
-    kinds: &[TokenKind],
-    at: usize,
-    expected: &[TokenKind],
-) -> ParseFault
-    ensures { fault_view result
-        ≡ told_at text.now (message_of_kinds expected.now (slice_index_or kinds.now at End)) (start_of text.now (tokens_view tokens.now) at) }
-{
-    let here = match kinds.get(at) {
-        Some(kind) => *kind,
-        None => TokenKind::End,
-    };
-    fault_at(
-        text,
-        message_of(expected, here),
-        start_of_token(text, tokens, at),
-    )
-}
 
 /// The document of the tokens of a text, or their fault.
 fn parse_tokens<'a>(

@@ -4,10 +4,10 @@ ghost use Rattle.std.specs.Prelude.{◌≡◌, [], ◌∷◌, IfOk};
 ghost use Rattle.witx_syntax.specs.Kinds.{Holds};
 ghost use Rattle.witx_syntax.specs.Stack.{AddsItem, stack_view, value_view};
 
-use crate::comments::appended;
 use crate::held::{Held, Listed};
 use crate::value::Value;
 use witx_base::OutOfMemory;
+use witx_language::appended;
 
 /// Puts a value on top.
 // A value is large; inlined, its parts are written where they stay, and the whole isn't moved twice.

@@ -1,6 +1,7 @@
 //! What forms stand for while a tree is built. The last item of a list stands first.
 
 use witx_base::Text;
+use witx_language::{Entries, Entry};
 use witx_lex::Span;
 use witx_syntax_tree::{
     BuiltinSyntax, CaseSyntax, Documented, FieldSyntax, IdSyntax, ModuleDeclSyntax, TopLevelSyntax,
@@ -30,24 +31,6 @@ pub struct BuiltinWord {
 pub struct Quoted {
     pub text: Text,
     pub span: Span,
-}
-
-/// A parameter, a result, that a function doesn't return, or that its result is stored.
-#[derive(Drop)]
-pub enum Entry<'a> {
-    Param(Documented<'a, FieldSyntax<'a>>),
-    Result(Documented<'a, FieldSyntax<'a>>),
-    NoReturn,
-    Stored,
-}
-
-/// The entries of a function, by kind.
-#[derive(Drop)]
-pub struct Entries<'a> {
-    pub params: Vec<Documented<'a, FieldSyntax<'a>>>,
-    pub results: Vec<Documented<'a, FieldSyntax<'a>>>,
-    pub noreturn: bool,
-    pub stored: bool,
 }
 
 /// What a token or a form stands for.

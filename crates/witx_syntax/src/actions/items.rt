@@ -1,18 +1,16 @@
 //! The values of top-level forms and of declarations of modules.
 
-ghost use Rattle.std.specs.Prelude.{◌≡◌, [], drop, reverse, IfOk};
+ghost use Rattle.std.specs.Prelude.{[], drop, IfOk};
 ghost use Rattle.witx_lex.specs.Views.{tokens_view};
-ghost use Rattle.witx_syntax.specs.declared.production.ProductionName.TheVariants as production;
-ghost use Rattle.witx_syntax.specs.Actions.{with_entry};
-ghost use Rattle.witx_syntax.specs.Stack.{Made, Ready, entries_value, entry_view};
-ghost use Rattle.witx_syntax_tree.specs.Views.{fields_view};
+ghost use Rattle.witx_language.specs.declared.production.ProductionName.TheVariants as production;
+ghost use Rattle.witx_syntax.specs.Stack.{Made, Ready};
 
-use crate::comments::{appended, comments_at, comments_behind, reversed};
-use crate::constructors::field;
 use crate::stack::{push, take, take_three, take_two};
-use crate::value::{Entries, Entry, Named, Number, Quoted, Value};
+use crate::value::{Named, Number, Quoted, Value};
 use std::alloc::Global;
 use witx_base::{Items, OutOfMemory};
+use witx_language::constructors::field;
+use witx_language::{Entries, Entry, add_entry, appended, comments_at, comments_behind, reversed};
 use witx_lex::Lexed;
 use witx_syntax_tree::{
     ConstSyntax, DeclSyntax, Documented, ImportTypeSyntax, InterfaceFuncSyntax, ModuleDeclSyntax,
@@ -183,31 +181,6 @@ pub fn stored<'a>(stack: &mut Vec<Value<'a>>) -> Result<(), OutOfMemory>
     ensures { IfOk result (λ _. Made production.Stored [] stack.old.items stack.new.items) }
 {
     push(stack, Value::Entry(Entry::Stored))
-}
-
-/// Puts an entry to those of its kind.
-fn add_entry<'a>(entries: &mut Entries<'a>, entry: Entry<'a>) -> Result<(), OutOfMemory>
-    ensures { IfOk result (λ _. entries_value entries.new
-        ≡ with_entry (entry_view entry.entry) (fields_view (reverse entries.old.params.items)) (fields_view (reverse entries.old.results.items)) entries.old.noreturn entries.old.stored) }
-{
-    match entry {
-        Entry::Param(field) => {
-            entries.params.push(field)?;
-            Ok(())
-        }
-        Entry::Result(field) => {
-            entries.results.push(field)?;
-            Ok(())
-        }
-        Entry::NoReturn => {
-            entries.noreturn = true;
-            Ok(())
-        }
-        Entry::Stored => {
-            entries.stored = true;
-            Ok(())
-        }
-    }
 }
 
 pub fn more_entries<'a>(stack: &mut Vec<Value<'a>>) -> Result<(), OutOfMemory>

@@ -2,15 +2,14 @@
 
 ghost use Rattle.std.specs.Prelude.{[], drop, IfOk};
 ghost use Rattle.witx_lex.specs.Views.{tokens_view};
-ghost use Rattle.witx_syntax.specs.declared.production.ProductionName.TheVariants as production;
+ghost use Rattle.witx_language.specs.declared.production.ProductionName.TheVariants as production;
 ghost use Rattle.witx_syntax.specs.Stack.{Made, Ready};
 
-use crate::comments::comments_at;
-use crate::constructors;
 use crate::stack::{push, take, take_two};
 use crate::value::{Named, Value};
 use std::alloc::Global;
 use witx_base::OutOfMemory;
+use witx_language::{comments_at, constructors};
 use witx_lex::Lexed;
 use witx_syntax_tree::{Documented, TypedefSyntax};
 

@@ -1,16 +1,15 @@
 //! The values of types.
 
 ghost use Rattle.std.specs.Prelude.{[], IfOk};
-ghost use Rattle.witx_syntax.specs.declared.production.ProductionName.TheVariants as production;
+ghost use Rattle.witx_language.specs.declared.production.ProductionName.TheVariants as production;
 ghost use Rattle.witx_syntax.specs.Stack.{Made, Ready};
 
-use crate::comments::appended;
-use crate::constructors;
-use crate::constructors::{enumeration, flags, union_of, variant};
 use crate::stack::{push, take, take_three, take_two};
 use crate::value::{BuiltinWord, Named, Value};
 use std::alloc::Global;
 use witx_base::OutOfMemory;
+use witx_language::constructors::{enumeration, flags, union_of, variant};
+use witx_language::{appended, constructors};
 use witx_syntax_tree::{Documented, FieldSyntax, IdSyntax, TypedefSyntax};
 
 type Member<'a> = Documented<'a, IdSyntax<'a>>;

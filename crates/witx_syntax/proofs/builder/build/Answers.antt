@@ -4,7 +4,7 @@ use Rattle.witx_lex.specs.Views.{tokens_view, lexed_view}
 use Rattle.witx_syntax.specs.declared.value.Value.{Value}
 use Rattle.witx_syntax.specs.Stack.{stack_view}
 use Rattle.witx_syntax.specs.Reads.{stands_for}
-use Rattle.witx_syntax.specs.Values.{some_items}
+use Rattle.witx_language.specs.Values.{some_items}
 use Rattle.witx_comments.specs.declared.comment.Documented.{Documented}
 use Rattle.witx_syntax_tree.specs.declared.tree.TopLevelSyntax.{TopLevelSyntax}
 use Rattle.witx_syntax_tree.specs.Views.{noted_item}

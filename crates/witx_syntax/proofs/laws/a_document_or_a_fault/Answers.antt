@@ -4,13 +4,14 @@ use Rattle.witx_grammar.specs.Faults.{HasDerivation, HasFault}
 use Rattle.witx_lex.specs.Meaning.{tokens_of}
 use Rattle.witx_lex.specs.Pieces.{Piece, ArePieces}
 use Rattle.witx_syntax_tree.specs.Trees.{Document}
-use Rattle.witx_syntax.specs.declared.nonterminal.Nonterminal.TheVariants.{Text}
-use Rattle.witx_syntax.specs.declared.token_kind.TokenKind.TheVariants.{End}
-use Rattle.witx_syntax.specs.Grammar.{the_grammar}
+use Rattle.witx_language.specs.declared.nonterminal.Nonterminal.TheVariants.{Text}
+use Rattle.witx_language.specs.declared.token_kind.TokenKind.TheVariants.{End}
+use Rattle.witx_language.specs.Grammar.{the_grammar}
 use Rattle.std.specs.Prelude.{slice_index_or}
-use Rattle.witx_syntax.specs.Messages.{message_of, lexical_message}
-use Rattle.witx_syntax.specs.Reads.{IsFaultOf, Reads, Told, told_at, start_of}
-use Rattle.witx_syntax.specs.TokenKinds.{token_kinds}
+use Rattle.witx_language.specs.Messages.{message_of, lexical_message}
+use Rattle.witx_language.specs.FaultPlaces.{Told, told_at, start_of}
+use Rattle.witx_syntax.specs.Reads.{IsFaultOf, Reads}
+use Rattle.witx_language.specs.TokenKinds.{token_kinds}
 use Rattle.witx_syntax.proofs.Documents.{Grammar}
 use Rattle.witx_syntax.proofs.Sound.{reads_as}
 use Rattle.witx_syntax.proofs.laws.a_document_or_a_fault.Goals as goal

@@ -3,11 +3,11 @@ use Rattle.witx_grammar.specs.Grammar.{Derives, grammar}
 use Rattle.witx_grammar.specs.declared.table.Step.{Step}
 use Rattle.witx_grammar.specs.declared.table.Symbol.TheVariants.{Nonterminal}
 use Rattle.witx_lex.specs.Tokens.{Lexed}
-use Rattle.witx_syntax.specs.declared.nonterminal.Nonterminal.TheVariants.{Text}
-use Rattle.witx_syntax.specs.declared.production.ProductionName.{ProductionName}
-use Rattle.witx_syntax.specs.Grammar.{the_grammar}
+use Rattle.witx_language.specs.declared.nonterminal.Nonterminal.TheVariants.{Text}
+use Rattle.witx_language.specs.declared.production.ProductionName.{ProductionName}
+use Rattle.witx_language.specs.Grammar.{the_grammar}
 use Rattle.witx_syntax.specs.Reads.{IsDocument}
-use Rattle.witx_syntax.specs.TokenKinds.{token_kinds}
+use Rattle.witx_language.specs.TokenKinds.{token_kinds}
 use Rattle.witx_syntax.proofs.Documents.{Grammar, one_document}
 use Rattle.witx_syntax.proofs.laws.at_most_one_document.Goals as goal
 

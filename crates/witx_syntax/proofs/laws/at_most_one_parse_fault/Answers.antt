@@ -3,14 +3,15 @@ use Rattle.std.specs.Prelude.{slice_index_or}
 use Rattle.witx_grammar.specs.Faults.{IsFault, IsSameFault}
 use Rattle.witx_lex.specs.Tokens.{Lexed}
 use Rattle.witx_lex.specs.declared.error.LexKind.{LexKind}
-use Rattle.witx_syntax.specs.declared.nonterminal.Nonterminal.TheVariants.{Text}
-use Rattle.witx_syntax.specs.declared.token_kind.TokenKind.{TokenKind}
-use Rattle.witx_syntax.specs.declared.token_kind.TokenKind.TheVariants.{End}
-use Rattle.witx_syntax.specs.Grammar.{the_grammar}
-use Rattle.witx_syntax.specs.Messages.{message_of, lexical_message}
-use Rattle.witx_syntax.specs.Reads.{IsLexical, IsSyntactic, Told, told_at, start_of}
-use Rattle.witx_syntax.specs.TokenKinds.{token_kinds}
-use Rattle.witx_syntax.proofs.Wording.{same_message}
+use Rattle.witx_language.specs.declared.nonterminal.Nonterminal.TheVariants.{Text}
+use Rattle.witx_language.specs.declared.token_kind.TokenKind.{TokenKind}
+use Rattle.witx_language.specs.declared.token_kind.TokenKind.TheVariants.{End}
+use Rattle.witx_language.specs.Grammar.{the_grammar}
+use Rattle.witx_language.specs.Messages.{message_of, lexical_message}
+use Rattle.witx_language.specs.FaultPlaces.{Told, told_at, start_of}
+use Rattle.witx_syntax.specs.Reads.{IsLexical, IsSyntactic}
+use Rattle.witx_language.specs.TokenKinds.{token_kinds}
+use Rattle.witx_language.proofs.Wording.{same_message}
 use Rattle.witx_syntax.proofs.laws.at_most_one_parse_fault.Goals as goal
 
 -- the fault of tokens at a place where these kinds can stand

@@ -1,9 +1,9 @@
 use Rattle.std.proofs.Common.{◌≡◌, List, inl, inr, subst}
 use Rattle.witx_grammar.specs.Faults.{IsFault}
 use Rattle.witx_lex.specs.Tokens.{Lexed}
-use Rattle.witx_syntax.specs.declared.nonterminal.Nonterminal.TheVariants.{Text}
-use Rattle.witx_syntax.specs.Grammar.{the_grammar}
-use Rattle.witx_syntax.specs.TokenKinds.{token_kinds}
+use Rattle.witx_language.specs.declared.nonterminal.Nonterminal.TheVariants.{Text}
+use Rattle.witx_language.specs.Grammar.{the_grammar}
+use Rattle.witx_language.specs.TokenKinds.{token_kinds}
 use Rattle.witx_syntax.proofs.laws.no_fault_where_read.Goals as goal
 
 pub returns : goal.returns

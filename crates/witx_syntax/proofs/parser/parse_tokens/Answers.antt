@@ -2,10 +2,10 @@ use Rattle.std.proofs.Common.{List, inr, ap, ◌∙◌}
 use Rattle.std.specs.Prelude.{slice_index_or}
 use Rattle.witx_grammar.specs.Grammar.{grammar}
 use Rattle.witx_lex.specs.Views.{tokens_view}
-use Rattle.witx_syntax.specs.declared.token_kind.TokenKind.{TokenKind}
-use Rattle.witx_syntax.specs.declared.token_kind.TokenKind.TheVariants.{End}
-use Rattle.witx_syntax.specs.Messages.{message_of}
-use Rattle.witx_syntax.specs.Reads.{start_of, told_at}
+use Rattle.witx_language.specs.declared.token_kind.TokenKind.{TokenKind}
+use Rattle.witx_language.specs.declared.token_kind.TokenKind.TheVariants.{End}
+use Rattle.witx_language.specs.Messages.{message_of}
+use Rattle.witx_language.specs.FaultPlaces.{start_of, told_at}
 use Rattle.witx_syntax.proofs.Documents.{derived, faulty}
 use Rattle.witx_syntax.proofs.parser.parse_tokens.Goals as goal
 

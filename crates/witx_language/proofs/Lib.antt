@@ -1,0 +1,5 @@
+pub mod Apart
+pub mod Before
+pub mod Digits
+pub mod Pushed
+pub mod Wording

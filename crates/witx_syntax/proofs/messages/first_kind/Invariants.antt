@@ -1,6 +1,0 @@
-use Rattle.std.proofs.Common.{◌≡◌, drop}
-use Rattle.witx_syntax.specs.Messages.{first_kind}
-use Rattle.witx_syntax.proofs.messages.first_kind.Given as goal
-
-abbrev pub invariant-loop-kind : goal.invariant-loop-kind
-invariant-loop-kind l = first_kind (drop l.kind-index l.kinds) ≡ first_kind l.kinds
