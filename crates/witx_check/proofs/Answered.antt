@@ -11,23 +11,23 @@ use Rattle.witx_ast.specs.Definitions.{DefinitionTree, ModuleTree, typename_of, 
 use Rattle.witx_ast.specs.declared.definition.Definition.{Definition}
 use Rattle.witx_ast.specs.declared.definition.Constant.{Constant}
 use Rattle.witx_ast.specs.declared.definition.Entry.{Entry}
-use Rattle.witx_check.specs.declared.error.CheckError.{CheckError}
-use Rattle.witx_check.specs.declared.constants.ConstantName.{ConstantName}
-use Rattle.witx_check.specs.Answers.{IsFault}
-use Rattle.witx_check.specs.Blame.{Blames}
-use Rattle.witx_check.specs.Faults.{first_fault}
-use Rattle.witx_check.specs.Names.{Names, Here}
-use Rattle.witx_check.specs.Trees.{tree_meant}
-use Rattle.witx_check.specs.DeclarationForms.{typename_form, module_form, constant_form}
-use Rattle.witx_check.specs.Constants.{constant_place}
-use Rattle.witx_check.specs.Inside.{within, typename_checks, module_checks, module_meant}
-use Rattle.witx_check.specs.Positions.{made_type, made_module, refused, is_name}
-use Rattle.witx_check.specs.Declarations.{Past, decl_checks, decl_tree, accepted}
-use Rattle.witx_check.specs.Kept.{Kept, Keeps, KeepsNames, KeepsConstants}
+use Rattle.witx_scope.specs.declared.error.CheckError.{CheckError}
+use Rattle.witx_scope.specs.declared.constants.ConstantName.{ConstantName}
+use Rattle.witx_scope.specs.Answers.{IsFault}
+use Rattle.witx_scope.specs.Blame.{Blames}
+use Rattle.witx_scope.specs.Faults.{first_fault}
+use Rattle.witx_scope.specs.Names.{Names, Here}
+use Rattle.witx_scope.specs.Trees.{tree_meant}
+use Rattle.witx_scope.specs.DeclarationForms.{typename_form, module_form, constant_form}
+use Rattle.witx_scope.specs.Constants.{constant_place}
+use Rattle.witx_scope.specs.Inside.{within, typename_checks, module_checks, module_meant}
+use Rattle.witx_scope.specs.Positions.{made_type, made_module, refused, is_name}
+use Rattle.witx_scope.specs.Declarations.{Past, decl_checks, decl_tree, accepted}
+use Rattle.witx_scope.specs.Kept.{Kept, Keeps, KeepsNames, KeepsConstants}
 use Rattle.witx_check.proofs.ByPosition.{within-by-position}
 use Rattle.witx_check.proofs.Finished.{taken_as}
 use Rattle.witx_check.proofs.Orders.{typename-ordered, ordered-last, typename-closed, module-closed, closed-last}
-use Rattle.witx_check.specs.Senses.{kept_sense}
+use Rattle.witx_scope.specs.Senses.{kept_sense}
 use Rattle.witx_check.proofs.Validated.{typename-checks-by, module-checks-by, constant_checks_in, constant-checks-by, new-constant, typename-tree-by, module-tree-by, keeps-constant, fits-constant, ok-by, err-by, on-err-by, blames-by, none-by}
 
 abbrev pub kept_as : Names → List (List ℕ × Entry) → List (ConstantName × Location) → Kept

@@ -6,14 +6,14 @@ use Rattle.witx_files.specs.declared.location.Location.{Location}
 use Rattle.witx_syntax_tree.specs.Trees.{Name}
 use Rattle.witx_ast.specs.declared.definition.Entry.{Entry}
 use Rattle.witx_ast.specs.declared.definition.Entry.TheVariants as entry
-use Rattle.witx_check.specs.Names.{Names, Sense, unfinished}
-use Rattle.witx_check.specs.Senses.{kept_sense, sense_at, entry_sense}
-use Rattle.witx_check.specs.Inside.{within}
-use Rattle.witx_check.specs.Positions.{Taken, Outcome, refused, made_type, made_module, introducer, is_name, denotes, denotes_before, sense_after, sense_from, after}
-use Rattle.witx_check.specs.Kept.{Keeps, KeepsNames, finished_sense, entry_sense_of, finished}
-use Rattle.witx_check.specs.Declarations.{nothing_before}
+use Rattle.witx_scope.specs.Names.{Names, Sense, unfinished}
+use Rattle.witx_scope.specs.Senses.{kept_sense, sense_at, entry_sense}
+use Rattle.witx_scope.specs.Inside.{within}
+use Rattle.witx_scope.specs.Positions.{Taken, Outcome, refused, made_type, made_module, introducer, is_name, denotes, denotes_before, sense_after, sense_from, after}
+use Rattle.witx_scope.specs.Kept.{Keeps, KeepsNames, finished_sense, entry_sense_of, finished}
+use Rattle.witx_scope.specs.Declarations.{nothing_before}
 use Rattle.witx_check.specs.Validators.{nothing_kept}
-use Rattle.witx_check.proofs.Within.{funext}
+use Rattle.witx_scope.proofs.Steps.{funext}
 
 abbrev pub taken_place : Option Taken → Option Location
 taken_place o = option_map (λ t. t.place) o

@@ -13,11 +13,11 @@ use Rattle.witx_ast.specs.declared.types.IntRepr.{IntRepr}
 use Rattle.witx_ast.specs.declared.types.RecordKind.{RecordKind}
 use Rattle.witx_ast.specs.Tree.{Tree, Fields, Arms}
 use Rattle.witx_ast.specs.Definitions.{typename_of, constant_of}
-use Rattle.witx_check.specs.Faults.{Fault, first_fault, abi, name_already_exists, recursive, unknown_name, wrong_kind_name, invalid_union_field, constant_too_large}
-use Rattle.witx_check.specs.Names.{Here}
-use Rattle.witx_check.specs.Trees.{tree_meant}
-use Rattle.witx_check.specs.DeclarationForms.{DeclForm, typename_form, module_form, constant_form}
-use Rattle.witx_check.specs.Declarations.{Past, nothing_before, decl_checks, decl_tree, accepted, rejected}
+use Rattle.witx_scope.specs.Faults.{Fault, first_fault, abi, name_already_exists, recursive, unknown_name, wrong_kind_name, invalid_union_field, constant_too_large}
+use Rattle.witx_scope.specs.Names.{Here}
+use Rattle.witx_scope.specs.Trees.{tree_meant}
+use Rattle.witx_scope.specs.DeclarationForms.{DeclForm, typename_form, module_form, constant_form}
+use Rattle.witx_scope.specs.Declarations.{Past, nothing_before, decl_checks, decl_tree, accepted, rejected}
 
 abbrev name_at : List ℕ → ℕ → Name
 name_at name start = record { name = name; start = start; end = start }

@@ -8,12 +8,12 @@ use Rattle.std.specs.Cmp.Lexicographic.{slice_cmp}
 use Rattle.witx_base.specs.Found.{found}
 use Rattle.witx_files.specs.declared.location.Location.{Location}
 use Rattle.witx_ast.specs.declared.definition.Entry.{Entry}
-use Rattle.witx_check.specs.Faults.{name_already_exists}
-use Rattle.witx_check.specs.Names.{Names, Sense, new_name}
-use Rattle.witx_check.specs.Inside.{Takes, TakesAtMost, Refuses}
-use Rattle.witx_check.specs.Positions.{Taken, Outcome, refused, is_name, introducer, first_place}
-use Rattle.witx_check.specs.Kept.{KeepsNames, entry_sense_of, finished_sense, finished}
-use Rattle.witx_check.proofs.Steps.{is_eq-swap}
+use Rattle.witx_scope.specs.Faults.{name_already_exists}
+use Rattle.witx_scope.specs.Names.{Names, Sense, new_name}
+use Rattle.witx_scope.specs.Inside.{Takes, TakesAtMost, Refuses}
+use Rattle.witx_scope.specs.Positions.{Taken, Outcome, refused, is_name, introducer, first_place}
+use Rattle.witx_scope.specs.Kept.{KeepsNames, entry_sense_of, finished_sense, finished}
+use Rattle.witx_scope.proofs.Steps.{is_eq-swap}
 use Rattle.witx_check.proofs.ByPosition.{keeps-more, keeps-same, taken_place}
 
 abbrev pub taken_as : List ℕ → Location → Outcome → Taken

@@ -15,14 +15,15 @@ use Rattle.witx_ast.specs.declared.definition.Definition.{Definition}
 use Rattle.witx_ast.specs.declared.definition.Entry.{Entry}
 use Rattle.witx_ast.specs.declared.definition.Entry.TheVariants as entry
 use Rattle.witx_ast.proofs.Trees.{tree_rules}
-use Rattle.witx_check.specs.Faults.{Check, Fault, first_fault, name_already_exists}
-use Rattle.witx_check.specs.Names.{Names, Here, a_type, a_module}
+use Rattle.witx_scope.specs.Faults.{Check, Fault, first_fault, name_already_exists}
+use Rattle.witx_scope.specs.Names.{Names, Here, a_type, a_module}
 use Rattle.witx_syntax_tree.specs.Trees.{NotedDecl}
-use Rattle.witx_check.specs.Inside.{typename_checks, module_checks}
-use Rattle.witx_check.specs.Positions.{Taken, made_type, made_module, refused, is_name, introducer}
-use Rattle.witx_check.specs.Kept.{KeepsNames, entry_sense_of, finished_sense}
-use Rattle.witx_check.proofs.Steps.{is_eq-swap}
+use Rattle.witx_scope.specs.Inside.{typename_checks, module_checks}
+use Rattle.witx_scope.specs.Positions.{Taken, made_type, made_module, refused, is_name, introducer}
+use Rattle.witx_scope.specs.Kept.{KeepsNames, entry_sense_of, finished_sense}
+use Rattle.witx_scope.proofs.Steps.{is_eq-swap}
 use Rattle.witx_check.proofs.Finished.{entries-more, keeps-made, keeps-refused, keeps-left, none-taken}
+use Rattle.witx_scope.proofs.Pushed.{cut-back, definitions-last, definitions-more}
 use Rattle.witx_check.proofs.Fits.{fits-more}
 
 -- ---- one entry, one definition
@@ -37,10 +38,6 @@ pub trees-more : (old new : List (List ℕ × Entry)) (e : Entry) (k q : List �
 trees-more old new e k q h =
     let h1 = rw (is_eq-swap k q) at h in
     ap (option_map entry_tree) h1 ∙ tree-cond (is_name q k) (Some e) (found old q)
-
--- what was pushed is cut off again
-pub cut-back : (ds : List Definition) (d : Definition) (now : List Definition) (n : ℕ) → n ≡ length ds → now ≡ ds ++ d ∷ [] → take n now ≡ ds
-cut-back ds d now n e a = rw (e, a) (take-append_seam ds (d ∷ []))
 
 pub ruleset finish_rules = (entries-more, trees-more, cut-back)
 
@@ -91,13 +88,6 @@ pub keeps-late : (names new : Names) (es : List (List ℕ × Entry)) (past : Lis
 keeps-late names new es past n p a k h = keeps-left names new es past n p (inr (a, k)) h
 
 -- ---- the definitions still fit
-
-definitions-last : (ds new : List Definition) (d : Definition) → new ≡ ds ++ d ∷ [] → map definition_tree new ≡ map definition_tree ds ++ definition_tree d ∷ []
-definitions-last ds new d e = ap (map definition_tree) e ∙ map-append definition_tree ds (d ∷ [])
-
-pub definitions-more : (ds new : List Definition) (d : Definition) (t : DefinitionTree) → new ≡ ds ++ d ∷ [] → definition_tree d ≡ t
-    → map definition_tree new ≡ map definition_tree ds ++ t ∷ []
-definitions-more ds new d t e same = definitions-last ds new d e ∙ ap (λ (x : DefinitionTree). map definition_tree ds ++ x ∷ []) same
 
 pub fits-definition : (names : Names) (ds new : List Definition) (d : Definition) (e : Entry) (es es2 : List (List ℕ × Entry)) (past : List Taken) (n : List ℕ)
     → new ≡ ds ++ d ∷ []

@@ -12,7 +12,7 @@ use Rattle.std.specs.Cmp.Lexicographic.{texts_ties, nat_list_eq_equiv}
 use Rattle.witx_base.specs.Found.{found}
 use Rattle.witx_base.specs.Texts.{same_text}
 use Rattle.witx_ast.specs.Entries.{by_name, Fits}
-use Rattle.witx_check.specs.Positions.{is_name}
+use Rattle.witx_scope.specs.Positions.{is_name}
 
 same-name : (a b : List ℕ) → same_text a b ≡ is_name a b
 unfolding same_text

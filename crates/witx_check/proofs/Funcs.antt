@@ -6,14 +6,14 @@ use Rattle.witx_syntax_tree.specs.Trees.{Fields}
 use Rattle.witx_files.specs.declared.location.Location.{Location}
 use Rattle.witx_ast.specs.declared.function.Abi.{Abi}
 use Rattle.witx_ast.specs.Results.{results_reason}
-use Rattle.witx_check.specs.declared.error.CheckError.{CheckError}
-use Rattle.witx_check.specs.Blame.{Blames}
-use Rattle.witx_check.specs.Faults.{Check, first_fault, abi}
-use Rattle.witx_check.specs.Names.{Here, Marks}
-use Rattle.witx_check.specs.Checks.{field_checks}
-use Rattle.witx_check.specs.Trees.{fields_meant}
-use Rattle.witx_check.specs.Functions.{fields_scope, result_checks, inner_checks, abi_check}
-use Rattle.witx_check.proofs.Onward.{fault-past, fault-append, blames-to, blames-append, blames-head, blames-past}
+use Rattle.witx_scope.specs.declared.error.CheckError.{CheckError}
+use Rattle.witx_scope.specs.Blame.{Blames}
+use Rattle.witx_scope.specs.Faults.{Check, first_fault, abi}
+use Rattle.witx_scope.specs.Names.{Here, Marks}
+use Rattle.witx_scope.specs.Checks.{field_checks}
+use Rattle.witx_scope.specs.Trees.{fields_meant}
+use Rattle.witx_scope.specs.Functions.{fields_scope, result_checks, inner_checks, abi_check}
+use Rattle.witx_scope.proofs.FirstFaults.{fault-past, fault-append, blames-to, blames-append, blames-head, blames-past}
 use Rattle.witx_check.proofs.Params.{results-alike}
 
 -- what is left of the list behind the parameters

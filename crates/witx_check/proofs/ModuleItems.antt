@@ -11,17 +11,17 @@ use Rattle.witx_syntax_tree.specs.declared.tree.ModuleDeclSyntax.{ModuleDeclSynt
 use Rattle.witx_ast.specs.Items.{ItemTree, import_of, func_of, item_tree, entry_item, item_name, ItemsFit}
 use Rattle.witx_ast.specs.declared.module.ModuleDefinition.{ModuleDefinition}
 use Rattle.witx_ast.specs.declared.module.ModuleEntry.{ModuleEntry}
-use Rattle.witx_check.specs.declared.error.CheckError.{CheckError}
-use Rattle.witx_check.specs.Blame.{Blames}
-use Rattle.witx_check.specs.Faults.{Fault, Check, first_fault, name_already_exists}
-use Rattle.witx_check.specs.Names.{Here, Marks, new_mark}
+use Rattle.witx_scope.specs.declared.error.CheckError.{CheckError}
+use Rattle.witx_scope.specs.Blame.{Blames}
+use Rattle.witx_scope.specs.Faults.{Fault, Check, first_fault, name_already_exists}
+use Rattle.witx_scope.specs.Names.{Here, Marks, new_mark}
 use Rattle.witx_syntax_tree.specs.Trees.{DeclTree, memory, function, NotedDecl}
 use Rattle.witx_syntax_tree.specs.Views.{noted_decl}
-use Rattle.witx_check.specs.DeclarationForms.{items_in}
-use Rattle.witx_check.specs.Modules.{quoted_name, item_checks, with_name, items_checks, decl_meant, item_meant, item_called}
-use Rattle.witx_check.specs.Positions.{is_name}
-use Rattle.witx_check.proofs.Onward.{fault-append, blames-append, blames-to, blames-head, fault-past}
-use Rattle.witx_check.proofs.Steps.{is_eq-swap}
+use Rattle.witx_scope.specs.DeclarationForms.{items_in}
+use Rattle.witx_scope.specs.Modules.{quoted_name, item_checks, with_name, items_checks, decl_meant, item_meant, item_called}
+use Rattle.witx_scope.specs.Positions.{is_name}
+use Rattle.witx_scope.proofs.FirstFaults.{fault-append, blames-append, blames-to, blames-head, fault-past}
+use Rattle.witx_scope.proofs.Steps.{is_eq-swap}
 use Rattle.witx_ast.specs.Entries.{Fits}
 use Rattle.witx_check.proofs.Fits.{fits-more}
 

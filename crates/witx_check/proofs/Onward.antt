@@ -8,9 +8,9 @@ use Rattle.witx_comments.specs.Documentation.{documentation_of}
 use Rattle.witx_syntax_tree.specs.Trees.{Member, Fields, no_fields, one_field, no_types, one_type, no_union_fields, one_union_field, Cases, no_cases, one_case, union_of, variant_of, TypeTree, ident, builtin, string, boolean, handle, list_of, pointer_to, const_pointer_to, tuple_of, enum_of, flags_of, record_of, expected}
 use Rattle.witx_comments.specs.Comments.{comments_view}
 use Rattle.witx_syntax_tree.specs.Views.{type_view, name_view, member_view, fields_view, types_view, union_fields_view, cases_view, boxed_view, maybe_of}
-use Rattle.witx_check.specs.SyntaxChecks.{lacks_name, union_checks, variant_checks, member_views, name_check, Sees}
-use Rattle.witx_check.proofs.ArmNames.{arm_names-arm}
-use Rattle.witx_check.proofs.NamePlaces.{has-push, seen-more}
+use Rattle.witx_scope.specs.SyntaxChecks.{lacks_name, union_checks, variant_checks, member_views, name_check, Sees}
+use Rattle.witx_scope.proofs.FirstFaults.{fault-past, fault-append, blames-head, blames-append, blames-to, blames-past, step-past, step-head, step-wrong}
+use Rattle.witx_scope.proofs.NamePlaces.{has-push, seen-more}
 use Rattle.std.specs.Map.{keys_of}
 use Rattle.witx_check.proofs.SyntaxTrees.{form_rules, field-FieldSyntax, case-CaseSyntax}
 use Rattle.witx_comments.specs.declared.comment.Documented.{Documented}
@@ -29,54 +29,14 @@ use Rattle.witx_ast.specs.declared.types.RecordMember.{RecordMember}
 use Rattle.witx_ast.specs.Tree.{Tree, Field, Arm, arm, arms_of}
 use Rattle.witx_ast.specs.Views.{tree_of, member_field, case_arm}
 use Rattle.witx_ast.proofs.Trees.{tree_rules, tree-RecordMember, tree-Case}
-use Rattle.witx_check.specs.declared.error.CheckError.{CheckError}
-use Rattle.witx_check.specs.declared.error.CheckError.TheVariants as check_error
-use Rattle.witx_check.specs.Blame.{Blames, fault_of}
-use Rattle.witx_check.specs.Faults.{Fault, Check, first_fault, anonymous_record}
-use Rattle.witx_check.specs.Names.{Here, Marks, new_mark}
-use Rattle.witx_check.specs.Checks.{type_checks, field_checks, each_type_checks, union_field_checks, member_checks, case_checks, maybe_checks, union_fields_count, cases_count}
-use Rattle.witx_check.specs.Trees.{tree_meant, fields_meant, types_meant, number_name, member_arm, flag_field, bool_tree, union_arms, union_name, case_arms, maybe_tree}
-use Rattle.witx_check.specs.Tags.{has_name, arm_names, are_bare, case_check, tag_checks, tag_names, size_check}
-
--- ---- the first fault of a list
-
-pub fault-past : (c : Check) (cs : List Check) → c ≡ None → first_fault (c ∷ cs) ≡ first_fault cs
-fault-past c cs e = rw e refl
-
-pub fault-append : (xs ys : List Check) → first_fault xs ≡ None → first_fault (xs ++ ys) ≡ first_fault ys
-fault-append [] ys e = refl
-fault-append (None ∷ xs) ys e = fault-append xs ys e
-fault-append (Some f ∷ xs) ys e = absurd (cc)
-
-pub fault-stays : (xs ys : List Check) (f : Fault) → first_fault xs ≡ Some f → first_fault (xs ++ ys) ≡ Some f
-fault-stays [] ys f e = absurd (cc)
-fault-stays (None ∷ xs) ys f e = fault-stays xs ys f e
-fault-stays (Some g ∷ xs) ys f e = e
-
-pub blames-head : (e : CheckError) (c : Check) (cs : List Check) → Blames e c → Blames e (first_fault (c ∷ cs))
-blames-head (check_error.Validation v) None cs b = absurd (cc)
-blames-head (check_error.Validation v) (Some f) cs b = b
-blames-head check_error.OutOfMemory c cs b = tt
-
-pub blames-append : (e : CheckError) (xs ys : List Check) → Blames e (first_fault xs) → Blames e (first_fault (xs ++ ys))
-blames-append (check_error.Validation v) xs ys b = sym (fault-stays xs ys (fault_of v) (sym b))
-blames-append check_error.OutOfMemory xs ys b = tt
-
-pub blames-to : (e : CheckError) (f g : Option Fault) → f ≡ g → Blames e f → Blames e g
-blames-to e f g p b = rw p at b
-
-pub blames-past : (e : CheckError) (c : Check) (cs : List Check) → c ≡ None → Blames e (first_fault cs) → Blames e (first_fault (c ∷ cs))
-blames-past e c cs n b = blames-to e (first_fault cs) (first_fault (c ∷ cs)) (sym (fault-past c cs n)) b
-
--- from a list of checks to the whole whose first fault it has
-pub step-past : (c : Check) (xs ys : List Check) (x : Option Fault) → first_fault (c ∷ (xs ++ ys)) ≡ x → c ≡ None → first_fault xs ≡ None → first_fault ys ≡ x
-step-past c xs ys x e n t = let e1 = rw (fault-past c (xs ++ ys) n, fault-append xs ys t) at e in e1
-
-pub step-head : (e : CheckError) (c : Check) (cs : List Check) (x : Option Fault) → first_fault (c ∷ cs) ≡ x → Blames e c → Blames e x
-step-head e c cs x q b = blames-to e (first_fault (c ∷ cs)) x q (blames-head e c cs b)
-
-pub step-wrong : (e : CheckError) (c : Check) (xs ys : List Check) (x : Option Fault) → first_fault (c ∷ (xs ++ ys)) ≡ x → c ≡ None → Blames e (first_fault xs) → Blames e x
-step-wrong e c xs ys x q n b = let q1 = rw (fault-past c (xs ++ ys) n) at q in blames-to e (first_fault (xs ++ ys)) x q1 (blames-append e xs ys b)
+use Rattle.witx_scope.specs.declared.error.CheckError.{CheckError}
+use Rattle.witx_scope.specs.declared.error.CheckError.TheVariants as check_error
+use Rattle.witx_scope.specs.Blame.{Blames, fault_of}
+use Rattle.witx_scope.specs.Faults.{Fault, Check, first_fault, anonymous_record}
+use Rattle.witx_scope.specs.Names.{Here, Marks, new_mark}
+use Rattle.witx_scope.specs.Checks.{type_checks, field_checks, each_type_checks, union_field_checks, member_checks, case_checks, maybe_checks, union_fields_count, cases_count}
+use Rattle.witx_scope.specs.Trees.{tree_meant, fields_meant, types_meant, number_name, member_arm, flag_field, bool_tree, union_arms, union_name, case_arms, maybe_tree}
+use Rattle.witx_scope.specs.Tags.{has_name, arm_names, are_bare, case_check, tag_checks, tag_names, size_check}
 
 -- ---- scopes that answer alike give the same checks
 
@@ -284,18 +244,6 @@ are_bare-payload : (n : List ℕ) (t : Option Tree) (d : List ℕ) (rest : List 
 are_bare-payload n None d rest e = e
 are_bare-payload n (Some t) d rest e = refl
 
-pub names-next : (cs : List Case) (i : ℕ) (c : Case) (n : List ℕ) (ns : List (List ℕ)) (x : List (List ℕ))
-    → i < length cs → c ≡ get_or cs i c → n ≡ c.name
-    → ns ++ arm_names (arms_of (map case_arm (drop i cs))) ≡ x
-    → (ns ++ n ∷ []) ++ arm_names (arms_of (map case_arm (drop (i + 1) cs))) ≡ x
-names-next cs i c n ns x l p s e =
-    let e1 = rw (drop_more cs i c l, ← p, arm_names-arm (case_arm c) (map case_arm (drop (i + 1) cs)), tree-Case c) at e in
-    rw (append_assoc, s) e1
-
-pub names-end : (cs : List Case) (i : ℕ) (ns : List (List ℕ)) (x : List (List ℕ))
-    → length cs ≤ i → ns ++ arm_names (arms_of (map case_arm (drop i cs))) ≡ x → ns ≡ x
-names-end cs i ns x l e = let e1 = rw (drop_all i cs l, append-nil) at e in e1
-
 are_bare-arms : (rest : List Arm) → are_bare (arms_of rest) ≡ all_arms_bare rest
 are_bare-arms [] = refl
 are_bare-arms (a ∷ rest) = are_bare-payload a.called a.payload a.comment rest (are_bare-arms rest)
@@ -303,7 +251,7 @@ are_bare-arms (a ∷ rest) = are_bare-payload a.called a.payload a.comment rest 
 pub bare-test : (v : Variant) → all_arms_bare (map case_arm (out-Variant v).cases) ≡ are_bare (arms_of (map case_arm (out-Variant v).cases))
 bare-test v = sym (are_bare-arms (map case_arm (out-Variant v).cases))
 
-pub ruleset case_rules = (kind_rules, names-next, names-end, bare-test)
+pub ruleset case_rules = (kind_rules, bare-test)
 
 -- ---- the types of a union
 

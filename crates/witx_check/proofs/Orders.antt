@@ -18,15 +18,15 @@ use Rattle.witx_ast.specs.Definitions.{DefinitionTree, typename_of, module_of, i
 use Rattle.witx_ast.specs.Ordered.{NamesStand, FieldNamesStand, ArmNamesStand, DefinitionStands, OrderedAfter, IsOrdered}
 use Rattle.witx_ast.specs.Closed.{ParamNamesStand, ItemNamesStand, AllNamesStand, ClosedAfter, IsClosed}
 use Rattle.witx_ast.specs.Items.{ItemTree}
-use Rattle.witx_check.specs.Modules.{decl_meant, item_meant}
-use Rattle.witx_check.specs.Inside.{module_meant}
+use Rattle.witx_scope.specs.Modules.{decl_meant, item_meant}
+use Rattle.witx_scope.specs.Inside.{module_meant}
 use Rattle.witx_ast.specs.declared.definition.Entry.{Entry}
 use Rattle.witx_ast.specs.declared.definition.Entry.TheVariants as entry
-use Rattle.witx_check.specs.Names.{Here, Sense, sense_tree, Names}
-use Rattle.witx_check.specs.Senses.{kept_sense, sense_at}
-use Rattle.witx_check.specs.Tags.{tag_names}
-use Rattle.witx_check.specs.Trees.{tree_meant, maybe_tree, types_meant, union_arms, fields_meant, case_arms, in_order, arm_called, member_arm, flag_field}
-use Rattle.witx_check.specs.Positions.{is_name}
+use Rattle.witx_scope.specs.Names.{Here, Sense, sense_tree, Names}
+use Rattle.witx_scope.specs.Senses.{kept_sense, sense_at}
+use Rattle.witx_scope.specs.Tags.{tag_names}
+use Rattle.witx_scope.specs.Trees.{tree_meant, maybe_tree, types_meant, union_arms, fields_meant, case_arms, in_order, arm_called, member_arm, flag_field}
+use Rattle.witx_scope.specs.Positions.{is_name}
 
 -- ---- each definition is found under its own name
 

@@ -12,14 +12,15 @@ use Rattle.witx_ast.specs.Views.{tree_of}
 use Rattle.witx_ast.specs.Functions.{param_field}
 use Rattle.witx_ast.specs.declared.types.TypeRef.{TypeRef}
 use Rattle.witx_ast.specs.declared.function.InterfaceFuncParam.{InterfaceFuncParam}
-use Rattle.witx_check.specs.declared.error.CheckError.{CheckError}
-use Rattle.witx_check.specs.Blame.{Blames}
-use Rattle.witx_check.specs.Faults.{Fault, Check, first_fault}
-use Rattle.witx_check.specs.Names.{Here, Marks, new_mark}
-use Rattle.witx_check.specs.Checks.{type_checks}
-use Rattle.witx_check.specs.Trees.{fields_meant}
-use Rattle.witx_check.specs.Functions.{fields_scope, result_checks}
-use Rattle.witx_check.proofs.Onward.{row-next, row-known, row-wrong, row-none, fields-next, rows-drop, rows-end, fault-past, fault-append, blames-to, blames-append, blames-head}
+use Rattle.witx_scope.specs.declared.error.CheckError.{CheckError}
+use Rattle.witx_scope.specs.Blame.{Blames}
+use Rattle.witx_scope.specs.Faults.{Fault, Check, first_fault}
+use Rattle.witx_scope.specs.Names.{Here, Marks, new_mark}
+use Rattle.witx_scope.specs.Checks.{type_checks}
+use Rattle.witx_scope.specs.Trees.{fields_meant}
+use Rattle.witx_scope.specs.Functions.{fields_scope, result_checks}
+use Rattle.witx_check.proofs.Onward.{row-next, row-known, row-wrong, row-none, fields-next, rows-drop, rows-end}
+use Rattle.witx_scope.proofs.FirstFaults.{fault-past, fault-append, blames-to, blames-append, blames-head}
 
 pub param-pushed : (ps : List InterfaceFuncParam) (n : List ℕ) (r : TypeRef) (d e : List ℕ) → d ≡ e
     → map param_field (ps ++ record { name = n; tref = r; docs = d } ∷ []) ≡ map param_field ps ++ record { called = n; tree = tree_of r; comment = e } ∷ []

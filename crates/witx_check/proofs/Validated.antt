@@ -15,26 +15,26 @@ use Rattle.witx_ast.specs.Tree.{behind}
 use Rattle.witx_ast.specs.Entries.{Fits}
 use Rattle.witx_ast.specs.declared.definition.Definition.{Definition}
 use Rattle.witx_ast.specs.declared.definition.Entry.{Entry}
-use Rattle.witx_check.specs.declared.error.CheckError.{CheckError}
-use Rattle.witx_check.specs.declared.constants.ConstantName.{ConstantName}
-use Rattle.witx_check.specs.Blame.{Blames}
-use Rattle.witx_check.specs.Faults.{Check, first_fault, name_already_exists}
-use Rattle.witx_check.specs.Integers.{constant_checks, integer_check, value_check, greatest_in}
-use Rattle.witx_check.specs.Names.{Names, Here, Sense, use_check, sense_tree}
-use Rattle.witx_check.specs.Trees.{tree_meant}
-use Rattle.witx_check.specs.Checks.{type_checks}
-use Rattle.witx_check.specs.Modules.{items_checks}
-use Rattle.witx_check.specs.DeclarationForms.{typename_form, module_form, constant_form}
-use Rattle.witx_check.specs.Constants.{constant_place}
-use Rattle.witx_check.specs.Inside.{within, typename_checks, module_checks, module_meant}
-use Rattle.witx_check.specs.Positions.{is_name, after, denotes_before}
-use Rattle.witx_check.specs.Declarations.{Past, TakenConstant, constants_of_type, decl_checks, decl_tree}
-use Rattle.witx_check.specs.Kept.{Kept, Keeps, KeepsNames, KeepsConstants}
-use Rattle.witx_check.specs.Senses.{kept_sense}
+use Rattle.witx_scope.specs.declared.error.CheckError.{CheckError}
+use Rattle.witx_scope.specs.declared.constants.ConstantName.{ConstantName}
+use Rattle.witx_scope.specs.Blame.{Blames}
+use Rattle.witx_scope.specs.Faults.{Check, first_fault, name_already_exists}
+use Rattle.witx_scope.specs.Integers.{constant_checks, integer_check, value_check, greatest_in}
+use Rattle.witx_scope.specs.Names.{Names, Here, Sense, use_check, sense_tree}
+use Rattle.witx_scope.specs.Trees.{tree_meant}
+use Rattle.witx_scope.specs.Checks.{type_checks}
+use Rattle.witx_scope.specs.Modules.{items_checks}
+use Rattle.witx_scope.specs.DeclarationForms.{typename_form, module_form, constant_form}
+use Rattle.witx_scope.specs.Constants.{constant_place}
+use Rattle.witx_scope.specs.Inside.{within, typename_checks, module_checks, module_meant}
+use Rattle.witx_scope.specs.Positions.{is_name, after, denotes_before}
+use Rattle.witx_scope.specs.Declarations.{Past, TakenConstant, constants_of_type, decl_checks, decl_tree}
+use Rattle.witx_scope.specs.Kept.{Kept, Keeps, KeepsNames, KeepsConstants}
+use Rattle.witx_scope.specs.Senses.{kept_sense}
 use Rattle.witx_check.proofs.ByPosition.{within-by-position, sense-by-position}
 use Rattle.witx_check.proofs.Finished.{name-by-position}
 use Rattle.witx_check.proofs.Fits.{found-last, first_or, last-step, fits-unnamed}
-use Rattle.witx_check.proofs.Steps.{is_eq-swap}
+use Rattle.witx_scope.proofs.Steps.{is_eq-swap}
 
 -- ---- the checks and the definition
 

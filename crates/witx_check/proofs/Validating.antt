@@ -16,21 +16,21 @@ use Rattle.witx_ast.specs.Definitions.{DefinitionTree, typename_of, module_of, m
 use Rattle.witx_ast.specs.declared.definition.Constant.{Constant}
 use Rattle.witx_ast.specs.declared.definition.Definition.{Definition}
 use Rattle.witx_ast.specs.declared.definition.Entry.{Entry}
-use Rattle.witx_check.specs.declared.error.CheckError.{CheckError}
-use Rattle.witx_check.specs.declared.error.CheckError.TheVariants as check_error
-use Rattle.witx_check.specs.declared.constants.ConstantName.{ConstantName}
-use Rattle.witx_check.specs.Answers.{IsFault}
-use Rattle.witx_check.specs.Blame.{Blames}
-use Rattle.witx_check.specs.Faults.{first_fault}
-use Rattle.witx_check.specs.Names.{Names, a_type, a_module}
-use Rattle.witx_check.specs.Trees.{tree_meant}
-use Rattle.witx_check.specs.DeclarationForms.{DeclForm, typename_form, module_form, constant_form}
-use Rattle.witx_check.specs.Constants.{constant_place, place_with}
-use Rattle.witx_check.specs.Declarations.{nothing_before}
-use Rattle.witx_check.specs.Inside.{within, typename_checks, module_checks, module_meant, TakesAtMost, Refuses}
-use Rattle.witx_check.specs.Positions.{Taken, made_type, made_module, refused, is_name}
-use Rattle.witx_check.specs.Kept.{Kept, KeepsNames, entry_sense_of}
-use Rattle.witx_check.specs.Validates.{Site, Validates}
+use Rattle.witx_scope.specs.declared.error.CheckError.{CheckError}
+use Rattle.witx_scope.specs.declared.error.CheckError.TheVariants as check_error
+use Rattle.witx_scope.specs.declared.constants.ConstantName.{ConstantName}
+use Rattle.witx_scope.specs.Answers.{IsFault}
+use Rattle.witx_scope.specs.Blame.{Blames}
+use Rattle.witx_scope.specs.Faults.{first_fault}
+use Rattle.witx_scope.specs.Names.{Names, a_type, a_module}
+use Rattle.witx_scope.specs.Trees.{tree_meant}
+use Rattle.witx_scope.specs.DeclarationForms.{DeclForm, typename_form, module_form, constant_form}
+use Rattle.witx_scope.specs.Constants.{constant_place}
+use Rattle.witx_scope.specs.Declarations.{nothing_before}
+use Rattle.witx_scope.specs.Inside.{within, typename_checks, module_checks, module_meant, TakesAtMost, Refuses}
+use Rattle.witx_scope.specs.Positions.{Taken, made_type, made_module, refused, is_name}
+use Rattle.witx_scope.specs.Kept.{Kept, KeepsNames, entry_sense_of}
+use Rattle.witx_scope.specs.Validates.{Site, Validates}
 use Rattle.witx_check.proofs.Finished.{taken_as, keeps-refused, keeps-left}
 use Rattle.witx_check.proofs.Finishing.{absent-typename, absent-module, keeps-typename, keeps-module, keeps-unchanged, no-entry}
 use Rattle.witx_check.proofs.Fits.{fits-more}
@@ -239,30 +239,3 @@ module _ (names names2 : Names) (es es2 : List (List ℕ × Entry)) (constants :
       (λ past k. keeps-module names names2 es es2 past n.name (place n.start) absent kept senses2 k)
       (fits-last made refl absent last trees2)
       tt tt tt (λ past. tt) (λ past. tt)
-
--- ---- a constant, exit by exit
-
-module _ (names : Names) (es : List (List ℕ × Entry)) (constants : List (ConstantName × Location)) (place : ℕ → Location) (old new : List Definition) (ty n : Name) (value : ℕ) (own comments : List (List ℕ)) where
-  pub constant-refused : (e : CheckError)
-      → Blames e (first_fault (constant_checks_in (kept_as names es constants) place ty n value))
-      → Validates (kept_as names es constants) (kept_as names es constants) old old (record { place = place; comments = comments; form = constant_form ty n value own }) (Err e)
-  constant-refused e fault = constant-validates (Err e) names names es es constants place old old constants ty n value own comments tt tt (λ t q. tt) fault refl refl
-
-  pub constant-late : (constants2 : List (ConstantName × Location)) → new ≡ old → constants2 ≡ constants
-      → Validates (kept_as names es constants) (kept_as names es constants2) old new (record { place = place; comments = comments; form = constant_form ty n value own }) (Err check_error.OutOfMemory)
-  constant-late constants2 unchanged same =
-      constant-validates (Err check_error.OutOfMemory) names names es es constants place old new constants2 ty n value own comments tt tt (λ t q. tt) tt unchanged same
-
-  pub constant-made : (constants2 : List (ConstantName × Location)) (c : Constant) (p : Location)
-      → first_fault (constant_checks_in (kept_as names es constants) place ty n value) ≡ None
-      → c ≡ record { ty = ty.name; name = n.name; value = value; docs = documentation_of own }
-      → p ≡ place n.start
-      → map definition_tree new ≡ map definition_tree old ++ constant_of c ∷ []
-      → ((t q : List ℕ) → constant_place constants2 t q ≡ place_with constants c p t q)
-      → Validates (kept_as names es constants) (kept_as names es constants2) old new (record { place = place; comments = comments; form = constant_form ty n value own }) (Ok tt)
-  constant-made constants2 c p ok is at appended places =
-      constant-validates (Ok tt) names names es es constants place old new constants2 ty n value own comments ok
-      (appended ∙ ap (λ (x : Constant). map definition_tree old ++ constant_of x ∷ []) is)
-      (λ t q. places t q ∙ (ap (λ (x : Constant). place_with constants x p t q) is
-      ∙ ap (λ (l : Location). cond (is_name t ty.name && is_name q n.name) (Some l) (constant_place constants t q)) at))
-      tt tt tt

@@ -7,23 +7,21 @@ use Rattle.witx_files.specs.declared.location.Location.{Location}
 use Rattle.witx_syntax_tree.specs.Trees.{TypeTree, Name}
 use Rattle.witx_ast.specs.declared.definition.Entry.{Entry}
 use Rattle.witx_ast.proofs.Trees.{tree_rules}
-use Rattle.witx_check.specs.declared.scope.Scope.{Scope}
-use Rattle.witx_check.specs.Places.{location_in}
-use Rattle.witx_check.specs.Faults.{Check, first_fault, name_already_exists}
-use Rattle.witx_check.specs.Names.{Here, Names, Sense, new_name}
-use Rattle.witx_check.specs.Checks.{type_checks}
-use Rattle.witx_check.specs.Modules.{items_checks}
+use Rattle.witx_scope.specs.declared.scope.Scope.{Scope}
+use Rattle.witx_scope.specs.Places.{location_in}
+use Rattle.witx_scope.specs.Faults.{Check, first_fault, name_already_exists}
+use Rattle.witx_scope.specs.Names.{Here, Names, Sense, new_name}
+use Rattle.witx_scope.specs.Checks.{type_checks}
+use Rattle.witx_scope.specs.Modules.{items_checks}
 use Rattle.witx_syntax_tree.specs.Trees.{NotedDecl}
-use Rattle.witx_check.specs.Senses.{here_of, kept_sense, sense_at}
-use Rattle.witx_check.specs.Inside.{within, typename_checks, module_checks, Takes, TakesAtMost, Refuses}
-use Rattle.witx_check.specs.declared.error.CheckError.{CheckError}
-use Rattle.witx_check.specs.declared.error.CheckError.TheVariants as check_error
-use Rattle.witx_check.specs.Blame.{Blames}
-use Rattle.witx_check.specs.Answers.{IsFault}
-use Rattle.witx_check.proofs.Onward.{fault-past, blames-head, blames-to}
-
-pub funext : {A B : Type 0} {f g : A → B} → ((x : A) → f x ≡ g x) → f ≡ g
-funext e = λ i x. e x i
+use Rattle.witx_scope.specs.Senses.{here_of, kept_sense, sense_at}
+use Rattle.witx_scope.specs.Inside.{within, typename_checks, module_checks, Takes, TakesAtMost, Refuses}
+use Rattle.witx_scope.specs.declared.error.CheckError.{CheckError}
+use Rattle.witx_scope.specs.declared.error.CheckError.TheVariants as check_error
+use Rattle.witx_scope.specs.Blame.{Blames}
+use Rattle.witx_scope.specs.Answers.{IsFault}
+use Rattle.witx_scope.proofs.FirstFaults.{fault-past, blames-head, blames-to}
+use Rattle.witx_scope.proofs.Steps.{funext}
 
 pub place-within : (old : Names) (es : List (List ℕ × Entry)) (place : ℕ → Location) (n : Name) (at : ℕ) → (within old es place n).place at ≡ place at
 unfolding within

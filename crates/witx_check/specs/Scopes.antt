@@ -1,15 +1,15 @@
 -- A validator at one file, as what it keeps, and a declaration there.
 use Rattle.std.specs.Prelude.{List, Result}
 use Rattle.witx_ast.specs.declared.definition.Definition.{Definition}
-use Rattle.witx_check.specs.declared.error.CheckError.{CheckError}
+use Rattle.witx_scope.specs.declared.error.CheckError.{CheckError}
 use Rattle.witx_check.specs.declared.validator.DocValidation.{DocValidation}
 use Rattle.witx_comments.specs.declared.comment.CommentSyntax.{CommentSyntax}
 use Rattle.witx_syntax_tree.specs.declared.tree.DeclSyntax.{DeclSyntax}
 use Rattle.witx_lex.specs.declared.line_cursor.LineCursor.{LineCursor}
-use Rattle.witx_check.specs.declared.place.SharedPath.{SharedPath}
+use Rattle.witx_scope.specs.declared.place.SharedPath.{SharedPath}
 use Rattle.witx_check.specs.declared.validation_scope.DocValidationScope.{DocValidationScope}
-use Rattle.witx_check.specs.Kept.{Kept}
-use Rattle.witx_check.specs.Validates.{Site, Validates, site}
+use Rattle.witx_scope.specs.Kept.{Kept}
+use Rattle.witx_scope.specs.Validates.{Site, Validates, site}
 use Rattle.witx_check.specs.Validators.{kept_by}
 
 abbrev pub kept_at : DocValidationScope → Kept

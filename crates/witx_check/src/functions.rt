@@ -2,24 +2,22 @@ ghost use Rattle.std.specs.Prelude.{◌≡◌, ◌∷◌, ◌++◌, IfOk, IfErr,
 ghost use Rattle.witx_base.specs.Found.{found};
 ghost use Rattle.witx_ast.specs.Views.{tree_of};
 ghost use Rattle.witx_ast.specs.Functions.{param_field, func_tree};
-ghost use Rattle.witx_check.specs.Faults.{first_fault};
-ghost use Rattle.witx_check.specs.Names.{new_mark};
-ghost use Rattle.witx_check.specs.Checks.{field_checks};
-ghost use Rattle.witx_check.specs.Trees.{fields_meant};
-ghost use Rattle.witx_check.specs.Functions.{abi_of, fields_scope, result_checks, checks_inside, checks_func, makes_func, with_export};
+ghost use Rattle.witx_scope.specs.Faults.{first_fault};
+ghost use Rattle.witx_scope.specs.Names.{new_mark};
+ghost use Rattle.witx_scope.specs.Checks.{field_checks};
+ghost use Rattle.witx_scope.specs.Trees.{fields_meant};
+ghost use Rattle.witx_scope.specs.Functions.{abi_of, fields_scope, result_checks, checks_inside, checks_func, makes_func, with_export};
 ghost use Rattle.witx_comments.specs.Comments.{comments_view};
 ghost use Rattle.witx_syntax_tree.specs.Views.{fields_view};
-ghost use Rattle.witx_check.specs.SyntaxChecks.{made_field};
-ghost use Rattle.witx_check.specs.Blame.{Blames};
-ghost use Rattle.witx_check.specs.Senses.{here_of};
+ghost use Rattle.witx_scope.specs.SyntaxChecks.{made_field};
+ghost use Rattle.witx_scope.specs.Blame.{Blames};
+ghost use Rattle.witx_scope.specs.Senses.{here_of};
 
-use crate::error::CheckError;
-use crate::room::with_room;
-use crate::scope::{Marks, Scope, abi_fault, introduce_mark};
 use crate::types::checked_type;
 use std::alloc::Global;
 use witx_ast::{Abi, InterfaceFunc, InterfaceFuncParam, Params, TypeRef};
 use witx_base::{Id, OutOfMemory};
+use witx_scope::{CheckError, Marks, Scope, abi_fault, introduce_mark, with_room};
 use witx_syntax_tree::{CommentSyntax, Documented, FieldSyntax, InterfaceFuncSyntax};
 
 /// The ABI of a function, by whether its result is stored whole.

@@ -5,20 +5,17 @@ ghost use Rattle.witx_ast.specs.Definitions.{module_tree};
 ghost use Rattle.witx_comments.specs.Documentation.{documentation_of};
 ghost use Rattle.witx_comments.specs.Comments.{comments_view};
 ghost use Rattle.witx_syntax_tree.specs.Views.{noted_decl};
-ghost use Rattle.witx_check.specs.Faults.{first_fault};
-ghost use Rattle.witx_check.specs.Names.{new_mark};
-ghost use Rattle.witx_check.specs.Blame.{Blames};
-ghost use Rattle.witx_check.specs.Answers.{IsFault};
-ghost use Rattle.witx_check.specs.Senses.{here_of};
-ghost use Rattle.witx_check.specs.DeclarationForms.{items_in};
-ghost use Rattle.witx_check.specs.Modules.{with_name, item_called, item_with, item_checks, items_checks, item_meant};
-ghost use Rattle.witx_check.specs.Inside.{TakesAtMost, Refuses};
-ghost use Rattle.witx_check.specs.Sites.{place_at, checks_module, makes_module};
+ghost use Rattle.witx_scope.specs.Faults.{first_fault};
+ghost use Rattle.witx_scope.specs.Names.{new_mark};
+ghost use Rattle.witx_scope.specs.Blame.{Blames};
+ghost use Rattle.witx_scope.specs.Answers.{IsFault};
+ghost use Rattle.witx_scope.specs.Senses.{here_of};
+ghost use Rattle.witx_scope.specs.DeclarationForms.{items_in};
+ghost use Rattle.witx_scope.specs.Modules.{with_name, item_called, item_with, item_checks, items_checks, item_meant};
+ghost use Rattle.witx_scope.specs.Inside.{TakesAtMost, Refuses};
+ghost use Rattle.witx_scope.specs.Sites.{place_at, checks_module, makes_module};
 
-use crate::error::CheckError;
 use crate::functions::checked_func;
-use crate::scope::{Marks, Names, Scope, introduce, introduce_mark};
-use crate::site::Site;
 use std::alloc::Global;
 use std::rc::Rc;
 use witx_ast::{
@@ -26,6 +23,7 @@ use witx_ast::{
     ModuleImportVariant,
 };
 use witx_base::{Duplicate, Id, OutOfMemory};
+use witx_scope::{CheckError, Marks, Names, Scope, Site, introduce, introduce_mark};
 use witx_syntax_tree::{
     CommentSyntax, Documented, ModuleDeclSyntax, ModuleImportSyntax, ModuleSyntax,
 };

@@ -1,22 +1,16 @@
 ghost use Rattle.std.specs.Prelude.{◌≡◌, ◌∷◌, ◌++◌, IfOk, IfErr, OnOk, Some, None, [], map, option_map};
 ghost use Rattle.witx_ast.specs.Tree.{Tree, behind, arms_of};
 ghost use Rattle.witx_ast.specs.Views.{tree_of, datatype_tree, record_tree, variant_tree, member_field, case_arm};
-ghost use Rattle.witx_check.specs.Faults.{first_fault};
-ghost use Rattle.witx_check.specs.Checks.{member_checks};
-ghost use Rattle.witx_check.specs.Trees.{in_order, member_arm, flag_field, bool_tree, string_tree, expected_tree, number_name, union_name, enum_tree, flags_tree};
-ghost use Rattle.witx_check.specs.Tags.{builtin_type, repr_check, repr_meant, repr_of, has_name, case_check, size_check, tag_check, repr_in, names_in, arm_names};
+ghost use Rattle.witx_scope.specs.Faults.{first_fault};
+ghost use Rattle.witx_scope.specs.Checks.{member_checks};
+ghost use Rattle.witx_scope.specs.Trees.{in_order, member_arm, flag_field, bool_tree, string_tree, expected_tree, number_name, union_name, enum_tree, flags_tree};
+ghost use Rattle.witx_scope.specs.Tags.{builtin_type, repr_check, repr_meant, repr_of, has_name, case_check, size_check, tag_check, repr_in, names_in, arm_names};
 ghost use Rattle.witx_base.specs.Found.{found};
-ghost use Rattle.witx_check.specs.SyntaxChecks.{made_field, made_arm, member_views, enum_checks, flags_checks, name_check, Sees};
-ghost use Rattle.witx_check.specs.Blame.{Blames};
-ghost use Rattle.witx_check.specs.Senses.{here_of};
+ghost use Rattle.witx_scope.specs.SyntaxChecks.{made_field, made_arm, member_views, enum_checks, flags_checks, name_check, Sees};
+ghost use Rattle.witx_scope.specs.Blame.{Blames};
+ghost use Rattle.witx_scope.specs.Senses.{here_of};
 ghost use Rattle.std.specs.Map.{keys_of};
 
-use crate::cases::{TagNames, case_names, case_with, ordered};
-use crate::error::CheckError;
-use crate::room::with_room;
-use crate::scope::{
-    Marks, Scope, bad_field, bad_tag, introduce_mark, mark, repr, wrong_kind, wrong_size,
-};
 use std::alloc::Global;
 use std::rc::Rc;
 use witx_ast::{
@@ -24,11 +18,15 @@ use witx_ast::{
     TypeRef, Variant,
 };
 use witx_base::{Duplicate, Id, OutOfMemory};
+use witx_scope::{
+    CheckError, Marks, Scope, TagNames, bad_field, bad_tag, case_names, case_with, introduce_mark,
+    mark, ordered, repr, with_room, wrong_kind, wrong_size,
+};
 use witx_syntax_tree::{
     BuiltinSyntax, CommentSyntax, Documented, EnumSyntax, FlagsSyntax, IdSyntax,
 };
 
-#[tactic(auto, using(crate::proofs::Steps::step_rules))]
+#[tactic(auto, using(witx_scope::proofs::Steps::step_rules))]
 pub fn value(alloc: Global, datatype: Datatype) -> Result<TypeRef, OutOfMemory>
     ensures { IfOk result (λ t. tree_of t ≡ datatype_tree datatype) }
 {
@@ -60,7 +58,7 @@ pub fn number_name(alloc: Global, i: usize) -> Result<Id, OutOfMemory>
     Ok(Id::new(alloc, text.as_str())?)
 }
 
-#[tactic(auto, using(crate::proofs::Steps::step_rules))]
+#[tactic(auto, using(witx_scope::proofs::Steps::step_rules))]
 pub fn string_type(alloc: Global) -> Result<TypeRef, OutOfMemory>
     ensures { IfOk result (λ t. tree_of t ≡ string_tree) }
 {
@@ -77,7 +75,7 @@ fn two_cases(alloc: Global, first: Case, second: Case) -> Result<Cases, OutOfMem
     Ok(cases)
 }
 
-#[tactic(auto, using(crate::proofs::Steps::step_rules))]
+#[tactic(auto, using(witx_scope::proofs::Steps::step_rules))]
 pub fn bool_type(alloc: Global) -> Result<TypeRef, OutOfMemory>
     ensures { IfOk result (λ t. tree_of t ≡ bool_tree) }
 {
@@ -87,7 +85,7 @@ pub fn bool_type(alloc: Global) -> Result<TypeRef, OutOfMemory>
     variant_type(alloc, IntRepr::U32, cases)
 }
 
-#[tactic(auto, using(crate::proofs::Steps::step_rules))]
+#[tactic(auto, using(witx_scope::proofs::Steps::step_rules))]
 pub fn expected_type(
     alloc: Global,
     ok: Option<TypeRef>,
@@ -119,7 +117,7 @@ pub fn unsigned(of: BuiltinType) -> Option<IntRepr>
     }
 }
 
-#[tactic(auto, using(crate::proofs::Steps::step_rules))]
+#[tactic(auto, using(witx_scope::proofs::Steps::step_rules))]
 fn checked_repr(
     of: &Option<BuiltinSyntax>,
     scope: &Scope<'_>,
@@ -255,7 +253,7 @@ pub struct Tag {
 }
 
 /// A variant of these cases.
-#[tactic(auto, using(crate::proofs::Steps::step_rules))]
+#[tactic(auto, using(witx_scope::proofs::Steps::step_rules))]
 pub fn variant_type(alloc: Global, repr: IntRepr, cases: Cases) -> Result<TypeRef, OutOfMemory>
     ensures { IfOk result (λ t. tree_of t ≡ Tree.variant_of repr (arms_of (map case_arm cases))) }
 {
@@ -342,7 +340,7 @@ fn is_marked(marks: &Marks, name: &Id) -> bool
 }
 
 /// Takes the name of a case in, which is one of the tag's and stands nowhere earlier.
-#[tactic(auto, using(crate::proofs::Steps::step_rules))]
+#[tactic(auto, using(witx_scope::proofs::Steps::step_rules))]
 fn take_case(
     names: &TagNames,
     seen: &mut Marks,

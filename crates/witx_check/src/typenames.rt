@@ -1,18 +1,16 @@
 ghost use Rattle.std.specs.Prelude.{◌≡◌, ◌∷◌, IfOk, IfErr, OnOk, OnErr, None};
 ghost use Rattle.witx_base.specs.Found.{found};
 ghost use Rattle.witx_ast.specs.Views.{named_tree};
-ghost use Rattle.witx_check.specs.Faults.{first_fault};
-ghost use Rattle.witx_check.specs.Blame.{Blames};
-ghost use Rattle.witx_check.specs.Answers.{IsFault};
-ghost use Rattle.witx_check.specs.Inside.{TakesAtMost, Refuses};
-ghost use Rattle.witx_check.specs.Sites.{place_at, checks_typename, makes_typename};
+ghost use Rattle.witx_scope.specs.Faults.{first_fault};
+ghost use Rattle.witx_scope.specs.Blame.{Blames};
+ghost use Rattle.witx_scope.specs.Answers.{IsFault};
+ghost use Rattle.witx_scope.specs.Inside.{TakesAtMost, Refuses};
+ghost use Rattle.witx_scope.specs.Sites.{place_at, checks_typename, makes_typename};
 
-use crate::error::CheckError;
-use crate::scope::{Names, Scope, introduce};
-use crate::site::Site;
 use crate::types::checked_type;
 use std::alloc::Global;
 use witx_ast::{Entries, NamedType};
+use witx_scope::{CheckError, Names, Scope, Site, introduce, named};
 use witx_syntax_tree::TypenameSyntax;
 
 /// The named type of a declaration whose name stands at `place`, and is taken in before the type
@@ -50,6 +48,5 @@ pub fn checked_typename(
         alloc,
     };
     let tref = checked_type(&decl.def, &scope, true, at)?;
-    let docs = comments.docs(alloc)?;
-    Ok(NamedType { name, tref, docs })
+    Ok(named(name, tref, comments, alloc)?)
 }

@@ -1,24 +1,19 @@
-ghost use Rattle.std.specs.Prelude.{◌≡◌, ◌∷◌, ◌++◌, [], IfOk, OnOk, OnErr, Some, List, ℕ, map, option_map};
+ghost use Rattle.std.specs.Prelude.{◌≡◌, ◌∷◌, ◌++◌, [], IfOk, OnOk, OnErr, Some, map, option_map};
 ghost use Rattle.witx_base.specs.Found.{found};
-ghost use Rattle.witx_ast.specs.Definitions.{definition_tree, entry_tree, module_of, module_tree, constant_of};
+ghost use Rattle.witx_ast.specs.Definitions.{definition_tree, entry_tree, module_of, module_tree};
 ghost use Rattle.witx_ast.specs.Views.{named_tree};
-ghost use Rattle.witx_check.specs.Constants.{constant_place, place_under, place_with};
-ghost use Rattle.witx_check.specs.Names.{a_type, a_module};
-ghost use Rattle.witx_check.specs.Kept.{entry_sense_of, sense_with, tree_with, made_typename};
-ghost use Rattle.witx_check.specs.Sites.{kept_in, place_at, typename_at, module_at, constant_at};
-ghost use Rattle.witx_check.specs.Validates.{Validates};
+ghost use Rattle.witx_scope.specs.Names.{a_type, a_module};
+ghost use Rattle.witx_scope.specs.Kept.{entry_sense_of, sense_with, tree_with, made_typename};
+ghost use Rattle.witx_scope.specs.Sites.{kept_in, place_at, typename_at, module_at, constant_at};
+ghost use Rattle.witx_scope.specs.Validates.{Validates};
 
-use crate::constants::{ConstantName, ConstantPlaces, checked_constant};
-use crate::error::CheckError;
 use crate::modules::checked_module;
-use crate::place::SharedPlace;
-use crate::site::Site;
-use crate::tables::Tables;
 use crate::typenames::checked_typename;
 use std::alloc::Global;
 use std::rc::Rc;
-use witx_ast::{Constant, Definition, Definitions, Entries, Entry, Module, NamedType};
+use witx_ast::{Definition, Definitions, Entries, Entry, Module, NamedType};
 use witx_base::{Duplicate, Id, OutOfMemory};
+use witx_scope::{CheckError, Site, Tables, take_constant};
 use witx_syntax_tree::{ConstSyntax, Documented, ModuleSyntax, TypenameSyntax};
 
 /// Puts a finished typename or module behind the definitions and under its name, or neither.
@@ -133,55 +128,6 @@ pub fn validate_module(
     }
 }
 
-/// The two names of a constant.
-fn constant_name(constant: &Constant) -> Result<ConstantName, OutOfMemory>
-    ensures { IfOk result (λ key. (key.ty ≡ constant.now.ty) × (key.name ≡ constant.now.name)) }
-{
-    Ok(ConstantName {
-        ty: constant.ty.copy()?,
-        name: constant.name.copy()?,
-    })
-}
-
-/// Keeps a place under two names, or nothing.
-fn keep_place(
-    places: &mut ConstantPlaces,
-    key: ConstantName,
-    place: SharedPlace,
-) -> Result<(), OutOfMemory>
-    ensures places { (ty n : List ℕ) → OnOk result (constant_place places.new.entries ty n ≡ place_under places.old.entries key place ty n) }
-    ensures unchanged { OnErr result (places.new.entries ≡ places.old.entries) }
-{
-    places.insert(key, place)?;
-    Ok(())
-}
-
-/// Puts a constant behind the definitions, and under its two names the place of its name, or
-/// neither.
-#[tactic(auto, using(crate::proofs::ConstantSteps::constant_rules))]
-fn keep_constant(
-    places: &mut ConstantPlaces,
-    place: SharedPlace,
-    constant: Constant,
-    definitions: &mut Definitions,
-) -> Result<(), OutOfMemory>
-    ensures appended { OnOk result (map definition_tree definitions.new ≡ map definition_tree definitions.old ++ constant_of constant ∷ []) }
-    ensures places { (ty n : List ℕ) → OnOk result (constant_place places.new.entries ty n ≡ place_with places.old.entries constant place ty n) }
-    ensures unchanged { OnErr result (definitions.new ≡ definitions.old) }
-    ensures places_unchanged { OnErr result (places.new.entries ≡ places.old.entries) }
-{
-    let key = constant_name(&constant)?;
-    let len = definitions.len();
-    definitions.push(Definition::Constant(constant))?;
-    match keep_place(places, key, place) {
-        Ok(()) => Ok(()),
-        Err(error) => {
-            definitions.truncate(len);
-            Err(error)
-        }
-    }
-}
-
 /// Takes a constant in, whose name stands at the place of the site; a refused one leaves nothing.
 pub fn validate_constant(
     tables: &mut Tables,
@@ -192,10 +138,5 @@ pub fn validate_constant(
     requires { site.place ≡ place_at site decl.now.item.name }
     ensures { Validates (kept_in tables.old) (kept_in tables.new) definitions.old definitions.new (constant_at site.entry decl.now) result }
 {
-    match checked_constant(tables, &site, decl) {
-        Ok(constant) => {
-            Ok(keep_constant(&mut tables.constants, site.place, constant, definitions)?)
-        }
-        Err(error) => Err(error),
-    }
+    take_constant(tables, site, decl, definitions)
 }

@@ -2,15 +2,9 @@ ghost use Rattle.std.specs.Prelude.{◌≡◌, IfOk, map};
 ghost use Rattle.witx_ast.specs.Definitions.{definition_tree, DefinitionsFit};
 ghost use Rattle.witx_ast.specs.Ordered.{IsOrdered};
 ghost use Rattle.witx_check.specs.Scopes.{TakesIn, kept_at, site_in, site_of};
-ghost use Rattle.witx_check.specs.Validates.{Validates};
+ghost use Rattle.witx_scope.specs.Validates.{Validates};
 ghost use Rattle.witx_check.specs.Validators.{kept_by, nothing_kept};
 
-use crate::constants::ConstantPlaces;
-use crate::error::CheckError;
-use crate::place::{SharedPath, shared_path, with_shared};
-use crate::scope::Names;
-use crate::site::Site;
-use crate::tables::Tables;
 use crate::validate::{validate_constant, validate_module, validate_typename};
 use crate::validation_scope::DocValidationScope;
 use std::alloc::Global;
@@ -18,6 +12,9 @@ use std::rc::Rc;
 use witx_ast::{Definitions, Document, Entries};
 use witx_base::{OutOfMemory, WitxPath};
 use witx_lex::LineCursor;
+use witx_scope::{
+    CheckError, ConstantPlaces, Names, SharedPath, Site, Tables, shared_path, with_shared,
+};
 use witx_syntax_tree::{CommentSyntax, DeclSyntax};
 
 /// What the checks of declarations keep: each introduced name with its place, the finished

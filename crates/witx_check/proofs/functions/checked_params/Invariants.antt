@@ -1,12 +1,12 @@
 use Rattle.std.proofs.Common.{◌≡◌, ℕ, ◌++◌, drop, map, List}
 use Rattle.witx_base.specs.Found.{found}
 use Rattle.witx_ast.specs.Functions.{param_field}
-use Rattle.witx_check.specs.Faults.{first_fault}
-use Rattle.witx_check.specs.Checks.{field_checks}
-use Rattle.witx_check.specs.Trees.{fields_meant}
-use Rattle.witx_check.specs.Functions.{fields_scope}
+use Rattle.witx_scope.specs.Faults.{first_fault}
+use Rattle.witx_scope.specs.Checks.{field_checks}
+use Rattle.witx_scope.specs.Trees.{fields_meant}
+use Rattle.witx_scope.specs.Functions.{fields_scope}
 use Rattle.witx_syntax_tree.specs.Views.{fields_view}
-use Rattle.witx_check.specs.Senses.{here_of}
+use Rattle.witx_scope.specs.Senses.{here_of}
 use Rattle.witx_check.proofs.functions.checked_params.Given as goal
 
 abbrev pub invariant-loop-field : goal.invariant-loop-field

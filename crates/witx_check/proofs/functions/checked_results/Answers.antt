@@ -1,7 +1,7 @@
 use Rattle.std.specs.Prelude.{map}
 use Rattle.witx_ast.specs.Views.{tree_of}
 use Rattle.witx_ast.specs.Functions.{param_field}
-use Rattle.witx_check.specs.Senses.{here_of}
+use Rattle.witx_scope.specs.Senses.{here_of}
 use Rattle.witx_check.proofs.Onward.{fields-next}
 use Rattle.witx_check.proofs.Params.{result-next}
 use Rattle.witx_check.proofs.functions.checked_results.Goals as goal

@@ -1,9 +1,9 @@
 use Rattle.std.specs.Prelude.{◌≡◌, None, map}
 use Rattle.std.proofs.Common.{sym, ap, ◌∙◌}
 use Rattle.std.proofs.lemmas.Result.{err_from_is_err_and}
-use Rattle.witx_check.specs.Senses.{here_of}
-use Rattle.witx_check.specs.Functions.{abi_of}
-use Rattle.witx_check.specs.Trees.{fields_meant}
+use Rattle.witx_scope.specs.Senses.{here_of}
+use Rattle.witx_scope.specs.Functions.{abi_of}
+use Rattle.witx_scope.specs.Trees.{fields_meant}
 use Rattle.witx_syntax_tree.specs.Views.{fields_view}
 use Rattle.witx_ast.specs.declared.function.Abi.{Abi}
 use Rattle.witx_ast.specs.Functions.{param_field}

@@ -1,5 +1,5 @@
 use Rattle.witx_syntax_tree.specs.Views.{noted_decl}
-use Rattle.witx_check.specs.Senses.{here_of}
+use Rattle.witx_scope.specs.Senses.{here_of}
 use Rattle.witx_check.proofs.ModuleItems.{items-next, meant-next, items-fit-next, named-next}
 use Rattle.witx_ast.specs.Items.{item_tree}
 use Rattle.witx_check.proofs.modules.checked_items.Goals as goal

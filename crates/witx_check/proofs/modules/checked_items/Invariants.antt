@@ -1,9 +1,9 @@
 use Rattle.std.proofs.Common.{◌≡◌, ◌++◌, drop, map, []}
 use Rattle.witx_ast.specs.Items.{item_tree, ItemsFit}
-use Rattle.witx_check.specs.Faults.{first_fault}
-use Rattle.witx_check.specs.Senses.{here_of}
-use Rattle.witx_check.specs.DeclarationForms.{items_in}
-use Rattle.witx_check.specs.Modules.{items_checks, item_meant}
+use Rattle.witx_scope.specs.Faults.{first_fault}
+use Rattle.witx_scope.specs.Senses.{here_of}
+use Rattle.witx_scope.specs.DeclarationForms.{items_in}
+use Rattle.witx_scope.specs.Modules.{items_checks, item_meant}
 use Rattle.witx_check.proofs.ModuleItems.{Named}
 use Rattle.witx_check.proofs.modules.checked_items.Given as goal
 

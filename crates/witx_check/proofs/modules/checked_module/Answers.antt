@@ -1,6 +1,6 @@
 use Rattle.std.proofs.lemmas.Result.{err_from_is_err_and}
 use Rattle.witx_syntax_tree.specs.Views.{name_view}
-use Rattle.witx_check.specs.DeclarationForms.{items_in}
+use Rattle.witx_scope.specs.DeclarationForms.{items_in}
 use Rattle.witx_check.proofs.Within.{module-bad}
 use Rattle.witx_check.proofs.modules.checked_module.Goals as goal
 

@@ -2,7 +2,7 @@ use Rattle.std.proofs.Common.{◌≡◌, ◌∙◌, arith}
 use Rattle.std.proofs.lemmas.Grind.{common_steps}
 use Rattle.std.specs.Option.{is_some}
 use Rattle.witx_base.specs.Found.{found}
-use Rattle.witx_check.proofs.NamePlaces.{has-keys}
+use Rattle.witx_scope.proofs.NamePlaces.{has-keys}
 use Rattle.witx_check.proofs.parts.is_marked.Goals as goal
 
 pub returns : goal.returns

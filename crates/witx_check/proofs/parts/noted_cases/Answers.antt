@@ -1,6 +1,6 @@
 use Rattle.std.specs.Prelude.{map}
 use Rattle.witx_ast.specs.Views.{case_arm}
-use Rattle.witx_check.specs.Senses.{here_of}
+use Rattle.witx_scope.specs.Senses.{here_of}
 use Rattle.witx_check.proofs.Onward.{noted-next, noted_arms-next}
 use Rattle.witx_check.proofs.parts.noted_cases.Goals as goal
 

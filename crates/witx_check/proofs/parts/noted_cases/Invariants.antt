@@ -1,10 +1,10 @@
 use Rattle.std.proofs.Common.{◌≡◌, ◌++◌, drop, map, []}
 use Rattle.witx_ast.specs.Views.{case_arm}
-use Rattle.witx_check.specs.Faults.{first_fault}
-use Rattle.witx_check.specs.Checks.{member_checks}
-use Rattle.witx_check.specs.Trees.{member_arm}
-use Rattle.witx_check.specs.SyntaxChecks.{member_views}
-use Rattle.witx_check.specs.Senses.{here_of}
+use Rattle.witx_scope.specs.Faults.{first_fault}
+use Rattle.witx_scope.specs.Checks.{member_checks}
+use Rattle.witx_scope.specs.Trees.{member_arm}
+use Rattle.witx_scope.specs.SyntaxChecks.{member_views}
+use Rattle.witx_scope.specs.Senses.{here_of}
 use Rattle.witx_check.proofs.parts.noted_cases.Given as goal
 
 abbrev pub invariant-loop-member : goal.invariant-loop-member

@@ -1,7 +1,7 @@
 use Rattle.std.specs.Prelude.{map}
 use Rattle.std.proofs.Common.{◌∙◌}
 use Rattle.witx_ast.specs.Views.{member_field, tree_of}
-use Rattle.witx_check.specs.Senses.{here_of}
+use Rattle.witx_scope.specs.Senses.{here_of}
 use Rattle.witx_check.proofs.Onward.{noted-next, noted_flags-next}
 use Rattle.witx_check.proofs.parts.noted_flags.Goals as goal
 

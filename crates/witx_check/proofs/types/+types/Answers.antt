@@ -1,6 +1,6 @@
 use Rattle.std.specs.Prelude.{map, option_map}
 use Rattle.witx_ast.specs.Views.{tree_of, member_field, case_arm}
-use Rattle.witx_check.specs.Senses.{here_of}
+use Rattle.witx_scope.specs.Senses.{here_of}
 use Rattle.witx_check.proofs.Onward.{row-next, fields-next, upart-next, uarm-next, choice-next, carm-next}
 use Rattle.witx_check.proofs.types.+types.Goals as goal
 

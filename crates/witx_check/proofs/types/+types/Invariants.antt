@@ -1,11 +1,11 @@
 use Rattle.std.proofs.Common.{◌≡◌, ◌++◌, drop, map, []}
 use Rattle.std.specs.Map.{keys_of}
 use Rattle.witx_ast.specs.Views.{member_field, case_arm}
-use Rattle.witx_check.specs.Faults.{first_fault}
-use Rattle.witx_check.specs.Checks.{field_checks, each_type_checks, union_field_checks, case_checks}
-use Rattle.witx_check.specs.Trees.{fields_meant, types_meant, union_arms, case_arms}
+use Rattle.witx_scope.specs.Faults.{first_fault}
+use Rattle.witx_scope.specs.Checks.{field_checks, each_type_checks, union_field_checks, case_checks}
+use Rattle.witx_scope.specs.Trees.{fields_meant, types_meant, union_arms, case_arms}
 use Rattle.witx_syntax_tree.specs.Views.{fields_view, types_view, union_fields_view, cases_view}
-use Rattle.witx_check.specs.Senses.{here_of}
+use Rattle.witx_scope.specs.Senses.{here_of}
 use Rattle.witx_check.proofs.types.+types.Given as goal
 
 abbrev pub invariant-checked_rows-loop-field : goal.invariant-checked_rows-loop-field

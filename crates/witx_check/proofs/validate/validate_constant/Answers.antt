@@ -1,9 +1,10 @@
 use Rattle.witx_comments.specs.Comments.{comments_view}
 use Rattle.witx_syntax_tree.specs.Views.{name_view}
-use Rattle.witx_check.proofs.Validating.{constant-made}
+use Rattle.witx_scope.specs.Places.{location_in}
+use Rattle.witx_check.proofs.Validating.{constant-validates}
 use Rattle.witx_check.proofs.validate.validate_constant.Goals as goal
 
-pub returns-in_ok-keep_constant-in-Ok : goal.returns-in_ok-keep_constant-in-Ok
-returns-in_ok-keep_constant-in-Ok c =
-    let k = c.in_ok-keep_constant-in-Ok.ensures in
-    constant-made _ _ _ _ _ _ (name_view c.args.decl.now.item.ty) (name_view c.args.decl.now.item.name) c.args.decl.now.item.value (comments_view c.args.decl.now.comments) (comments_view c.args.site.comments.now) _ c.in-Ok.constant c.args.site.place c.in-Ok.ensures.ok c.in-Ok.ensures.constant c.requires k.appended k.places
+pub returns : goal.returns
+returns c =
+    let k = c.take_constant.ensures in
+    rw (k.names, k.entries) (constant-validates _ _ _ _ _ _ (location_in c.args.site.text.now c.args.site.path.now) _ _ _ (name_view c.args.decl.now.item.ty) (name_view c.args.decl.now.item.name) c.args.decl.now.item.value (comments_view c.args.decl.now.comments) (comments_view c.args.site.comments.now) k.ok k.appended k.places k.fault k.unchanged k.places_unchanged)

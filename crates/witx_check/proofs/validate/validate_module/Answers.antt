@@ -1,7 +1,7 @@
 use Rattle.std.proofs.lemmas.Result.{err_from_is_err_and}
 use Rattle.witx_comments.specs.Comments.{comments_view}
 use Rattle.witx_syntax_tree.specs.Views.{name_view}
-use Rattle.witx_check.specs.DeclarationForms.{items_in}
+use Rattle.witx_scope.specs.DeclarationForms.{items_in}
 use Rattle.witx_check.proofs.Validating.{module-refused, module-late, module-made}
 use Rattle.witx_check.proofs.validate.validate_module.Goals as goal
 

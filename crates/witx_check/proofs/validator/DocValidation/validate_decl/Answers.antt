@@ -1,5 +1,5 @@
 use Rattle.std.proofs.Common.{ap}
-use Rattle.witx_check.specs.DeclarationForms.{decl_form_of}
+use Rattle.witx_scope.specs.DeclarationForms.{decl_form_of}
 use Rattle.witx_check.proofs.Validating.{of-form}
 use Rattle.witx_check.proofs.validator.DocValidation.validate_decl.Goals as goal
 

@@ -1,0 +1,9 @@
+pub mod ArmNames
+pub mod ConstantChecks
+pub mod ConstantKeys
+pub mod ConstantSteps
+pub mod FirstFaults
+pub mod NamePlaces
+pub mod Pushed
+pub mod Reporting
+pub mod Steps

@@ -1,0 +1,28 @@
+//! What names denote, the faults of declarations with their places and reports, and constants.
+#![tactic(auto)]
+
+mod cases;
+mod constants;
+mod error;
+mod keep;
+mod naming;
+mod place;
+mod report;
+mod room;
+mod scope;
+mod site;
+mod tables;
+
+pub use cases::{TagNames, case_names, case_with, ordered};
+pub use constants::{ConstantName, ConstantPlaces};
+pub use error::{CheckError, ValidationError};
+pub use keep::take_constant;
+pub use naming::named;
+pub use place::{SharedPath, SharedPlace, shared_path, with_shared};
+pub use room::with_room;
+pub use scope::{
+    Marks, Names, Scope, abi_fault, anonymous_type, bad_field, bad_tag, introduce, introduce_mark,
+    mark, repr, used, wrong_kind, wrong_size,
+};
+pub use site::Site;
+pub use tables::Tables;

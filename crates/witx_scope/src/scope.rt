@@ -1,0 +1,303 @@
+ghost use Rattle.std.specs.Prelude.{◌≡◌, IfOk, IfErr, OnOk, Some, None, ◌∷◌};
+ghost use Rattle.witx_base.specs.Found.{found};
+ghost use Rattle.witx_scope.specs.Places.{location_in};
+ghost use Rattle.witx_scope.specs.Names.{new_mark, new_name};
+ghost use Rattle.witx_scope.specs.Faults as fault;
+ghost use Rattle.witx_scope.specs.Blame.{Blames};
+ghost use Rattle.witx_scope.specs.Senses.{here_of};
+ghost use Rattle.witx_scope.specs.SyntaxChecks.{used_check, denoted_tree};
+ghost use Rattle.witx_ast.specs.Views.{tree_of, named_tree};
+
+use crate::error::{CheckError, ValidationError};
+use crate::place::SharedPlace;
+use std::alloc::Global;
+use std::rc::Rc;
+use witx_ast::{BuiltinType, Entries, Entry, NamedType, TypeRef};
+use witx_base::{Duplicate, Id, NameMap, OutOfMemory, Text, WitxPath};
+use witx_files::Location;
+use witx_lex::line_column;
+use witx_syntax_tree::IdSyntax;
+
+/// Names of the document, and where each stands.
+pub type Names = NameMap<SharedPlace>;
+
+/// Names inside one declaration, and the offset at which each stands.
+pub type Marks = NameMap<usize>;
+
+/// The location of the byte at an offset.
+#[tactic(auto, unfolding(crate::specs::Places::location_in))]
+pub fn locate(text: &str, path: &WitxPath, at: usize) -> Result<Location, OutOfMemory>
+    ensures { IfOk result (λ l. l ≡ location_in text.now path.now at) }
+{
+    let (line, column) = line_column(text, at);
+    Ok(Location {
+        path: path.copy()?,
+        line,
+        column,
+    })
+}
+
+/// What the checks of a declaration read.
+#[derive(Drop)]
+pub struct Scope<'a> {
+    pub names: &'a Names,
+    pub entries: &'a Entries,
+    pub text: &'a str,
+    pub path: &'a WitxPath,
+    pub alloc: Global,
+}
+
+impl<'a> Scope<'a> {
+    #[tactic(auto, unfolding(crate::specs::Senses::here_of))]
+    pub fn location(&self, at: usize) -> Result<Location, OutOfMemory>
+        ensures { IfOk result (λ l. l ≡ (here_of self.now).place at) }
+    {
+        locate(self.text, self.path, at)
+    }
+}
+
+pub fn unknown(scope: &Scope<'_>, name: &str, at: usize) -> CheckError
+    ensures { Blames result (Some (fault.unknown_name name.now ((here_of scope.now).place at))) }
+{
+    match (Text::new(scope.alloc, name), scope.location(at)) {
+        (Ok(name), Ok(location)) => CheckError::Validation(ValidationError::UnknownName {
+            name,
+            location,
+        }),
+        _ => CheckError::OutOfMemory,
+    }
+}
+
+pub fn recursive(scope: &Scope<'_>, name: &str, at: usize) -> CheckError
+    ensures { Blames result (Some (fault.recursive name.now ((here_of scope.now).place at))) }
+{
+    match (Text::new(scope.alloc, name), scope.location(at)) {
+        (Ok(name), Ok(location)) => CheckError::Validation(ValidationError::Recursive {
+            name,
+            location,
+        }),
+        _ => CheckError::OutOfMemory,
+    }
+}
+
+pub fn wrong_kind(
+    scope: &Scope<'_>,
+    name: &str,
+    expected: &'static str,
+    got: &'static str,
+    at: usize,
+) -> CheckError
+    ensures { Blames result (Some (fault.wrong_kind_name name.now expected.now got.now ((here_of scope.now).place at))) }
+{
+    match (Text::new(scope.alloc, name), scope.location(at)) {
+        (Ok(name), Ok(location)) => CheckError::Validation(ValidationError::WrongKindName {
+            name,
+            expected,
+            got,
+            location,
+        }),
+        _ => CheckError::OutOfMemory,
+    }
+}
+
+pub fn repr(scope: &Scope<'_>, repr: BuiltinType, at: usize) -> CheckError
+    ensures { Blames result (Some (fault.invalid_repr repr ((here_of scope.now).place at))) }
+{
+    match scope.location(at) {
+        Ok(location) => CheckError::Validation(ValidationError::InvalidRepr { repr, location }),
+        Err(_) => CheckError::OutOfMemory,
+    }
+}
+
+pub fn bad_tag(scope: &Scope<'_>, reason: &'static str, at: usize) -> CheckError
+    ensures { Blames result (Some (fault.invalid_union_tag reason.now ((here_of scope.now).place at))) }
+{
+    match scope.location(at) {
+        Ok(location) => CheckError::Validation(ValidationError::InvalidUnionTag {
+            reason,
+            location,
+        }),
+        Err(_) => CheckError::OutOfMemory,
+    }
+}
+
+pub fn abi_fault(scope: &Scope<'_>, reason: &'static str, at: usize) -> CheckError
+    ensures { Blames result (Some (fault.abi reason.now ((here_of scope.now).place at))) }
+{
+    match scope.location(at) {
+        Ok(location) => CheckError::Validation(ValidationError::Abi { reason, location }),
+        Err(_) => CheckError::OutOfMemory,
+    }
+}
+
+pub fn anonymous_type(scope: &Scope<'_>, at: usize) -> CheckError
+    ensures { Blames result (Some (fault.anonymous_record ((here_of scope.now).place at))) }
+{
+    match scope.location(at) {
+        Ok(location) => CheckError::Validation(ValidationError::AnonymousRecord { location }),
+        Err(_) => CheckError::OutOfMemory,
+    }
+}
+
+pub fn wrong_size(scope: &Scope<'_>, expected: usize, found: usize, at: usize) -> CheckError
+    ensures { Blames result (Some (fault.union_size_mismatch expected found ((here_of scope.now).place at))) }
+{
+    match scope.location(at) {
+        Ok(location) => CheckError::Validation(ValidationError::UnionSizeMismatch {
+            expected,
+            found,
+            location,
+        }),
+        Err(_) => CheckError::OutOfMemory,
+    }
+}
+
+pub fn bad_field(scope: &Scope<'_>, name: &str, reason: &'static str, at: usize) -> CheckError
+    ensures { Blames result (Some (fault.invalid_union_field name.now reason.now ((here_of scope.now).place at))) }
+{
+    match (Text::new(scope.alloc, name), scope.location(at)) {
+        (Ok(name), Ok(location)) => CheckError::Validation(ValidationError::InvalidUnionField {
+            name,
+            reason,
+            location,
+        }),
+        _ => CheckError::OutOfMemory,
+    }
+}
+
+pub fn too_large(scope: &Scope<'_>, name: &str, value: u64, largest: u64, at: usize) -> CheckError
+    ensures { Blames result (Some (fault.constant_too_large name.now value largest ((here_of scope.now).place at))) }
+{
+    match (Text::new(scope.alloc, name), scope.location(at)) {
+        (Ok(name), Ok(location)) => CheckError::Validation(ValidationError::ConstantTooLarge {
+            name,
+            value,
+            largest,
+            location,
+        }),
+        _ => CheckError::OutOfMemory,
+    }
+}
+
+pub fn known(alloc: Global, name: &Id, at: &SharedPlace, before: &SharedPlace) -> CheckError
+    ensures { Blames result (Some (fault.name_already_exists name.now at.now before.now)) }
+{
+    match (
+        Text::new(alloc, name.as_str()),
+        at.location(),
+        before.location(),
+    ) {
+        (Ok(name), Ok(at_location), Ok(previous_location)) => CheckError::Validation(
+            ValidationError::NameAlreadyExists {
+                name,
+                at_location,
+                previous_location,
+            },
+        ),
+        _ => CheckError::OutOfMemory,
+    }
+}
+
+fn known_mark(scope: &Scope<'_>, name: &Id, at: usize, before: usize) -> CheckError
+    ensures { Blames result (Some (fault.name_already_exists name.now ((here_of scope.now).place at) ((here_of scope.now).place before))) }
+{
+    match (
+        Text::new(scope.alloc, name.as_str()),
+        scope.location(at),
+        scope.location(before),
+    ) {
+        (Ok(name), Ok(at_location), Ok(previous_location)) => CheckError::Validation(
+            ValidationError::NameAlreadyExists {
+                name,
+                at_location,
+                previous_location,
+            },
+        ),
+        _ => CheckError::OutOfMemory,
+    }
+}
+
+/// Takes a name into a scope inside the declaration.
+#[tactic(auto, using(crate::proofs::Steps::step_rules))]
+pub fn introduce_mark(
+    marks: &mut Marks,
+    scope: &Scope<'_>,
+    name: &str,
+    at: usize,
+) -> Result<Id, CheckError>
+    ensures ok { OnOk result (new_mark (here_of scope.now) marks.old name.now at ≡ None) }
+    ensures id { IfOk result (λ id. id ≡ name.now) }
+    ensures kept { (q : _) → OnOk result (found marks.new q ≡ found ((name.now, at) ∷ marks.old) q) }
+    ensures fault { IfErr result (λ e. Blames e (new_mark (here_of scope.now) marks.old name.now at)) }
+{
+    let id = Id::new(scope.alloc, name)?;
+    match marks.get_new(&id) {
+        Some(before) => Err(known_mark(scope, &id, at, *before)),
+        None => {
+            marks.insert(id.copy()?, at)?;
+            Ok(id)
+        }
+    }
+}
+
+/// Takes a name that may stand there into a scope inside the declaration.
+#[tactic(auto, using(crate::proofs::Steps::step_rules))]
+pub fn mark(marks: &mut Marks, name: Id, at: usize) -> Result<(), OutOfMemory>
+    ensures { (q : _) → OnOk result (found marks.new q ≡ found ((name, at) ∷ marks.old) q) }
+{
+    marks.insert(name, at)?;
+    Ok(())
+}
+
+/// Takes a name into the scope of the document.
+#[tactic(auto, using(crate::proofs::Steps::step_rules))]
+pub fn introduce(
+    names: &mut Names,
+    alloc: Global,
+    name: &str,
+    at: SharedPlace,
+) -> Result<Id, CheckError>
+    ensures ok { OnOk result (new_name names.old name.now at ≡ None) }
+    ensures id { IfOk result (λ id. id ≡ name.now) }
+    ensures kept { (q : _) → OnOk result (found names.new q ≡ found ((name.now, at) ∷ names.old) q) }
+    ensures fault { IfErr result (λ e. Blames e (new_name names.old name.now at)) }
+    ensures err { IfErr result (λ _. names.new ≡ names.old) }
+{
+    let id = Id::new(alloc, name)?;
+    match names.get_new(&id) {
+        Some(before) => Err(known(alloc, &id, &at, before)),
+        None => {
+            names.insert(id.copy()?, at)?;
+            Ok(id)
+        }
+    }
+}
+
+/// The named type that a name denotes.
+#[tactic(auto, using(crate::proofs::Steps::step_rules), unfolding(crate::specs::Senses::here_of))]
+pub fn denoted<'a>(scope: &Scope<'a>, name: &IdSyntax<'_>) -> Result<&'a Rc<NamedType>, CheckError>
+    ensures ok { OnOk result (used_check (here_of scope.now) name.now ≡ None) }
+    ensures tree { IfOk result (λ named. named_tree named.now.value ≡ denoted_tree (here_of scope.now) name.now) }
+    ensures fault { IfErr result (λ e. Blames e (used_check (here_of scope.now) name.now)) }
+{
+    let at = name.span.start;
+    let id = Id::new(scope.alloc, name.name)?;
+    if scope.names.get(&id).is_none() {
+        return Err(unknown(scope, name.name, at));
+    }
+    match scope.entries.get(&id) {
+        Some(Entry::Typename(named)) => Ok(named),
+        Some(Entry::Module(_)) => Err(wrong_kind(scope, name.name, "datatype", "module", at)),
+        None => Err(recursive(scope, name.name, at)),
+    }
+}
+
+/// The type that a name denotes.
+#[tactic(auto, using(crate::proofs::Steps::step_rules))]
+pub fn used(scope: &Scope<'_>, name: &IdSyntax<'_>) -> Result<TypeRef, CheckError>
+    ensures ok { OnOk result (used_check (here_of scope.now) name.now ≡ None) }
+    ensures tree { IfOk result (λ t. tree_of t ≡ denoted_tree (here_of scope.now) name.now) }
+    ensures fault { IfErr result (λ e. Blames e (used_check (here_of scope.now) name.now)) }
+{
+    Ok(TypeRef::Name(denoted(scope, name)?.clone()?))
+}
