@@ -39,7 +39,7 @@ fn keep_place(
 
 /// Puts a constant behind the definitions, and under its two names the place of its name, or
 /// neither.
-#[tactic(auto, using(witx_scope::proofs::ConstantSteps::constant_rules))]
+#[tactic(auto, using(crate::proofs::ConstantSteps::constant_rules))]
 fn keep_constant(
     places: &mut ConstantPlaces,
     place: SharedPlace,

@@ -48,6 +48,7 @@ pub struct Scope<'a> {
 }
 
 impl<'a> Scope<'a> {
+    /// The location of the byte at an offset.
     #[tactic(auto, unfolding(crate::specs::Senses::here_of))]
     pub fn location(&self, at: usize) -> Result<Location, OutOfMemory>
         ensures { IfOk result (λ l. l ≡ (here_of self.now).place at) }
@@ -56,6 +57,7 @@ impl<'a> Scope<'a> {
     }
 }
 
+/// No declaration so far introduces the name.
 pub fn unknown(scope: &Scope<'_>, name: &str, at: usize) -> CheckError
     ensures { Blames result (Some (fault.unknown_name name.now ((here_of scope.now).place at))) }
 {
@@ -68,6 +70,7 @@ pub fn unknown(scope: &Scope<'_>, name: &str, at: usize) -> CheckError
     }
 }
 
+/// The name is introduced and not finished, or its declaration was refused.
 pub fn recursive(scope: &Scope<'_>, name: &str, at: usize) -> CheckError
     ensures { Blames result (Some (fault.recursive name.now ((here_of scope.now).place at))) }
 {
@@ -80,6 +83,7 @@ pub fn recursive(scope: &Scope<'_>, name: &str, at: usize) -> CheckError
     }
 }
 
+/// The name denotes another kind of thing.
 pub fn wrong_kind(
     scope: &Scope<'_>,
     name: &str,
@@ -100,6 +104,7 @@ pub fn wrong_kind(
     }
 }
 
+/// The representation is no unsigned number.
 pub fn repr(scope: &Scope<'_>, repr: BuiltinType, at: usize) -> CheckError
     ensures { Blames result (Some (fault.invalid_repr repr ((here_of scope.now).place at))) }
 {
@@ -109,6 +114,7 @@ pub fn repr(scope: &Scope<'_>, repr: BuiltinType, at: usize) -> CheckError
     }
 }
 
+/// The tag has a payload.
 pub fn bad_tag(scope: &Scope<'_>, reason: &'static str, at: usize) -> CheckError
     ensures { Blames result (Some (fault.invalid_union_tag reason.now ((here_of scope.now).place at))) }
 {
@@ -121,6 +127,7 @@ pub fn bad_tag(scope: &Scope<'_>, reason: &'static str, at: usize) -> CheckError
     }
 }
 
+/// No function can have these results.
 pub fn abi_fault(scope: &Scope<'_>, reason: &'static str, at: usize) -> CheckError
     ensures { Blames result (Some (fault.abi reason.now ((here_of scope.now).place at))) }
 {
@@ -130,6 +137,7 @@ pub fn abi_fault(scope: &Scope<'_>, reason: &'static str, at: usize) -> CheckErr
     }
 }
 
+/// A structured type stands anywhere but as a typename's own type.
 pub fn anonymous_type(scope: &Scope<'_>, at: usize) -> CheckError
     ensures { Blames result (Some (fault.anonymous_record ((here_of scope.now).place at))) }
 {
@@ -139,6 +147,7 @@ pub fn anonymous_type(scope: &Scope<'_>, at: usize) -> CheckError
     }
 }
 
+/// There are not as many fields or cases as the tag has names.
 pub fn wrong_size(scope: &Scope<'_>, expected: usize, found: usize, at: usize) -> CheckError
     ensures { Blames result (Some (fault.union_size_mismatch expected found ((here_of scope.now).place at))) }
 {
@@ -152,6 +161,7 @@ pub fn wrong_size(scope: &Scope<'_>, expected: usize, found: usize, at: usize) -
     }
 }
 
+/// The tag lacks the case, or an earlier case has taken it.
 pub fn bad_field(scope: &Scope<'_>, name: &str, reason: &'static str, at: usize) -> CheckError
     ensures { Blames result (Some (fault.invalid_union_field name.now reason.now ((here_of scope.now).place at))) }
 {
@@ -165,6 +175,7 @@ pub fn bad_field(scope: &Scope<'_>, name: &str, reason: &'static str, at: usize)
     }
 }
 
+/// The constant is above the greatest number of its type.
 pub fn too_large(scope: &Scope<'_>, name: &str, value: u64, largest: u64, at: usize) -> CheckError
     ensures { Blames result (Some (fault.constant_too_large name.now value largest ((here_of scope.now).place at))) }
 {
@@ -179,6 +190,7 @@ pub fn too_large(scope: &Scope<'_>, name: &str, value: u64, largest: u64, at: us
     }
 }
 
+/// The name stands in the document already, at the place `before`.
 pub fn known(alloc: Global, name: &Id, at: &SharedPlace, before: &SharedPlace) -> CheckError
     ensures { Blames result (Some (fault.name_already_exists name.now at.now before.now)) }
 {
@@ -198,6 +210,7 @@ pub fn known(alloc: Global, name: &Id, at: &SharedPlace, before: &SharedPlace) -
     }
 }
 
+/// The name stands inside the declaration already, at the offset `before`.
 fn known_mark(scope: &Scope<'_>, name: &Id, at: usize, before: usize) -> CheckError
     ensures { Blames result (Some (fault.name_already_exists name.now ((here_of scope.now).place at) ((here_of scope.now).place before))) }
 {
