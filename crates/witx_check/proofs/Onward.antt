@@ -9,7 +9,7 @@ use Rattle.witx_syntax_tree.specs.Trees.{Member, Fields, no_fields, one_field, n
 use Rattle.witx_comments.specs.Comments.{comments_view}
 use Rattle.witx_syntax_tree.specs.Views.{type_view, name_view, member_view, fields_view, types_view, union_fields_view, cases_view, boxed_view, maybe_of}
 use Rattle.witx_scope.specs.SyntaxChecks.{lacks_name, union_checks, variant_checks, member_views, name_check, Sees}
-use Rattle.witx_scope.proofs.FirstFaults.{fault-past, fault-append, blames-head, blames-append, blames-to, blames-past, step-past, step-head, step-wrong}
+use Rattle.witx_scope.proofs.FirstFaults.{fault-past, fault-append, blames-head, blames-append, blames-to, step-past, step-head, step-wrong}
 use Rattle.witx_scope.proofs.NamePlaces.{has-push, seen-more}
 use Rattle.std.specs.Map.{keys_of}
 use Rattle.witx_check.proofs.SyntaxTrees.{form_rules, field-FieldSyntax, case-CaseSyntax}
@@ -30,13 +30,12 @@ use Rattle.witx_ast.specs.Tree.{Tree, Field, Arm, arm, arms_of}
 use Rattle.witx_ast.specs.Views.{tree_of, member_field, case_arm}
 use Rattle.witx_ast.proofs.Trees.{tree_rules, tree-RecordMember, tree-Case}
 use Rattle.witx_scope.specs.declared.error.CheckError.{CheckError}
-use Rattle.witx_scope.specs.declared.error.CheckError.TheVariants as check_error
-use Rattle.witx_scope.specs.Blame.{Blames, fault_of}
+use Rattle.witx_scope.specs.Blame.{Blames}
 use Rattle.witx_scope.specs.Faults.{Fault, Check, first_fault, anonymous_record}
 use Rattle.witx_scope.specs.Names.{Here, Marks, new_mark}
 use Rattle.witx_scope.specs.Checks.{type_checks, field_checks, each_type_checks, union_field_checks, member_checks, case_checks, maybe_checks, union_fields_count, cases_count}
 use Rattle.witx_scope.specs.Trees.{tree_meant, fields_meant, types_meant, number_name, member_arm, flag_field, bool_tree, union_arms, union_name, case_arms, maybe_tree}
-use Rattle.witx_scope.specs.Tags.{has_name, arm_names, are_bare, case_check, tag_checks, tag_names, size_check}
+use Rattle.witx_scope.specs.Tags.{has_name, are_bare, case_check, tag_checks, tag_names, size_check}
 
 -- ---- scopes that answer alike give the same checks
 

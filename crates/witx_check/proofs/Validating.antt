@@ -13,7 +13,6 @@ use Rattle.witx_ast.specs.declared.types.NamedType.{NamedType}
 use Rattle.witx_ast.specs.declared.module.Module.{Module}
 use Rattle.witx_ast.proofs.Trees.{tree-NamedType}
 use Rattle.witx_ast.specs.Definitions.{DefinitionTree, typename_of, module_of, module_tree, constant_of, definition_tree, entry_tree, introduced, DefinitionsFit}
-use Rattle.witx_ast.specs.declared.definition.Constant.{Constant}
 use Rattle.witx_ast.specs.declared.definition.Definition.{Definition}
 use Rattle.witx_ast.specs.declared.definition.Entry.{Entry}
 use Rattle.witx_scope.specs.declared.error.CheckError.{CheckError}

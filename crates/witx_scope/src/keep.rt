@@ -11,7 +11,7 @@ use crate::place::SharedPlace;
 use crate::site::Site;
 use crate::tables::Tables;
 use witx_ast::{Constant, Definition, Definitions};
-use witx_base::{Duplicate, Id, OutOfMemory};
+use witx_base::{Duplicate, OutOfMemory};
 use witx_syntax_tree::{ConstSyntax, Documented};
 
 /// The two names of a constant.
