@@ -13,16 +13,18 @@ use Rattle.witx_ast.specs.Tree.{Field}
 use Rattle.witx_ast.specs.Functions.{FunctionTree}
 use Rattle.witx_ast.specs.Items.{ItemTree, import_of, func_of}
 use Rattle.witx_ast.specs.Definitions.{DefinitionTree, typename_of, module_of, constant_of, definition_tree}
-use Rattle.witx_docs.specs.declared.named_layouts.NamedLayouts.{NamedLayouts}
-use Rattle.witx_docs.specs.declared.named_layouts.NamedLayouts.TheVariants as layouts
-use Rattle.witx_docs.specs.NamesKnown.{NamesKnown, InParams, InFunction, InItem, InItems, InDefinition, InDefinitions}
+use Rattle.witx_markdown.specs.declared.named_layouts.NamedLayouts.{NamedLayouts}
+use Rattle.witx_markdown.specs.declared.named_layouts.NamedLayouts.TheVariants as layouts
+use Rattle.witx_markdown.specs.NamesKnown.{NamesKnown, InParams, InFunction, InItem, InItems, InDefinition, InDefinitions}
 use Rattle.witx_ast.specs.Plain.{plain}
 use Rattle.witx_layout.specs.Numbers.{size_of}
-use Rattle.witx_docs.specs.declared.heading.MdHeading.{MdHeading}
-use Rattle.witx_docs.specs.declared.branch.Branch.{Branch}
-use Rattle.witx_docs.specs.Forests.{no_nodes, each, sprouted}
-use Rattle.witx_docs.specs.Parts.{as_constant, constants_in, constants_of, constants_part, constant_node, typename_node, typename_nodes, typename_with, module_node, module_nodes}
-use Rattle.witx_docs.specs.LaidOut.{too_large, typenames_laid_out, typename_laid_out, modules_laid_out, module_laid_out, laid_out, is_typename}
+use Rattle.witx_markdown.specs.declared.heading.MdHeading.{MdHeading}
+use Rattle.witx_markdown.specs.declared.branch.Branch.{Branch}
+use Rattle.witx_markdown.specs.Forests.{no_nodes, each, sprouted}
+use Rattle.witx_markdown.specs.Constants.{constants_in}
+use Rattle.witx_markdown.proofs.ConstantTypes.{no-constant}
+use Rattle.witx_docs.specs.Parts.{constants_of, constants_part, constant_node, typename_node, typename_nodes, typename_with, module_node, module_nodes}
+use Rattle.witx_docs.specs.LaidOut.{too_large, typenames_laid_out, typename_laid_out, modules_laid_out, module_laid_out, laid_out}
 use Rattle.witx_docs.proofs.EachSteps.{next-each, all-each, next-fit, one-large, all-fit, this-holds, left-hold}
 use Rattle.witx_docs.proofs.Grown.{grown_rules, sprouted-none}
 use Rattle.witx_docs.proofs.Judging.{judging_rules}
@@ -164,34 +166,6 @@ nothing-part b p h (c ∷ cs) e = absurd (omega (arith, e))
 pub ruleset definition_rules = (typename-in, definition-in, definitions-left, empty-part, nothing-part, grown_rules, judging_rules, next-typename, all-typenames, next-module, all-modules, typename-fits, typename-large, typenames-fit, module-fits, module-large, modules-fit, next-constant-node, all-constant-nodes)
 
 -- constants
-no-constant : (d : Definition) → ((c : Constant) → d ≡ definition.Constant c → ⊥) → as_constant (definition_tree d) ≡ None
-no-constant (definition.Typename n) h = refl
-no-constant (definition.Module m) h = refl
-no-constant (definition.Constant c) h = absurd (h c refl)
-
 pub other-definition : (ds : List Definition) (i : ℕ) (d : Definition) → i < length ds → d ≡ get_or ds i d → ((c : Constant) → d ≡ definition.Constant c → ⊥)
     → constants_in (map definition_tree (drop i ds)) ≡ constants_in (map definition_tree (drop (i + 1) ds))
 other-definition ds i d l p h = rw (drop_more ds i d l, ← p, no-constant d h) refl
-
--- a constant's type that is no typename
-abbrev pub unknown_in : List DefinitionTree → List DefinitionTree → Option (List ℕ)
-unknown_in all ds = find (λ name. not (is_typename all name)) (map (λ c. c.ty) (constants_in ds))
-
-pub known-type : (all : List DefinitionTree) (ds : List Definition) (i : ℕ) (d : Definition) (c : Constant) (found : Option (List ℕ)) → i < length ds → d ≡ get_or ds i d
-    → d ≡ definition.Constant c → is_typename all c.ty ≡ true → unknown_in all (map definition_tree (drop i ds)) ≡ found
-    → unknown_in all (map definition_tree (drop (i + 1) ds)) ≡ found
-known-type all ds i d c found l p e k h = rw (drop_more ds i d l, ← p, e, k) at h
-
-pub unknown-here : (all : List DefinitionTree) (ds : List Definition) (i : ℕ) (d : Definition) (c : Constant) (found : Option (List ℕ)) → i < length ds → d ≡ get_or ds i d
-    → d ≡ definition.Constant c → is_typename all c.ty ≡ false → unknown_in all (map definition_tree (drop i ds)) ≡ found → Some c.ty ≡ found
-unknown-here all ds i d c found l p e k h = rw (drop_more ds i d l, ← p, e, k) at h
-
-pub other-type : (all : List DefinitionTree) (ds : List Definition) (i : ℕ) (d : Definition) (found : Option (List ℕ)) → i < length ds → d ≡ get_or ds i d
-    → ((c : Constant) → d ≡ definition.Constant c → ⊥) → unknown_in all (map definition_tree (drop i ds)) ≡ found → unknown_in all (map definition_tree (drop (i + 1) ds)) ≡ found
-other-type all ds i d found l p k h = rw (drop_more ds i d l, ← p, no-constant d k) at h
-
-pub all-known : (all : List DefinitionTree) (ds : List Definition) (i : ℕ) (found : Option (List ℕ)) → length ds ≤ i
-    → unknown_in all (map definition_tree (drop i ds)) ≡ found → None ≡ found
-all-known all ds i found l h = rw (drop_all i ds l) at h
-
-pub ruleset unknown_rules = (known-type, unknown-here, other-type, all-known)

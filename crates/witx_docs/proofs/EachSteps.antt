@@ -3,8 +3,8 @@ use Rattle.std.specs.Prelude.{◌≡◌, ℕ, ◌+◌, ◌≤◌, ◌<◌, List,
 use Rattle.std.specs.List.{AllByRecursion, flat_map}
 use Rattle.std.proofs.Common.{get_or, sym, ◌∙◌}
 use Rattle.std.proofs.lemmas.List.{drop_more, drop_all}
-use Rattle.witx_docs.specs.declared.branch.Branch.{Branch}
-use Rattle.witx_docs.specs.Forests.{Forest, each, sprouted}
+use Rattle.witx_markdown.specs.declared.branch.Branch.{Branch}
+use Rattle.witx_markdown.specs.Forests.{Forest, each, sprouted}
 use Rattle.witx_docs.specs.LaidOut.{too_large}
 use Rattle.witx_docs.proofs.Grown.{sprouted-followed, sprouted-none}
 use Rattle.witx_docs.proofs.Judging.{next-fits, next-large, large-none}

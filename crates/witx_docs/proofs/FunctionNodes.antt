@@ -8,12 +8,12 @@ use Rattle.witx_ast.specs.TypeNames.{type_text}
 use Rattle.witx_ast.specs.Views.{tree_of}
 use Rattle.witx_ast.specs.Functions.{param_field}
 use Rattle.witx_ast.specs.Items.{item_tree}
-use Rattle.witx_docs.specs.declared.heading.MdHeading.{MdHeading}
-use Rattle.witx_docs.specs.declared.branch.Branch.{Branch}
-use Rattle.witx_docs.specs.Forests.{sprouted}
+use Rattle.witx_markdown.specs.declared.heading.MdHeading.{MdHeading}
+use Rattle.witx_markdown.specs.declared.branch.Branch.{Branch}
+use Rattle.witx_markdown.specs.Forests.{sprouted}
 use Rattle.witx_docs.specs.Parts.{typed_node, param_node, param_nodes, import_node, import_nodes, func_node, func_nodes, inputs_of, outputs_of}
-use Rattle.witx_docs.specs.declared.named_layouts.NamedLayouts.{NamedLayouts}
-use Rattle.witx_docs.specs.NamesKnown.{NamesKnown, InParams, InItem, InItems}
+use Rattle.witx_markdown.specs.declared.named_layouts.NamedLayouts.{NamedLayouts}
+use Rattle.witx_markdown.specs.NamesKnown.{NamesKnown, InParams, InItem, InItems}
 use Rattle.witx_docs.specs.LaidOut.{too_large, laid_out, params_laid_out, items_laid_out, item_laid_out}
 use Rattle.witx_docs.proofs.EachSteps.{next-each, all-each, next-fit, one-large, all-fit, this-holds, left-hold}
 use Rattle.witx_docs.proofs.Grown.{grown_rules}

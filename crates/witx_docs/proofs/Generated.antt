@@ -5,14 +5,14 @@ use Rattle.std.proofs.Common.{arith, refl, sym, ap, ◌∙◌, inl, inr, append-
 use Rattle.std.proofs.lemmas.List.{length-set, get_or_append_left, get_or-set_same, set-get_or, set-set, set-append_left}
 use Rattle.witx_layout.specs.declared.members.LayoutError.{LayoutError}
 use Rattle.witx_layout.specs.declared.members.LayoutError.TheVariants as layout_error
-use Rattle.witx_docs.specs.declared.content.MdContent.{MdContent}
-use Rattle.witx_docs.specs.declared.content.MdContent.TheVariants as content
-use Rattle.witx_docs.specs.declared.branch.Branch.{Branch}
+use Rattle.witx_markdown.specs.declared.content.MdContent.{MdContent}
+use Rattle.witx_markdown.specs.declared.content.MdContent.TheVariants as content
+use Rattle.witx_markdown.specs.declared.branch.Branch.{Branch}
 use Rattle.witx_docs.specs.declared.error.DocsError.TheVariants as docs_error
-use Rattle.witx_docs.specs.Forests.{Forest, no_nodes, node, contents_of, node_count, parents_from, sprouted}
+use Rattle.witx_markdown.specs.Forests.{Forest, no_nodes, node, contents_of, node_count, parents_from, sprouted}
 use Rattle.witx_docs.specs.LaidOut.{too_large, refusal_fits, refusal_of, number_refusal}
-use Rattle.witx_docs.specs.Trees.{PageTree, HaveParents, content_at, generated}
-use Rattle.witx_docs.proofs.Ancestry.{have-append}
+use Rattle.witx_markdown.specs.Trees.{PageTree, HaveParents, content_at, generated}
+use Rattle.witx_markdown.proofs.Ancestry.{have-append}
 use Rattle.witx_docs.proofs.Grown.{count-contents}
 
 pub count-parents : (f : Forest) (n p : ℕ) → length (parents_from n p f) ≡ node_count f

@@ -2,9 +2,9 @@
 -- added stand below it.
 use Rattle.std.specs.Prelude.{◌≡◌, ℕ, ◌+◌, [], ◌∷◌, ◌++◌, length, Some, Result, Ok, Err, OnOk}
 use Rattle.std.proofs.Common.{arith, refl, sym, ap, ◌∙◌, append_assoc, append-nil, length-append}
-use Rattle.witx_docs.specs.declared.content.MdContent.{MdContent}
-use Rattle.witx_docs.specs.declared.branch.Branch.{Branch}
-use Rattle.witx_docs.specs.Forests.{Forest, no_nodes, node, leaf, followed_by, contents_of, node_count, parents_from, next_number, sprouted}
+use Rattle.witx_markdown.specs.declared.content.MdContent.{MdContent}
+use Rattle.witx_markdown.specs.declared.branch.Branch.{Branch}
+use Rattle.witx_markdown.specs.Forests.{Forest, no_nodes, node, leaf, followed_by, contents_of, node_count, parents_from, next_number, sprouted}
 
 pub count-contents : (f : Forest) → length (contents_of f) ≡ node_count f
 count-contents no_nodes = refl

@@ -28,9 +28,9 @@ use Rattle.witx_layout.specs.Layouts.{plain_layout, layout_of}
 use Rattle.witx_layout.specs.Known.{Knows, KnowsFields, KnowsArms}
 use Rattle.witx_layout.proofs.Tabled.{KeptBy, Tabled, passed, tabled-start, ahead-start, next-known}
 use Rattle.witx_docs.specs.LaidOut.{too_large, refusal_fits, document_laid_out, typenames_laid_out, typename_laid_out, modules_laid_out, laid_out}
-use Rattle.witx_docs.specs.NamesKnown.{InParams, InItems, InDefinition, InDefinitions}
+use Rattle.witx_markdown.specs.NamesKnown.{InParams, InItems, InDefinition, InDefinitions}
 use Rattle.witx_docs.proofs.Judging.{large-append, large-head, or-true}
-use Rattle.witx_docs.proofs.NameSteps.{layout_steps}
+use Rattle.witx_markdown.proofs.NameSteps.{layout_steps}
 
 -- the table has the layout of each typename that stands before
 abbrev pub HasAll : List (List ℕ × SizeAlign) → List DefinitionTree → Type 0

@@ -11,7 +11,7 @@ use Rattle.witx_ast.specs.Tree.{Tree, Fields, Arms}
 use Rattle.witx_ast.specs.Functions.{FunctionTree}
 use Rattle.witx_ast.specs.Items.{func_of}
 use Rattle.witx_ast.specs.Definitions.{DefinitionTree, typename_of, module_of, constant_of}
-use Rattle.witx_docs.specs.Trees.{levels_of, text_order}
+use Rattle.witx_markdown.specs.Trees.{levels_of, text_order}
 use Rattle.witx_docs.specs.Pages.{page_tree, page_text, missing_links}
 
 abbrev u8 : Tree

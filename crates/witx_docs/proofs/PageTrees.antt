@@ -7,17 +7,17 @@ use Rattle.std.proofs.lemmas.List.{length-map}
 use Rattle.std.proofs.lemmas.Bool.{ne_eqb, eq-eqb}
 use Rattle.std.proofs.lemmas.List.Folds.{flat_map-map}
 use Rattle.witx_ast.specs.Definitions.{DefinitionTree}
-use Rattle.witx_docs.specs.declared.content.MdContent.{MdContent}
-use Rattle.witx_docs.specs.declared.content.MdContent.TheVariants as content
-use Rattle.witx_docs.specs.Contents.{header, content_text}
-use Rattle.witx_docs.specs.Forests.{Forest, no_nodes, node, node_count, parents_from}
-use Rattle.witx_docs.specs.Links.{ids, with_links, missing_in}
+use Rattle.witx_markdown.specs.declared.content.MdContent.{MdContent}
+use Rattle.witx_markdown.specs.declared.content.MdContent.TheVariants as content
+use Rattle.witx_markdown.specs.Contents.{header, content_text}
+use Rattle.witx_markdown.specs.Forests.{Forest, no_nodes, node, node_count, parents_from}
+use Rattle.witx_markdown.specs.Links.{ids, with_links, missing_in}
 use Rattle.witx_docs.specs.Parts.{document_parts}
-use Rattle.witx_docs.specs.Trees.{is_parent, order_from, content_at}
+use Rattle.witx_markdown.specs.Trees.{is_parent, order_from, content_at}
 use Rattle.witx_docs.specs.Pages.{page_tree, page_text, page_contents, text_of_contents, missing_links, missing_of_contents}
 use Rattle.witx_docs.proofs.Grown.{count-contents}
 use Rattle.witx_docs.proofs.Generated.{count-parents}
-use Rattle.witx_docs.proofs.Descent.{head-of, rest-of}
+use Rattle.witx_markdown.proofs.Descent.{head-of, rest-of}
 
 -- each parent among these is of such a kind
 abbrev pub AllParents : (ℕ → Type 0) → List (Option ℕ) → Type 0

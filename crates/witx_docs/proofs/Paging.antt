@@ -4,9 +4,9 @@ use Rattle.std.specs.List.{flat_map, list_any}
 use Rattle.std.proofs.Common.{get_or, refl, sym, ap, ◌∙◌, append_assoc, append-nil}
 use Rattle.std.proofs.lemmas.List.{drop_more, drop_all}
 use Rattle.witx_base.specs.Texts.{same_text}
-use Rattle.witx_docs.specs.declared.content.MdContent.{MdContent}
-use Rattle.witx_docs.specs.Contents.{content_text, content_docs, with_docs}
-use Rattle.witx_docs.specs.Links.{dotted, link, link_to, quoted, linked_pieces, missing_pieces, missing_if, pieces, docs_linked, with_links, missing_in_docs, missing_in}
+use Rattle.witx_markdown.specs.declared.content.MdContent.{MdContent}
+use Rattle.witx_markdown.specs.Contents.{content_text, content_docs, with_docs}
+use Rattle.witx_markdown.specs.Links.{dotted, link, link_to, quoted, linked_pieces, missing_pieces, missing_if, pieces, docs_linked, with_links, missing_in_docs, missing_in}
 use Rattle.witx_docs.specs.Pages.{text_with, missing_with}
 
 pub next-flat : {X A : Type 0} (f : X → List A) (xs : List X) (i : ℕ) (x : X) (before all : List A) → i < length xs → x ≡ get_or xs i x

@@ -15,14 +15,14 @@ use Rattle.witx_ast.specs.Views.{tree_of, variant_tree, member_field, case_arm}
 use Rattle.witx_ast.proofs.Trees.{tree_rules, tree-RecordMember, tree-Case, tree-RecordDatatype, tree-VariantDatatype}
 use Rattle.witx_layout.specs.declared.members.RecordMemberLayout.{RecordMemberLayout}
 use Rattle.witx_layout.specs.Nodes.{type_nodes, field_nodes, arm_nodes}
-use Rattle.witx_docs.specs.declared.heading.MdHeading.{MdHeading}
-use Rattle.witx_docs.specs.declared.branch.Branch.{Branch}
-use Rattle.witx_docs.specs.Forests.{no_nodes, node, followed_by, sprouted}
+use Rattle.witx_markdown.specs.declared.heading.MdHeading.{MdHeading}
+use Rattle.witx_markdown.specs.declared.branch.Branch.{Branch}
+use Rattle.witx_markdown.specs.Forests.{no_nodes, node, followed_by, sprouted}
 use Rattle.witx_docs.specs.Parts.{section, type_parts, member_node, case_node, case_nodes, placed_fields, placed_nodes, payload_node, variant_layout, layout_nodes}
 use Rattle.witx_docs.specs.LaidOut.{too_large, laid_out, members_laid_out, cases_laid_out, case_laid_out, payload_laid_out, payload_numbers}
 use Rattle.witx_docs.proofs.Grown.{grown_rules, sprouted-followed, sprouted-none}
 use Rattle.witx_docs.proofs.Judging.{judging_rules, next-fits, next-large, large-none}
-use Rattle.witx_docs.proofs.NameSteps.{name_steps}
+use Rattle.witx_docs.proofs.PartNames.{name_steps}
 
 placed-drop : (h : MdHeading) (id : Option (List ℕ)) (kind : RecordKind) (ls : List RecordMemberLayout) (i : ℕ) (l : RecordMemberLayout) → i < length ls → l ≡ get_or ls i l
     → placed_nodes h id kind (drop i ls) ≡ followed_by (member_node h id kind (member_field l.member.now) l.offset) (placed_nodes h id kind (drop (i + 1) ls))

@@ -7,7 +7,8 @@ use Rattle.witx_ast.specs.Definitions.{DefinitionTree}
 use Rattle.witx_docs.specs.declared.error.DocsError.{DocsError}
 use Rattle.witx_docs.specs.declared.error.DocsError.TheVariants as docs_error
 use Rattle.witx_docs.proofs.DocumentParts.{looked-through}
-use Rattle.witx_docs.specs.LaidOut.{too_large, document_laid_out, document_refusal, number_refusal, unknown_type, refusal_fits, refusal_of}
+use Rattle.witx_markdown.specs.Constants.{unknown_type}
+use Rattle.witx_docs.specs.LaidOut.{too_large, document_laid_out, document_refusal, number_refusal, refusal_fits, refusal_of}
 
 pub accepted : (ds : List DefinitionTree) → unknown_type ds ≡ None → too_large (document_laid_out ds) ≡ false → document_refusal ds ≡ None
 accepted ds e f = rw (e, f) refl

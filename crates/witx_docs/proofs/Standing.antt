@@ -11,7 +11,8 @@ use Rattle.witx_ast.specs.declared.definition.Constant.{Constant}
 use Rattle.witx_ast.specs.declared.definition.Definition.{Definition}
 use Rattle.witx_ast.specs.declared.definition.Definition.TheVariants as definition
 use Rattle.witx_ast.specs.Definitions.{definition_tree}
-use Rattle.witx_docs.specs.Parts.{constants_in, constants_of}
+use Rattle.witx_markdown.specs.Constants.{constants_in}
+use Rattle.witx_docs.specs.Parts.{constants_of}
 use Rattle.witx_docs.specs.ByType.{StandByType, standing}
 use Rattle.witx_docs.proofs.DocumentParts.{other-definition}
 

@@ -1,7 +1,7 @@
 -- The numbers that a page needs of types: each has to fit a `usize`, or there is no page.
 -- Of a typename its size. Of each type whose parts are shown: the size of a record that isn't flags and of a variant with
 -- a payload, and of flags the offsets of their members as a plain record.
-use Rattle.std.specs.Prelude.{◌≡◌, ℕ, ◌^◌, List, [], ◌∷◌, ◌++◌, Bool, true, false, not, map, find, nat_le, Option, Some, None, Result, Ok, Err, is_some, if◌then◌else◌}
+use Rattle.std.specs.Prelude.{◌≡◌, ℕ, ◌^◌, List, [], ◌∷◌, ◌++◌, Bool, true, false, nat_le, Option, Some, None, Result, Ok, Err, if◌then◌else◌}
 use Rattle.std.specs.List.{flat_map, list_any}
 use Rattle.witx_ast.specs.declared.types.RecordKind.{RecordKind}
 use Rattle.witx_ast.specs.declared.types.IntRepr.{IntRepr}
@@ -10,13 +10,13 @@ use Rattle.witx_ast.specs.Plain.{Plain, plain, plain_fields, plain_arms}
 use Rattle.witx_ast.specs.Words.{is_bool_arms, all_arms_bare}
 use Rattle.witx_ast.specs.Functions.{FunctionTree}
 use Rattle.witx_ast.specs.Items.{ItemTree, import_of, func_of}
-use Rattle.witx_ast.specs.Definitions.{DefinitionTree, typename_of, module_of, constant_of, typename_called}
+use Rattle.witx_ast.specs.Definitions.{DefinitionTree, typename_of, module_of, constant_of}
 use Rattle.witx_layout.specs.Numbers.{size_of, offsets}
 use Rattle.witx_layout.specs.declared.members.LayoutError.{LayoutError}
 use Rattle.witx_layout.specs.declared.members.LayoutError.TheVariants as layout_error
 use Rattle.witx_docs.specs.declared.error.DocsError.{DocsError}
 use Rattle.witx_docs.specs.declared.error.DocsError.TheVariants as docs_error
-use Rattle.witx_docs.specs.Parts.{constants_in}
+use Rattle.witx_markdown.specs.Constants.{unknown_type}
 
 abbrev pub record_numbers : RecordKind → Fields → List ℕ
 record_numbers (RecordKind.Bitflags r) ms = offsets 0 (plain_fields ms)
@@ -88,14 +88,6 @@ modules_laid_out = flat_map module_laid_out
 
 abbrev pub document_laid_out : List DefinitionTree → List ℕ
 document_laid_out ds = typenames_laid_out ds ++ modules_laid_out ds
-
--- the type of a constant is a typename
-abbrev pub is_typename : List DefinitionTree → List ℕ → Bool
-is_typename ds name = is_some (typename_called ds name)
-
--- the first constant's type that is no typename
-abbrev pub unknown_type : List DefinitionTree → Option (List ℕ)
-unknown_type ds = find (λ name. not (is_typename ds name)) (map (λ c. c.ty) (constants_in ds))
 
 -- some number doesn't fit
 unfoldable pub too_large : List ℕ → Bool

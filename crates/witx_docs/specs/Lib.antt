@@ -1,13 +1,6 @@
 pub mod ByType
-pub mod Contents
-pub mod Families
-pub mod Forests
 pub mod LaidOut
-pub mod Lending
-pub mod Links
-pub mod NamesKnown
 pub mod Pages
 pub mod Parts
-pub mod Trees
 pub mod PolyfillTexts
 pub mod Pieces

@@ -3,15 +3,15 @@
 use Rattle.std.specs.Prelude.{ℕ, List, ◌++◌, map, Option, Some, None, Result, Ok, Err, codes}
 use Rattle.std.specs.List.{flat_map}
 use Rattle.witx_ast.specs.Definitions.{DefinitionTree}
-use Rattle.witx_docs.specs.declared.content.MdContent.{MdContent}
-use Rattle.witx_docs.specs.declared.content.MdContent.TheVariants as content
+use Rattle.witx_markdown.specs.declared.content.MdContent.{MdContent}
+use Rattle.witx_markdown.specs.declared.content.MdContent.TheVariants as content
 use Rattle.witx_docs.specs.declared.error.DocsError.{DocsError}
-use Rattle.witx_docs.specs.Contents.{header, content_text}
-use Rattle.witx_docs.specs.Forests.{contents_of}
-use Rattle.witx_docs.specs.Trees.{PageTree, root_alone, heading_below, generated, told_of, tree_text}
+use Rattle.witx_markdown.specs.Contents.{header, content_text}
+use Rattle.witx_markdown.specs.Forests.{contents_of}
+use Rattle.witx_markdown.specs.Trees.{PageTree, root_alone, heading_below, generated, told_of, tree_text}
 use Rattle.witx_docs.specs.Parts.{document_parts}
 use Rattle.witx_docs.specs.LaidOut.{document_refusal}
-use Rattle.witx_docs.specs.Links.{ids, with_links, missing_in}
+use Rattle.witx_markdown.specs.Links.{ids, with_links, missing_in}
 
 -- what generation makes of a document at a root alone
 unfoldable pub page_tree : List DefinitionTree → PageTree

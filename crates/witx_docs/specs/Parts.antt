@@ -2,7 +2,6 @@
 -- `h` is the header of what stands right below the node: its level is one more than the node has ancestors. Ids are joined
 -- by dots.
 use Rattle.std.specs.Prelude.{ℕ, ◌/◌, List, [], ◌∷◌, ◌++◌, map, filter, Option, Some, None, if◌then◌else◌, codes}
-use Rattle.std.specs.List.{filter_map}
 use Rattle.std.specs.Fmt.{decimal}
 use Rattle.witx_base.specs.Texts.{same_text}
 use Rattle.witx_ast.specs.declared.types.RecordKind.{RecordKind}
@@ -18,12 +17,13 @@ use Rattle.witx_ast.specs.Items.{ItemTree, import_of, func_of}
 use Rattle.witx_ast.specs.Definitions.{DefinitionTree, ModuleTree, typename_of, module_of, constant_of}
 use Rattle.witx_layout.specs.declared.members.RecordMemberLayout.{RecordMemberLayout}
 use Rattle.witx_layout.specs.Numbers.{size_of, align_of, offsets, repr_size}
-use Rattle.witx_docs.specs.declared.heading.MdHeading.{MdHeading}
-use Rattle.witx_docs.specs.declared.heading.MdHeading.TheVariants.{Bullet}
-use Rattle.witx_docs.specs.declared.content.MdContent.{MdContent}
-use Rattle.witx_docs.specs.declared.content.MdContent.TheVariants as content
-use Rattle.witx_docs.specs.Contents.{header, level_down}
-use Rattle.witx_docs.specs.Forests.{Forest, no_nodes, node, leaf, followed_by, each}
+use Rattle.witx_markdown.specs.declared.heading.MdHeading.{MdHeading}
+use Rattle.witx_markdown.specs.declared.heading.MdHeading.TheVariants.{Bullet}
+use Rattle.witx_markdown.specs.declared.content.MdContent.{MdContent}
+use Rattle.witx_markdown.specs.declared.content.MdContent.TheVariants as content
+use Rattle.witx_markdown.specs.Constants.{constants_in}
+use Rattle.witx_markdown.specs.Contents.{header, level_down}
+use Rattle.witx_markdown.specs.Forests.{Forest, no_nodes, node, leaf, followed_by, each}
 
 abbrev pub section : MdHeading → List ℕ → MdContent
 section h title = content.Section (record { heading = h; id = None; title = title })
@@ -171,15 +171,7 @@ abbrev pub module_parts : MdHeading → ModuleTree → Forest
 module_parts h m = node (section h (codes "Imports")) (import_nodes (level_down h) m.items)
     (node (section h (codes "Functions")) (func_nodes (level_down h) m.items) no_nodes)
 
-abbrev pub as_constant : DefinitionTree → Option Constant
-as_constant (typename_of name t docs) = None
-as_constant (module_of m) = None
-as_constant (constant_of c) = Some c
-
--- all constants, and those of the typename of this name
-abbrev pub constants_in : List DefinitionTree → List Constant
-constants_in = filter_map as_constant
-
+-- the constants of the typename of this name
 abbrev pub constants_of : List ℕ → List Constant → List Constant
 constants_of name cs = filter (λ c. same_text name c.ty) cs
 

@@ -1,44 +1,27 @@
 //! What a document adds below a node.
-ghost use Rattle.std.specs.Prelude.{◌≡◌, ◌∷◌, ◌++◌, [], IfOk, OnOk, Some, codes, map, option_map, string_bytes};
+ghost use Rattle.std.specs.Prelude.{◌≡◌, ◌∷◌, ◌++◌, [], IfOk, OnOk, Some, codes, map, string_bytes};
 ghost use Rattle.witx_ast.specs.Plain.{plain};
 ghost use Rattle.witx_ast.specs.Views.{tree_of};
 ghost use Rattle.witx_ast.specs.Definitions.{definition_tree, module_tree, typename_of, module_of};
 ghost use Rattle.witx_layout.specs.Numbers.{align_of, size_of};
-ghost use Rattle.witx_docs.specs.Forests.{each, no_nodes, node, sprouted};
-ghost use Rattle.witx_docs.specs.Parts.{section as section_of, document_parts, typename_nodes, typename_with, typename_docs, layout_lines, number_line, typename_shown, module_node, module_nodes, module_content, constants_part, constant_node, constants_in};
-ghost use Rattle.witx_docs.specs.NamesKnown.{NamesKnown, InDefinition, InDefinitions, InItems};
+ghost use Rattle.witx_markdown.specs.Forests.{each, no_nodes, node, sprouted};
+ghost use Rattle.witx_docs.specs.Parts.{section as section_of, document_parts, typename_nodes, typename_with, typename_docs, layout_lines, number_line, typename_shown, module_node, module_nodes, module_content, constants_part, constant_node};
+ghost use Rattle.witx_markdown.specs.Constants.{constants_in};
+ghost use Rattle.witx_markdown.specs.NamesKnown.{NamesKnown, InDefinition, InDefinitions, InItems};
 ghost use Rattle.witx_docs.specs.ByType.{StandByType, standing};
-ghost use Rattle.witx_docs.specs.LaidOut.{Judged, too_large, document_laid_out, typenames_laid_out, modules_laid_out, module_laid_out, laid_out, items_laid_out, unknown_type};
+ghost use Rattle.witx_docs.specs.LaidOut.{Judged, too_large, document_laid_out, typenames_laid_out, modules_laid_out, module_laid_out, laid_out, items_laid_out};
 
-use crate::branch::Branch;
 use crate::constants::{ConstantsByType, constants_by_type};
-use crate::content::{MdContent, MdNamedType, MdSection};
 use crate::functions::put_module;
-use crate::heading::{MdHeading, put};
-use crate::known_layout::type_layout;
-use crate::named_layouts::NamedLayouts;
 use crate::parts::{bullet, put_group, put_section, put_type, shown};
 use crate::place::{Place, dotted_name};
 use std::alloc::Global;
-use witx_ast::{Constant, Definition, Document, Module, NamedType};
+use witx_ast::{Constant, Definition, Module, NamedType};
 use witx_base::{Id, OutOfMemory, Text};
 use witx_layout::{LayoutError, SizeAlign, TooLarge};
-
-/// The first constant's type that is no typename of the document.
-#[tactic(auto, using(crate::proofs::DocumentParts::unknown_rules))]
-pub fn unknown_constant_type(document: &Document) -> Option<&Id>
-    ensures { option_map (λ name. name.now) result ≡ unknown_type (map definition_tree document.now.definitions) }
-{
-    for definition in document.definitions().as_slice() {
-        let Definition::Constant(constant) = definition else {
-            continue;
-        };
-        if document.typename(&constant.ty).is_none() {
-            return Some(&constant.ty);
-        }
-    }
-    None
-}
+use witx_markdown::{
+    Branch, MdContent, MdHeading, MdNamedType, MdSection, NamedLayouts, put, type_layout,
+};
 
 /// Adds the types and the modules of a document.
 #[tactic(auto, using(crate::proofs::DocumentParts::definition_rules))]

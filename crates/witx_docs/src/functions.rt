@@ -3,22 +3,19 @@ ghost use Rattle.std.specs.Prelude.{◌≡◌, ◌++◌, IfOk, OnOk, Some, codes
 ghost use Rattle.witx_ast.specs.Functions.{func_tree, param_field};
 ghost use Rattle.witx_ast.specs.Items.{item_tree};
 ghost use Rattle.witx_ast.specs.Definitions.{module_tree};
-ghost use Rattle.witx_docs.specs.Contents.{level_down};
-ghost use Rattle.witx_docs.specs.Forests.{leaf, sprouted, no_nodes, node};
+ghost use Rattle.witx_markdown.specs.Contents.{level_down};
+ghost use Rattle.witx_markdown.specs.Forests.{leaf, sprouted, no_nodes, node};
 ghost use Rattle.witx_docs.specs.Parts.{section as section_of, param_nodes, function_parts, function_content, inputs_of, outputs_of, import_nodes, func_nodes, module_parts, func_node, import_node};
-ghost use Rattle.witx_docs.specs.NamesKnown.{NamesKnown, InFunction, InItem, InItems, InParams};
+ghost use Rattle.witx_markdown.specs.NamesKnown.{NamesKnown, InFunction, InItem, InItems, InParams};
 ghost use Rattle.witx_docs.specs.LaidOut.{Judged, too_large, params_laid_out, function_laid_out, items_laid_out, item_laid_out};
 
-use crate::branch::Branch;
-use crate::content::{MdContent, MdFunc, MdInputs, MdOutputs};
-use crate::heading::MdHeading;
-use crate::named_layouts::NamedLayouts;
 use crate::parts::{put_group, put_section, put_typed};
 use crate::place::Place;
 use std::alloc::Global;
 use witx_ast::{InterfaceFunc, InterfaceFuncParam, Module, ModuleDefinition};
 use witx_base::{OutOfMemory, Text};
 use witx_layout::LayoutError;
+use witx_markdown::{Branch, MdContent, MdFunc, MdHeading, MdInputs, MdOutputs, NamedLayouts};
 
 /// Adds the parameters and the results of a function.
 #[tactic(auto, using(crate::proofs::FunctionNodes::item_rules))]

@@ -1,17 +1,16 @@
 //! Nodes that are added below a node of a tree.
 ghost use Rattle.std.specs.Prelude.{◌≡◌, ◌⊎◌, ◌<◌, [], ℕ, List, Option, Some, None, IfErr, IfOk, OnErr, OnOk, length, option_map};
-ghost use Rattle.witx_docs.specs.declared.heading.MdHeading.{MdHeading};
+ghost use Rattle.witx_markdown.specs.declared.heading.MdHeading.{MdHeading};
 ghost use Rattle.witx_docs.specs.declared.error.DocsError.{DocsError};
-ghost use Rattle.witx_docs.specs.Contents.{content_id};
-ghost use Rattle.witx_docs.specs.Forests.{Forest, sprouted};
+ghost use Rattle.witx_markdown.specs.Contents.{content_id};
+ghost use Rattle.witx_markdown.specs.Forests.{Forest, sprouted};
 ghost use Rattle.witx_docs.specs.LaidOut.{Judged, too_large, number_refusal};
-ghost use Rattle.witx_docs.specs.Trees.{content_at, generated, heading_below};
+ghost use Rattle.witx_markdown.specs.Trees.{content_at, generated, heading_below};
 
-use crate::branch::Branch;
 use crate::error::DocsError;
 use crate::place::Place;
-use crate::tree::MdTree;
 use witx_layout::LayoutError;
+use witx_markdown::{Branch, MdTree, allocator_of, graft, header_below};
 
 /// What adds parts below a node.
 pub trait Parts {
@@ -37,7 +36,7 @@ pub fn grow<P: Parts>(tree: &mut MdTree, node: usize, of: &P) -> Result<(), Docs
     ensures unchanged { OnErr result (tree.new ≡ tree.old) }
 {
     let branch = branch_below(tree, node, of)?;
-    tree.graft(branch)?;
+    graft(tree, branch)?;
     Ok(())
 }
 
@@ -50,10 +49,10 @@ fn branch_below<P: Parts>(tree: &MdTree, node: usize, of: &P) -> Result<Branch, 
 {
     let at = Place {
         node,
-        heading: tree.heading_below(node),
+        heading: header_below(tree, node),
         id: tree.content(node).id(),
     };
-    let mut branch = Branch::new(tree.allocator(), tree.len());
+    let mut branch = Branch::new(allocator_of(tree), tree.len());
     of.put_parts(&mut branch, &at)?;
     Ok(branch)
 }

@@ -8,14 +8,13 @@ ghost use Rattle.witx_ast.specs.Definitions.{definition_tree, introduced};
 ghost use Rattle.witx_ast.specs.Closed.{IsClosed};
 ghost use Rattle.witx_layout.specs.Known.{Knows, KnowsDefinition, IsEntered};
 ghost use Rattle.witx_docs.specs.LaidOut.{refusal_fits, too_large, document_laid_out, typename_laid_out};
-ghost use Rattle.witx_docs.specs.NamesKnown.{InDefinitions};
+ghost use Rattle.witx_markdown.specs.NamesKnown.{InDefinitions};
 
-use crate::known_layout::type_layout;
-use crate::named_layouts::NamedLayouts;
 use std::alloc::Global;
 use witx_ast::{Definition, Document, names_are_distinct};
 use witx_base::{Duplicate, NameMap};
 use witx_layout::{LayoutError, SizeAlign};
+use witx_markdown::{NamedLayouts, type_layout};
 
 /// The layouts of the typenames of a closed document, by their names: one pass, in which a name is looked
 /// up and not looked through.

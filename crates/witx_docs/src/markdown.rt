@@ -3,17 +3,15 @@ ghost use Rattle.std.specs.Prelude.{◌≡◌, IfOk};
 ghost use Rattle.witx_ast.specs.Views.{datatype_tree};
 ghost use Rattle.witx_docs.specs.Parts.{type_shown};
 
-use crate::branch::Branch;
-use crate::documents::{put_document, unknown_constant_type};
+use crate::documents::put_document;
 use crate::error::DocsError;
 use crate::functions::{inputs, outputs, put_function, put_module};
 use crate::generate::ToMarkdown;
 use crate::growing::{Parts, grow};
-use crate::named_layouts::NamedLayouts;
 use crate::page::unknown_type_refusal;
 use crate::parts::{put_datatype, put_handle, put_record, put_type, put_variant, quoted, shown};
 use crate::place::Place;
-use crate::tree::MdTree;
+use crate::setting::{set_signature, set_title, set_type};
 use std::alloc::Global;
 use std::rc::Rc;
 use witx_ast::{
@@ -22,6 +20,7 @@ use witx_ast::{
 };
 use witx_base::{Duplicate, OutOfMemory, Text};
 use witx_layout::LayoutError;
+use witx_markdown::{Branch, MdTree, NamedLayouts, allocator_of, unknown_constant_type};
 
 impl Parts for TypeRef {
     ghost use Rattle.witx_ast.specs.Views.{tree_of};
@@ -39,7 +38,7 @@ impl Parts for TypeRef {
 
 impl ToMarkdown for TypeRef {
     ghost use Rattle.witx_ast.specs.Views.{tree_of};
-    ghost use Rattle.witx_docs.specs.Contents.{with_type};
+    ghost use Rattle.witx_markdown.specs.Contents.{with_type};
     ghost use Rattle.witx_docs.specs.Parts.{type_parts, type_shown};
     ghost use Rattle.witx_docs.specs.LaidOut.{laid_out, number_refusal};
 
@@ -50,16 +49,16 @@ impl ToMarkdown for TypeRef {
     ghost refuses = { λ t. number_refusal (laid_out (tree_of t)) };
 
     fn generate(&self, tree: &mut MdTree, node: usize) -> Result<(), DocsError> {
-        let ty = shown(tree.allocator(), self)?;
+        let ty = shown(allocator_of(tree), self)?;
         grow(tree, node, self)?;
-        tree.content_mut(node).set_type(ty);
+        set_type(tree.content_mut(node), ty);
         Ok(())
     }
 }
 
 impl ToMarkdown for NamedType {
     ghost use Rattle.witx_ast.specs.Views.{tree_of};
-    ghost use Rattle.witx_docs.specs.Contents.{with_type};
+    ghost use Rattle.witx_markdown.specs.Contents.{with_type};
     ghost use Rattle.witx_docs.specs.Parts.{type_parts, type_shown};
     ghost use Rattle.witx_docs.specs.LaidOut.{laid_out, number_refusal};
 
@@ -90,7 +89,7 @@ impl Parts for Datatype {
 
 impl ToMarkdown for Datatype {
     ghost use Rattle.witx_ast.specs.Views.{datatype_tree};
-    ghost use Rattle.witx_docs.specs.Contents.{with_type};
+    ghost use Rattle.witx_markdown.specs.Contents.{with_type};
     ghost use Rattle.witx_docs.specs.Parts.{type_parts, type_shown};
     ghost use Rattle.witx_docs.specs.LaidOut.{laid_out, number_refusal};
 
@@ -101,9 +100,9 @@ impl ToMarkdown for Datatype {
     ghost refuses = { λ d. number_refusal (laid_out (datatype_tree d)) };
 
     fn generate(&self, tree: &mut MdTree, node: usize) -> Result<(), DocsError> {
-        let ty = datatype_shown(tree.allocator(), self)?;
+        let ty = datatype_shown(allocator_of(tree), self)?;
         grow(tree, node, self)?;
-        tree.content_mut(node).set_type(ty);
+        set_type(tree.content_mut(node), ty);
         Ok(())
     }
 }
@@ -242,8 +241,8 @@ impl ToMarkdown for Module {
 
 impl ToMarkdown for ModuleImport {
     ghost use Rattle.std.specs.Prelude.{None, codes};
-    ghost use Rattle.witx_docs.specs.Contents.{with_title};
-    ghost use Rattle.witx_docs.specs.Forests.{no_nodes};
+    ghost use Rattle.witx_markdown.specs.Contents.{with_title};
+    ghost use Rattle.witx_markdown.specs.Forests.{no_nodes};
 
     ghost shown = { λ i c. with_title c (codes "Memory") };
 
@@ -252,8 +251,8 @@ impl ToMarkdown for ModuleImport {
     ghost refuses = { λ i. None };
 
     fn generate(&self, tree: &mut MdTree, node: usize) -> Result<(), DocsError> {
-        let title = Text::new(tree.allocator(), "Memory")?;
-        tree.content_mut(node).set_title(title);
+        let title = Text::new(allocator_of(tree), "Memory")?;
+        set_title(tree.content_mut(node), title);
         Ok(())
     }
 }
@@ -275,7 +274,7 @@ impl Parts for InterfaceFunc {
 
 impl ToMarkdown for InterfaceFunc {
     ghost use Rattle.witx_ast.specs.Functions.{func_tree};
-    ghost use Rattle.witx_docs.specs.Contents.{with_signature};
+    ghost use Rattle.witx_markdown.specs.Contents.{with_signature};
     ghost use Rattle.witx_docs.specs.Parts.{function_parts, inputs_of, outputs_of};
     ghost use Rattle.witx_docs.specs.LaidOut.{function_laid_out, number_refusal};
 
@@ -286,17 +285,17 @@ impl ToMarkdown for InterfaceFunc {
     ghost refuses = { λ f. number_refusal (function_laid_out (func_tree f)) };
 
     fn generate(&self, tree: &mut MdTree, node: usize) -> Result<(), DocsError> {
-        let inputs = inputs(tree.allocator(), self.params.as_slice())?;
-        let outputs = outputs(tree.allocator(), self.results.as_slice())?;
+        let inputs = inputs(allocator_of(tree), self.params.as_slice())?;
+        let outputs = outputs(allocator_of(tree), self.results.as_slice())?;
         grow(tree, node, self)?;
-        tree.content_mut(node).set_signature(inputs, outputs);
+        set_signature(tree.content_mut(node), inputs, outputs);
         Ok(())
     }
 }
 
 impl ToMarkdown for InterfaceFuncParam {
     ghost use Rattle.witx_ast.specs.Views.{tree_of};
-    ghost use Rattle.witx_docs.specs.Contents.{with_docs, with_type};
+    ghost use Rattle.witx_markdown.specs.Contents.{with_docs, with_type};
     ghost use Rattle.witx_docs.specs.Parts.{type_parts, type_shown};
     ghost use Rattle.witx_docs.specs.LaidOut.{laid_out, number_refusal};
 

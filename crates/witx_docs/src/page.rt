@@ -4,27 +4,25 @@ ghost use Rattle.std.specs.Map.{keys_of};
 ghost use Rattle.witx_ast.specs.Definitions.{definition_tree};
 ghost use Rattle.witx_ast.specs.Closed.{IsClosed};
 ghost use Rattle.witx_docs.specs.declared.error.DocsError.{DocsError};
-ghost use Rattle.witx_docs.specs.Contents.{content_text, docs_text};
+ghost use Rattle.witx_markdown.specs.Contents.{content_text, docs_text};
 ghost use Rattle.witx_docs.specs.LaidOut.{Judged, too_large, document_laid_out, document_refusal};
-ghost use Rattle.witx_docs.specs.NamesKnown.{NamesKnown, InDefinitions};
-ghost use Rattle.witx_docs.specs.Links.{linked, missing, with_links, missing_in};
+ghost use Rattle.witx_markdown.specs.NamesKnown.{NamesKnown, InDefinitions};
+ghost use Rattle.witx_markdown.specs.Links.{linked, missing, with_links, missing_in};
 ghost use Rattle.witx_docs.specs.Pages.{page_contents, page_text, missing_links as links_without_target, text_of_contents, missing_of_contents, text_with, missing_with};
 
-use crate::branch::Branch;
-use crate::content::MdContent;
-use crate::content_text::{put_content, put_func_line, put_named_line};
 use crate::documentation::Documentation;
-use crate::documents::{put_document, unknown_constant_type};
+use crate::documents::put_document;
 use crate::error::DocsError;
-use crate::heading::{MdHeading, put};
 use crate::kept_layouts::kept_layouts;
-use crate::links::{KnownIds, MissingLinks, known_ids, put_linked};
-use crate::named_layouts::NamedLayouts;
 use crate::place::Place;
 use std::alloc::Global;
 use witx_ast::{Definition, Document};
 use witx_base::{Duplicate, Id, Items, OutOfMemory, Text};
 use witx_layout::LayoutError;
+use witx_markdown::{
+    Branch, KnownIds, MdContent, MdHeading, MissingLinks, NamedLayouts, known_ids, put,
+    put_content, put_func_line, put_linked, put_named_line, unknown_constant_type,
+};
 
 /// The page of a document, and the links of its documentation that lead nowhere: the text of the tree that
 /// `generate` makes at a root alone, with the links put in last.

@@ -8,22 +8,20 @@ ghost use Rattle.witx_ast.specs.Plain.{plain};
 ghost use Rattle.witx_ast.specs.Tree.{fields_of, arms_of};
 ghost use Rattle.witx_ast.specs.Views.{tree_of, datatype_tree, record_tree, variant_tree, member_field, case_arm, members_plain};
 ghost use Rattle.witx_layout.specs.Numbers.{align_of, offsets, size_of};
-ghost use Rattle.witx_docs.specs.Forests.{leaf, next_number, sprouted};
+ghost use Rattle.witx_markdown.specs.Forests.{leaf, next_number, sprouted};
 ghost use Rattle.witx_docs.specs.Parts.{section as section_of, item, inner_id, type_shown, type_parts, typed_node, placed_fields, placed_nodes, member_docs, number_section, layout_nodes, variant_layout, case_nodes, member_node, case_node};
-ghost use Rattle.witx_docs.specs.NamesKnown.{NamesKnown, FieldNamesKnown, ArmNamesKnown, PayloadKnown};
+ghost use Rattle.witx_markdown.specs.NamesKnown.{NamesKnown, FieldNamesKnown, ArmNamesKnown, PayloadKnown};
 ghost use Rattle.witx_docs.specs.LaidOut.{Judged, too_large, laid_out, record_numbers, payload_numbers, members_laid_out, cases_laid_out, case_laid_out};
 
-use crate::branch::Branch;
-use crate::content::{MdContent, MdNamedType, MdSection};
-use crate::heading::{MdHeading, put};
-use crate::known_layout::{placed, variant_layout};
-use crate::named_layouts::NamedLayouts;
 use crate::place::Place;
 use std::alloc::Global;
 use witx_ast::{Case, Datatype, RecordDatatype, RecordKind, RecordMember, TypeRef, Variant};
 use witx_base::{OutOfMemory, Text};
 use witx_layout::{
     Layout, LayoutError, MemberLayouts, RecordMemberLayout, RecordMembers, SizeAlign, TooLarge,
+};
+use witx_markdown::{
+    Branch, MdContent, MdHeading, MdNamedType, MdSection, NamedLayouts, placed, put, variant_layout,
 };
 
 /// Adds the parts of a type: a name has none, since it leads to its typename.

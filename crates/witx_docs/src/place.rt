@@ -1,10 +1,10 @@
 ghost use Rattle.std.specs.Prelude.{◌≡◌, ◌++◌, IfOk, codes, option_map};
-ghost use Rattle.witx_docs.specs.Contents.{level_down};
+ghost use Rattle.witx_markdown.specs.Contents.{level_down};
 ghost use Rattle.witx_docs.specs.Parts.{inner_id};
 
-use crate::heading::MdHeading;
 use std::alloc::Global;
 use witx_base::{OutOfMemory, Text};
+use witx_markdown::MdHeading;
 
 /// A node below which parts are added.
 #[derive(Drop)]

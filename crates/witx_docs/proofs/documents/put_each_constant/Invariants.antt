@@ -1,5 +1,5 @@
 use Rattle.std.proofs.Common.{◌≡◌, drop, map}
-use Rattle.witx_docs.specs.Forests.{each, sprouted}
+use Rattle.witx_markdown.specs.Forests.{each, sprouted}
 use Rattle.witx_docs.specs.Parts.{constant_node}
 use Rattle.witx_docs.proofs.documents.put_each_constant.Given as goal
 

@@ -1,6 +1,6 @@
 use Rattle.std.proofs.Common.{◌≡◌, drop, map}
 use Rattle.witx_ast.specs.Definitions.{definition_tree}
-use Rattle.witx_docs.specs.Forests.{sprouted}
+use Rattle.witx_markdown.specs.Forests.{sprouted}
 use Rattle.witx_docs.specs.Parts.{module_nodes}
 use Rattle.witx_docs.specs.LaidOut.{too_large, modules_laid_out}
 use Rattle.witx_docs.proofs.DocumentParts.{LeftKnown}

@@ -1,6 +1,6 @@
 use Rattle.std.proofs.Common.{arith, map}
 use Rattle.witx_ast.specs.Definitions.{definition_tree}
-use Rattle.witx_docs.specs.Parts.{constants_in}
+use Rattle.witx_markdown.specs.Constants.{constants_in}
 use Rattle.witx_docs.specs.ByType.{standing}
 use Rattle.witx_docs.proofs.DocumentParts.{all-typenames, definitions-left, other-nodes, other-numbers, this-fits, this-typename}
 use Rattle.witx_docs.proofs.documents.put_typenames.Goals as goal

@@ -1,7 +1,8 @@
 use Rattle.std.proofs.Common.{◌≡◌, drop, map}
 use Rattle.witx_ast.specs.Definitions.{definition_tree}
-use Rattle.witx_docs.specs.Forests.{sprouted}
-use Rattle.witx_docs.specs.Parts.{constants_in, typename_nodes}
+use Rattle.witx_markdown.specs.Forests.{sprouted}
+use Rattle.witx_markdown.specs.Constants.{constants_in}
+use Rattle.witx_docs.specs.Parts.{typename_nodes}
 use Rattle.witx_docs.specs.LaidOut.{too_large, typenames_laid_out}
 use Rattle.witx_docs.proofs.DocumentParts.{LeftKnown}
 use Rattle.witx_docs.proofs.documents.put_typenames.Given as goal

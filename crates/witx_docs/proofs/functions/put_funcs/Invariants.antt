@@ -1,9 +1,9 @@
 use Rattle.std.proofs.Common.{◌≡◌, drop, map}
 use Rattle.witx_ast.specs.Items.{item_tree}
-use Rattle.witx_docs.specs.Forests.{sprouted}
+use Rattle.witx_markdown.specs.Forests.{sprouted}
 use Rattle.witx_docs.specs.Parts.{func_nodes}
 use Rattle.witx_docs.specs.LaidOut.{too_large, items_laid_out}
-use Rattle.witx_docs.specs.NamesKnown.{NamesKnown, InItems}
+use Rattle.witx_markdown.specs.NamesKnown.{NamesKnown, InItems}
 use Rattle.witx_docs.proofs.functions.put_funcs.Given as goal
 
 abbrev pub invariant-loop-definition : goal.invariant-loop-definition

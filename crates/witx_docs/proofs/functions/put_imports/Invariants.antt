@@ -1,6 +1,6 @@
 use Rattle.std.proofs.Common.{◌≡◌, drop, map}
 use Rattle.witx_ast.specs.Items.{item_tree}
-use Rattle.witx_docs.specs.Forests.{sprouted}
+use Rattle.witx_markdown.specs.Forests.{sprouted}
 use Rattle.witx_docs.specs.Parts.{import_nodes}
 use Rattle.witx_docs.proofs.functions.put_imports.Given as goal
 

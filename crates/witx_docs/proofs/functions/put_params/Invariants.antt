@@ -1,10 +1,10 @@
 use Rattle.std.proofs.Common.{◌≡◌, drop, map}
 use Rattle.std.specs.Prelude.{option_map}
 use Rattle.witx_ast.specs.Functions.{param_field}
-use Rattle.witx_docs.specs.Forests.{sprouted}
+use Rattle.witx_markdown.specs.Forests.{sprouted}
 use Rattle.witx_docs.specs.Parts.{param_nodes}
 use Rattle.witx_docs.specs.LaidOut.{too_large, params_laid_out}
-use Rattle.witx_docs.specs.NamesKnown.{NamesKnown, InParams}
+use Rattle.witx_markdown.specs.NamesKnown.{NamesKnown, InParams}
 use Rattle.witx_docs.proofs.functions.put_params.Given as goal
 
 abbrev pub invariant-loop-param : goal.invariant-loop-param

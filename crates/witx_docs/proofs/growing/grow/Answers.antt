@@ -6,4 +6,4 @@ pub graft-requires : goal.graft-requires
 graft-requires g c = branch-fits (length c.args.tree.now.contents) c.args.node _ c.in_ok-branch.branch c.requires c.in_ok-branch.ensures.branch
 
 pub returns-clause-nodes : goal.returns-clause-nodes
-returns-clause-nodes g c = branch-grown c.args.tree.now c.graft.new.self c.args.node _ c.in_ok-branch.branch c.in_ok-branch.ensures.branch c.in_ok-graft.ensures.nodes
+returns-clause-nodes g c = branch-grown c.args.tree.now c.graft.new.tree c.args.node _ c.in_ok-branch.branch c.in_ok-branch.ensures.branch c.in_ok-graft.ensures.nodes

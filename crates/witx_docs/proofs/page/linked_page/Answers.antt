@@ -1,6 +1,6 @@
 use Rattle.std.proofs.Common.{◌∙◌}
 use Rattle.std.specs.Map.{keys_of}
-use Rattle.witx_docs.specs.Links.{ids}
+use Rattle.witx_markdown.specs.Links.{ids}
 use Rattle.witx_docs.proofs.Paging.{text-same, missing-links-same}
 use Rattle.witx_docs.proofs.page.linked_page.Goals as goal
 

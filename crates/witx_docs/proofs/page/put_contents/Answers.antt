@@ -1,7 +1,7 @@
 use Rattle.std.proofs.Common.{arith, string_bytes}
 use Rattle.std.specs.Map.{keys_of}
-use Rattle.witx_docs.specs.Contents.{content_text}
-use Rattle.witx_docs.specs.Links.{with_links, missing_in}
+use Rattle.witx_markdown.specs.Contents.{content_text}
+use Rattle.witx_markdown.specs.Links.{with_links, missing_in}
 use Rattle.witx_docs.proofs.Paging.{next-flat, all-flat}
 use Rattle.witx_docs.proofs.page.put_contents.Goals as goal
 

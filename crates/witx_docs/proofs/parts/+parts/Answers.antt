@@ -5,7 +5,7 @@ use Rattle.witx_ast.specs.Words.{is_bool_arms}
 use Rattle.witx_ast.specs.declared.types.Variant.{out-Variant}
 use Rattle.witx_ast.proofs.Trees.{tree-RecordDatatype}
 use Rattle.witx_docs.proofs.Grown.{sprouted-followed, sprouted-three, then-sprouted}
-use Rattle.witx_docs.proofs.NameSteps.{case-in, placed-in}
+use Rattle.witx_docs.proofs.PartNames.{case-in, placed-in}
 use Rattle.witx_docs.proofs.PartSteps.{all-cases, all-members, case-few, member-few, variant-parts}
 use Rattle.witx_docs.proofs.parts.+parts.Goals as goal
 

@@ -2,11 +2,11 @@ use Rattle.std.proofs.Common.{◌≡◌, ◌+◌, ◌*◌, drop, map, option_map
 use Rattle.witx_ast.specs.Tree.{arms_of}
 use Rattle.witx_ast.specs.Views.{tree_of, datatype_tree, record_tree, variant_tree, case_arm}
 use Rattle.witx_layout.specs.Nodes.{type_nodes, field_nodes, arm_nodes}
-use Rattle.witx_docs.specs.Forests.{sprouted}
+use Rattle.witx_markdown.specs.Forests.{sprouted}
 use Rattle.witx_docs.specs.Parts.{placed_fields, placed_nodes, case_nodes}
 use Rattle.witx_docs.specs.LaidOut.{too_large, members_laid_out, cases_laid_out}
-use Rattle.witx_docs.specs.NamesKnown.{FieldNamesKnown}
-use Rattle.witx_docs.proofs.NameSteps.{LeftCasesKnown}
+use Rattle.witx_markdown.specs.NamesKnown.{FieldNamesKnown}
+use Rattle.witx_markdown.proofs.NameSteps.{LeftCasesKnown}
 use Rattle.witx_docs.proofs.PartSteps.{payload_nodes}
 use Rattle.witx_docs.proofs.parts.+parts.Given as goal
 

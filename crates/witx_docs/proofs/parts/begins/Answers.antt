@@ -3,7 +3,7 @@ use Rattle.witx_ast.specs.Tree.{fields_of}
 use Rattle.witx_ast.specs.Views.{member_field}
 use Rattle.witx_ast.specs.declared.types.RecordDatatype.{out-RecordDatatype}
 use Rattle.witx_docs.proofs.Judging.{flags-judged, whole-judged}
-use Rattle.witx_docs.proofs.NameSteps.{members-in}
+use Rattle.witx_markdown.proofs.NameSteps.{members-in}
 use Rattle.witx_docs.proofs.parts.begins.Goals as goal
 
 pub placed-requires : goal.placed-requires

@@ -1,4 +1,4 @@
-use Rattle.witx_docs.specs.Contents.{with_docs}
+use Rattle.witx_markdown.specs.Contents.{with_docs}
 use Rattle.witx_docs.proofs.Generated.{then-shown}
 use Rattle.witx_docs.proofs.markdown.InterfaceFuncParamToMarkdown.generate.Goals as goal
 

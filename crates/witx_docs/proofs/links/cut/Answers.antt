@@ -1,5 +1,0 @@
-use Rattle.witx_docs.proofs.Linking.{cut-piece}
-use Rattle.witx_docs.proofs.links.cut.Goals as goal
-
-pub returns : goal.returns
-returns c = cut-piece _ _ c.split_once.ensures.cases

@@ -1,0 +1,182 @@
+//! The layouts of types, the names in which are known.
+ghost use Rattle.std.specs.Prelude.{◌≡◌, ◌≤◌, ◌<◌, ◌^◌, MatchResult, IfOk, OnOk, map};
+ghost use Rattle.witx_ast.specs.Tree.{fields_of, arms_of};
+ghost use Rattle.witx_ast.specs.Plain.{plain};
+ghost use Rattle.witx_ast.specs.Views.{tree_of, datatype_tree, named_tree, record_tree, variant_tree, member_field, case_arm, members_plain, cases_plain};
+ghost use Rattle.witx_layout.specs.Known.{Knows};
+ghost use Rattle.witx_layout.specs.Numbers.{size_of, align_of, align_to, members_end, members_align, payloads_size, payloads_align, offsets};
+ghost use Rattle.witx_markdown.specs.NamesKnown.{NamesKnown, FieldNamesKnown, ArmNamesKnown};
+
+use crate::named_layouts::NamedLayouts;
+use crate::rounding::{behind, greater, padded};
+use std::alloc::Global;
+use witx_ast::{
+    Case, Datatype, NamedType, RecordDatatype, RecordKind, RecordMember, TypeRef, Variant,
+};
+use witx_base::NameMap;
+use witx_layout::{Layout, LayoutError, MemberLayouts, RecordMemberLayout, SizeAlign, TooLarge};
+
+/// The layout of a type.
+#[cycle(layouts)]
+#[tactic(auto, using(crate::proofs::NameSteps::layout_steps))]
+pub fn type_layout(names: NamedLayouts, tref: &TypeRef) -> Result<SizeAlign, TooLarge>
+    requires { NamesKnown names (tree_of tref.now) }
+    ensures { MatchResult result
+        (λ v. (v.size ≡ size_of (plain (tree_of tref.now))) × (v.align ≡ align_of (plain (tree_of tref.now))))
+        (λ _. 2 ^ 64 ≤ size_of (plain (tree_of tref.now))) }
+{
+    match tref {
+        TypeRef::Name(named) => named_layout(names, named),
+        TypeRef::Value(datatype) => datatype_layout(names, datatype),
+    }
+}
+
+/// The layout of a name.
+#[tactic(auto, using(crate::proofs::NameSteps::layout_steps))]
+fn named_layout(names: NamedLayouts, named: &NamedType) -> Result<SizeAlign, TooLarge>
+    requires { NamesKnown names (named_tree named.now) }
+    ensures { MatchResult result
+        (λ v. (v.size ≡ size_of (plain (named_tree named.now))) × (v.align ≡ align_of (plain (named_tree named.now))))
+        (λ _. 2 ^ 64 ≤ size_of (plain (named_tree named.now))) }
+{
+    match names {
+        NamedLayouts::Kept(table) => Ok(kept_layout(table, named)),
+        NamedLayouts::LookedThrough => named.mem_size_align(),
+    }
+}
+
+/// The layout of a name, which is kept.
+#[tactic(auto, using(crate::proofs::NameSteps::layout_steps))]
+fn kept_layout(table: &NameMap<SizeAlign>, named: &NamedType) -> SizeAlign
+    requires { Knows table.now (named_tree named.now) }
+    ensures size { result.size ≡ size_of (plain (named_tree named.now)) }
+    ensures align { result.align ≡ align_of (plain (named_tree named.now)) }
+{
+    match table.get(&named.name) {
+        Some(layout) => *layout,
+        None => unreachable!(),
+    }
+}
+
+/// The layout of a type that is written out.
+#[cycle(layouts)]
+#[tactic(auto, using(crate::proofs::NameSteps::layout_steps))]
+fn datatype_layout(names: NamedLayouts, datatype: &Datatype) -> Result<SizeAlign, TooLarge>
+    requires { NamesKnown names (datatype_tree datatype.now) }
+    ensures { MatchResult result
+        (λ v. (v.size ≡ size_of (plain (datatype_tree datatype.now))) × (v.align ≡ align_of (plain (datatype_tree datatype.now))))
+        (λ _. 2 ^ 64 ≤ size_of (plain (datatype_tree datatype.now))) }
+{
+    match datatype {
+        Datatype::Record(record) => record_layout(names, record),
+        Datatype::Variant(variant) => variant_layout(names, variant),
+        Datatype::Handle(_)
+        | Datatype::List(_)
+        | Datatype::Pointer(_)
+        | Datatype::ConstPointer(_)
+        | Datatype::Builtin(_) => datatype.mem_size_align(),
+    }
+}
+
+#[cycle(layouts)]
+#[tactic(auto, using(crate::proofs::NameSteps::layout_steps))]
+fn record_layout(names: NamedLayouts, record_type: &RecordDatatype) -> Result<SizeAlign, TooLarge>
+    requires { NamesKnown names (record_tree record_type.now) }
+    ensures { MatchResult result
+        (λ v. (v.size ≡ size_of (plain (record_tree record_type.now))) × (v.align ≡ align_of (plain (record_tree record_type.now))))
+        (λ _. 2 ^ 64 ≤ size_of (plain (record_tree record_type.now))) }
+{
+    if let RecordKind::Bitflags(_) = record_type.kind {
+        return record_type.mem_size_align();
+    }
+    let members = members_layout(names, record_type.members.as_slice())?;
+    padded(members)
+}
+
+/// The layout of a variant.
+#[cycle(layouts)]
+#[tactic(auto, using(crate::proofs::NameSteps::layout_steps))]
+pub fn variant_layout(names: NamedLayouts, variant: &Variant) -> Result<SizeAlign, TooLarge>
+    requires { NamesKnown names (variant_tree variant.now) }
+    ensures { MatchResult result
+        (λ v. (v.size ≡ size_of (plain (variant_tree variant.now))) × (v.align ≡ align_of (plain (variant_tree variant.now))))
+        (λ _. 2 ^ 64 ≤ size_of (plain (variant_tree variant.now))) }
+{
+    let width = variant.tag_repr.mem_align();
+    let tag = SizeAlign {
+        size: width,
+        align: width,
+    };
+    let payload = greatest_payload(names, variant.cases.as_slice())?;
+    padded(behind(tag, payload)?.reached)
+}
+
+/// Where the members end, one after the other from 0 on, and their greatest alignment.
+#[cycle(layouts)]
+#[tactic(auto, using(crate::proofs::NameSteps::layout_steps))]
+fn members_layout(names: NamedLayouts, members: &[RecordMember]) -> Result<SizeAlign, TooLarge>
+    requires { FieldNamesKnown names (fields_of (map member_field members.now)) }
+    ensures { MatchResult result
+        (λ v. (v.size ≡ members_end 0 (members_plain members.now)) × (v.align ≡ members_align (members_plain members.now)))
+        (λ _. 2 ^ 64 ≤ members_end 0 (members_plain members.now)) }
+{
+    let mut reached = SizeAlign { size: 0, align: 1 };
+    for member in members {
+        let part = type_layout(names, &member.tref)?;
+        reached = behind(reached, part)?.reached;
+    }
+    Ok(reached)
+}
+
+/// The greatest size and the greatest alignment of a payload.
+#[cycle(layouts)]
+#[tactic(auto, using(crate::proofs::NameSteps::layout_steps))]
+fn greatest_payload(names: NamedLayouts, cases: &[Case]) -> Result<SizeAlign, TooLarge>
+    requires { ArmNamesKnown names (arms_of (map case_arm cases.now)) }
+    ensures { MatchResult result
+        (λ v. (v.size ≡ payloads_size (cases_plain cases.now)) × (v.align ≡ payloads_align (cases_plain cases.now)))
+        (λ _. 2 ^ 64 ≤ payloads_size (cases_plain cases.now)) }
+{
+    let mut greatest = SizeAlign { size: 0, align: 1 };
+    for case in cases {
+        let Some(tref) = &case.tref else {
+            continue;
+        };
+        let payload = type_layout(names, tref)?;
+        greatest = SizeAlign {
+            size: greater(greatest.size, payload.size),
+            align: greater(greatest.align, payload.align),
+        };
+    }
+    Ok(greatest)
+}
+
+/// The members of a record that isn't flags, each behind the one before it; too large exactly where the
+/// record is.
+#[tactic(auto, using(crate::proofs::NameSteps::layout_steps))]
+pub fn placed<'a>(
+    alloc: Global,
+    names: NamedLayouts,
+    members: &'a [RecordMember],
+) -> Result<MemberLayouts<'a>, LayoutError>
+    requires { FieldNamesKnown names (fields_of (map member_field members.now)) }
+    ensures members { IfOk result (λ layouts. map (λ m. m.member.now) layouts ≡ members.now) }
+    ensures begins { IfOk result (λ layouts. map (λ m. m.offset) layouts ≡ offsets 0 (members_plain members.now)) }
+    ensures fits { OnOk result (align_to (members_end 0 (members_plain members.now)) (members_align (members_plain members.now)) < 2 ^ 64) }
+    ensures too_large { result ≡ Err LayoutError.TooLarge
+        → 2 ^ 64 ≤ align_to (members_end 0 (members_plain members.now)) (members_align (members_plain members.now)) }
+{
+    let mut layouts = MemberLayouts::new(alloc);
+    let mut reached = SizeAlign { size: 0, align: 1 };
+    for member in members {
+        let part = type_layout(names, &member.tref)?;
+        let next = behind(reached, part)?;
+        layouts.push(RecordMemberLayout {
+            member,
+            offset: next.begin,
+        })?;
+        reached = next.reached;
+    }
+    padded(reached)?;
+    Ok(layouts)
+}
