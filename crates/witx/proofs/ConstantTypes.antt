@@ -14,19 +14,18 @@ use Rattle.witx_ast.specs.Entries.{by_name}
 use Rattle.witx_ast.specs.Definitions.{DefinitionTree, typename_of, module_of, constant_of, introduced, as_typename, typename_called}
 use Rattle.witx_ast.specs.declared.definition.Constant.{Constant}
 use Rattle.witx_ast.proofs.EntryLaws.{names-more, names-same}
-use Rattle.witx_check.specs.Faults.{Check, Fault, first_fault}
-use Rattle.witx_check.specs.Names.{use_check, Sense, a_type, a_module, unfinished, unknown}
-use Rattle.witx_check.specs.Integers.{constant_checks}
-use Rattle.witx_check.specs.DeclarationForms.{DeclForm, typename_form, module_form, constant_form}
-use Rattle.witx_check.specs.Positions.{Taken, Outcome, refused, made_type, made_module, is_name, introducer, denotes_before, sense_after}
-use Rattle.witx_check.specs.Declarations.{Past, nothing_before, decl_checks, decl_tree, accepted}
+use Rattle.witx_scope.specs.Faults.{Check, Fault, first_fault}
+use Rattle.witx_scope.specs.Names.{use_check, Sense, a_type, a_module, unfinished, unknown}
+use Rattle.witx_scope.specs.Integers.{constant_checks}
+use Rattle.witx_scope.specs.DeclarationForms.{DeclForm, typename_form, module_form, constant_form}
+use Rattle.witx_scope.specs.Positions.{Taken, Outcome, refused, made_type, made_module, is_name, introducer, denotes_before, sense_after}
+use Rattle.witx_scope.specs.Declarations.{Past, nothing_before, decl_checks, decl_tree, accepted}
 use Rattle.witx_order.specs.Items.{Declared}
 use Rattle.witx_order.specs.Walks.{World}
 use Rattle.witx_order.specs.Fronts.{AreSound, Means}
 use Rattle.witx_walk.specs.Meaning.{form_of, places_of, form_fault, form_definitions, form_accepted, past_with, definitions_with, past_of, definitions_of, fault_behind, MeansDocument, world}
 use Rattle.witx_walk.proofs.Declarations.{past-more, definitions-more}
-use Rattle.witx_docs.specs.Parts.{constants_in, as_constant}
-use Rattle.witx_docs.specs.LaidOut.{is_typename, unknown_type}
+use Rattle.witx_markdown.specs.Constants.{constants_in, as_constant, is_typename, unknown_type}
 use Rattle.witx.specs.ConstantTypes.{ConstantsHaveTypenames}
 
 -- ---- as what a name is introduced: as a type, or as something else

@@ -11,8 +11,8 @@ use Rattle.witx_bundle.specs.declared.error.BundleError.{BundleError}
 use Rattle.witx_bundle.specs.declared.error.BundleError.TheVariants as bundle
 use Rattle.witx_ast.specs.Misfits.{Misfit, first_misfit}
 use Rattle.witx_ast.specs.Definitions.{DefinitionTree}
-use Rattle.witx_check.specs.Faults.{Fault}
-use Rattle.witx_check.specs.Blame.{fault_of}
+use Rattle.witx_scope.specs.Faults.{Fault}
+use Rattle.witx_scope.specs.Blame.{fault_of}
 use Rattle.witx_layout.specs.LayoutsText.{typename_sizes}
 use Rattle.witx_layout.specs.Refusals.{tag_refusal}
 use Rattle.witx_layout.specs.declared.tags.TagTooNarrow.{TagTooNarrow}

@@ -6,7 +6,7 @@ use Rattle.witx_files.specs.Files.{Aliases, Files}
 use Rattle.witx_ast.specs.Definitions.{DefinitionTree}
 use Rattle.witx_walk.specs.Readings.{Reading}
 use Rattle.witx_walk.specs.Meaning.{MeansDocument, world}
-use Rattle.witx_docs.specs.LaidOut.{unknown_type}
+use Rattle.witx_markdown.specs.Constants.{unknown_type}
 
 abbrev pub ConstantsHaveTypenames : Type 0
 ConstantsHaveTypenames = (files : Files) (aliases : Aliases) (reading : Reading) (handed : List Path) (ds : List DefinitionTree)

@@ -13,14 +13,14 @@ use Rattle.witx_ast.specs.Definitions.{DefinitionTree, ModuleTree, typename_of, 
 use Rattle.witx_syntax_tree.specs.Trees as forms
 use Rattle.witx_comments.specs.Comments.{Comments}
 use Rattle.witx_syntax_tree.specs.Trees.{Name, TypeTree, NotedDecl, NotedItem}
-use Rattle.witx_check.specs.Faults.{Fault, Check, first_fault, name_already_exists}
-use Rattle.witx_check.specs.Names.{Here, Sense, a_type}
-use Rattle.witx_check.specs.Trees.{tree_meant}
-use Rattle.witx_check.specs.Checks.{type_checks}
-use Rattle.witx_check.specs.Modules.{items_checks, item_meant, item_called}
-use Rattle.witx_check.specs.Positions.{Outcome, made_type, made_module, Taken, is_name, introducer, sense_from, sense_after, after, first_place, declared_name}
-use Rattle.witx_check.specs.DeclarationForms.{DeclForm, typename_form, module_form}
-use Rattle.witx_check.specs.Declarations.{Past, decl_checks, decl_tree, accepted}
+use Rattle.witx_scope.specs.Faults.{Fault, Check, first_fault, name_already_exists}
+use Rattle.witx_scope.specs.Names.{Here, Sense, a_type}
+use Rattle.witx_scope.specs.Trees.{tree_meant}
+use Rattle.witx_scope.specs.Checks.{type_checks}
+use Rattle.witx_scope.specs.Modules.{items_checks, item_meant, item_called}
+use Rattle.witx_scope.specs.Positions.{Outcome, made_type, made_module, Taken, is_name, introducer, sense_from, sense_after, after, first_place, declared_name}
+use Rattle.witx_scope.specs.DeclarationForms.{DeclForm, typename_form, module_form}
+use Rattle.witx_scope.specs.Declarations.{Past, decl_checks, decl_tree, accepted}
 use Rattle.witx_order.specs.Items.{Declared}
 use Rattle.witx_order.specs.Walks.{World, declared_in}
 use Rattle.witx_order.specs.Fronts.{AreSound}

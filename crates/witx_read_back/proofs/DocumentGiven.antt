@@ -18,7 +18,7 @@ use Rattle.witx_ast.specs.Tree.{Tree, Field, arm_list}
 use Rattle.witx_ast.specs.Functions.{FunctionTree}
 use Rattle.witx_ast.specs.Items.{ItemTree, import_of, func_of}
 use Rattle.witx_ast.specs.Definitions.{DefinitionTree, ModuleTree, typename_of, module_of, constant_of}
-use Rattle.witx_check.specs.Modules.{item_called}
+use Rattle.witx_scope.specs.Modules.{item_called}
 use Rattle.witx_render.specs.TypeExpressions.{are_bare}
 use Rattle.witx_render.specs.ModuleExpressions.{items_in_order, is_import, is_func}
 use Rattle.witx_render.specs.DocumentTexts.{is_typename, is_module, in_order}

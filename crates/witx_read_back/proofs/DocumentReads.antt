@@ -16,15 +16,15 @@ use Rattle.witx_ast.specs.Definitions.{DefinitionTree, typename_of, module_of, c
 use Rattle.witx_syntax_tree.specs.Trees as forms
 use Rattle.witx_comments.specs.Comments.{Comments}
 use Rattle.witx_syntax_tree.specs.Trees.{Name, QuotedText, TypeTree, Fields, no_fields, one_field, DeclTree, memory, function, NotedDecl, NotedItem}
-use Rattle.witx_syntax.specs.declared.nonterminal.Nonterminal.TheVariants as form
-use Rattle.witx_syntax.specs.declared.production.ProductionName.TheVariants as prod
-use Rattle.witx_syntax.specs.declared.token_kind.TokenKind.{TokenKind}
-use Rattle.witx_syntax.specs.declared.token_kind.TokenKind.TheVariants as kind
-use Rattle.witx_syntax.specs.Actions.{act}
-use Rattle.witx_syntax.specs.Grammar.{the_grammar}
+use Rattle.witx_language.specs.declared.nonterminal.Nonterminal.TheVariants as form
+use Rattle.witx_language.specs.declared.production.ProductionName.TheVariants as prod
+use Rattle.witx_language.specs.declared.token_kind.TokenKind.{TokenKind}
+use Rattle.witx_language.specs.declared.token_kind.TokenKind.TheVariants as kind
+use Rattle.witx_language.specs.Actions.{act}
+use Rattle.witx_language.specs.Grammar.{the_grammar}
 use Rattle.witx_syntax.specs.Reads.{IsDocument}
-use Rattle.witx_syntax.specs.TokenKinds.{token_kind, token_kinds}
-use Rattle.witx_syntax.specs.Values.{Val, leaf, param, result_of, noreturn, stored, an_entry, some_entries, a_decl, some_decls, an_item, some_items}
+use Rattle.witx_language.specs.TokenKinds.{token_kind, token_kinds}
+use Rattle.witx_language.specs.Values.{Val, leaf, param, result_of, noreturn, stored, an_entry, some_entries, a_decl, some_decls, an_item, some_items}
 use Rattle.witx_render.specs.Expressions.{SExpr, vec, word as bare_word, ident, quote, SExprs, nil, ◌▹◌, exprs_of, with_docs}
 use Rattle.witx_render.specs.TypeExpressions.{type_expr, named_expr, witx_expr}
 use Rattle.witx_render.specs.ModuleExpressions.{param_expr, param_exprs, noreturn_mark, stored_mark, func_parts, item_expr, item_exprs, items_in_order}

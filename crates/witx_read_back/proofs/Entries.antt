@@ -6,7 +6,7 @@ use Rattle.witx_ast.specs.Tree.{Tree}
 use Rattle.witx_ast.specs.Entries.{by_name}
 use Rattle.witx_ast.specs.Items.{ItemTree, import_of, func_of, item_name}
 use Rattle.witx_ast.specs.Definitions.{DefinitionTree, ModuleTree, typename_of, module_of, constant_of, introduced}
-use Rattle.witx_check.specs.Modules.{item_called}
+use Rattle.witx_scope.specs.Modules.{item_called}
 use Rattle.witx_render.specs.ModuleExpressions.{items_in_order, is_import, is_func}
 use Rattle.witx_render.specs.DocumentTexts.{is_typename, is_module, in_order}
 use Rattle.witx_read_back.proofs.Printed.{as_printed, emptied_definition}

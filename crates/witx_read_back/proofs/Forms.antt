@@ -8,14 +8,14 @@ use Rattle.witx_grammar.specs.declared.table.Symbol.TheVariants.{Terminal, Nonte
 use Rattle.witx_grammar.proofs.Makes as terms
 use Rattle.witx_grammar.proofs.Makes.{Language, silent, telling, inner, outer, by, stop}
 use Rattle.witx_lex.specs.Tokens.{Token, left, right, id, word, annot, quoted, Lexed}
-use Rattle.witx_syntax.specs.declared.nonterminal.Nonterminal.{Nonterminal as FormName}
-use Rattle.witx_syntax.specs.declared.production.ProductionName.{ProductionName}
-use Rattle.witx_syntax.specs.declared.token_kind.TokenKind.{TokenKind}
-use Rattle.witx_syntax.specs.declared.token_kind.TokenKind.TheVariants as kind
-use Rattle.witx_syntax.specs.Actions.{act}
-use Rattle.witx_syntax.specs.Grammar.{written, production, the_names, the_grammar}
-use Rattle.witx_syntax.specs.TokenKinds.{token_kind}
-use Rattle.witx_syntax.specs.Values.{Val, a_name, a_text, token_values, leaf}
+use Rattle.witx_language.specs.declared.nonterminal.Nonterminal.{Nonterminal as FormName}
+use Rattle.witx_language.specs.declared.production.ProductionName.{ProductionName}
+use Rattle.witx_language.specs.declared.token_kind.TokenKind.{TokenKind}
+use Rattle.witx_language.specs.declared.token_kind.TokenKind.TheVariants as kind
+use Rattle.witx_language.specs.Actions.{act}
+use Rattle.witx_language.specs.Grammar.{written, production, the_names, the_grammar}
+use Rattle.witx_language.specs.TokenKinds.{token_kind}
+use Rattle.witx_language.specs.Values.{Val, a_name, a_text, token_values, leaf}
 use Rattle.witx_syntax_tree.specs.Trees.{Name, QuotedText}
 use Rattle.witx_render.specs.Expressions.{SExpr, with_docs}
 use Rattle.witx_read_back.specs.PrintedTokens.{expr_tokens}

@@ -17,11 +17,11 @@ use Rattle.witx_ast.specs.Words.{is_bool_arms}
 use Rattle.witx_syntax_tree.specs.declared.tree.BuiltinSyntax.{BuiltinSyntax}
 use Rattle.witx_comments.specs.Comments.{Comments}
 use Rattle.witx_syntax_tree.specs.Trees.{Name, Member, TypeTree, Maybe, Types, Fields, UnionFields, Cases, absent, present, no_types, one_type, no_fields, one_field, no_union_fields, one_union_field, no_cases, one_case}
-use Rattle.witx_check.specs.Faults.{Fault, Check, first_fault, name_already_exists, anonymous_record}
-use Rattle.witx_check.specs.Names.{Here, Marks, Sense, unknown, unfinished, a_module, a_type, sense_tree, new_mark, use_check}
-use Rattle.witx_check.specs.Tags.{repr_check, tag_checks, tag_repr, tag_names, size_check, case_check, repr_meant}
-use Rattle.witx_check.specs.Trees.{tree_meant, maybe_tree, types_meant, union_arms, fields_meant, case_arms, bool_tree, member_arm, flag_field, enum_tree, flags_tree, in_order, arm_called, bare_arm, union_name, expected_tree}
-use Rattle.witx_check.specs.Checks.{type_checks, maybe_checks, each_type_checks, union_field_checks, field_checks, case_checks, member_checks, anonymous, cases_count, union_fields_count}
+use Rattle.witx_scope.specs.Faults.{Fault, Check, first_fault, name_already_exists, anonymous_record}
+use Rattle.witx_scope.specs.Names.{Here, Marks, Sense, unknown, unfinished, a_module, a_type, sense_tree, new_mark, use_check}
+use Rattle.witx_scope.specs.Tags.{repr_check, tag_checks, tag_repr, tag_names, size_check, case_check, repr_meant}
+use Rattle.witx_scope.specs.Trees.{tree_meant, maybe_tree, types_meant, union_arms, fields_meant, case_arms, bool_tree, member_arm, flag_field, enum_tree, flags_tree, in_order, arm_called, bare_arm, union_name, expected_tree}
+use Rattle.witx_scope.specs.Checks.{type_checks, maybe_checks, each_type_checks, union_field_checks, field_checks, case_checks, member_checks, anonymous, cases_count, union_fields_count}
 use Rattle.witx_render.specs.TypeExpressions.{are_bare}
 use Rattle.witx_read_back.specs.Emptied.{emptied}
 use Rattle.witx_read_back.proofs.Stands.{Denotes, field_names, AreFlags, NumbersFrom, StandsRecord, StandsVariant, Stands, FieldsStand, ArmsStand}

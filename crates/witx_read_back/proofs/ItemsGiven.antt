@@ -9,12 +9,12 @@ use Rattle.witx_ast.specs.Results.{results_reason}
 use Rattle.witx_ast.specs.Items.{ItemTree, import_of, func_of}
 use Rattle.witx_comments.specs.Comments.{Comments}
 use Rattle.witx_syntax_tree.specs.Trees.{Name, QuotedText, TypeTree, Fields, no_fields, one_field, DeclTree, memory, function, NotedDecl}
-use Rattle.witx_check.specs.Faults.{Fault, Check, first_fault, abi}
-use Rattle.witx_check.specs.Names.{Here, Marks, new_mark}
-use Rattle.witx_check.specs.Trees.{tree_meant, fields_meant}
-use Rattle.witx_check.specs.Checks.{type_checks, field_checks}
-use Rattle.witx_check.specs.Functions.{fields_scope, result_checks, abi_of, abi_check, func_checks}
-use Rattle.witx_check.specs.Modules.{item_checks, items_checks, with_name, decl_meant, item_meant, item_called}
+use Rattle.witx_scope.specs.Faults.{Fault, Check, first_fault, abi}
+use Rattle.witx_scope.specs.Names.{Here, Marks, new_mark}
+use Rattle.witx_scope.specs.Trees.{tree_meant, fields_meant}
+use Rattle.witx_scope.specs.Checks.{type_checks, field_checks}
+use Rattle.witx_scope.specs.Functions.{fields_scope, result_checks, abi_of, abi_check, func_checks}
+use Rattle.witx_scope.specs.Modules.{item_checks, items_checks, with_name, decl_meant, item_meant, item_called}
 use Rattle.witx_read_back.proofs.Stands.{Denotes, param_names, scope_after, ParamsStand, FuncStands, ItemStands, ItemsStand}
 use Rattle.witx_read_back.specs.Distinct.{any_same, AllNew}
 use Rattle.witx_read_back.specs.Plain.{PlainType, PlainParams, PlainItem, PlainItems}

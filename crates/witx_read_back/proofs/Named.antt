@@ -12,11 +12,11 @@ use Rattle.witx_base.specs.Texts.{same_text}
 use Rattle.witx_comments.specs.Comments.{Comments}
 use Rattle.witx_syntax_tree.specs.Trees.{Name, Member, TypeTree, Maybe, Types, Fields, UnionFields, Cases, absent, present, no_types, one_type, no_fields, one_field, no_union_fields, one_union_field, no_cases, one_case}
 use Rattle.witx_syntax.specs.Names.{NamesOfMembers, NamesOfType, NamesOfMaybe, NamesOfTypes, NamesOfFields, NamesOfUnionFields, NamesOfCases}
-use Rattle.witx_check.specs.Faults.{Check, union_size_mismatch}
-use Rattle.witx_check.specs.Names.{Here, Marks, Sense, a_type, sense_tree, new_mark, use_check}
-use Rattle.witx_check.specs.Tags.{tag_checks, tag_names, names_in, size_check, case_check, arm_names, repr_check}
-use Rattle.witx_check.specs.Trees.{tree_meant, maybe_tree, types_meant, union_arms, fields_meant, case_arms, bool_tree, member_arm, flag_field, in_order, arm_called, bare_arm, union_name, nth_name, number_name}
-use Rattle.witx_check.specs.Checks.{type_checks, maybe_checks, each_type_checks, union_field_checks, field_checks, case_checks, member_checks, anonymous, cases_count, union_fields_count}
+use Rattle.witx_scope.specs.Faults.{Check, union_size_mismatch}
+use Rattle.witx_scope.specs.Names.{Here, Marks, Sense, a_type, sense_tree, new_mark, use_check}
+use Rattle.witx_scope.specs.Tags.{tag_checks, tag_names, names_in, size_check, case_check, arm_names, repr_check}
+use Rattle.witx_scope.specs.Trees.{tree_meant, maybe_tree, types_meant, union_arms, fields_meant, case_arms, bool_tree, member_arm, flag_field, in_order, arm_called, bare_arm, union_name, nth_name, number_name}
+use Rattle.witx_scope.specs.Checks.{type_checks, maybe_checks, each_type_checks, union_field_checks, field_checks, case_checks, member_checks, anonymous, cases_count, union_fields_count}
 use Rattle.witx_read_back.specs.DocumentTexts.{Claims, TypeTexts, TupleTexts, FieldTexts, FlagTexts, CaseTexts}
 use Rattle.witx_read_back.proofs.Readable.{IsRun, IsIdentifier}
 use Rattle.witx_read_back.proofs.Fine.{Pass}

@@ -9,14 +9,14 @@ use Rattle.witx_syntax_tree.specs.Trees as forms
 use Rattle.witx_comments.specs.Comments.{Comments}
 use Rattle.witx_syntax_tree.specs.Trees.{Name, QuotedText, Fields, no_fields, one_field, DeclTree, memory, function, NotedDecl}
 use Rattle.witx_syntax.specs.Names.{NamesOfFields, NamesOfDecl, NamesOfDecls, NamesOfItem}
-use Rattle.witx_check.specs.Faults.{Fault}
-use Rattle.witx_check.specs.Names.{Here, Marks, Sense, unknown, unfinished, a_module, a_type, new_mark}
-use Rattle.witx_check.specs.Trees.{tree_meant, fields_meant}
-use Rattle.witx_check.specs.Checks.{type_checks, field_checks}
-use Rattle.witx_check.specs.Functions.{fields_scope, result_checks, abi_of, abi_check}
-use Rattle.witx_check.specs.Modules.{item_checks, items_checks, with_name, decl_meant, item_meant}
-use Rattle.witx_check.specs.Positions.{Outcome, refused, made_type, made_module, Taken, is_name, introducer, sense_from, sense_after, after, declared_name}
-use Rattle.witx_check.specs.Declarations.{Past, nothing_before}
+use Rattle.witx_scope.specs.Faults.{Fault}
+use Rattle.witx_scope.specs.Names.{Here, Marks, Sense, unknown, unfinished, a_module, a_type, new_mark}
+use Rattle.witx_scope.specs.Trees.{tree_meant, fields_meant}
+use Rattle.witx_scope.specs.Checks.{type_checks, field_checks}
+use Rattle.witx_scope.specs.Functions.{fields_scope, result_checks, abi_of, abi_check}
+use Rattle.witx_scope.specs.Modules.{item_checks, items_checks, with_name, decl_meant, item_meant}
+use Rattle.witx_scope.specs.Positions.{Outcome, refused, made_type, made_module, Taken, is_name, introducer, sense_from, sense_after, after, declared_name}
+use Rattle.witx_scope.specs.Declarations.{Past, nothing_before}
 use Rattle.witx_order.specs.Items.{Declared}
 use Rattle.witx_order.specs.Walks.{World}
 use Rattle.witx_order.specs.Fronts.{AreSound}

@@ -9,8 +9,8 @@ use Rattle.witx_lex.specs.Tokens.{Lexed}
 use Rattle.witx_syntax_tree.specs.Trees as forms
 use Rattle.witx_syntax_tree.specs.Trees.{NotedItem, Document}
 use Rattle.witx_syntax.specs.Reads.{Reads}
-use Rattle.witx_check.specs.Faults.{Fault}
-use Rattle.witx_check.specs.Positions.{Taken}
+use Rattle.witx_scope.specs.Faults.{Fault}
+use Rattle.witx_scope.specs.Positions.{Taken}
 use Rattle.witx_order.specs.Items.{Item, declaration, item_of, item_at, items_of, Declared, SyntaxFault}
 use Rattle.witx_order.specs.Walks.{World, Mark, start, decl, end, Place, place, open_file, declared_in, item_wish, met, beginning, folder_of, Next, started}
 use Rattle.witx_order.specs.Verdicts.{Verdict, fine, Turn, on, ends, turn, turned, checked, Leads, here, along, Ends, IsVerdict}

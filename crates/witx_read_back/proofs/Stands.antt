@@ -12,9 +12,9 @@ use Rattle.witx_ast.specs.Items.{ItemTree, import_of, func_of}
 use Rattle.witx_ast.specs.Definitions.{DefinitionTree, typename_of, module_of, constant_of}
 use Rattle.witx_ast.specs.Results.{results_reason}
 use Rattle.witx_ast.specs.Words.{is_bool_arms}
-use Rattle.witx_check.specs.Trees.{bool_tree, number_name}
-use Rattle.witx_check.specs.Tags as tags
-use Rattle.witx_check.specs.Modules.{item_called}
+use Rattle.witx_scope.specs.Trees.{bool_tree, number_name}
+use Rattle.witx_scope.specs.Tags as tags
+use Rattle.witx_scope.specs.Modules.{item_called}
 use Rattle.witx_render.specs.TypeExpressions.{are_bare}
 use Rattle.witx_render.specs.ModuleExpressions.{items_in_order}
 use Rattle.witx_read_back.specs.Distinct.{any_same, AllNew}

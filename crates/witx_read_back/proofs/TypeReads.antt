@@ -14,12 +14,12 @@ use Rattle.witx_ast.specs.Words.{is_bool_arms}
 use Rattle.witx_syntax_tree.specs.declared.tree.BuiltinSyntax.{BuiltinSyntax}
 use Rattle.witx_comments.specs.Comments.{Comments}
 use Rattle.witx_syntax_tree.specs.Trees.{Name, Member, TypeTree, Maybe, Types, Fields, Cases, absent, present, no_types, one_type, no_fields, one_field, no_cases, one_case}
-use Rattle.witx_syntax.specs.declared.nonterminal.Nonterminal.TheVariants as form
-use Rattle.witx_syntax.specs.declared.production.ProductionName.TheVariants as prod
-use Rattle.witx_syntax.specs.declared.token_kind.TokenKind.TheVariants as kind
-use Rattle.witx_syntax.specs.TokenKinds.{token_kind}
-use Rattle.witx_syntax.specs.Values.{Val, a_name, a_builtin, a_type, some_types, a_member, some_members, a_field, some_fields, a_case, some_cases}
-use Rattle.witx_check.specs.Tags.{builtin_type, repr_of}
+use Rattle.witx_language.specs.declared.nonterminal.Nonterminal.TheVariants as form
+use Rattle.witx_language.specs.declared.production.ProductionName.TheVariants as prod
+use Rattle.witx_language.specs.declared.token_kind.TokenKind.TheVariants as kind
+use Rattle.witx_language.specs.TokenKinds.{token_kind}
+use Rattle.witx_language.specs.Values.{Val, a_name, a_builtin, a_type, some_types, a_member, some_members, a_field, some_fields, a_case, some_cases}
+use Rattle.witx_scope.specs.Tags.{builtin_type, repr_of}
 use Rattle.witx_render.specs.Expressions.{SExpr, vec, word as bare_word, ident, annot as annotation, SExprs, nil, cons, ◌▹◌, with_docs}
 use Rattle.witx_render.specs.TypeExpressions.{builtin_expr, repr_expr, width_expr, are_bare, variant_expr, type_expr, member_exprs, case_exprs}
 use Rattle.witx_read_back.specs.PrintedTokens.{expr_tokens, exprs_tokens}

@@ -12,8 +12,9 @@ use Rattle.witx_ast.specs.Definitions.{DefinitionTree, typename_of, module_of, c
 use Rattle.witx_syntax_tree.specs.Trees as forms
 use Rattle.witx_syntax_tree.specs.Trees.{NotedItem, Document}
 use Rattle.witx_syntax.specs.Names.{AllNames, NamesOfItem}
-use Rattle.witx_syntax.specs.Reads.{Reads, IsFaultOf, Told}
-use Rattle.witx_check.specs.Faults.{Fault}
+use Rattle.witx_language.specs.FaultPlaces.{Told}
+use Rattle.witx_syntax.specs.Reads.{Reads, IsFaultOf}
+use Rattle.witx_scope.specs.Faults.{Fault}
 use Rattle.witx_order.specs.Items.{Item, declaration, use_of, item_at, item_of, items_of, Declared, SyntaxFault}
 use Rattle.witx_order.specs.Walks.{World, IsRead}
 use Rattle.witx_order.specs.Fronts.{AreSound}

@@ -12,7 +12,7 @@ use Rattle.witx_ast.specs.Tree.{Tree, Fields, Arms, Field, arm_list}
 use Rattle.witx_ast.specs.Words.{is_bool_arms}
 use Rattle.witx_ast.specs.Items.{ItemTree, import_of, func_of}
 use Rattle.witx_ast.specs.Definitions.{DefinitionTree, typename_of, module_of, constant_of}
-use Rattle.witx_check.specs.Tags.{arm_names}
+use Rattle.witx_scope.specs.Tags.{arm_names}
 use Rattle.witx_render.specs.Expressions.{SExpr, vec, word, ident, quote, annot, docs, SExprs, nil, cons}
 use Rattle.witx_render.specs.TypeExpressions.{are_bare}
 use Rattle.witx_render.specs.DocumentTexts.{document_exprs}

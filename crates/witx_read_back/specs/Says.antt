@@ -10,7 +10,7 @@ use Rattle.witx_syntax_tree.specs.declared.tree.BuiltinSyntax.{BuiltinSyntax}
 use Rattle.witx_syntax_tree.specs.Trees as forms
 use Rattle.witx_comments.specs.Comments.{Comments}
 use Rattle.witx_syntax_tree.specs.Trees.{Name, QuotedText, Member, DeclTree, memory, function, NotedDecl, NotedItem, TypeTree, Maybe, Types, Fields, Cases, absent, present, no_types, one_type, no_fields, one_field, no_cases, one_case}
-use Rattle.witx_check.specs.Tags.{builtin_type, repr_of}
+use Rattle.witx_scope.specs.Tags.{builtin_type, repr_of}
 use Rattle.witx_ast.specs.Items.{ItemTree, import_of, func_of}
 use Rattle.witx_ast.specs.Definitions.{DefinitionTree, typename_of, module_of, constant_of}
 use Rattle.witx_render.specs.TypeExpressions.{are_bare}

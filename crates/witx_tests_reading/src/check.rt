@@ -3,7 +3,7 @@
 
 ghost use Rattle.std.specs.Prelude.{◌≡◌, ◌∷◌, [], IfOk, map};
 ghost use Rattle.witx_ast.specs.Definitions.{definition_tree};
-ghost use Rattle.witx_check.specs.Validates.{definition_alone, site};
+ghost use Rattle.witx_scope.specs.Validates.{definition_alone, site};
 
 use std::alloc::Global;
 use witx_ast::{Definitions, Document};

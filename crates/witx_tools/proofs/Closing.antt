@@ -18,12 +18,12 @@ use Rattle.witx_ast.specs.Items.{ItemTree}
 use Rattle.witx_ast.specs.Ordered.{NamesStand}
 use Rattle.witx_ast.specs.Tree.{Tree}
 use Rattle.witx_check.proofs.Orders.{closed-last, key-of, tree-stands}
-use Rattle.witx_check.specs.DeclarationForms.{DeclForm, constant_form, module_form, typename_form}
-use Rattle.witx_check.specs.Declarations.{Past, accepted, decl_tree, nothing_before}
-use Rattle.witx_check.specs.Modules.{decl_meant, item_meant}
-use Rattle.witx_check.specs.Names.{Here, sense_tree}
-use Rattle.witx_check.specs.Positions.{Outcome, Taken, after, introducer, is_name, made_module, made_type, own_sense, refused, sense_after}
-use Rattle.witx_check.specs.Trees.{fields_meant}
+use Rattle.witx_scope.specs.DeclarationForms.{DeclForm, constant_form, module_form, typename_form}
+use Rattle.witx_scope.specs.Declarations.{Past, accepted, decl_tree, nothing_before}
+use Rattle.witx_scope.specs.Modules.{decl_meant, item_meant}
+use Rattle.witx_scope.specs.Names.{Here, sense_tree}
+use Rattle.witx_scope.specs.Positions.{Outcome, Taken, after, introducer, is_name, made_module, made_type, own_sense, refused, sense_after}
+use Rattle.witx_scope.specs.Trees.{fields_meant}
 use Rattle.witx_order.specs.Items.{Declared}
 use Rattle.witx_walk.specs.Meaning.{definitions_from, definitions_of, form_accepted, form_definitions, form_of, past_from, past_with, places_of, definitions_with}
 use Rattle.witx_walk.specs.Readings.{OneReading}

@@ -6,7 +6,7 @@ use Rattle.witx_base.specs.Paths.{Path}
 use Rattle.witx_files.specs.Files.{Files, canonical, held}
 use Rattle.witx_bundle.specs.Bundles.{IsRead}
 use Rattle.witx_ast.specs.Definitions.{DefinitionTree}
-use Rattle.witx_check.specs.Faults.{Fault}
+use Rattle.witx_scope.specs.Faults.{Fault}
 use Rattle.witx_order.specs.Walks.{World}
 use Rattle.witx_walk.specs.Answers.{Answer, Answers, OneAnswer}
 use Rattle.witx_walk.specs.Meaning.{fault_behind, world}

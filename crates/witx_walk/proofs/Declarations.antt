@@ -8,11 +8,11 @@ use Rattle.witx_syntax_tree.specs.declared.tree.DeclSyntax.TheVariants as decl
 use Rattle.witx_ast.specs.Definitions.{definition_tree, DefinitionsFit}
 use Rattle.witx_ast.specs.Ordered.{IsOrdered}
 use Rattle.witx_ast.specs.Closed.{IsClosed}
-use Rattle.witx_check.specs.Faults.{first_fault}
-use Rattle.witx_check.specs.Places.{location_in}
-use Rattle.witx_check.specs.DeclarationForms.{decl_form_of}
-use Rattle.witx_check.specs.Declarations.{Past, nothing_before, decl_checks, decl_tree, accepted}
-use Rattle.witx_check.specs.Kept.{Keeps}
+use Rattle.witx_scope.specs.Faults.{first_fault}
+use Rattle.witx_scope.specs.Places.{location_in}
+use Rattle.witx_scope.specs.DeclarationForms.{decl_form_of}
+use Rattle.witx_scope.specs.Declarations.{Past, nothing_before, decl_checks, decl_tree, accepted}
+use Rattle.witx_scope.specs.Kept.{Keeps}
 use Rattle.witx_check.specs.Validators.{kept_by}
 use Rattle.witx_order.specs.Items.{Declared}
 use Rattle.witx_order.specs.Walks.{declared_in}

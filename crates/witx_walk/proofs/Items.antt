@@ -10,7 +10,7 @@ use Rattle.witx_syntax_tree.specs.declared.tree.DeclSyntax.{DeclSyntax}
 use Rattle.witx_syntax_tree.specs.declared.tree.DeclSyntax.TheVariants as decl
 use Rattle.witx_syntax_tree.specs.declared.tree.TopLevelSyntax.{TopLevelSyntax}
 use Rattle.witx_syntax_tree.specs.declared.tree.TopLevelSyntax.TheVariants as top
-use Rattle.witx_check.specs.Faults.{Fault}
+use Rattle.witx_scope.specs.Faults.{Fault}
 use Rattle.witx_order.specs.Items.{Item, declaration, use_of, item_at, item_of, items_of, Declared}
 use Rattle.witx_order.specs.Walks.{World, OpenFile, open_file, declared_in, Place, place, wish, reach}
 use Rattle.witx_order.specs.Verdicts.{Leads}

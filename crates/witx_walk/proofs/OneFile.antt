@@ -10,7 +10,7 @@ use Rattle.witx_files.proofs.SamePaths.{same-test}
 use Rattle.witx_ast.specs.Entries.{Held}
 use Rattle.witx_ast.specs.declared.definition.Definition.{Definition}
 use Rattle.witx_ast.specs.declared.definition.Entry.{Entry}
-use Rattle.witx_check.specs.Faults.{Fault}
+use Rattle.witx_scope.specs.Faults.{Fault}
 use Rattle.witx_order.specs.Items.{Declared}
 use Rattle.witx_order.specs.Walks.{World, Mark, start, decl, skip, end, Place, Next, go, stuck, over, next, is_taken, beginning, too_many}
 use Rattle.witx_order.specs.Verdicts.{Verdict, refused, on, ends, turn, turned, checked, Leads, here, along, Ends, IsVerdict}

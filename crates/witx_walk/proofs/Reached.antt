@@ -4,12 +4,12 @@ use Rattle.witx_base.specs.Paths.{Path}
 use Rattle.witx_files.specs.Files.{Files, Aliases, held, canonical}
 use Rattle.witx_files.specs.Answers.{Holds, Lacks, StandsFor}
 use Rattle.witx_files.specs.declared.fault.IoFault.TheVariants.{NotFound, LineNotFound, Failed}
-use Rattle.witx_check.specs.Faults.{Fault}
+use Rattle.witx_scope.specs.Faults.{Fault}
 use Rattle.witx_syntax.specs.Reads.{IfParse}
-use Rattle.witx_syntax.specs.declared.error.ParseError.{ParseError}
-use Rattle.witx_syntax.specs.declared.error.ParseFault.{ParseFault}
-use Rattle.witx_syntax.specs.declared.error.SyntaxError.{SyntaxError}
-use Rattle.witx_syntax.specs.declared.error.SyntaxError.TheVariants as syntax
+use Rattle.witx_language.specs.declared.error.ParseError.{ParseError}
+use Rattle.witx_language.specs.declared.error.ParseFault.{ParseFault}
+use Rattle.witx_language.specs.declared.error.SyntaxError.{SyntaxError}
+use Rattle.witx_language.specs.declared.error.SyntaxError.TheVariants as syntax
 use Rattle.witx_order.specs.Items.{Item, Declared, SyntaxFault}
 use Rattle.witx_order.specs.Walks.{World, OpenFile, open_file, Place, place, Wish, reach, wish, is_taken, folder_of, unreadable}
 use Rattle.witx_order.specs.Verdicts.{refused, Leads, here, Ends}

@@ -1,7 +1,8 @@
 -- There is exactly one reading of texts.
 use Rattle.std.proofs.Common.{◌≡◌, ℕ, List, ap, Result, Ok, Err, inl, inr, ◌⊎◌}
 use Rattle.witx_syntax_tree.specs.Trees.{Document}
-use Rattle.witx_syntax.specs.Reads.{Reads, IsFaultOf, Told}
+use Rattle.witx_language.specs.FaultPlaces.{Told}
+use Rattle.witx_syntax.specs.Reads.{Reads, IsFaultOf}
 use Rattle.witx_order.specs.Items.{Item, items_of, SyntaxFault}
 use Rattle.witx_walk.specs.Readings.{Reading, IsReading, OneReading, syntax_fault}
 

@@ -5,8 +5,8 @@ use Rattle.witx_ast.specs.Definitions.{definition_tree, introduced, entry_tree, 
 use Rattle.witx_ast.specs.Ordered.{IsOrdered}
 use Rattle.witx_ast.specs.Closed.{IsClosed}
 use Rattle.witx_ast.specs.declared.definition.Definition.{Definition}
-use Rattle.witx_check.specs.Declarations.{nothing_before}
-use Rattle.witx_check.specs.Kept.{Kept, Keeps}
+use Rattle.witx_scope.specs.Declarations.{nothing_before}
+use Rattle.witx_scope.specs.Kept.{Kept, Keeps}
 use Rattle.witx_check.specs.Validators.{kept_by, nothing_kept}
 use Rattle.witx_walk.specs.Steps.{HasPaths, Tracks}
 use Rattle.witx_walk.specs.declared.walking.Walking.{Walking}

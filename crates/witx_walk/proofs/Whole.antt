@@ -3,7 +3,7 @@ use Rattle.std.proofs.Common.{◌≡◌, ℕ, List, [], refl, sym, ap, ◌∙◌
 use Rattle.witx_base.specs.Paths.{Path}
 use Rattle.witx_files.specs.declared.fault.IoFault.TheVariants.{NotFound, LineNotFound, Failed}
 use Rattle.witx_ast.specs.Definitions.{DefinitionTree, definition_tree}
-use Rattle.witx_check.specs.Faults.{Fault}
+use Rattle.witx_scope.specs.Faults.{Fault}
 use Rattle.witx_order.specs.Walks.{World, place, beginning, Refusal}
 use Rattle.witx_order.specs.Verdicts.{Verdict, fine, refused, IsVerdict}
 use Rattle.witx_order.proofs.Steps.{stopped, ends-after}

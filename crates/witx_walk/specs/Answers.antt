@@ -10,9 +10,9 @@ use Rattle.witx_ast.specs.Definitions.{DefinitionTree, definition_tree}
 use Rattle.witx_ast.specs.Entries.{Held}
 use Rattle.witx_ast.specs.declared.definition.Definition.{Definition}
 use Rattle.witx_ast.specs.declared.definition.Entry.{Entry}
-use Rattle.witx_check.specs.Faults.{Fault}
-use Rattle.witx_check.specs.Blame.{fault_of}
-use Rattle.witx_syntax.specs.declared.error.ParseError.{ParseError}
+use Rattle.witx_scope.specs.Faults.{Fault}
+use Rattle.witx_scope.specs.Blame.{fault_of}
+use Rattle.witx_language.specs.declared.error.ParseError.{ParseError}
 use Rattle.witx_order.specs.Items.{Declared, SyntaxFault}
 use Rattle.witx_order.specs.Walks.{World, Place, Wish, reach, declare, close, unread, nameless, done, wish, is_taken, most_files, Refusal, bad_path, too_many, missing, unreadable, faulty, beginning}
 use Rattle.witx_order.specs.Verdicts.{Verdict, fine, refused, Leads, Ends, IsVerdict}

@@ -6,9 +6,9 @@ use Rattle.witx_base.specs.declared.memory.OutOfMemory as memory
 use Rattle.witx_files.specs.Files.{Files}
 use Rattle.witx_files.specs.declared.fault.IoFault.{IoFault}
 use Rattle.witx_files.specs.declared.fault.IoFault.TheVariants.{NotFound, LineNotFound, Failed}
-use Rattle.witx_check.specs.Blame.{fault_of}
-use Rattle.witx_check.specs.Reports.{IsReport}
-use Rattle.witx_syntax.specs.declared.error.ParseError.{ParseError}
+use Rattle.witx_scope.specs.Blame.{fault_of}
+use Rattle.witx_scope.specs.Reports.{IsReport}
+use Rattle.witx_language.specs.declared.error.ParseError.{ParseError}
 use Rattle.witx_walk.specs.declared.error.WitxError.{WitxError}
 use Rattle.witx_walk.specs.declared.error.WitxError.TheVariants.{Io, Parse, Validation, BadPath, TooManyFiles, OutOfMemory}
 

@@ -7,10 +7,10 @@ use Rattle.witx_files.specs.declared.location.Location.{Location}
 use Rattle.witx_comments.specs.Comments.{Comments}
 use Rattle.witx_syntax_tree.specs.Trees.{ItemTree, uses, typename, module_of, constant}
 use Rattle.witx_ast.specs.Definitions.{DefinitionTree}
-use Rattle.witx_check.specs.Faults.{Fault, first_fault}
-use Rattle.witx_check.specs.Places.{location_in}
-use Rattle.witx_check.specs.DeclarationForms.{DeclForm, typename_form, module_form, constant_form}
-use Rattle.witx_check.specs.Declarations.{Past, nothing_before, decl_checks, decl_tree, accepted}
+use Rattle.witx_scope.specs.Faults.{Fault, first_fault}
+use Rattle.witx_scope.specs.Places.{location_in}
+use Rattle.witx_scope.specs.DeclarationForms.{DeclForm, typename_form, module_form, constant_form}
+use Rattle.witx_scope.specs.Declarations.{Past, nothing_before, decl_checks, decl_tree, accepted}
 use Rattle.witx_order.specs.Items.{Declared}
 use Rattle.witx_order.specs.Walks.{World}
 use Rattle.witx_order.specs.Fronts.{Means}

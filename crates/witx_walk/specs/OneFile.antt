@@ -3,7 +3,7 @@ use Rattle.std.specs.Prelude.{ℕ, List, [], ◌∷◌, Option, None, Some, code
 use Rattle.witx_base.specs.Paths.{Path}
 use Rattle.witx_base.specs.PathOrder.{same_path}
 use Rattle.witx_files.specs.declared.fault.IoFault.TheVariants.{NotFound, LineNotFound, Failed}
-use Rattle.witx_check.specs.Faults.{Fault}
+use Rattle.witx_scope.specs.Faults.{Fault}
 use Rattle.witx_order.specs.Walks.{World}
 use Rattle.witx_order.specs.Verdicts.{Verdict, IsVerdict}
 use Rattle.witx_walk.specs.Readings.{Reading, IsReading}

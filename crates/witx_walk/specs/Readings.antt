@@ -2,7 +2,8 @@
 -- The grammar's definition is a relation; its laws say that there is exactly one such function.
 use Rattle.std.specs.Prelude.{◌≡◌, ℕ, List, Result, Ok, Err}
 use Rattle.witx_syntax_tree.specs.Trees.{Document}
-use Rattle.witx_syntax.specs.Reads.{Reads, IsFaultOf, Told}
+use Rattle.witx_language.specs.FaultPlaces.{Told}
+use Rattle.witx_syntax.specs.Reads.{Reads, IsFaultOf}
 use Rattle.witx_order.specs.Items.{Item, items_of, SyntaxFault}
 
 abbrev pub Reading : Type 0

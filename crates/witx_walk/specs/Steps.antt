@@ -11,9 +11,9 @@ use Rattle.witx_files.specs.declared.fault.IoFault.TheVariants.{NotFound, LineNo
 use Rattle.witx_ast.specs.Definitions.{definition_tree, DefinitionsFit}
 use Rattle.witx_ast.specs.Ordered.{IsOrdered}
 use Rattle.witx_ast.specs.Closed.{IsClosed}
-use Rattle.witx_check.specs.Faults.{Fault}
-use Rattle.witx_check.specs.Blame.{fault_of}
-use Rattle.witx_check.specs.Kept.{Keeps}
+use Rattle.witx_scope.specs.Faults.{Fault}
+use Rattle.witx_scope.specs.Blame.{fault_of}
+use Rattle.witx_scope.specs.Kept.{Keeps}
 use Rattle.witx_check.specs.Validators.{kept_by}
 use Rattle.witx_order.specs.Items.{Declared}
 use Rattle.witx_comments.specs.Comments.{comments_view}

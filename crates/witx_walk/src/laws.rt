@@ -1,6 +1,6 @@
 //! What holds of every text, as functions that do nothing: each contract is a theorem.
 
-ghost use Rattle.witx_check.specs.Faults.{Fault};
+ghost use Rattle.witx_scope.specs.Faults.{Fault};
 ghost use Rattle.witx_order.specs.Laws.{FrontVerdict, OneFinalFront};
 ghost use Rattle.witx_walk.specs.Answers.{OneAnswer};
 ghost use Rattle.witx_walk.specs.Readings.{OneReading};

@@ -6,7 +6,7 @@ ghost use Rattle.witx_order.specs.Walks.{folder_of};
 ghost use Rattle.witx_files.specs.Files.{Files};
 ghost use Rattle.witx_walk.specs.Answers.{Caused, told_fault};
 ghost use Rattle.witx_walk.specs.Meaning.{fault_behind};
-ghost use Rattle.witx_syntax.specs.Reads.{fault_view};
+ghost use Rattle.witx_language.specs.FaultPlaces.{fault_view};
 ghost use Rattle.witx_walk.specs.Readings.{syntax_fault};
 ghost use Rattle.witx_walk.specs.Steps.{Holding, IsDeclared, declared_at, IsGot, IsReached, IsWell, Never};
 

@@ -3,10 +3,10 @@ use Rattle.witx_base.specs.Paths.{Path}
 use Rattle.witx_ast.proofs.EntryLaws.{fits-empty}
 use Rattle.witx_ast.specs.Definitions.{DefinitionTree, DefinitionsFit, definition_tree, entry_tree, introduced}
 use Rattle.witx_comments.specs.Comments.{comments_view}
-use Rattle.witx_check.specs.DeclarationForms.{decl_form_of}
-use Rattle.witx_check.specs.Declarations.{decl_tree, nothing_before}
-use Rattle.witx_check.specs.Places.{location_in}
-use Rattle.witx_check.specs.Kept.{Keeps}
+use Rattle.witx_scope.specs.DeclarationForms.{decl_form_of}
+use Rattle.witx_scope.specs.Declarations.{decl_tree, nothing_before}
+use Rattle.witx_scope.specs.Places.{location_in}
+use Rattle.witx_scope.specs.Kept.{Keeps}
 use Rattle.witx_check.specs.Validators.{kept_by, nothing_kept}
 use Rattle.witx_check.specs.declared.validator.DocValidation.{DocValidation}
 use Rattle.witx_tests_reading.proofs.check.document_of_one.Goals as goal

@@ -9,7 +9,7 @@ use Rattle.witx_order.specs.Items.{items_of}
 use Rattle.witx_order.specs.Walks.{is_taken}
 use Rattle.witx_order.specs.Verdicts.{here}
 use Rattle.witx_walk.specs.Meaning.{world}
-use Rattle.witx_syntax.specs.Reads.{fault_view}
+use Rattle.witx_language.specs.FaultPlaces.{fault_view}
 use Rattle.witx_walk.specs.Readings.{syntax_fault}
 use Rattle.witx_walk.specs.Steps.{has_path}
 use Rattle.witx_walk.proofs.PathSets.{is-taken, has-more, paths-kept, tracks-more}
