@@ -3,21 +3,17 @@ ghost use Rattle.witx_machine.specs.Functions.{Function};
 ghost use Rattle.witx_machine.specs.Signature.{signature_params, signature_results, without_signature};
 ghost use Rattle.witx_machine.specs.Lowerable.{unlowerable};
 ghost use Rattle.witx_machine.specs.Traces.{caller_events, callee_events};
-ghost use Rattle.witx_abi.specs.Views.{called};
-ghost use Rattle.witx_abi.specs.Told.{after, TellsFront, is_bindgen_fault, Counts, unlowerable_place, signature_place};
+ghost use Rattle.witx_instructions.specs.Views.{called};
+ghost use Rattle.witx_instructions.specs.Told.{after, TellsFront, is_bindgen_fault, Counts, unlowerable_place, signature_place};
 
-use crate::bindgen::Bindgen;
-use crate::callee::plan_callee;
-use crate::caller::plan_caller;
-use crate::can_lower::lowerable;
-use crate::error::{AbiError, SignatureError};
-use crate::instruction::WasmTypes;
-use crate::plan::play;
-use crate::pointers::return_pointers;
-use crate::signature::{signature, words_back, words_in};
+use crate::signature::signature;
 use std::alloc::Global;
 use witx_ast::InterfaceFunc;
 use witx_base::{Id, Items, OutOfMemory};
+use witx_instructions::{
+    AbiError, Bindgen, SignatureError, WasmTypes, play, return_pointers, words_back,
+};
+use witx_lowering::{lowerable, plan_callee, plan_caller, words_in};
 
 /// The binary interface of a function.
 pub trait AbiFunc {
@@ -95,7 +91,7 @@ impl AbiFunc for InterfaceFunc {
 }
 
 // The side that calls, of a function that can be lowered.
-#[tactic(auto, using(crate::proofs::Plans::play_rules))]
+#[tactic(auto, using(witx_instructions::proofs::Plans::play_rules))]
 fn play_caller<B: Bindgen>(
     alloc: Global,
     func: &InterfaceFunc,
@@ -120,7 +116,7 @@ fn play_caller<B: Bindgen>(
 }
 
 // The same with the words of the call.
-#[tactic(auto, using(crate::proofs::Plans::play_rules))]
+#[tactic(auto, using(witx_instructions::proofs::Plans::play_rules))]
 fn play_call<'a, B: Bindgen>(
     alloc: Global,
     func: &'a InterfaceFunc,
@@ -149,7 +145,7 @@ fn play_call<'a, B: Bindgen>(
 }
 
 // The side that is called, of a function that can be lowered.
-#[tactic(auto, using(crate::proofs::Plans::play_rules))]
+#[tactic(auto, using(witx_instructions::proofs::Plans::play_rules))]
 fn play_callee<'a, B: Bindgen>(
     alloc: Global,
     func: &'a InterfaceFunc,

@@ -2,22 +2,18 @@ ghost use Rattle.std.specs.Prelude.{◌≡◌, IfOk, None, map};
 ghost use Rattle.witx_machine.specs.Lowerable.{unlowerable};
 ghost use Rattle.witx_machine.specs.Signature.{signature_params, signature_results};
 ghost use Rattle.witx_machine.specs.Traces.{caller_events, callee_events};
-ghost use Rattle.witx_abi.specs.Views.{called, event_of};
+ghost use Rattle.witx_instructions.specs.Views.{called, event_of};
 
-use crate::callee::plan_callee;
-use crate::caller::plan_caller;
-use crate::instruction::WasmTypes;
-use crate::plan::new_plan;
-use crate::pointers::return_pointers;
-use crate::trace::Trace;
 use std::alloc::Global;
 use witx_ast::InterfaceFunc;
 use witx_base::{Id, OutOfMemory};
+use witx_instructions::{Trace, WasmTypes, new_plan, return_pointers};
+use witx_lowering::{plan_callee, plan_caller};
 
 /// The trace of the side that calls a function that can be lowered, with the words of its signature.
 ///
 /// The events are those that [`call_wasm`](crate::AbiFunc::call_wasm) hands a generator.
-#[tactic(auto, using(crate::proofs::Plans::play_rules))]
+#[tactic(auto, using(witx_instructions::proofs::Plans::play_rules))]
 pub fn caller_trace<'a>(
     alloc: Global,
     owner: &'a Id,
@@ -39,7 +35,7 @@ pub fn caller_trace<'a>(
 /// The trace of the side that is called, of a function that can be lowered.
 ///
 /// The events are those that [`call_interface`](crate::AbiFunc::call_interface) hands a generator.
-#[tactic(auto, using(crate::proofs::Plans::play_rules))]
+#[tactic(auto, using(witx_instructions::proofs::Plans::play_rules))]
 pub fn callee_trace<'a>(
     alloc: Global,
     owner: &'a Id,

@@ -1,21 +1,18 @@
-ghost use Rattle.std.specs.Prelude.{◌≡◌, ◌++◌, IfOk, is_none, length, map, position, replicate, take};
+ghost use Rattle.std.specs.Prelude.{◌≡◌, IfOk, is_none, position};
 ghost use Rattle.witx_ast.specs.Plain.{plain};
-ghost use Rattle.witx_ast.specs.Views.{tree_of, datatype_tree, record_tree};
-ghost use Rattle.witx_machine.specs.Functions.{result_cases};
-ghost use Rattle.witx_machine.specs.Signature.{first_wordless, pointers_under, words_of_results, pointers_by, ok_pointers, pointers_of, result_word, signature_params, signature_results, without_signature, words_of_params};
-ghost use Rattle.witx_abi.specs.Views.{called, param_types, pointer_number, payload_tree};
-ghost use Rattle.witx_abi.specs.Told.{signature_place};
+ghost use Rattle.witx_ast.specs.Views.{tree_of};
+ghost use Rattle.witx_machine.specs.Signature.{first_wordless, result_word, signature_params, signature_results, without_signature};
+ghost use Rattle.witx_instructions.specs.Views.{called, param_types};
+ghost use Rattle.witx_instructions.specs.Told.{signature_place};
 
-use crate::error::SignatureError;
-use crate::instruction::WasmTypes;
-use crate::reading::{ok_type, push_param_words, result_cases, result_word};
 use std::alloc::Global;
-use witx_ast::{Abi, Datatype, InterfaceFunc, Params, RecordDatatype, RecordKind, TypeRef};
-use witx_base::{Items, OutOfMemory};
-use witx_machine::{Place, WasmType};
+use witx_ast::{Abi, InterfaceFunc, Params};
+use witx_instructions::{SignatureError, WasmTypes, result_word, words_back};
+use witx_lowering::words_in;
+use witx_machine::Place;
 
 /// The words that go in and those that come back.
-#[tactic(auto, using(crate::proofs::Signatures::signature_rules))]
+#[tactic(auto, using(witx_instructions::proofs::Signatures::signature_rules))]
 pub fn signature(
     alloc: Global,
     func: &InterfaceFunc,
@@ -31,7 +28,7 @@ pub fn signature(
 }
 
 // The first result that would have to come back as a word, and has none.
-#[tactic(auto, using(crate::proofs::Signatures::signature_rules))]
+#[tactic(auto, using(witx_instructions::proofs::Signatures::signature_rules))]
 fn first_wordless(abi: Abi, results: &Params) -> Option<usize>
     ensures { result ≡ first_wordless abi (param_types results.now) }
 {
@@ -49,134 +46,4 @@ fn first_without_word(results: &Params) -> Option<usize>
         .as_slice()
         .iter()
         .position(|each| result_word(&each.tref).is_none())
-}
-
-/// The types of the words that go in.
-#[tactic(auto, using(crate::proofs::Signatures::signature_rules))]
-pub fn words_in(alloc: Global, func: &InterfaceFunc) -> Result<WasmTypes, OutOfMemory>
-    ensures { IfOk result (λ words. words ≡ signature_params (called func.now)) }
-{
-    let mut words = Items::new(alloc);
-    push_params(&mut words, &func.params)?;
-    push_pointers(&mut words, func.abi, &func.results)?;
-    Ok(words)
-}
-
-/// The types of the words that come back.
-#[tactic(auto, using(crate::proofs::Signatures::signature_rules))]
-pub fn words_back(alloc: Global, func: &InterfaceFunc) -> Result<WasmTypes, OutOfMemory>
-    ensures { IfOk result (λ words. words ≡ signature_results (called func.now)) }
-{
-    match func.abi {
-        Abi::Preview1 => result_words(alloc, &func.results),
-        Abi::Stored => Ok(Items::new(alloc)),
-    }
-}
-
-#[tactic(auto, using(crate::proofs::Signatures::signature_rules))]
-fn result_words(alloc: Global, results: &Params) -> Result<WasmTypes, OutOfMemory>
-    ensures { IfOk result (λ words. words ≡ words_of_results (param_types results.now)) }
-{
-    let mut words = Items::new(alloc);
-    for each in results.as_slice() {
-        if let Some(word) = result_word(&each.tref) {
-            words.push(word)?;
-        }
-    }
-    Ok(words)
-}
-
-#[tactic(auto, using(crate::proofs::Signatures::signature_rules))]
-fn push_params(words: &mut WasmTypes, params: &Params) -> Result<(), OutOfMemory>
-    ensures { IfOk result (λ _. words.new ≡ words.old ++ words_of_params (param_types params.now)) }
-{
-    for param in params.as_slice() {
-        push_param_words(words, &param.tref)?;
-    }
-    Ok(())
-}
-
-// A word for each return pointer.
-#[tactic(auto, using(crate::proofs::Signatures::signature_rules))]
-fn push_pointers(words: &mut WasmTypes, abi: Abi, results: &Params) -> Result<(), OutOfMemory>
-    ensures { IfOk result (λ _. words.new ≡ words.old ++ map (λ t. WasmType.I32) (pointers_under abi (param_types results.now))) }
-{
-    match abi {
-        Abi::Preview1 => push_ok_pointers(words, results),
-        Abi::Stored => push_one_pointer(words, results),
-    }
-}
-
-// The pointer to the whole result, if there is one.
-#[tactic(auto, using(crate::proofs::Signatures::signature_rules))]
-fn push_one_pointer(words: &mut WasmTypes, results: &Params) -> Result<(), OutOfMemory>
-    ensures { IfOk result (λ _. words.new ≡ words.old ++ map (λ t. WasmType.I32) (take 1 (param_types results.now))) }
-{
-    match results.get(0) {
-        Some(_) => words.push(WasmType::I32),
-        None => Ok(()),
-    }
-}
-
-// A pointer for each part of what an `ok` carries.
-#[tactic(auto, using(crate::proofs::Signatures::signature_rules))]
-fn push_ok_pointers(words: &mut WasmTypes, results: &Params) -> Result<(), OutOfMemory>
-    ensures { IfOk result (λ _. words.new ≡ words.old ++ map (λ t. WasmType.I32) (pointers_of (param_types results.now))) }
-{
-    for each in results.as_slice() {
-        push_i32s(words, pointer_count(&each.tref))?;
-    }
-    Ok(())
-}
-
-#[tactic(auto, using(crate::proofs::Signatures::signature_rules))]
-fn push_i32s(words: &mut WasmTypes, count: usize) -> Result<(), OutOfMemory>
-    ensures { IfOk result (λ _. words.new ≡ words.old ++ replicate count WasmType.I32) }
-{
-    for _made in 0..count {
-        words.push(WasmType::I32)?;
-    }
-    Ok(())
-}
-
-// How many return pointers a result has.
-#[tactic(auto, using(crate::proofs::Signatures::signature_rules))]
-fn pointer_count(tref: &TypeRef) -> usize
-    ensures { result ≡ length (pointers_by (result_cases (tree_of tref.now))) }
-{
-    match result_cases(tref) {
-        Some(variant) => ok_count(ok_type(variant)),
-        None => 0,
-    }
-}
-
-#[tactic(auto, using(crate::proofs::Signatures::signature_rules))]
-fn ok_count(ok: Option<&TypeRef>) -> usize
-    ensures { result ≡ length (ok_pointers (payload_tree ok.entry)) }
-{
-    match ok {
-        Some(tref) => member_count(tref.type_()),
-        None => 0,
-    }
-}
-
-// The members of a tuple; 1 for another type.
-#[tactic(auto, using(witx_ast::proofs::TreeKinds::kind_rules, crate::proofs::Signatures::signature_rules))]
-fn member_count(datatype: &Datatype) -> usize
-    ensures { result ≡ pointer_number (datatype_tree datatype.now) }
-{
-    match datatype {
-        Datatype::Record(record) => record_count(record),
-        _ => 1,
-    }
-}
-
-#[tactic(auto, using(witx_ast::proofs::TreeKinds::kind_rules, crate::proofs::Signatures::signature_rules))]
-fn record_count(record: &RecordDatatype) -> usize
-    ensures { result ≡ pointer_number (record_tree record.now) }
-{
-    match record.kind {
-        RecordKind::Tuple => record.members.len(),
-        RecordKind::Bitflags(_) | RecordKind::Other => 1,
-    }
 }

@@ -27,7 +27,7 @@ use Rattle.witx_machine.specs.Functions.{Function, function_of}
 use Rattle.witx_machine.specs.Lowerable.{unlowerable}
 use Rattle.witx_machine.specs.Faithful.{Faithful}
 use Rattle.witx_machine.proofs.CellLaws.{traces_are_faithful}
-use Rattle.witx_abi.specs.Views.{called, event_of, param_types}
+use Rattle.witx_instructions.specs.Views.{called, event_of, param_types}
 use Rattle.witx_adapt.specs.declared.adapted.AdaptedFunc.{AdaptedFunc}
 use Rattle.witx_ast.specs.Closed.{ParamNamesStand, ItemNamesStand, AllNamesStand, ClosedAfter, IsClosed}
 use Rattle.witx_adapt.specs.Entries.{Entry, Owned, owned_item, owned_functions, all_functions, entry_of, entry_for, IsFaithful}

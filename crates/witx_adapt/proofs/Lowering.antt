@@ -14,8 +14,8 @@ use Rattle.witx_machine.specs.Functions.{function_of}
 use Rattle.witx_machine.specs.Signature.{signature_params, signature_results}
 use Rattle.witx_machine.specs.Lowerable.{unlowerable}
 use Rattle.witx_machine.specs.Traces.{caller_events, callee_events}
-use Rattle.witx_abi.specs.Views.{called, event_of}
-use Rattle.witx_abi.specs.declared.trace.Trace.{Trace}
+use Rattle.witx_instructions.specs.Views.{called, event_of}
+use Rattle.witx_instructions.specs.declared.trace.Trace.{Trace}
 use Rattle.witx_adapt.specs.declared.error.DocumentError.{DocumentError}
 use Rattle.witx_adapt.specs.declared.error.DocumentError.TheVariants as document_error
 use Rattle.witx_adapt.specs.Entries.{Entry, Owned, entry_of, entry_for}

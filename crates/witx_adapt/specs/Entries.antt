@@ -11,7 +11,7 @@ use Rattle.witx_machine.specs.Functions.{function_of}
 use Rattle.witx_machine.specs.Signature.{signature_params, signature_results}
 use Rattle.witx_machine.specs.Traces.{caller_events, callee_events}
 use Rattle.witx_machine.specs.Faithful.{Faithful}
-use Rattle.witx_abi.specs.Views.{event_of, called}
+use Rattle.witx_instructions.specs.Views.{event_of, called}
 use Rattle.witx_adapt.specs.declared.adapted.AdaptedFunc.{AdaptedFunc}
 
 -- a function's signature and the events of its caller and its callee

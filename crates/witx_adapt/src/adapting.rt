@@ -3,7 +3,7 @@ ghost use Rattle.witx_ast.specs.Functions.{func_tree};
 ghost use Rattle.witx_ast.specs.Items.{item_tree};
 ghost use Rattle.witx_ast.specs.Definitions.{definition_tree, module_tree};
 ghost use Rattle.witx_machine.specs.Lowerable.{unlowerable};
-ghost use Rattle.witx_abi.specs.Views.{called};
+ghost use Rattle.witx_instructions.specs.Views.{called};
 ghost use Rattle.witx_ast.specs.Closed.{IsClosed};
 ghost use Rattle.witx_ast.specs.Ordered.{IsOrdered};
 ghost use Rattle.witx_layout.specs.Layouts.{all_layouts};

@@ -1,6 +1,6 @@
 ghost use Rattle.std.specs.Prelude.{◌≡◌, ◌++◌, OnOk, string_bytes, map, codes, option_map};
 ghost use Rattle.witx_ast.specs.Views.{tree_of, named_tree};
-ghost use Rattle.witx_abi.specs.Views.{event_of, kept_step};
+ghost use Rattle.witx_instructions.specs.Views.{event_of, kept_step};
 ghost use Rattle.witx_adapt.specs.Lines.{event_line, event_lines, event_text, number_field, payload_field, step_fields, step_name, two_names, type_field, finish_text};
 
 use crate::names::{put_quoted, put_signature};

@@ -1,7 +1,7 @@
 ghost use Rattle.std.specs.Prelude.{◌≡◌, ◌++◌, IfOk, OnOk, drop, map, string_bytes};
 ghost use Rattle.witx_ast.specs.Items.{item_tree};
 ghost use Rattle.witx_ast.specs.Definitions.{definition_tree, module_tree};
-ghost use Rattle.witx_abi.specs.Views.{event_of};
+ghost use Rattle.witx_instructions.specs.Views.{event_of};
 ghost use Rattle.witx_adapt.specs.Entries.{lowered};
 ghost use Rattle.witx_adapt.specs.Listings.{constant_line, definition_lines, func_count, func_line, func_lines, import_line, item_lines, listing_text, module_line, next_func_lines, side_lines, stored_mark, typename_lines};
 

@@ -11,8 +11,8 @@ use Rattle.witx_machine.specs.Functions.{Function}
 use Rattle.witx_machine.specs.Machine.{Tried, went, no_rule, stuck_at}
 use Rattle.witx_machine.specs.Positions.{Spot}
 use Rattle.witx_machine.specs.Run.{Outcome}
-use Rattle.witx_abi.specs.Views.{event_of}
-use Rattle.witx_abi.specs.declared.event.Event as declared_event
+use Rattle.witx_instructions.specs.Views.{event_of}
+use Rattle.witx_instructions.specs.declared.event.Event as declared_event
 use Rattle.witx_invoke.specs.Answering.{EndsSeen, HasNotEnded, IsSeen, IsStuck, stated_run}
 use Rattle.witx_invoke.specs.Excepting.{is_excepted}
 use Rattle.witx_invoke.specs.Invoking.{CanRun, IsAnswer, Refuses, seen_of}

@@ -1,7 +1,7 @@
 //! The run of one call over a memory of bytes.
 
 ghost use Rattle.std.specs.Prelude.{◌≡◌, ◌+◌, ◌^◌, IfErr, IfOk, map, nat_lt};
-ghost use Rattle.witx_abi.specs.Views.{called, event_of};
+ghost use Rattle.witx_instructions.specs.Views.{called, event_of};
 ghost use Rattle.witx_bytes.specs.Seen.{seen};
 ghost use Rattle.witx_invoke.specs.Answering.{stated_run};
 ghost use Rattle.witx_invoke.specs.Invoking.{CanRun, IsAnswer, Refuses};

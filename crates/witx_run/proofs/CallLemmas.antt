@@ -23,7 +23,7 @@ use Rattle.witx_machine.specs.Positions.{Spot, in_callee, numbered}
 use Rattle.witx_machine.specs.Run.{words_in, typed, reply_items, itself, one_word, answered, handed_on, called_with, replied}
 use Rattle.witx_machine.proofs.Scalars.{same_types_is, truth}
 use Rattle.witx_machine.proofs.Caller.{all_in_order}
-use Rattle.witx_abi.specs.Views.{param_types}
+use Rattle.witx_instructions.specs.Views.{param_types}
 use Rattle.witx_run.specs.CallViews.{names_function, names_words, reply_on, reply_row, typed_only, words_row, CalleeState, CallerState, Replies, HandsOn, TakesBack, IsAnswered}
 use Rattle.witx_run.specs.MachineViews.{Numbered, state_in}
 use Rattle.witx_run.specs.OutcomeViews.{call_of}

@@ -9,7 +9,7 @@ use Rattle.witx_machine.specs.declared.surface.WasmType.{WasmType}
 use Rattle.witx_machine.specs.contracts.surface.WasmTypePartialEq.TheImpl as wasm
 use Rattle.witx_machine.specs.Words.{same_type, same_types}
 use Rattle.witx_machine.specs.Run.{same_trees}
-use Rattle.witx_abi.specs.Views.{param_types}
+use Rattle.witx_instructions.specs.Views.{param_types}
 
 abbrev pub is_type : TypeRef → InterfaceFuncParam → Bool
 is_type t p = same_tree (tree_of t) (tree_of p.tref)

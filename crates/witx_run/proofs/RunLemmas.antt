@@ -12,8 +12,8 @@ use Rattle.witx_machine.specs.Machine.{Domain, Tried, went, no_rule, stuck_at, n
 use Rattle.witx_machine.specs.Rows.{call_wasm, call_interface}
 use Rattle.witx_machine.specs.Positions.{Spot, in_caller, in_callee, numbered, spotted_run}
 use Rattle.witx_machine.specs.Run.{Call, argument_items, start, itself, taken_back}
-use Rattle.witx_abi.specs.Views.{called, event_of}
-use Rattle.witx_abi.proofs.Results.{length-map}
+use Rattle.witx_instructions.specs.Views.{called, event_of}
+use Rattle.witx_instructions.proofs.Results.{length-map}
 use Rattle.witx_run.specs.CallViews.{Replies, HandsOn, TakesBack}
 use Rattle.witx_run.specs.MachineViews.{Noted, Numbered, Setting, part, spot_in, inside_of, state_in}
 use Rattle.witx_run.specs.OutcomeViews.{call_of, run_of}

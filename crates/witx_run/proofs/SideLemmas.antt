@@ -14,7 +14,7 @@ use Rattle.witx_ast.proofs.TreeKinds.{named-datatype}
 use Rattle.witx_machine.specs.Functions.{name_of}
 use Rattle.witx_machine.specs.Machine.{Item}
 use Rattle.witx_machine.specs.Run.{argument_items}
-use Rattle.witx_abi.specs.Views.{param_types}
+use Rattle.witx_instructions.specs.Views.{param_types}
 use Rattle.witx_run.proofs.StackLemmas.{stack_rules}
 
 no-name : (t : Tree) → is_named t ≡ false → name_of t ≡ None

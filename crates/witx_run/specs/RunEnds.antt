@@ -7,7 +7,7 @@ use Rattle.witx_machine.specs.Functions.{Function}
 use Rattle.witx_machine.specs.Machine.{Domain, Tried, went, no_rule, stuck_at, next, Item, word_item, ended, run_trace}
 use Rattle.witx_machine.specs.Positions.{Spot, in_callee, numbered}
 use Rattle.witx_machine.specs.Run.{Call, Outcome, argument_items, handed_on, itself, start, taken_back}
-use Rattle.witx_abi.specs.Views.{called}
+use Rattle.witx_instructions.specs.Views.{called}
 use Rattle.witx_run.specs.CallViews.{CalleeState, CallerState}
 use Rattle.witx_run.specs.MachineViews.{Noted, Setting, spot_in, state_in}
 use Rattle.witx_run.specs.OutcomeViews.{run_of}

@@ -9,7 +9,7 @@ use Rattle.witx_machine.specs.Machine as machine
 use Rattle.witx_machine.specs.Machine.{Domain, Item, Tried, went, stuck_at, found, next, State, outside, in_lower, in_lift, payload_item, act, give_slot, slot_word, two_blocks, run_block, flowing, play, runs_within}
 use Rattle.witx_machine.specs.Positions.{Spot, numbered}
 use Rattle.witx_machine.specs.Run.{result_has_cases, start}
-use Rattle.witx_abi.specs.Views.{event_of, called}
+use Rattle.witx_instructions.specs.Views.{event_of, called}
 use Rattle.witx_run.specs.Frames.{Frame, leaves, behind, resume}
 use Rattle.witx_run.specs.MachineViews.{Noted, Numbered, Setting, part, spot_in, inside_of, state_in}
 use Rattle.witx_run.specs.SlotViews.{given_slots}

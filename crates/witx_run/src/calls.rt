@@ -7,7 +7,7 @@ ghost use Rattle.witx_machine.specs.Machine.{pushed, word_item};
 ghost use Rattle.witx_machine.specs.Run.{one_word, reply_items, typed, words_in};
 ghost use Rattle.witx_machine.specs.Signature.{signature_results};
 ghost use Rattle.witx_machine.specs.Words.{when};
-ghost use Rattle.witx_abi.specs.Views.{called, param_types};
+ghost use Rattle.witx_instructions.specs.Views.{called, param_types};
 ghost use Rattle.witx_run.specs.CallViews.{reply_on, reply_row, typed_only, words_row, HandsOn, IsAnswered, Replies, TakesBack};
 ghost use Rattle.witx_run.specs.Views.{items_of, reply_of, stack_of};
 
@@ -20,9 +20,9 @@ use crate::sides::{argument_item, word_item};
 use crate::stack::{Stack, values_off, words_off};
 use std::alloc::Global;
 use std::mem::replace;
-use witx_abi::{WasmTypes, words_back};
 use witx_ast::{InterfaceFunc, InterfaceFuncParam, TypeRef};
 use witx_base::{Id, OutOfMemory};
+use witx_instructions::{WasmTypes, words_back};
 use witx_machine::WasmType;
 
 /// What is known of a call, over a domain.

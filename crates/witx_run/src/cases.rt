@@ -4,11 +4,11 @@ ghost use Rattle.std.specs.Prelude.{◌≡◌};
 ghost use Rattle.witx_ast.specs.Views.{tree_of};
 ghost use Rattle.witx_machine.specs.Functions.{result_cases};
 ghost use Rattle.witx_machine.specs.Run.{cases_are, result_has_cases, same_presence};
-ghost use Rattle.witx_abi.specs.Views.{param_types};
+ghost use Rattle.witx_instructions.specs.Views.{param_types};
 ghost use Rattle.witx_run.specs.Views.{type_tree};
 
-use witx_abi::{err_type, ok_type, result_cases};
 use witx_ast::{InterfaceFuncParam, TypeRef};
+use witx_instructions::{err_type, ok_type, result_cases};
 
 /// Whether the first result, which is the function's, has cases that carry something exactly where a type is given here.
 pub(crate) fn has_cases(

@@ -1,12 +1,12 @@
 //! Where the blocks of a trace end.
 
 ghost use Rattle.std.specs.Prelude.{◌≡◌, IfOk, map, reverse};
-ghost use Rattle.witx_abi.specs.Views.{event_of};
+ghost use Rattle.witx_instructions.specs.Views.{event_of};
 ghost use Rattle.witx_run.specs.BlockEnds.{unmatched, block_ends};
 
 use std::alloc::Global;
-use witx_abi::Event;
 use witx_base::OutOfMemory;
+use witx_instructions::Event;
 
 /// For each event, the number of the event that ends a block which would begin there; none where
 /// nothing does. One pass, from the last event to the first.

@@ -6,13 +6,14 @@ ghost use Rattle.witx_ast.specs.Views.{tree_of};
 ghost use Rattle.witx_machine.specs.Run.{same_trees};
 ghost use Rattle.witx_machine.specs.Signature.{signature_params, signature_results};
 ghost use Rattle.witx_machine.specs.Words.{same_types};
-ghost use Rattle.witx_abi.specs.Views.{called, param_types};
+ghost use Rattle.witx_instructions.specs.Views.{called, param_types};
 ghost use Rattle.witx_run.specs.CallViews.{names_function, names_words};
 
 use std::alloc::Global;
-use witx_abi::{WasmTypes, words_back, words_in};
 use witx_ast::{InterfaceFunc, InterfaceFuncParam, TypeRef};
 use witx_base::{Id, Items, OutOfMemory};
+use witx_instructions::{WasmTypes, words_back};
+use witx_lowering::words_in;
 use witx_machine::WasmType;
 
 /// A call as a trace has it: of which function, with which types of values or words.

@@ -20,9 +20,9 @@ use crate::row::{Row, row_of};
 use crate::script::ScriptOf;
 use std::alloc::Global;
 use std::rc::Rc;
-use witx_abi::{Event, TypeRefs, WasmTypes};
-use witx_ast::NamedType;
+use witx_ast::{NamedType, TypeRefs};
 use witx_base::{Id, OutOfMemory};
+use witx_instructions::{Event, WasmTypes};
 
 /// Where a run of a trace has come: the machine, the blocks that are being run, the innermost last, and the
 /// events that are left of the innermost, or of the trace.

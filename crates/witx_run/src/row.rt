@@ -4,15 +4,15 @@ ghost use Rattle.witx_ast.specs.declared.types.BuiltinType.TheVariants.{U8, U32}
 ghost use Rattle.witx_ast.specs.Views.{tree_of};
 ghost use Rattle.witx_machine.specs.Rows.{row};
 ghost use Rattle.witx_machine.specs.Words.{number_of};
-ghost use Rattle.witx_abi.specs.Views.{kept_step};
+ghost use Rattle.witx_instructions.specs.Views.{kept_step};
 ghost use Rattle.witx_run.specs.RowViews.{row_view};
 ghost use Rattle.witx_run.specs.Views.{scalar_of, type_tree};
 
 use crate::conversion::Conversion;
 use std::rc::Rc;
-use witx_abi::{Step, WasmTypes};
 use witx_ast::{BuiltinType, NamedType, TypeRef, TypeRefs};
 use witx_base::Id;
+use witx_instructions::{Step, WasmTypes};
 use witx_machine::WasmType;
 
 /// What a step does: the conversions of a value to its one word are one row, and so are those of a word

@@ -1,7 +1,7 @@
 //! A trace as it is run.
 
 ghost use Rattle.std.specs.Prelude.{◌≡◌, ◌<◌, suc, map, drop, Some, slice_get, option_map, IfOk};
-ghost use Rattle.witx_abi.specs.Views.{event_of};
+ghost use Rattle.witx_instructions.specs.Views.{event_of};
 ghost use Rattle.witx_machine.specs.Events.{push};
 ghost use Rattle.witx_run.specs.BlockEnds.{block_ends, ends_from, first};
 ghost use Rattle.witx_run.specs.ScriptParts.{event_below, finish_value, BlockFound};
@@ -11,9 +11,9 @@ use crate::item::Item;
 use crate::machine::Block;
 use crate::matching::ends_of_blocks;
 use std::alloc::Global;
-use witx_abi::Event;
 use witx_ast::InterfaceFunc;
 use witx_base::OutOfMemory;
+use witx_instructions::Event;
 
 /// The events of a trace with what its steps look at and a run doesn't change.
 #[derive(Drop)]

@@ -7,7 +7,7 @@ ghost use Rattle.witx_machine.specs.Machine as machine_specs;
 ghost use Rattle.witx_machine.specs.Machine.{went, ended};
 ghost use Rattle.witx_machine.specs.Positions.{spotted_run};
 ghost use Rattle.witx_machine.specs.Rows.{call_wasm, call_interface};
-ghost use Rattle.witx_abi.specs.Views.{called, event_of};
+ghost use Rattle.witx_instructions.specs.Views.{called, event_of};
 ghost use Rattle.witx_run.specs.MachineViews.{Noted, Setting, spot_in, state_in};
 ghost use Rattle.witx_run.specs.OutcomeViews.{call_of, run_of};
 ghost use Rattle.witx_run.specs.RunEnds.{CallsNoMore, CalleeComes, CalleeEnds, CallerComes, EndsAs, HandedOn, IsEndWith, IsRunWith, TakenUp, callee_run, finished};
@@ -24,9 +24,9 @@ use crate::progress::{ProgressOf, Stop, run, run_on, start};
 use crate::script::{Script, ScriptOf};
 use crate::sides::{argument_items, word_items};
 use std::alloc::Global;
-use witx_abi::{Event, Events};
 use witx_ast::{InterfaceFunc, TypeRef};
 use witx_base::{Id, OutOfMemory};
+use witx_instructions::{Event, Events};
 use witx_machine::WasmType;
 
 /// How a trace ends that has made its call.

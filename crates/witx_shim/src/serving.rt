@@ -10,8 +10,9 @@ use crate::passed::Shim;
 use crate::passing::words_passed;
 use crate::spans::spans_of;
 use std::alloc::Global;
-use witx_abi::{functions_are_read_as_their_trees, lowerable, words_in};
 use witx_compat::FuncPolyfill;
+use witx_instructions::functions_are_read_as_their_trees;
+use witx_lowering::{lowerable, words_in};
 use witx_machine::shims_are_faithful;
 
 /// The shim of a mapped function: for each parameter of the new function, in order, the words of the old

@@ -18,7 +18,7 @@ use Rattle.witx_machine.specs.Faithful.{are_arguments, is_reply, zero_error}
 use Rattle.witx_machine.specs.Functions.{Function, function_of}
 use Rattle.witx_machine.specs.Lowerable.{first_place, unlowerable, unlowerable_result}
 use Rattle.witx_machine.specs.declared.surface.Place.{Place}
-use Rattle.witx_abi.specs.Views.{called, event_of}
+use Rattle.witx_instructions.specs.Views.{called, event_of}
 use Rattle.witx_adapt.proofs.Fitting.{FunctionsFit, called-same, lowered-none, none-here, none-later}
 use Rattle.witx_adapt.specs.Adaptable.{first_unlowered, unlowered}
 use Rattle.witx_adapt.specs.Entries.{Entry, IsFaithful, Owned, entry_for, entry_of}

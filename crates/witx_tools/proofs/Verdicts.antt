@@ -8,7 +8,7 @@ use Rattle.witx_ast.specs.Functions.{func_tree}
 use Rattle.witx_ast.specs.Items.{ItemTree, func_of, import_of}
 use Rattle.witx_ast.specs.declared.function.InterfaceFunc.{InterfaceFunc}
 use Rattle.witx_machine.specs.Functions.{function_of}
-use Rattle.witx_abi.specs.Views.{called}
+use Rattle.witx_instructions.specs.Views.{called}
 use Rattle.witx_adapt.specs.Entries.{Entry, Owned, all_functions, entry_for, entry_of, lowered, module_functions, owned_item}
 use Rattle.witx_adapt.specs.Listings.{func_count}
 use Rattle.witx_adapt.specs.declared.adapted.Adapted.{Adapted}

@@ -5,7 +5,7 @@ use Rattle.witx_ast.specs.Functions.{func_tree}
 use Rattle.witx_ast.specs.Tags.{function_fits}
 use Rattle.witx_ast.specs.Values.{Value}
 use Rattle.witx_machine.specs.Faithful.{are_arguments, is_reply}
-use Rattle.witx_abi.specs.Views.{called, event_of}
+use Rattle.witx_instructions.specs.Views.{called, event_of}
 use Rattle.witx_adapt.specs.Entries.{IsFaithful}
 use Rattle.witx_adapt.specs.declared.adapted.AdaptedFunc.{AdaptedFunc}
 use Rattle.witx_bytes.specs.Seen.{seen}

@@ -16,7 +16,7 @@ use Rattle.witx_ast.specs.Views.{tree_of}
 use Rattle.witx_ast.proofs.TreeKinds.{kind_rules}
 use Rattle.witx_ast.specs.declared.function.InterfaceFuncParam.{InterfaceFuncParam}
 use Rattle.witx_ast.specs.declared.function.InterfaceFunc.{InterfaceFunc}
-use Rattle.witx_abi.specs.Views.{called, param_types}
+use Rattle.witx_instructions.specs.Views.{called, param_types}
 use Rattle.witx_traces.specs.declared.candidates.KnownTypes.{KnownTypes}
 use Rattle.witx_traces.specs.ReadTypes.{candidate_type, types_in}
 use Rattle.witx_traces.specs.Traces.{Types, err_types, first_shown, held_types, ok_types, payload_types, target, types_of, shown, shown_payload}

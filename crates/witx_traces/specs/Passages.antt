@@ -12,7 +12,7 @@ use Rattle.witx_adapt.specs.Listings.{constant_line, module_line, import_line, f
 use Rattle.witx_traces.specs.declared.passages.Passage as code_passage
 use Rattle.witx_traces.specs.declared.passages.Draft as code_draft
 use Rattle.witx_traces.specs.declared.reading.TracePair as code_pair
-use Rattle.witx_abi.specs.Views.{event_of}
+use Rattle.witx_instructions.specs.Views.{event_of}
 use Rattle.witx_traces.specs.Answers.{Never}
 use Rattle.witx_traces.specs.Traces.{Types, types_of, Offered, offered, Listed, Sides, IsLine, AreLines, one_line, ended}
 

@@ -4,7 +4,7 @@ use Rattle.witx_ast.specs.Tree.{Tree}
 use Rattle.witx_ast.specs.TypeNames.{type_text}
 use Rattle.witx_ast.specs.Views.{tree_of}
 use Rattle.witx_ast.specs.Definitions.{definition_tree, typename_called}
-use Rattle.witx_abi.specs.Views.{param_types}
+use Rattle.witx_instructions.specs.Views.{param_types}
 use Rattle.witx_traces.specs.declared.candidates.Candidate as code_candidate
 use Rattle.witx_traces.specs.declared.candidates.KnownTypes as code_types
 use Rattle.witx_traces.specs.Answers.{Answered}

@@ -11,7 +11,7 @@ use Rattle.witx_ast.specs.TypeNames.{type_text}
 use Rattle.witx_ast.specs.Definitions.{DefinitionTree, definition_tree, typename_called, typename_of, module_of, constant_of}
 use Rattle.witx_machine.specs.Events.{Step, Event, emit, space, push, finish}
 use Rattle.witx_machine.specs.Functions.{Function, result_cases, ok_of, err_of}
-use Rattle.witx_abi.specs.Views.{called}
+use Rattle.witx_instructions.specs.Views.{called}
 use Rattle.witx_adapt.specs.declared.adapted.Adapted.{Adapted}
 use Rattle.witx_adapt.specs.declared.adapted.AdaptedFunc.{AdaptedFunc}
 use Rattle.witx_adapt.specs.Entries.{Lowered, lowered}

@@ -4,7 +4,7 @@ ghost use Rattle.std.specs.Prelude.{◌≡◌, ◌∷◌, ◌++◌, IfOk, Some, 
 ghost use Rattle.std.specs.Fmt.{decimal};
 ghost use Rattle.witx_base.specs.Texts.{same_text};
 ghost use Rattle.witx_ast.specs.Views.{tree_of};
-ghost use Rattle.witx_abi.specs.Views.{event_of, param_types};
+ghost use Rattle.witx_instructions.specs.Views.{event_of, param_types};
 ghost use Rattle.witx_traces.specs.LineParts.{SaidBy, SaidByLine, SaidByText, no_blank};
 ghost use Rattle.witx_traces.specs.LineReading.{NamesAt, NumberAt, PayloadsAt, names_behind, texts_taken};
 ghost use Rattle.witx_traces.specs.ReadTypes.{PayloadAt, types_in};

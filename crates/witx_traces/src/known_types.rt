@@ -8,7 +8,7 @@ ghost use Rattle.witx_ast.specs.Views.{datatype_tree, named_tree, tree_of};
 ghost use Rattle.witx_ast.specs.Definitions.{definition_tree, typename_called};
 ghost use Rattle.witx_ast.specs.TypeNames.{type_text};
 ghost use Rattle.witx_machine.specs.Functions.{err_of, ok_of, result_cases};
-ghost use Rattle.witx_abi.specs.Views.{called, param_types, payload_tree};
+ghost use Rattle.witx_instructions.specs.Views.{called, param_types, payload_tree};
 ghost use Rattle.witx_traces.specs.ReadTypes.{candidate_type, types_in};
 ghost use Rattle.witx_traces.specs.Traces.{err_types, first_shown, held_types, ok_types, payload_types, shown, shown_payload, target, types_of};
 

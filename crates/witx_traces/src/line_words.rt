@@ -2,7 +2,7 @@
 
 ghost use Rattle.std.specs.Prelude.{◌≡◌, map};
 ghost use Rattle.witx_ast.specs.Views.{tree_of, named_tree};
-ghost use Rattle.witx_abi.specs.Views.{event_of, kept_step};
+ghost use Rattle.witx_instructions.specs.Views.{event_of, kept_step};
 ghost use Rattle.witx_traces.specs.LineParts.{named_step, number_step, plain_event, shown_step, spelled_word, the_words, word_spelled};
 
 use std::rc::Rc;

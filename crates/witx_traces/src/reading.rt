@@ -4,7 +4,7 @@ ghost use Rattle.std.specs.Prelude.{◌≡◌, ◌∷◌, ◌++◌, [], ℕ, Lis
 ghost use Rattle.std.specs.List.{AllByRecursion};
 ghost use Rattle.witx_ast.specs.Definitions.{definition_tree};
 ghost use Rattle.witx_adapt.specs.Lines.{event_line, event_lines};
-ghost use Rattle.witx_abi.specs.Views.{event_of};
+ghost use Rattle.witx_instructions.specs.Views.{event_of};
 ghost use Rattle.witx_traces.specs.Passages.{AreFixed, IsCutAt, IsFixed, IsLast, IsPlain, LacksLine, Passage as PassageText, ReadPairs, Stretch, StopsAt, closed, events_of, feeds, indented, pair_text, passage_of, sides_of, stretches};
 ghost use Rattle.witx_traces.specs.ReadTypes.{types_in};
 ghost use Rattle.witx_traces.specs.Refusals.{Refuses, Tells};

@@ -4,7 +4,7 @@ use Rattle.std.specs.Prelude.{None, All, is_none}
 use Rattle.std.proofs.lemmas.List.Elements.{All-cons}
 use Rattle.witx_ast.specs.Tags.{function_fits}
 use Rattle.witx_machine.specs.Functions.{function_of}
-use Rattle.witx_abi.specs.Views.{event_of}
+use Rattle.witx_instructions.specs.Views.{event_of}
 use Rattle.witx_adapt.specs.Adaptable.{unlowered, first_unlowered}
 use Rattle.witx_adapt.specs.Entries.{Entry, Owned, all_functions, entry_for, entry_of}
 use Rattle.witx_adapt.specs.declared.adapted.AdaptedFunc.{AdaptedFunc}

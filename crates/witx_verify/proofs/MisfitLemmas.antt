@@ -6,8 +6,8 @@ use Rattle.witx_ast.specs.Plain.{plain}
 use Rattle.witx_ast.specs.Tags.{fits}
 use Rattle.witx_ast.specs.Views.{tree_of}
 use Rattle.witx_machine.specs.declared.surface.Place.{Place}
-use Rattle.witx_abi.specs.Views.{param_types}
-use Rattle.witx_abi.proofs.Results.{prefix-map, length-map}
+use Rattle.witx_instructions.specs.Views.{param_types}
+use Rattle.witx_instructions.proofs.Results.{prefix-map, length-map}
 use Rattle.witx_verify.specs.Verdicts.{misfit_place}
 
 misfit-types : (ps : List InterfaceFuncParam) → position (λ t. not (fits (plain t))) (param_types ps) ≡ position (λ p. not (fits (plain (tree_of p.tref)))) ps

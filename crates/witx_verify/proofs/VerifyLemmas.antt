@@ -12,9 +12,9 @@ use Rattle.witx_machine.specs.Lowerable.{unlowerable}
 use Rattle.witx_machine.specs.Machine.{Tried}
 use Rattle.witx_machine.specs.Positions.{Spot, spotted_run}
 use Rattle.witx_machine.specs.Run.{Outcome}
-use Rattle.witx_abi.specs.Views.{event_of}
-use Rattle.witx_abi.specs.declared.event.Event as declared_event
-use Rattle.witx_abi.proofs.Sides.{results-can}
+use Rattle.witx_instructions.specs.Views.{event_of}
+use Rattle.witx_instructions.specs.declared.event.Event as declared_event
+use Rattle.witx_instructions.proofs.Sides.{results-can}
 use Rattle.witx_verify.specs.declared.surface.Doubt.{Doubt}
 use Rattle.witx_verify.specs.declared.surface.Verdict.{Verdict}
 use Rattle.witx_verify.specs.declared.world.World as declared_world

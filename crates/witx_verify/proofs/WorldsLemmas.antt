@@ -8,7 +8,7 @@ use Rattle.witx_ast.specs.declared.function.InterfaceFuncParam.{InterfaceFuncPar
 use Rattle.witx_ast.specs.declared.types.Variant.{Variant, out-Variant}
 use Rattle.witx_ast.specs.Tree.{Tree, Arm, arm, arms_of, arm_list}
 use Rattle.witx_ast.specs.Views.{tree_of, case_arm}
-use Rattle.witx_abi.specs.Views.{variant_arms}
+use Rattle.witx_instructions.specs.Views.{variant_arms}
 use Rattle.witx_verify.specs.Symbolic.{World, unknown_world, world_if, worlds_of}
 use Rattle.witx_verify.specs.WordViews.{world_of}
 use Rattle.witx_verify.specs.WorldViews.{worlds_read}

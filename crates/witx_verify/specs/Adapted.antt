@@ -2,7 +2,7 @@
 use Rattle.std.specs.Prelude.{◌≡◌, List, map, All}
 use Rattle.witx_ast.specs.Closed.{IsClosed}
 use Rattle.witx_ast.specs.Definitions.{DefinitionTree}
-use Rattle.witx_abi.specs.Views.{called, event_of}
+use Rattle.witx_instructions.specs.Views.{called, event_of}
 use Rattle.witx_adapt.specs.Adaptable.{IsAdaptable}
 use Rattle.witx_adapt.specs.Entries.{all_functions, entry_for, entry_of}
 use Rattle.witx_adapt.specs.declared.adapted.AdaptedFunc.{AdaptedFunc}

@@ -4,7 +4,7 @@ use Rattle.witx_ast.specs.Closed.{IsClosed}
 use Rattle.witx_ast.specs.Definitions.{DefinitionTree}
 use Rattle.witx_machine.specs.Events.{Event}
 use Rattle.witx_machine.specs.Functions.{Function}
-use Rattle.witx_abi.specs.Views.{called, event_of}
+use Rattle.witx_instructions.specs.Views.{called, event_of}
 use Rattle.witx_adapt.specs.Adaptable.{IsAdaptable}
 use Rattle.witx_adapt.specs.Entries.{all_functions, entry_for, entry_of}
 use Rattle.witx_adapt.specs.declared.adapted.AdaptedFunc.{AdaptedFunc}

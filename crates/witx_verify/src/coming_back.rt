@@ -5,7 +5,7 @@ ghost use Rattle.witx_ast.specs.Views.{tree_of};
 ghost use Rattle.witx_machine.specs.Functions.{is_tuple, result_cases};
 ghost use Rattle.witx_machine.specs.Passage.{last_words};
 ghost use Rattle.witx_machine.specs.Signature.{ok_pointers};
-ghost use Rattle.witx_abi.specs.Views.{param_types, payload_tree, variant_arms};
+ghost use Rattle.witx_instructions.specs.Views.{param_types, payload_tree, variant_arms};
 ghost use Rattle.witx_verify.specs.Verdicts.{gives_back, returns_under, returns_by, returns_whole, returns_case, hold_all, hold_parts, ok_parts, is_case_word};
 ghost use Rattle.witx_verify.specs.Symbolic.{parts_of as symbol_parts};
 ghost use Rattle.witx_verify.specs.PassageParts.{nothing_returns, cases_return, ok_returns, err_returns};

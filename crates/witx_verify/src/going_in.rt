@@ -3,7 +3,7 @@ ghost use Rattle.std.specs.Prelude.{◌≡◌, ◌∷◌, [], length, option_map
 ghost use Rattle.witx_ast.specs.Plain.{plain};
 ghost use Rattle.witx_ast.specs.Views.{tree_of};
 ghost use Rattle.witx_machine.specs.Signature.{param_words};
-ghost use Rattle.witx_abi.specs.Views.{param_types, pointer_types};
+ghost use Rattle.witx_instructions.specs.Views.{param_types, pointer_types};
 ghost use Rattle.witx_verify.specs.Verdicts.{passes, pointers_are, param_are, direct_are, hold_all, is_word_of};
 ghost use Rattle.witx_verify.specs.PassageParts.{words_behind, list_are, one_is};
 ghost use Rattle.witx_verify.specs.OutcomeViews.{words_of};

@@ -3,7 +3,7 @@ ghost use Rattle.std.specs.Prelude.{◌≡◌, ◌∷◌, [], IfOk, option_to_li
 ghost use Rattle.witx_machine.specs.Machine.{went};
 ghost use Rattle.witx_machine.specs.Run.{values_in};
 ghost use Rattle.witx_machine.specs.Signature.{return_pointers};
-ghost use Rattle.witx_abi.specs.Views.{called, pointer_types};
+ghost use Rattle.witx_instructions.specs.Views.{called, pointer_types};
 ghost use Rattle.witx_verify.specs.Verdicts.{judged, are_values};
 ghost use Rattle.witx_verify.specs.OutcomeViews.{item_of, items_of, outcome_of, run_of};
 ghost use Rattle.witx_verify.specs.SymbolViews.{symbol_of};

@@ -3,7 +3,7 @@ ghost use Rattle.std.specs.Prelude.{◌≡◌, not, position};
 ghost use Rattle.witx_ast.specs.Plain.{plain};
 ghost use Rattle.witx_ast.specs.Tags.{fits};
 ghost use Rattle.witx_ast.specs.Views.{tree_of};
-ghost use Rattle.witx_abi.specs.Views.{called};
+ghost use Rattle.witx_instructions.specs.Views.{called};
 ghost use Rattle.witx_verify.specs.Verdicts.{misfit};
 
 use witx_abi::Place;

@@ -2,7 +2,7 @@
 
 ghost use Rattle.std.specs.Prelude.{◌≡◌, ◌+◌, [], length, map, IfOk, IfSome};
 ghost use Rattle.witx_machine.specs.Positions.{spotted_run};
-ghost use Rattle.witx_abi.specs.Views.{called, event_of};
+ghost use Rattle.witx_instructions.specs.Views.{called, event_of};
 ghost use Rattle.witx_run.specs.Views.{reply_of};
 ghost use Rattle.witx_verify.specs.OutcomeViews.{run_of};
 ghost use Rattle.witx_verify.specs.Symbolic.{symbols};

@@ -2,7 +2,7 @@
 ghost use Rattle.std.specs.Prelude.{◌≡◌, IfOk, None, map};
 ghost use Rattle.witx_machine.specs.Faithful.{Faithful};
 ghost use Rattle.witx_machine.specs.Lowerable.{unlowerable};
-ghost use Rattle.witx_abi.specs.Views.{called, event_of, param_types};
+ghost use Rattle.witx_instructions.specs.Views.{called, event_of, param_types};
 ghost use Rattle.witx_verify.specs.declared.surface.Verdict.TheVariants.{Yes};
 ghost use Rattle.witx_verify.specs.AdaptedPairs.{AdaptedGetsYes};
 ghost use Rattle.witx_verify.specs.Symbolic.{reply_from};

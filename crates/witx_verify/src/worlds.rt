@@ -2,7 +2,7 @@
 ghost use Rattle.std.specs.Prelude.{◌≡◌, ◌∷◌, ◌++◌, [], IfOk, Some, None, map, nat_le, true};
 ghost use Rattle.witx_ast.specs.Views.{tree_of};
 ghost use Rattle.witx_machine.specs.Functions.{result_cases};
-ghost use Rattle.witx_abi.specs.Views.{called, param_types, payload_tree, variant_arms};
+ghost use Rattle.witx_instructions.specs.Views.{called, param_types, payload_tree, variant_arms};
 ghost use Rattle.witx_verify.specs.Symbolic.{worlds, worlds_of, worlds_by, unknown_world, known_world, world_if, payload_from, reply_from};
 ghost use Rattle.witx_verify.specs.WordViews.{option_of, shared_of, world_of};
 ghost use Rattle.witx_verify.specs.WorldViews.{worlds_read, world_known};

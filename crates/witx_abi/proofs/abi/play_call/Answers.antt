@@ -1,7 +1,7 @@
 use Rattle.std.proofs.Common.{ap, ◌∙◌, ◌++◌}
 use Rattle.witx_machine.specs.Traces.{caller_events}
-use Rattle.witx_abi.specs.Views.{called, planned_events}
-use Rattle.witx_abi.proofs.Plans.{caller-ready}
+use Rattle.witx_instructions.specs.Views.{called, planned_events}
+use Rattle.witx_instructions.proofs.Plans.{caller-ready}
 use Rattle.witx_abi.proofs.abi.play_call.Goals as goal
 
 pub play-requires : goal.play-requires

@@ -1,7 +1,7 @@
 use Rattle.std.proofs.Common.{ap, ◌∙◌, ◌++◌}
 use Rattle.witx_machine.specs.Traces.{callee_events}
-use Rattle.witx_abi.specs.Views.{called, planned_events}
-use Rattle.witx_abi.proofs.Plans.{callee-ready}
+use Rattle.witx_instructions.specs.Views.{called, planned_events}
+use Rattle.witx_instructions.proofs.Plans.{callee-ready}
 use Rattle.witx_abi.proofs.abi.play_callee.Goals as goal
 
 pub play-requires : goal.play-requires

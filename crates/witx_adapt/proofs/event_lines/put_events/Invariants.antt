@@ -1,5 +1,5 @@
 use Rattle.std.proofs.Common.{◌≡◌, ◌++◌, drop, map, string_bytes}
-use Rattle.witx_abi.specs.Views.{event_of}
+use Rattle.witx_instructions.specs.Views.{event_of}
 use Rattle.witx_adapt.specs.Lines.{event_lines}
 use Rattle.witx_adapt.proofs.event_lines.put_events.Given as goal
 

@@ -1,5 +1,5 @@
 use Rattle.std.proofs.Common.{◌∙◌, map}
-use Rattle.witx_abi.specs.Views.{called, event_of}
+use Rattle.witx_instructions.specs.Views.{called, event_of}
 use Rattle.witx_bytes.specs.Seen.{seen}
 use Rattle.witx_run.specs.OutcomeViews.{run_of}
 use Rattle.witx_run.specs.Views.{reply_of}

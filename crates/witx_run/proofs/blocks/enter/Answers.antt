@@ -1,6 +1,6 @@
 use Rattle.std.proofs.Common.{refl, ◌∙◌, ap, arith}
-use Rattle.witx_abi.specs.Views.{event_of}
-use Rattle.witx_abi.proofs.Results.{length-map}
+use Rattle.witx_instructions.specs.Views.{event_of}
+use Rattle.witx_instructions.proofs.Results.{length-map}
 use Rattle.witx_run.specs.MachineViews.{inside_of, block_of, spot_in}
 use Rattle.witx_run.specs.Views.{stack_of}
 use Rattle.witx_run.specs.Turns.{events_of}

@@ -1,6 +1,6 @@
 use Rattle.std.proofs.Common.{sym, ◌∙◌, arith}
-use Rattle.witx_abi.specs.Views.{event_of}
-use Rattle.witx_abi.proofs.Results.{length-map}
+use Rattle.witx_instructions.specs.Views.{event_of}
+use Rattle.witx_instructions.proofs.Results.{length-map}
 use Rattle.std.specs.Prelude.{option_map}
 use Rattle.witx_run.specs.Views.{item_of}
 use Rattle.witx_run.specs.Turns.{events_of}

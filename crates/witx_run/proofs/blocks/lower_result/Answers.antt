@@ -1,6 +1,6 @@
 use Rattle.std.proofs.Common.{sym, ap, ◌∙◌}
 use Rattle.witx_machine.specs.Run.{result_has_cases}
-use Rattle.witx_abi.specs.Views.{param_types}
+use Rattle.witx_instructions.specs.Views.{param_types}
 use Rattle.witx_run.specs.Views.{type_tree}
 use Rattle.witx_run.specs.Turns.{events_of}
 use Rattle.witx_run.proofs.BlockLemmas.{no-cases, no-symbol, lowers-symbol}

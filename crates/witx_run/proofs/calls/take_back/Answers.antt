@@ -1,7 +1,7 @@
 use Rattle.std.proofs.Common.{rules, ◌≡◌, Some, map, option_and_then}
 use Rattle.witx_machine.specs.Run.{words_in}
 use Rattle.witx_machine.specs.Signature.{signature_results}
-use Rattle.witx_abi.specs.Views.{called}
+use Rattle.witx_instructions.specs.Views.{called}
 use Rattle.witx_run.specs.CallViews.{typed_only}
 use Rattle.witx_run.specs.Views.{items_of}
 use Rattle.witx_run.proofs.CallLemmas.{comes-back}

@@ -1,5 +1,5 @@
 use Rattle.std.proofs.Common.{sym, ◌∙◌}
-use Rattle.witx_abi.specs.Views.{called}
+use Rattle.witx_instructions.specs.Views.{called}
 use Rattle.witx_run.proofs.CallLemmas.{hands-on}
 use Rattle.witx_run.proofs.calls.take_words.Goals as goal
 

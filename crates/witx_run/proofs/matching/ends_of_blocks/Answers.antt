@@ -1,6 +1,6 @@
 use Rattle.std.proofs.Common.{ap, ◌∙◌}
 use Rattle.std.specs.Prelude.{reverse}
-use Rattle.witx_abi.specs.Views.{event_of}
+use Rattle.witx_instructions.specs.Views.{event_of}
 use Rattle.witx_run.specs.BlockEnds.{first}
 use Rattle.witx_run.proofs.EndLemmas.{last_first, next_sofar}
 use Rattle.witx_run.proofs.matching.ends_of_blocks.Goals as goal

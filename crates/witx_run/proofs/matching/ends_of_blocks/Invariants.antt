@@ -1,5 +1,5 @@
 use Rattle.std.proofs.Common.{◌≡◌, map, length}
-use Rattle.witx_abi.specs.Views.{event_of}
+use Rattle.witx_instructions.specs.Views.{event_of}
 use Rattle.witx_run.proofs.EndLemmas.{Sofar}
 use Rattle.witx_run.proofs.matching.ends_of_blocks.Given as goal
 

@@ -1,6 +1,6 @@
 use Rattle.std.proofs.Common.{sym, length}
-use Rattle.witx_abi.specs.Views.{event_of}
-use Rattle.witx_abi.proofs.Results.{length-map}
+use Rattle.witx_instructions.specs.Views.{event_of}
+use Rattle.witx_instructions.proofs.Results.{length-map}
 use Rattle.witx_run.specs.Turns.{events_of}
 use Rattle.witx_run.proofs.StartLemmas.{started, starts}
 use Rattle.witx_run.proofs.progress.start.Goals as goal

@@ -1,6 +1,6 @@
 use Rattle.std.proofs.Common.{sym, ap, ◌∙◌, Some}
 use Rattle.witx_ast.specs.Views.{named_tree}
-use Rattle.witx_abi.specs.Views.{event_of, kept_step}
+use Rattle.witx_instructions.specs.Views.{event_of, kept_step}
 use Rattle.witx_run.specs.Turns.{events_of, whole_at}
 use Rattle.witx_run.proofs.MachineLemmas.{moved}
 use Rattle.witx_run.proofs.TurnLemmas.{at-end, at-emit, at-space, at-finish}

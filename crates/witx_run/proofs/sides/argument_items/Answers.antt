@@ -1,7 +1,7 @@
 use Rattle.std.proofs.Common.{map, None, refl}
 use Rattle.std.proofs.lemmas.Slice.Zip.{either_empty_from_Zip}
 use Rattle.witx_machine.specs.Run.{argument_items}
-use Rattle.witx_abi.specs.Views.{param_types}
+use Rattle.witx_instructions.specs.Views.{param_types}
 use Rattle.witx_run.specs.Views.{items_of}
 use Rattle.witx_run.proofs.SideLemmas.{arguments-end}
 use Rattle.witx_run.proofs.sides.argument_items.Goals as goal

@@ -1,6 +1,6 @@
 use Rattle.std.proofs.Common.{map, ◌≡◌, ◌++◌}
 use Rattle.witx_machine.specs.Run.{argument_items}
-use Rattle.witx_abi.specs.Views.{param_types}
+use Rattle.witx_instructions.specs.Views.{param_types}
 use Rattle.witx_run.specs.Views.{items_of}
 use Rattle.witx_run.proofs.sides.argument_items.Given as goal
 

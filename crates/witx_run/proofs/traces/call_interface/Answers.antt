@@ -1,6 +1,6 @@
 use Rattle.std.proofs.Common.{map, subst}
 use Rattle.witx_ast.specs.Views.{tree_of}
-use Rattle.witx_abi.specs.Views.{called}
+use Rattle.witx_instructions.specs.Views.{called}
 use Rattle.witx_run.specs.CallViews.{Replies}
 use Rattle.witx_run.specs.Views.{reply_of}
 use Rattle.witx_run.proofs.RunLemmas.{interface-none, interface-some}

@@ -1,5 +1,5 @@
 use Rattle.std.proofs.Common.{map, subst}
-use Rattle.witx_abi.specs.Views.{called, event_of}
+use Rattle.witx_instructions.specs.Views.{called, event_of}
 use Rattle.witx_run.specs.CallViews.{HandsOn}
 use Rattle.witx_run.specs.Views.{reply_of}
 use Rattle.witx_run.proofs.RunLemmas.{wasm-none, wasm-some}

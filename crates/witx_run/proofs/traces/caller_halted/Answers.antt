@@ -1,5 +1,5 @@
 use Rattle.std.proofs.Common.{ap, map}
-use Rattle.witx_abi.specs.Views.{event_of}
+use Rattle.witx_instructions.specs.Views.{event_of}
 use Rattle.witx_run.specs.Views.{reply_of}
 use Rattle.witx_run.proofs.RunLemmas.{calls_interface, caller-at-interface}
 use Rattle.witx_run.proofs.traces.caller_halted.Goals as goal

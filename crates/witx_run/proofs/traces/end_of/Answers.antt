@@ -1,6 +1,6 @@
 use Rattle.std.proofs.Common.{ap, length, subst, sym}
-use Rattle.witx_abi.specs.Views.{event_of}
-use Rattle.witx_abi.proofs.Results.{length-map}
+use Rattle.witx_instructions.specs.Views.{event_of}
+use Rattle.witx_instructions.proofs.Results.{length-map}
 use Rattle.witx_run.specs.RunEnds.{EndsAs, finished}
 use Rattle.witx_run.specs.Turns.{events_of, stopped}
 use Rattle.witx_run.proofs.RunLemmas.{calls_interface, calls_wasm, end-at-interface, end-at-wasm, end-over}

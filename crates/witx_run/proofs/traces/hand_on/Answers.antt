@@ -1,5 +1,5 @@
 use Rattle.std.proofs.Common.{map, subst}
-use Rattle.witx_abi.specs.Views.{called, event_of}
+use Rattle.witx_instructions.specs.Views.{called, event_of}
 use Rattle.witx_run.specs.RunEnds.{CalleeEnds, callee_run}
 use Rattle.witx_run.specs.Views.{reply_of}
 use Rattle.witx_run.proofs.RunLemmas.{handed-returned, handed-stuck}

@@ -1,5 +1,5 @@
 use Rattle.std.proofs.Common.{ap, map, ◌∙◌}
-use Rattle.witx_abi.specs.Views.{called, event_of}
+use Rattle.witx_instructions.specs.Views.{called, event_of}
 use Rattle.witx_run.specs.Views.{items_of, reply_of}
 use Rattle.witx_run.proofs.RunLemmas.{callee-ran}
 use Rattle.witx_run.proofs.traces.run_callee.Goals as goal

@@ -1,7 +1,7 @@
 use Rattle.std.proofs.Common.{None, ap, map, subst, sym, ◌∙◌}
 use Rattle.std.specs.Prelude.{IfOk}
 use Rattle.witx_machine.specs.Run.{argument_items}
-use Rattle.witx_abi.specs.Views.{called, event_of}
+use Rattle.witx_instructions.specs.Views.{called, event_of}
 use Rattle.witx_run.specs.RunEnds.{CallerComes}
 use Rattle.witx_run.specs.Turns.{whole}
 use Rattle.witx_run.specs.Views.{items_of, reply_of}

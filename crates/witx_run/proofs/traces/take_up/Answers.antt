@@ -1,5 +1,5 @@
 use Rattle.std.proofs.Common.{map, subst}
-use Rattle.witx_abi.specs.Views.{called}
+use Rattle.witx_instructions.specs.Views.{called}
 use Rattle.witx_run.specs.CallViews.{TakesBack}
 use Rattle.witx_run.specs.Views.{items_of}
 use Rattle.witx_run.proofs.RunLemmas.{taken-none, taken-some}

@@ -1,7 +1,7 @@
 use Rattle.std.proofs.Common.{◌≡◌, rules, map}
 use Rattle.witx_ast.specs.Functions.{func_tree, param_field}
 use Rattle.witx_machine.specs.Signature.{signature_params}
-use Rattle.witx_abi.specs.Views.{called}
+use Rattle.witx_instructions.specs.Views.{called}
 use Rattle.witx_compat.specs.Views.{function_view}
 use Rattle.witx_shim.proofs.Answered.{Made, shim-made}
 use Rattle.witx_shim.proofs.serving.shim.Goals as goal

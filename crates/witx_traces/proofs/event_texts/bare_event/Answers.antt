@@ -1,5 +1,5 @@
 use Rattle.std.proofs.Common.{None, sym, option_map}
-use Rattle.witx_abi.specs.Views.{event_of}
+use Rattle.witx_instructions.specs.Views.{event_of}
 use Rattle.witx_traces.proofs.EventReading.{by-word, no-word}
 use Rattle.witx_traces.proofs.event_texts.bare_event.Goals as goal
 

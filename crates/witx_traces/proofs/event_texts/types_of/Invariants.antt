@@ -1,6 +1,6 @@
 use Rattle.std.proofs.Common.{◌≡◌, ◌++◌, drop, map}
 use Rattle.witx_ast.specs.Views.{tree_of}
-use Rattle.witx_abi.specs.Views.{param_types}
+use Rattle.witx_instructions.specs.Views.{param_types}
 use Rattle.witx_traces.proofs.event_texts.types_of.Given as goal
 
 abbrev pub invariant-loop-param : goal.invariant-loop-param

@@ -1,5 +1,5 @@
 use Rattle.std.proofs.Common.{map}
-use Rattle.witx_abi.specs.Views.{param_types}
+use Rattle.witx_instructions.specs.Views.{param_types}
 use Rattle.witx_traces.specs.ReadTypes.{candidate_type}
 use Rattle.witx_traces.proofs.TypeReading.{held-whole}
 use Rattle.witx_traces.proofs.known_types.held_of.Goals as goal

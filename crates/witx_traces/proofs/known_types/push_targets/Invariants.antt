@@ -1,6 +1,6 @@
 use Rattle.std.proofs.Common.{◌≡◌, ◌++◌, drop, map}
 use Rattle.std.specs.List.{flat_map}
-use Rattle.witx_abi.specs.Views.{param_types}
+use Rattle.witx_instructions.specs.Views.{param_types}
 use Rattle.witx_traces.specs.ReadTypes.{candidate_type}
 use Rattle.witx_traces.specs.Traces.{target}
 use Rattle.witx_traces.proofs.known_types.push_targets.Given as goal

@@ -1,7 +1,7 @@
 use Rattle.std.proofs.Common.{length, map}
 use denote.Text.{Utf8}
 use denote.Shadow.{shadow}
-use Rattle.witx_abi.specs.Views.{event_of}
+use Rattle.witx_instructions.specs.Views.{event_of}
 use Rattle.witx_traces.specs.ReadTypes.{types_in}
 use Rattle.witx_traces.proofs.ReadSteps.{EventsOn}
 use Rattle.witx_traces.proofs.reading.read_events.Given as goal

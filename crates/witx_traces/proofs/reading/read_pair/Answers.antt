@@ -1,6 +1,6 @@
 use Rattle.std.proofs.Common.{◌≡◌, ◌∷◌, ℕ, List, map, subst, rules}
 use Rattle.witx_ast.specs.Definitions.{definition_tree}
-use Rattle.witx_abi.specs.Views.{called, event_of}
+use Rattle.witx_instructions.specs.Views.{called, event_of}
 use Rattle.witx_traces.specs.declared.reading.Stopped.{Stopped}
 use Rattle.witx_traces.specs.Refusals.{Tells}
 use Rattle.witx_traces.specs.Passages.{IsPlain, Stretch, StopsAt, passage_of, stretches}

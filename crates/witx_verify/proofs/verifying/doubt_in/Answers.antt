@@ -1,5 +1,5 @@
 use Rattle.std.proofs.Common.{ap, ◌∙◌}
-use Rattle.witx_abi.specs.Views.{called, param_types}
+use Rattle.witx_instructions.specs.Views.{called, param_types}
 use Rattle.witx_verify.specs.Verdicts.{arguments_from}
 use Rattle.witx_verify.specs.OutcomeViews.{run_of}
 use Rattle.witx_verify.specs.WordViews.{shared_symbols, world_of}

@@ -1,5 +1,5 @@
 use Rattle.std.proofs.Common.{refl, map, ◌+◌}
-use Rattle.witx_abi.specs.Views.{event_of}
+use Rattle.witx_instructions.specs.Views.{event_of}
 use Rattle.witx_run.proofs.BlockLemmas.{no-finish, late-finish, odd-finish, found-finish}
 use Rattle.witx_run.proofs.script.Script.block_at.Goals as goal
 

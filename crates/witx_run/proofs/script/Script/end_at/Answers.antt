@@ -1,5 +1,5 @@
 use Rattle.std.proofs.Common.{map, ◌∙◌}
-use Rattle.witx_abi.specs.Views.{event_of}
+use Rattle.witx_instructions.specs.Views.{event_of}
 use Rattle.witx_run.proofs.BlockLemmas.{end-found, end-missing}
 use Rattle.witx_run.proofs.StackLemmas.{got-none, got-some}
 use Rattle.witx_run.proofs.script.Script.end_at.Goals as goal

@@ -1,5 +1,0 @@
-use Rattle.witx_abi.proofs.Called.{read-as-tree}
-use Rattle.witx_abi.proofs.promises.functions_are_read_as_their_trees.Goals as goal
-
-pub returns : goal.returns
-returns c = read-as-tree

@@ -1,9 +1,0 @@
-use Rattle.std.proofs.Common.{sym, ◌∙◌}
-use Rattle.witx_abi.proofs.Types.{err-second, err-none}
-use Rattle.witx_abi.proofs.reading.err_type.Goals as goal
-
-pub returns-in-Some : goal.returns-in-Some
-returns-in-Some c = c.payload.ensures ∙ sym (err-second _ _ (sym c.in-Some.ensures))
-
-pub returns-in-None : goal.returns-in-None
-returns-in-None c = sym (err-none _ (sym c.in-None.ensures))

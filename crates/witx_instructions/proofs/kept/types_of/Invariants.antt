@@ -1,0 +1,7 @@
+use Rattle.std.proofs.Common.{◌≡◌, take, map}
+use Rattle.witx_ast.specs.Views.{tree_of}
+use Rattle.witx_instructions.specs.Views.{param_types}
+use Rattle.witx_instructions.proofs.kept.types_of.Given as goal
+
+abbrev pub invariant-loop-param : goal.invariant-loop-param
+invariant-loop-param l = map tree_of l.types ≡ param_types (take l.param-index l.param-items)

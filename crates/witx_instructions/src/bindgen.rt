@@ -1,0 +1,92 @@
+ghost use Rattle.std.specs.Prelude.{◌≡◌, ℕ, List, Option, [], is_some, vec_len, OnOk};
+ghost use Rattle.witx_machine.specs.Rows.{operands_count, results_count};
+ghost use Rattle.witx_machine.specs.Events.{Event, emit, space, push, finish};
+ghost use Rattle.witx_ast.specs.Views.{named_tree};
+ghost use Rattle.witx_instructions.specs.Views.{step_of};
+ghost use Rattle.witx_instructions.specs.Told.{told_after, is_fault, Counts};
+
+use crate::instruction::Instruction;
+use std::alloc::AllocError;
+use std::rc::Rc;
+use witx_ast::NamedType;
+use witx_base::{Failed, OutOfMemory};
+
+/// Why a generator refused an event.
+#[derive(Clone, Copy, PartialEq, Eq)]
+pub enum BindgenError {
+    /// It counted a fault.
+    Failed,
+    OutOfMemory,
+}
+
+impl From<OutOfMemory> for BindgenError {
+    ghost use Rattle.witx_instructions.specs.declared.bindgen.BindgenError.{BindgenError};
+
+    ghost from_gives = { λ refused error. error ≡ BindgenError.OutOfMemory };
+
+    fn from(_refused: OutOfMemory) -> BindgenError {
+        BindgenError::OutOfMemory
+    }
+}
+
+impl From<AllocError> for BindgenError {
+    ghost use Rattle.witx_instructions.specs.declared.bindgen.BindgenError.{BindgenError};
+
+    ghost from_gives = { λ refused error. error ≡ BindgenError.OutOfMemory };
+
+    fn from(_refused: AllocError) -> BindgenError {
+        BindgenError::OutOfMemory
+    }
+}
+
+impl From<Failed> for BindgenError {
+    ghost use Rattle.witx_instructions.specs.declared.bindgen.BindgenError.{BindgenError};
+
+    ghost from_gives = { λ fault error. error ≡ BindgenError.Failed };
+
+    fn from(_fault: Failed) -> BindgenError {
+        BindgenError::Failed
+    }
+}
+
+/// A generator of code for one side of a call: it is handed the side's events in order.
+///
+/// What it makes of operands is its own affair; an instruction takes as many as
+/// [`Instruction::operands_len`] says, and leaves [`Instruction::results_len`] results.
+pub trait Bindgen {
+    type Operand: Drop;
+
+    /// The events so far, where the generator tells them.
+    ghost told: { Self → Option (List Event) };
+
+    /// How often it has failed.
+    ghost faults: { Self → ℕ };
+
+    /// Takes an instruction with its operands, and pushes its results.
+    fn emit(
+        &mut self,
+        inst: &Instruction<'_>,
+        operands: &mut Vec<Self::Operand>,
+        results: &mut Vec<Self::Operand>,
+    ) -> Result<(), BindgenError>
+        requires operands { vec_len operands.old ≡ operands_count (step_of inst.now) }
+        requires results { results.old.items ≡ [] }
+        ensures filled { OnOk result (vec_len results.new ≡ results_count (step_of inst.now)) }
+        ensures event { told self.new ≡ told_after result (emit (step_of inst.now)) (told self.old) }
+        ensures cause { Counts (is_fault result) (faults self.old) (faults self.new) };
+
+    /// Makes room for a result of this type, under the number of a slot.
+    fn allocate_space(&mut self, slot: usize, ty: &Rc<NamedType>) -> Result<(), BindgenError>
+        ensures event { told self.new ≡ told_after result (space slot (named_tree ty.now.value)) (told self.old) }
+        ensures cause { Counts (is_fault result) (faults self.old) (faults self.new) };
+
+    /// Begins a block.
+    fn push_block(&mut self) -> Result<(), BindgenError>
+        ensures event { told self.new ≡ told_after result push (told self.old) }
+        ensures cause { Counts (is_fault result) (faults self.old) (faults self.new) };
+
+    /// Ends the innermost block, with the operand that it leaves, if it leaves one.
+    fn finish_block(&mut self, operand: Option<Self::Operand>) -> Result<(), BindgenError>
+        ensures event { told self.new ≡ told_after result (finish (is_some operand)) (told self.old) }
+        ensures cause { Counts (is_fault result) (faults self.old) (faults self.new) };
+}

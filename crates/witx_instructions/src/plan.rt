@@ -1,0 +1,114 @@
+ghost use Rattle.std.specs.Prelude.{◌≡◌, ◌≤◌, ◌∷◌, ◌++◌, [], None, Some, IfOk, OnOk, OnErr, IsSome, vec_len};
+ghost use Rattle.witx_machine.specs.Events as machine;
+ghost use Rattle.witx_machine.specs.Rows.{operands_count, results_count};
+ghost use Rattle.witx_instructions.specs.Views.{planned_event, planned_events, step_of};
+ghost use Rattle.witx_machine.specs.Heights.{height_after, heights};
+ghost use Rattle.witx_instructions.specs.Told.{after, TellsFront, is_fault, is_bindgen_fault, unlowerable_place, Counts};
+
+use crate::bindgen::{Bindgen, BindgenError};
+use crate::error::AbiError;
+use crate::instruction::Instruction;
+use std::alloc::Global;
+use std::rc::Rc;
+use witx_ast::NamedType;
+use witx_base::{Items, OutOfMemory};
+
+/// One event to come, with what it speaks of borrowed.
+#[derive(Drop)]
+pub enum Planned<'a> {
+    Emit(Instruction<'a>),
+    Space { slot: usize, ty: &'a Rc<NamedType> },
+    Push,
+    Finish { value: bool },
+}
+
+/// The events to come, in order.
+pub type Plan<'a> = Items<Planned<'a>>;
+
+/// How many events a plan takes memory for at once; few functions have more on one side.
+const ROOM: usize = 32;
+
+/// A plan without events.
+pub fn new_plan<'a>(alloc: Global) -> Result<Plan<'a>, OutOfMemory>
+    ensures { IfOk result (λ plan. plan ≡ []) }
+{
+    let mut plan: Plan<'a> = Items::new(alloc);
+    plan.reserve(ROOM)?;
+    Ok(plan)
+}
+
+/// Appends an event to the plan.
+#[tactic(auto, using(crate::proofs::Plans::plan_rules))]
+pub fn add<'a>(plan: &mut Plan<'a>, event: Planned<'a>) -> Result<(), OutOfMemory>
+    ensures { IfOk result (λ _. planned_events plan.new ≡ planned_events plan.old ++ planned_event event.entry ∷ []) }
+{
+    plan.push(event)
+}
+
+/// Appends an instruction to the plan.
+#[tactic(auto, using(crate::proofs::Plans::plan_rules))]
+pub fn put<'a>(plan: &mut Plan<'a>, instruction: Instruction<'a>) -> Result<(), OutOfMemory>
+    ensures { IfOk result (λ _. planned_events plan.new ≡ planned_events plan.old ++ machine.emit (step_of instruction.entry) ∷ []) }
+{
+    add(plan, Planned::Emit(instruction))
+}
+
+/// Hands the events of a plan to a generator, with the operands that each instruction takes.
+pub fn play<B: Bindgen>(alloc: Global, plan: &Plan<'_>, bindgen: &mut B) -> Result<(), AbiError>
+    requires { IsSome (heights (planned_events plan.now) 0) }
+    ensures events { OnOk result (B.told bindgen.new ≡ after (B.told bindgen.old) (planned_events plan.now)) }
+    ensures front { OnErr result (TellsFront (planned_events plan.now) (B.told bindgen.old) (B.told bindgen.new)) }
+    ensures place { unlowerable_place result ≡ None }
+    ensures cause { Counts (is_bindgen_fault result) (B.faults bindgen.old) (B.faults bindgen.new) }
+{
+    let mut stack = Vec::new(alloc);
+    for planned in plan.as_slice() {
+        play_one(alloc, planned, &mut stack, bindgen)?;
+    }
+    Ok(())
+}
+
+// One event. After a refusal it may have been told.
+fn play_one<B: Bindgen>(
+    alloc: Global,
+    planned: &Planned<'_>,
+    stack: &mut Vec<B::Operand>,
+    bindgen: &mut B,
+) -> Result<(), BindgenError>
+    requires { IsSome (height_after (planned_event planned.now) (vec_len stack.old)) }
+    ensures height { OnOk result (height_after (planned_event planned.now) (vec_len stack.old) ≡ Some (vec_len stack.new)) }
+    ensures event { OnOk result (B.told bindgen.new ≡ after (B.told bindgen.old) (planned_event planned.now ∷ [])) }
+    ensures front { OnErr result (TellsFront (planned_event planned.now ∷ []) (B.told bindgen.old) (B.told bindgen.new)) }
+    ensures cause { Counts (is_fault result) (B.faults bindgen.old) (B.faults bindgen.new) }
+{
+    match planned {
+        Planned::Emit(instruction) => emit(alloc, instruction, stack, bindgen),
+        Planned::Space { slot, ty } => bindgen.allocate_space(*slot, ty),
+        Planned::Push => bindgen.push_block(),
+        Planned::Finish { value } => {
+            let operand = if *value { stack.pop() } else { None };
+            bindgen.finish_block(operand)
+        }
+    }
+}
+
+// One instruction, with its operands off the stack; its results go onto the stack.
+fn emit<B: Bindgen>(
+    alloc: Global,
+    instruction: &Instruction<'_>,
+    stack: &mut Vec<B::Operand>,
+    bindgen: &mut B,
+) -> Result<(), BindgenError>
+    requires { operands_count (step_of instruction.now) ≤ vec_len stack.old }
+    ensures height { OnOk result (height_after (machine.emit (step_of instruction.now)) (vec_len stack.old) ≡ Some (vec_len stack.new)) }
+    ensures event { OnOk result (B.told bindgen.new ≡ after (B.told bindgen.old) (machine.emit (step_of instruction.now) ∷ [])) }
+    ensures front { OnErr result (TellsFront (machine.emit (step_of instruction.now) ∷ []) (B.told bindgen.old) (B.told bindgen.new)) }
+    ensures cause { Counts (is_fault result) (B.faults bindgen.old) (B.faults bindgen.new) }
+{
+    let rest = stack.len() - instruction.operands_len();
+    let mut operands = stack.split_off(rest)?;
+    let mut results = Vec::new(alloc);
+    bindgen.emit(instruction, &mut operands, &mut results)?;
+    stack.append(&mut results)?;
+    Ok(())
+}
