@@ -21,8 +21,8 @@ use Rattle.witx_adapt.specs.Entries.{Owned}
 use Rattle.witx_bytes.specs.Bytes.{Bytes}
 use Rattle.witx_invoke.specs.Runs.{CallSeen}
 use Rattle.witx_traces.specs.Traces.{Sides}
-use Rattle.witx_verify.specs.declared.surface.Doubt.{Doubt}
-use Rattle.witx_verify.specs.declared.surface.Verdict.{Verdict}
+use Rattle.witx_symbols.specs.declared.surface.Doubt.{Doubt}
+use Rattle.witx_symbols.specs.declared.surface.Verdict.{Verdict}
 use Rattle.witx_tools.specs.Calls.{absent_report, line_report}
 use Rattle.witx_tools.specs.InvokeTexts.{call_text}
 use Rattle.witx_tools.specs.VerdictTexts.{unfit_report, verdict_line, verdicts_text}

@@ -11,9 +11,9 @@ use Rattle.witx_adapt.specs.Names.{quoted}
 use Rattle.witx_adapt.specs.declared.adapted.AdaptedFunc.{AdaptedFunc}
 use Rattle.witx_traces.specs.Traces as traces
 use Rattle.witx_traces.specs.Traces.{IsUnfit, Listed, Sides}
-use Rattle.witx_verify.specs.Verdicts.{verdict}
-use Rattle.witx_verify.specs.declared.surface.Doubt.{Doubt}
-use Rattle.witx_verify.specs.declared.surface.Verdict.{Verdict}
+use Rattle.witx_symbols.specs.Verdicts.{verdict}
+use Rattle.witx_symbols.specs.declared.surface.Doubt.{Doubt}
+use Rattle.witx_symbols.specs.declared.surface.Verdict.{Verdict}
 
 -- a doubt; of an event, its number
 abbrev pub doubt_text : Doubt → List ℕ

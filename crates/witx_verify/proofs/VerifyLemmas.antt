@@ -15,17 +15,17 @@ use Rattle.witx_machine.specs.Run.{Outcome}
 use Rattle.witx_instructions.specs.Views.{event_of}
 use Rattle.witx_instructions.specs.declared.event.Event as declared_event
 use Rattle.witx_instructions.proofs.Sides.{results-can}
-use Rattle.witx_verify.specs.declared.surface.Doubt.{Doubt}
-use Rattle.witx_verify.specs.declared.surface.Verdict.{Verdict}
-use Rattle.witx_verify.specs.declared.world.World as declared_world
+use Rattle.witx_symbols.specs.declared.surface.Doubt.{Doubt}
+use Rattle.witx_symbols.specs.declared.surface.Verdict.{Verdict}
+use Rattle.witx_symbols.specs.declared.world.World as declared_world
 use Rattle.witx_verify.specs.AdaptedPairs.{AdaptedGetsYes}
-use Rattle.witx_verify.specs.Symbols.{Symbol, SymbolWord}
-use Rattle.witx_verify.specs.Symbolic.{World, known_world, unknown_world, world_if, worlds_by, worlds_of, worlds, reply_from, SymbolMemory, symbols}
-use Rattle.witx_verify.specs.Verdicts.{arguments_from, judged, doubt_in, first_doubt, misfit, doubt, verdict_of, verdict}
-use Rattle.witx_verify.specs.WordViews.{option_of, world_of}
-use Rattle.witx_verify.specs.WorldViews.{AreOf, worlds_read}
-use Rattle.witx_verify.proofs.Sound.{yes_is_faithful}
-use Rattle.witx_verify.proofs.AdaptedLemmas.{adapted_get_yes}
+use Rattle.witx_symbols.specs.Symbols.{Symbol, SymbolWord}
+use Rattle.witx_symbols.specs.Symbolic.{World, known_world, unknown_world, world_if, worlds_by, worlds_of, worlds, reply_from, SymbolMemory, symbols}
+use Rattle.witx_symbols.specs.Verdicts.{arguments_from, judged, doubt_in, first_doubt, misfit, doubt, verdict_of, verdict}
+use Rattle.witx_symbols.specs.WordViews.{option_of, world_of}
+use Rattle.witx_symbols.specs.WorldViews.{AreOf, worlds_read}
+use Rattle.witx_symbols.proofs.Sound.{yes_is_faithful}
+use Rattle.witx_symbols.proofs.AdaptedLemmas.{adapted_get_yes}
 
 -- each world of a function has the function's reply
 are-if : (r : Option Symbol) (b : Bool) (w : World) → w.whole ≡ r → AreOf r (world_if b w)

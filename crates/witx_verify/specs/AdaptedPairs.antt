@@ -8,7 +8,7 @@ use Rattle.witx_instructions.specs.Views.{called, event_of}
 use Rattle.witx_adapt.specs.Adaptable.{IsAdaptable}
 use Rattle.witx_adapt.specs.Entries.{all_functions, entry_for, entry_of}
 use Rattle.witx_adapt.specs.declared.adapted.AdaptedFunc.{AdaptedFunc}
-use Rattle.witx_verify.specs.declared.surface.Verdict.{Verdict}
+use Rattle.witx_symbols.specs.declared.surface.Verdict.{Verdict}
 
 -- where an entry has this module, this function and these traces, this is yes
 abbrev pub YesOf : Verdict → List ℕ → Function → (caller callee : List Event) → AdaptedFunc → Type 0

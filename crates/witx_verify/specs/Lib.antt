@@ -1,14 +1,1 @@
-pub mod Symbols
-pub mod Symbolic
-pub mod Verdicts
-pub mod Adapted
 pub mod AdaptedPairs
-pub mod Meaning
-pub mod OutcomeViews
-pub mod PassageParts
-pub mod Payloads
-pub mod SymbolViews
-pub mod Typing
-pub mod WordViews
-pub mod WorldViews
-pub mod Putting

@@ -1,26 +1,20 @@
 //! The doubt that a run leaves.
-ghost use Rattle.std.specs.Prelude.{◌≡◌, ◌∷◌, [], IfOk, option_to_list};
+ghost use Rattle.std.specs.Prelude.{◌≡◌, IfOk};
 ghost use Rattle.witx_machine.specs.Machine.{went};
-ghost use Rattle.witx_machine.specs.Run.{values_in};
 ghost use Rattle.witx_machine.specs.Signature.{return_pointers};
 ghost use Rattle.witx_instructions.specs.Views.{called, pointer_types};
-ghost use Rattle.witx_verify.specs.Verdicts.{judged, are_values};
-ghost use Rattle.witx_verify.specs.OutcomeViews.{item_of, items_of, outcome_of, run_of};
-ghost use Rattle.witx_verify.specs.SymbolViews.{symbol_of};
-ghost use Rattle.witx_verify.specs.WordViews.{option_of, shared_symbols, world_of};
+ghost use Rattle.witx_symbols.specs.Verdicts.{judged};
+ghost use Rattle.witx_symbols.specs.OutcomeViews.{outcome_of, run_of};
+ghost use Rattle.witx_symbols.specs.WordViews.{option_of, shared_symbols, world_of};
 
-use crate::coming_back::gives_back;
 use crate::going_in::passes;
-use crate::outcome::{Item, Outcome, Run};
-use crate::surface::Doubt;
-use crate::symbol::{Symbol, all_same, same};
-use crate::world::World;
 use std::rc::Rc;
 use witx_ast::{InterfaceFunc, NamedType};
 use witx_base::OutOfMemory;
+use witx_symbols::{Doubt, Outcome, Run, Symbol, World, all_same, gives_back, is_reply};
 
 /// The doubt that a run in a world leaves; none where it ended as it should.
-#[tactic(auto, using(crate::proofs::JudgeLemmas::judge_rules))]
+#[tactic(auto, using(witx_symbols::proofs::JudgeLemmas::judge_rules))]
 pub(crate) fn judged(
     world: &World,
     func: &InterfaceFunc,
@@ -39,7 +33,7 @@ pub(crate) fn judged(
     }
 }
 
-#[tactic(auto, using(crate::proofs::JudgeLemmas::judge_rules))]
+#[tactic(auto, using(witx_symbols::proofs::JudgeLemmas::judge_rules))]
 fn outcome_judged(
     world: &World,
     func: &InterfaceFunc,
@@ -66,35 +60,4 @@ fn outcome_judged(
         return Ok(Some(Doubt::Reply));
     }
     Ok(None)
-}
-
-// Whether what the caller gave back is the reply alone, or nothing where there is none.
-#[tactic(auto, using(crate::proofs::JudgeLemmas::judge_rules))]
-fn is_reply(back: &[Item], reply: &Option<Rc<Symbol>>) -> bool
-    ensures { result ≡ are_values (values_in (items_of back.now)) (option_to_list (option_of reply.now)) }
-{
-    match reply {
-        Some(reply) => is_alone(back, reply),
-        None => back.is_empty(),
-    }
-}
-
-#[tactic(auto, using(crate::proofs::JudgeLemmas::judge_rules))]
-fn is_alone(back: &[Item], reply: &Symbol) -> bool
-    ensures { result ≡ are_values (values_in (items_of back.now)) (symbol_of reply.now ∷ []) }
-{
-    match back {
-        [item] => is_value(item, reply),
-        _ => false,
-    }
-}
-
-#[tactic(auto, using(crate::proofs::JudgeLemmas::judge_rules))]
-fn is_value(item: &Item, reply: &Symbol) -> bool
-    ensures { result ≡ are_values (values_in (item_of item.now ∷ [])) (symbol_of reply.now ∷ []) }
-{
-    match item {
-        Item::Value { value, name: _ } => same(value, reply),
-        Item::Word(_) => false,
-    }
 }

@@ -3,24 +3,20 @@ ghost use Rattle.std.specs.Prelude.{◌≡◌, IfOk, None, map};
 ghost use Rattle.witx_machine.specs.Faithful.{Faithful};
 ghost use Rattle.witx_machine.specs.Lowerable.{unlowerable};
 ghost use Rattle.witx_instructions.specs.Views.{called, event_of, param_types};
-ghost use Rattle.witx_verify.specs.declared.surface.Verdict.TheVariants.{Yes};
+ghost use Rattle.witx_symbols.specs.declared.surface.Verdict.TheVariants.{Yes};
 ghost use Rattle.witx_verify.specs.AdaptedPairs.{AdaptedGetsYes};
-ghost use Rattle.witx_verify.specs.Symbolic.{reply_from};
-ghost use Rattle.witx_verify.specs.Verdicts.{doubt, doubt_in, first_doubt, verdict};
-ghost use Rattle.witx_verify.specs.WordViews.{option_of, world_of};
-ghost use Rattle.witx_verify.specs.WorldViews.{AreOf, worlds_read};
+ghost use Rattle.witx_symbols.specs.Symbolic.{reply_from};
+ghost use Rattle.witx_symbols.specs.Verdicts.{doubt, doubt_in, first_doubt, verdict};
+ghost use Rattle.witx_symbols.specs.WordViews.{option_of, world_of};
+ghost use Rattle.witx_symbols.specs.WorldViews.{AreOf, worlds_read};
 
-use crate::from::arguments_from;
 use crate::judging::judged;
-use crate::misfits::misfit;
-use crate::run::run_in;
-use crate::surface::{Doubt, Verdict};
-use crate::world::World;
 use crate::worlds::worlds;
 use std::alloc::Global;
 use witx_abi::{Events, lowerable, return_pointers};
 use witx_ast::InterfaceFunc;
 use witx_base::{Id, OutOfMemory};
+use witx_symbols::{Doubt, Verdict, World, arguments_from, misfit, run_in};
 
 /// Whether a caller's and a callee's trace, whoever made them, are faithful to a function of a module.
 ///

@@ -1,13 +1,13 @@
 use Rattle.std.proofs.Common.{◌≡◌, refl, sym, ap, ◌∙◌, List, [], ◌∷◌, drop}
 use Rattle.witx_ast.specs.Plain.{plain}
 use Rattle.witx_ast.specs.Views.{tree_of}
-use Rattle.witx_verify.specs.PassageParts.{words_behind}
-use Rattle.witx_verify.specs.Verdicts.{passes}
-use Rattle.witx_verify.specs.OutcomeViews.{words_of}
-use Rattle.witx_verify.specs.SymbolViews.{symbol_of}
-use Rattle.witx_verify.specs.WordViews.{memory_of, shared_symbols}
-use Rattle.witx_verify.proofs.FromLemmas.{types_of}
-use Rattle.witx_verify.proofs.PassLemmas.{pass-more, pass-refused, pointer_trees}
+use Rattle.witx_symbols.specs.PassageParts.{words_behind}
+use Rattle.witx_symbols.specs.Verdicts.{passes}
+use Rattle.witx_symbols.specs.OutcomeViews.{words_of}
+use Rattle.witx_symbols.specs.SymbolViews.{symbol_of}
+use Rattle.witx_symbols.specs.WordViews.{memory_of, shared_symbols}
+use Rattle.witx_symbols.proofs.FromLemmas.{types_of}
+use Rattle.witx_symbols.proofs.PassLemmas.{pass-more, pass-refused, pointer_trees}
 use Rattle.witx_verify.proofs.going_in.passes.Goals as goal
 
 from_first : {A : Type 0} (xs : List A) → drop 0 xs ≡ xs

@@ -1,7 +1,7 @@
 use Rattle.std.proofs.Common.{◌≡◌}
-use Rattle.witx_verify.specs.OutcomeViews.{words_of}
-use Rattle.witx_verify.specs.WordViews.{memory_of}
-use Rattle.witx_verify.proofs.PassLemmas.{left_passes, pointer_trees}
+use Rattle.witx_symbols.specs.OutcomeViews.{words_of}
+use Rattle.witx_symbols.specs.WordViews.{memory_of}
+use Rattle.witx_symbols.proofs.PassLemmas.{left_passes, pointer_trees}
 use Rattle.witx_verify.proofs.going_in.passes.Given as goal
 
 abbrev pub invariant-loop-i : goal.invariant-loop-i

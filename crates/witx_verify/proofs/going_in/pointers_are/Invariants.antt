@@ -1,6 +1,6 @@
 use Rattle.std.proofs.Common.{◌≡◌}
-use Rattle.witx_verify.specs.WordViews.{memory_of}
-use Rattle.witx_verify.proofs.PassLemmas.{left_pointers}
+use Rattle.witx_symbols.specs.WordViews.{memory_of}
+use Rattle.witx_symbols.proofs.PassLemmas.{left_pointers}
 use Rattle.witx_verify.proofs.going_in.pointers_are.Given as goal
 
 abbrev pub invariant-loop-i : goal.invariant-loop-i

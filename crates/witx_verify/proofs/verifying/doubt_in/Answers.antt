@@ -1,8 +1,8 @@
 use Rattle.std.proofs.Common.{ap, ◌∙◌}
 use Rattle.witx_instructions.specs.Views.{called, param_types}
-use Rattle.witx_verify.specs.Verdicts.{arguments_from}
-use Rattle.witx_verify.specs.OutcomeViews.{run_of}
-use Rattle.witx_verify.specs.WordViews.{shared_symbols, world_of}
+use Rattle.witx_symbols.specs.Verdicts.{arguments_from}
+use Rattle.witx_symbols.specs.OutcomeViews.{run_of}
+use Rattle.witx_symbols.specs.WordViews.{shared_symbols, world_of}
 use Rattle.witx_verify.proofs.VerifyLemmas.{doubt-judged}
 use Rattle.witx_verify.proofs.verifying.doubt_in.Goals as goal
 

@@ -1,5 +1,5 @@
 use Rattle.witx_instructions.specs.Views.{param_types}
-use Rattle.witx_verify.specs.Symbolic.{reply_from}
+use Rattle.witx_symbols.specs.Symbolic.{reply_from}
 use Rattle.witx_verify.proofs.VerifyLemmas.{one-is-of}
 use Rattle.witx_verify.proofs.verifying.first_doubt.Goals as goal
 

@@ -1,7 +1,7 @@
 use Rattle.std.proofs.Common.{◌≡◌, drop, map}
 use Rattle.witx_instructions.specs.Views.{called, event_of}
-use Rattle.witx_verify.specs.Verdicts.{first_doubt}
-use Rattle.witx_verify.specs.WorldViews.{worlds_read}
+use Rattle.witx_symbols.specs.Verdicts.{first_doubt}
+use Rattle.witx_symbols.specs.WorldViews.{worlds_read}
 use Rattle.witx_verify.proofs.verifying.first_doubt.Given as goal
 
 abbrev pub invariant-loop-world : goal.invariant-loop-world

@@ -1,0 +1,149 @@
+-- When a symbol is of a type.
+use Rattle.std.proofs.Common.{◌≡◌, ◌≢◌, ℕ, suc, ◌+◌, ◌<◌, ◌≤◌, Bool, true, false, ◌&&◌, List, [], ◌∷◌, drop, length, get_or, refl, sym, ap, ◌∙◌, arith}
+use Rattle.std.specs.declared.alloc.Global.{Global}
+use Rattle.std.specs.declared.rc.Rc.{Rc}
+use Rattle.std.proofs.lemmas.List.{drop_more, drop_all}
+use Rattle.witx_ast.specs.declared.types.RecordKind.{RecordKind}
+use Rattle.witx_ast.specs.declared.types.RecordMember.{RecordMember}
+use Rattle.witx_ast.specs.Plain.{Plain, Fields, plain}
+use Rattle.witx_ast.specs.Views.{tree_of, members_plain}
+use Rattle.witx_ast.specs.Words.{is_tuple_kind}
+use Rattle.witx_ast.proofs.TreeKinds.{kind_rules}
+use Rattle.witx_ast.proofs.Trees.{tree-RecordMember}
+use Rattle.witx_ast.specs.Alike.{same_plain}
+use Rattle.witx_symbols.specs.Symbols.{Source, Symbols, atom, tuple, made, bare_made, is_of, are_of}
+use Rattle.witx_symbols.specs.Symbols as specs
+use Rattle.witx_symbols.specs.SymbolViews.{symbol_of, symbols_read}
+use Rattle.witx_symbols.specs.Typing.{is_tuple_type}
+use Rattle.witx_symbols.specs.declared.symbol.Symbol.{Symbol}
+use Rattle.witx_symbols.proofs.AlikeTypes.{plain-of-behind}
+use Rattle.witx_symbols.proofs.SymbolReads.{symbol_rules}
+
+pub atom-of : (t u : Plain) (s : Source) → is_tuple_type t ≡ false → is_of t (atom s u) ≡ same_plain u t
+atom-of (Plain.record_of RecordKind.Tuple ms) u s e = absurd (clash e)
+  where
+    clash : true ≡ false → ⊥
+    clash e = cc
+atom-of (Plain.record_of (RecordKind.Bitflags r) ms) u s e = refl
+atom-of (Plain.record_of RecordKind.Other ms) u s e = refl
+atom-of (Plain.builtin b) u s e = refl
+atom-of Plain.handle u s e = refl
+atom-of (Plain.pointer_to t) u s e = refl
+atom-of (Plain.const_pointer_to t) u s e = refl
+atom-of (Plain.list_of t) u s e = refl
+atom-of (Plain.variant_of r cs) u s e = refl
+
+pub atom-tuple : (t u : Plain) (s : Source) → is_tuple_type t ≡ true → is_of t (atom s u) ≡ false
+atom-tuple (Plain.record_of RecordKind.Tuple ms) u s e = refl
+atom-tuple (Plain.record_of (RecordKind.Bitflags r) ms) u s e = absurd (clash e)
+  where
+    clash : false ≡ true → ⊥
+    clash e = cc
+atom-tuple (Plain.record_of RecordKind.Other ms) u s e = absurd (clash e)
+  where
+    clash : false ≡ true → ⊥
+    clash e = cc
+atom-tuple (Plain.builtin b) u s e = absurd (clash e)
+  where
+    clash : false ≡ true → ⊥
+    clash e = cc
+atom-tuple Plain.handle u s e = absurd (clash e)
+  where
+    clash : false ≡ true → ⊥
+    clash e = cc
+atom-tuple (Plain.pointer_to t) u s e = absurd (clash e)
+  where
+    clash : false ≡ true → ⊥
+    clash e = cc
+atom-tuple (Plain.const_pointer_to t) u s e = absurd (clash e)
+  where
+    clash : false ≡ true → ⊥
+    clash e = cc
+atom-tuple (Plain.list_of t) u s e = absurd (clash e)
+  where
+    clash : false ≡ true → ⊥
+    clash e = cc
+atom-tuple (Plain.variant_of r cs) u s e = absurd (clash e)
+  where
+    clash : false ≡ true → ⊥
+    clash e = cc
+
+pub tuple-of : (k : RecordKind) (ms : Fields) (vs : Symbols) → is_tuple_kind k ≡ true → is_of (Plain.record_of k ms) (tuple vs) ≡ are_of ms vs
+tuple-of RecordKind.Tuple ms vs e = refl
+tuple-of (RecordKind.Bitflags r) ms vs e = absurd (clash e)
+  where
+    clash : false ≡ true → ⊥
+    clash e = cc
+tuple-of RecordKind.Other ms vs e = absurd (clash e)
+  where
+    clash : false ≡ true → ⊥
+    clash e = cc
+
+pub tuple-other : (k : RecordKind) (ms : Fields) (vs : Symbols) → is_tuple_kind k ≡ false → is_of (Plain.record_of k ms) (tuple vs) ≡ false
+tuple-other RecordKind.Tuple ms vs e = absurd (clash e)
+  where
+    clash : true ≡ false → ⊥
+    clash e = cc
+tuple-other (RecordKind.Bitflags r) ms vs e = refl
+tuple-other RecordKind.Other ms vs e = refl
+
+pub of-made : (t : Plain) (i : ℕ) (v : specs.Symbol) → is_of t (made i v) ≡ false
+of-made (Plain.record_of RecordKind.Tuple ms) i v = refl
+of-made (Plain.record_of (RecordKind.Bitflags r) ms) i v = refl
+of-made (Plain.record_of RecordKind.Other ms) i v = refl
+of-made (Plain.builtin b) i v = refl
+of-made Plain.handle i v = refl
+of-made (Plain.pointer_to t) i v = refl
+of-made (Plain.const_pointer_to t) i v = refl
+of-made (Plain.list_of t) i v = refl
+of-made (Plain.variant_of r cs) i v = refl
+
+pub of-bare : (t : Plain) (i : ℕ) → is_of t (bare_made i) ≡ false
+of-bare (Plain.record_of RecordKind.Tuple ms) i = refl
+of-bare (Plain.record_of (RecordKind.Bitflags r) ms) i = refl
+of-bare (Plain.record_of RecordKind.Other ms) i = refl
+of-bare (Plain.builtin b) i = refl
+of-bare Plain.handle i = refl
+of-bare (Plain.pointer_to t) i = refl
+of-bare (Plain.const_pointer_to t) i = refl
+of-bare (Plain.list_of t) i = refl
+of-bare (Plain.variant_of r cs) i = refl
+
+abbrev Shared : Type 0
+Shared = Rc Symbol Global
+
+abbrev pub left_of : List RecordMember → List Shared → ℕ → Bool
+left_of ms vs i = are_of (members_plain (drop i ms)) (symbols_read (drop i vs))
+
+abbrev pub one_of : RecordMember → Shared → Bool
+one_of m v = is_of (plain (tree_of m.tref)) (symbol_of v.value)
+
+of-step : (ms : List RecordMember) (vs : List Shared) (i : ℕ) (m : RecordMember) (v : Shared) → i < length ms → i < length vs → m ≡ get_or ms i m → v ≡ get_or vs i v → left_of ms vs i ≡ one_of m v && left_of ms vs (i + 1)
+of-step ms vs i m v l k p q = rw (drop_more ms i m l, drop_more vs i v k, ← p, ← q, tree-RecordMember m) refl
+
+pub of-left : (ms : List RecordMember) (vs : List Shared) (i : ℕ) (m : RecordMember) (v : Shared) (all : Bool) → i < length vs → length vs ≡ length ms → m ≡ get_or ms i m → v ≡ get_or vs i v → one_of m v ≡ true → left_of ms vs i ≡ all → left_of ms vs (i + 1) ≡ all
+of-left ms vs i m v all l e p q s h = let k : i < length ms = omega arith in sym (ap (λ t. t && left_of ms vs (i + 1)) s) ∙ sym (of-step ms vs i m v k l p q) ∙ h
+
+from_first : {A : Type 0} (xs : List A) → drop 0 xs ≡ xs
+from_first [] = refl
+from_first (x ∷ xs) = refl
+
+pub of-refused : (ms : List RecordMember) (vs : List Shared) (i : ℕ) (m : RecordMember) (v : Shared) (t : Bool) → i < length vs → length vs ≡ length ms → m ≡ get_or ms i m → v ≡ get_or vs i v → t ≡ one_of m v → t ≡ false → left_of ms vs i ≡ left_of ms vs 0 → false ≡ are_of (members_plain ms) (symbols_read vs)
+of-refused ms vs i m v t l e p q s n h =
+    let k : i < length ms = omega arith in
+    sym (ap (λ t. t && left_of ms vs (i + 1)) (sym s ∙ n)) ∙ sym (of-step ms vs i m v k l p q) ∙ h ∙ ap (λ xs. are_of (members_plain xs) (symbols_read (drop 0 vs))) (from_first ms) ∙ ap (λ xs. are_of (members_plain ms) (symbols_read xs)) (from_first vs)
+
+pub of-done : (ms : List RecordMember) (vs : List Shared) (i : ℕ) (all : Bool) → length vs ≤ i → length vs ≡ length ms → left_of ms vs i ≡ all → true ≡ all
+of-done ms vs i all l e h = let k : length ms ≤ i = omega arith in sym (rw (drop_all i ms k, drop_all i vs l) refl) ∙ h
+
+pub of-longer : (ms : List RecordMember) (vs : List Shared) → length vs ≢ length ms → false ≡ are_of (members_plain ms) (symbols_read vs)
+of-longer [] [] n = absurd (n refl)
+of-longer [] (v ∷ vs) n = refl
+of-longer (m ∷ ms) [] n = refl
+of-longer (m ∷ ms) (v ∷ vs) n = rw (tree-RecordMember m) (both (one_of m v) (of-longer ms vs (λ e. n (ap suc e))))
+  where
+    both : (t : Bool) → {u : Bool} → false ≡ u → false ≡ t && u
+    both true e = e
+    both false e = refl
+
+pub ruleset typing_rules = (kind_rules, symbol_rules, plain-of-behind, atom-of, atom-tuple, tuple-of, tuple-other, of-made, of-bare, of-left, of-done, of-longer)

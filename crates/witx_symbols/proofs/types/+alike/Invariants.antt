@@ -1,0 +1,9 @@
+use Rattle.std.proofs.Common.{◌≡◌}
+use Rattle.witx_symbols.proofs.AlikeTypes.{left_members, left_cases}
+use Rattle.witx_symbols.proofs.types.+alike.Given as goal
+
+abbrev pub invariant-members_alike-loop-i : goal.invariant-members_alike-loop-i
+invariant-members_alike-loop-i l = left_members l.a l.b l.i ≡ left_members l.a l.b 0
+
+abbrev pub invariant-cases_alike-loop-i : goal.invariant-cases_alike-loop-i
+invariant-cases_alike-loop-i l = left_cases l.a l.b l.i ≡ left_cases l.a l.b 0

@@ -1,0 +1,13 @@
+pub mod Symbols
+pub mod Symbolic
+pub mod Verdicts
+pub mod Adapted
+pub mod Meaning
+pub mod OutcomeViews
+pub mod PassageParts
+pub mod Payloads
+pub mod SymbolViews
+pub mod Typing
+pub mod WordViews
+pub mod WorldViews
+pub mod Putting

@@ -1,0 +1,273 @@
+//! Whether what comes back is what the interface says.
+ghost use Rattle.std.specs.Prelude.{◌≡◌, ◌∷◌, [], length, IfOk, Some};
+ghost use Rattle.witx_ast.specs.Plain.{plain};
+ghost use Rattle.witx_ast.specs.Views.{tree_of};
+ghost use Rattle.witx_machine.specs.Functions.{is_tuple, result_cases};
+ghost use Rattle.witx_machine.specs.Passage.{last_words};
+ghost use Rattle.witx_machine.specs.Signature.{ok_pointers};
+ghost use Rattle.witx_instructions.specs.Views.{param_types, payload_tree, variant_arms};
+ghost use Rattle.witx_symbols.specs.Verdicts.{gives_back, returns_under, returns_by, returns_whole, returns_case, hold_all, hold_parts, ok_parts, is_case_word};
+ghost use Rattle.witx_symbols.specs.Symbolic.{parts_of as symbol_parts};
+ghost use Rattle.witx_symbols.specs.PassageParts.{nothing_returns, cases_return, ok_returns, err_returns};
+ghost use Rattle.witx_symbols.specs.OutcomeViews.{outcome_of, words_of};
+ghost use Rattle.witx_symbols.specs.SymbolViews.{symbol_of};
+ghost use Rattle.witx_symbols.specs.WordViews.{memory_of, option_of, payload_pair, shared_symbols, word_of, world_of};
+
+use crate::cells::Cells;
+use crate::going_in::{direct_are, holds_one, param_are};
+use crate::outcome::Outcome;
+use crate::symbol::Symbol;
+use crate::words::{Word, parts_of};
+use crate::world::{Picked, World};
+use std::rc::Rc;
+use witx_abi::{err_type, is_tuple, ok_type, result_cases, tuple_members};
+use witx_ast::{Abi, InterfaceFunc, InterfaceFuncParam, TypeRef, Variant};
+use witx_base::OutOfMemory;
+
+/// Whether the callee's words, and what stands at its return at the addresses that it was passed, are the
+/// reply; without a result there is no word.
+#[tactic(auto, using(crate::proofs::ReturnLemmas::return_rules))]
+pub fn gives_back(
+    world: &World,
+    func: &InterfaceFunc,
+    outcome: &Outcome,
+) -> Result<bool, OutOfMemory>
+    ensures { IfOk result (λ fine. fine ≡
+        gives_back func.now.abi (world_of world.now) (param_types func.now.results) (option_of world.now.whole) (outcome_of outcome.now)) }
+{
+    match &world.whole {
+        Some(reply) => reply_returns(world, func, reply, outcome),
+        None => Ok(nothing_returns(func.results.as_slice(), outcome)),
+    }
+}
+
+#[tactic(auto, using(crate::proofs::ReturnLemmas::return_rules))]
+fn nothing_returns(results: &[InterfaceFuncParam], outcome: &Outcome) -> bool
+    ensures { result ≡ nothing_returns (param_types results.now) (outcome_of outcome.now) }
+{
+    results.is_empty() && outcome.call.callee_words.is_empty()
+}
+
+#[tactic(auto, using(crate::proofs::ReturnLemmas::return_rules))]
+fn reply_returns(
+    world: &World,
+    func: &InterfaceFunc,
+    reply: &Symbol,
+    outcome: &Outcome,
+) -> Result<bool, OutOfMemory>
+    ensures { IfOk result (λ fine. fine ≡
+        gives_back func.now.abi (world_of world.now) (param_types func.now.results) (Some (symbol_of reply.now)) (outcome_of outcome.now)) }
+{
+    match func.results.as_slice() {
+        [only] => result_returns(world, func.abi, &only.tref, reply, outcome),
+        _ => Ok(false),
+    }
+}
+
+#[tactic(auto, using(crate::proofs::ReturnLemmas::return_rules))]
+fn result_returns(
+    world: &World,
+    abi: Abi,
+    ty: &TypeRef,
+    reply: &Symbol,
+    outcome: &Outcome,
+) -> Result<bool, OutOfMemory>
+    ensures { IfOk result (λ fine. fine ≡
+        returns_under abi (world_of world.now) (tree_of ty.now) (symbol_of reply.now) (outcome_of outcome.now)) }
+{
+    match abi {
+        Abi::Preview1 => word_returns(world, ty, reply, outcome),
+        Abi::Stored => Ok(whole_returns(reply, outcome)),
+    }
+}
+
+// Stored whole, at the last address.
+#[tactic(auto, using(crate::proofs::ReturnLemmas::return_rules))]
+fn whole_returns(reply: &Symbol, outcome: &Outcome) -> bool
+    ensures { result ≡ returns_whole (symbol_of reply.now) (outcome_of outcome.now) }
+{
+    outcome.call.callee_words.is_empty()
+        && holds_one(
+            &outcome.call.at_return,
+            reply,
+            last_words(outcome.call.words.as_slice(), 1),
+        )
+}
+
+/// The last words of so many.
+#[tactic(auto, using(crate::proofs::ReturnLemmas::return_rules))]
+fn last_words(words: &[Word], count: usize) -> &[Word]
+    ensures { words_of result.now ≡ last_words count (words_of words.now) }
+{
+    &words[words.len().saturating_sub(count)..]
+}
+
+#[tactic(auto, using(crate::proofs::ReturnLemmas::return_rules))]
+fn word_returns(
+    world: &World,
+    ty: &TypeRef,
+    reply: &Symbol,
+    outcome: &Outcome,
+) -> Result<bool, OutOfMemory>
+    ensures { IfOk result (λ fine. fine ≡
+        returns_by (world_of world.now) (result_cases (tree_of ty.now)) (tree_of ty.now) (symbol_of reply.now) (outcome_of outcome.now)) }
+{
+    match result_cases(ty) {
+        Some(variant) => case_returns(world, variant, reply, outcome),
+        None => Ok(direct_are(ty, reply, outcome.call.callee_words.as_slice())),
+    }
+}
+
+#[tactic(auto, using(crate::proofs::ReturnLemmas::return_rules))]
+fn case_returns(
+    world: &World,
+    variant: &Variant,
+    reply: &Symbol,
+    outcome: &Outcome,
+) -> Result<bool, OutOfMemory>
+    ensures { IfOk result (λ fine. fine ≡
+        cases_return (world_of world.now) (variant_arms variant.now) (symbol_of reply.now) (outcome_of outcome.now)) }
+{
+    let ok = ok_type(variant);
+    let err = err_type(variant);
+    match world.picks(ok, err, reply)? {
+        Some(picked) => Ok(picked_returns(ok, err, &picked, outcome)),
+        None => Ok(false),
+    }
+}
+
+#[tactic(auto, using(crate::proofs::ReturnLemmas::return_rules))]
+fn picked_returns(
+    ok: Option<&TypeRef>,
+    err: Option<&TypeRef>,
+    picked: &Picked,
+    outcome: &Outcome,
+) -> bool
+    ensures { result ≡
+        returns_case (payload_tree ok.entry) (payload_tree err.entry)
+        (last_words (length (ok_pointers (payload_tree ok.entry))) (words_of outcome.now.call.words.items))
+        picked.now.error (payload_pair picked.now.payload) (memory_of outcome.now.call.at_return) (words_of outcome.now.call.callee_words.items) }
+{
+    let words = outcome.call.callee_words.as_slice();
+    match &picked.payload {
+        None => is_case_word(picked.error, words),
+        Some((payload, _)) => {
+            if picked.error {
+                err_returns(err, payload, &outcome.call.at_return, words)
+            } else {
+                let pointers = last_words(outcome.call.words.as_slice(), pointer_count(ok));
+                ok_returns(ok, pointers, payload, &outcome.call.at_return, words)
+            }
+        }
+    }
+}
+
+// Whether they are the one word of a case.
+#[tactic(auto, using(crate::proofs::ReturnLemmas::return_rules))]
+fn is_case_word(error: bool, words: &[Word]) -> bool
+    ensures { result ≡ is_case_word error (words_of words.now) }
+{
+    match words {
+        [word] => stands_for(error, word),
+        _ => false,
+    }
+}
+
+#[tactic(auto, using(crate::proofs::ReturnLemmas::return_rules))]
+fn stands_for(error: bool, word: &Word) -> bool
+    ensures { result ≡ is_case_word error (word_of word.now ∷ []) }
+{
+    match word {
+        Word::Zero => !error,
+        Word::One => error,
+        Word::Of { symbol: _, ty: _ } | Word::Address(_) | Word::Length(_) | Word::Given(_) => {
+            false
+        }
+    }
+}
+
+/// How many return pointers what an `ok` carries has: one for each member of a tuple, else one.
+#[tactic(auto, using(crate::proofs::ReturnLemmas::return_rules))]
+fn pointer_count(ok: Option<&TypeRef>) -> usize
+    ensures { result ≡ length (ok_pointers (payload_tree ok.entry)) }
+{
+    match ok {
+        Some(ty) => member_count(ty),
+        None => 0,
+    }
+}
+
+#[tactic(auto, using(crate::proofs::ReturnLemmas::return_rules))]
+fn member_count(ty: &TypeRef) -> usize
+    ensures { result ≡ length (ok_pointers (Some (tree_of ty.now))) }
+{
+    match tuple_members(ty) {
+        Some(members) => members.len(),
+        None => 1,
+    }
+}
+
+#[tactic(auto, using(crate::proofs::ReturnLemmas::return_rules))]
+fn err_returns(err: Option<&TypeRef>, payload: &Symbol, cells: &Cells, words: &[Word]) -> bool
+    ensures { result ≡ err_returns (payload_tree err.entry) (symbol_of payload.now) (memory_of cells.now) (words_of words.now) }
+{
+    match err {
+        Some(ty) => param_are(cells, ty, payload, words),
+        None => false,
+    }
+}
+
+#[tactic(auto, using(crate::proofs::ReturnLemmas::return_rules))]
+fn ok_returns(
+    ok: Option<&TypeRef>,
+    pointers: &[Word],
+    payload: &Symbol,
+    cells: &Cells,
+    words: &[Word],
+) -> bool
+    ensures { result ≡
+        ok_returns (payload_tree ok.entry) (words_of pointers.now) (symbol_of payload.now) (memory_of cells.now) (words_of words.now) }
+{
+    match ok {
+        Some(ty) => is_case_word(false, words) && parts_stand(cells, pointers, ty, payload),
+        None => false,
+    }
+}
+
+// Whether a payload stands at these addresses: a tuple's members, each at its own, or the payload at the one.
+#[tactic(auto, using(crate::proofs::ReturnLemmas::return_rules))]
+fn parts_stand(cells: &Cells, pointers: &[Word], ty: &TypeRef, payload: &Symbol) -> bool
+    ensures { result ≡ hold_parts (memory_of cells.now) (words_of pointers.now)
+        (ok_parts (is_tuple (tree_of ty.now)) (length (words_of pointers.now)) (symbol_of payload.now)) }
+{
+    if is_tuple(ty) {
+        members_stand(cells, pointers, payload)
+    } else {
+        holds_one(cells, payload, pointers)
+    }
+}
+
+#[tactic(auto, using(crate::proofs::ReturnLemmas::return_rules))]
+fn members_stand(cells: &Cells, pointers: &[Word], tuple: &Symbol) -> bool
+    ensures { result ≡ hold_parts (memory_of cells.now) (words_of pointers.now) (symbol_parts (length (words_of pointers.now)) (symbol_of tuple.now)) }
+{
+    match parts_of(pointers.len(), tuple) {
+        Some(parts) => hold_all(cells, pointers, parts),
+        None => false,
+    }
+}
+
+#[tactic(auto, using(crate::proofs::ReturnLemmas::return_rules))]
+fn hold_all(cells: &Cells, words: &[Word], symbols: &[Rc<Symbol>]) -> bool
+    ensures { result ≡ hold_all (memory_of cells.now) (words_of words.now) (shared_symbols symbols.now) }
+{
+    if words.len() != symbols.len() {
+        return false;
+    }
+    for i in 0..words.len() {
+        if !cells.holds(&words[i], &symbols[i]) {
+            return false;
+        }
+    }
+    true
+}

@@ -1,0 +1,111 @@
+ghost use Rattle.std.specs.Prelude.{◌≡◌, IfOk, map};
+ghost use Rattle.witx_ast.specs.Plain.{plain};
+ghost use Rattle.witx_ast.specs.Views.{tree_of, members_plain};
+ghost use Rattle.witx_symbols.specs.Symbols.{argument, atom, part, symbol_from, parts_from};
+ghost use Rattle.witx_symbols.specs.Verdicts.{arguments_from};
+ghost use Rattle.witx_symbols.specs.SymbolViews.{source_of, symbols_read};
+ghost use Rattle.witx_symbols.specs.WordViews.{shared_of, shared_symbols};
+
+use crate::symbol::{Source, Symbol, Symbols};
+use std::alloc::Global;
+use std::rc::Rc;
+use witx_ast::{Datatype, InterfaceFuncParam, RecordMember, TypeRef};
+use witx_base::{Items, OutOfMemory};
+
+/// The symbol of a type that comes from there: of a tuple the tuple of its parts.
+#[cycle(from)]
+#[tactic(auto, using(crate::proofs::FromLemmas::from_rules))]
+pub fn symbol_from(
+    alloc: Global,
+    ty: &TypeRef,
+    source: &Rc<Source>,
+) -> Result<Rc<Symbol>, OutOfMemory>
+    ensures { IfOk result (λ made. shared_of made ≡ symbol_from (plain (tree_of ty.now)) (source_of source.now.value)) }
+{
+    match ty {
+        TypeRef::Name(named) => symbol_from(alloc, &named.tref, source),
+        TypeRef::Value(datatype) => match &**datatype {
+            Datatype::Record(members) => {
+                if members.is_tuple() {
+                    let parts = parts_from(alloc, members.members.as_slice(), source)?;
+                    Ok(Rc::new(alloc, Symbol::Tuple(parts))?)
+                } else {
+                    atom_from(alloc, ty, source)
+                }
+            }
+            Datatype::Variant(_)
+            | Datatype::Handle(_)
+            | Datatype::List(_)
+            | Datatype::Pointer(_)
+            | Datatype::ConstPointer(_)
+            | Datatype::Builtin(_) => atom_from(alloc, ty, source),
+        },
+    }
+}
+
+#[tactic(auto, using(crate::proofs::FromLemmas::from_rules))]
+fn atom_from(alloc: Global, ty: &TypeRef, source: &Rc<Source>) -> Result<Rc<Symbol>, OutOfMemory>
+    ensures { IfOk result (λ made. shared_of made ≡ atom (source_of source.now.value) (plain (tree_of ty.now))) }
+{
+    let ty = ty.clone()?;
+    let source = Rc::clone(source)?;
+    Ok(Rc::new(alloc, Symbol::Atom { source, ty })?)
+}
+
+#[cycle(from)]
+#[tactic(auto, using(crate::proofs::FromLemmas::from_rules))]
+fn parts_from(
+    alloc: Global,
+    members: &[RecordMember],
+    source: &Rc<Source>,
+) -> Result<Symbols, OutOfMemory>
+    ensures { IfOk result (λ parts. symbols_read parts ≡ parts_from (members_plain members.now) (source_of source.now.value) 0) }
+{
+    let mut parts = Items::new(alloc);
+    for i in 0..members.len() {
+        parts.push(part_from(alloc, &members[i], source, i)?)?;
+    }
+    Ok(parts)
+}
+
+#[cycle(from)]
+#[tactic(auto, using(crate::proofs::FromLemmas::from_rules))]
+fn part_from(
+    alloc: Global,
+    member: &RecordMember,
+    whole: &Rc<Source>,
+    place: usize,
+) -> Result<Rc<Symbol>, OutOfMemory>
+    ensures { IfOk result (λ made. shared_of made ≡ symbol_from (plain (tree_of member.now.tref)) (part (source_of whole.now.value) place)) }
+{
+    let whole = Rc::clone(whole)?;
+    let source = Rc::new(alloc, Source::Part { whole, place })?;
+    symbol_from(alloc, &member.tref, &source)
+}
+
+/// The symbols of the arguments of these parameters.
+#[tactic(auto, using(crate::proofs::FromLemmas::from_rules))]
+pub fn arguments_from(
+    alloc: Global,
+    params: &[InterfaceFuncParam],
+) -> Result<Vec<Rc<Symbol>>, OutOfMemory>
+    ensures { IfOk result (λ made. shared_symbols made.items ≡ arguments_from 0 (map (λ p. tree_of p.tref) params.now)) }
+{
+    let mut arguments = Vec::new(alloc);
+    for i in 0..params.len() {
+        arguments.push(argument_from(alloc, &params[i], i)?)?;
+    }
+    Ok(arguments)
+}
+
+#[tactic(auto, using(crate::proofs::FromLemmas::from_rules))]
+fn argument_from(
+    alloc: Global,
+    param: &InterfaceFuncParam,
+    number: usize,
+) -> Result<Rc<Symbol>, OutOfMemory>
+    ensures { IfOk result (λ made. shared_of made ≡ symbol_from (plain (tree_of param.now.tref)) (argument number)) }
+{
+    let source = Rc::new(alloc, Source::Argument(number))?;
+    symbol_from(alloc, &param.tref, &source)
+}

@@ -1,7 +1,0 @@
-use Rattle.std.proofs.Common.{◌≡◌}
-use Rattle.witx_verify.specs.WordViews.{memory_of}
-use Rattle.witx_verify.proofs.ReturnLemmas.{left_held}
-use Rattle.witx_verify.proofs.coming_back.hold_all.Given as goal
-
-abbrev pub invariant-loop-i : goal.invariant-loop-i
-invariant-loop-i l = left_held (memory_of l.cells) l.words l.symbols l.i ≡ left_held (memory_of l.cells) l.words l.symbols 0

@@ -1,5 +1,0 @@
-use Rattle.witx_verify.proofs.laws.a_yes_is_faithful.Goals as goal
-use Rattle.witx_verify.proofs.Stated.{yes_means_faithful}
-
-pub returns : goal.returns
-returns c = yes_means_faithful

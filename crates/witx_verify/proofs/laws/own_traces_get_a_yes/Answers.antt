@@ -1,5 +1,0 @@
-use Rattle.witx_verify.proofs.laws.own_traces_get_a_yes.Goals as goal
-use Rattle.witx_verify.proofs.Stated.{own_get_yes}
-
-pub returns : goal.returns
-returns c = own_get_yes

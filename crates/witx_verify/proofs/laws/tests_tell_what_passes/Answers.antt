@@ -1,5 +1,0 @@
-use Rattle.witx_verify.proofs.laws.tests_tell_what_passes.Goals as goal
-use Rattle.witx_verify.proofs.Tests.{tests_tell}
-
-pub returns : goal.returns
-returns c = tests_tell
