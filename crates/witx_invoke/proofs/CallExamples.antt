@@ -17,8 +17,8 @@ use Rattle.witx_machine.specs.Run.{Outcome, values_in}
 use Rattle.witx_machine.specs.Cells.{Memory, run_cells}
 use Rattle.witx_bytes.specs.Bytes.{Bytes}
 use Rattle.witx_bytes.specs.ByteMachine.{Store, run_bytes}
-use Rattle.witx_invoke.specs.Ranges.{AreStated, EndBelow, StandFrom, ranges}
-use Rattle.witx_invoke.specs.Runs.{no_bytes}
+use Rattle.witx_call.specs.Ranges.{AreStated, EndBelow, StandFrom, ranges}
+use Rattle.witx_call.specs.Room.{no_bytes}
 
 abbrev m : List ℕ
 m = codes "m"

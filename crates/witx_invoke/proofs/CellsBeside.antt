@@ -23,7 +23,7 @@ use Rattle.witx_bytes.specs.ByteMachine.{Store, range_size, range_given, value_w
 use Rattle.witx_bytes.proofs.Agreement.{written-own, held-at, free-at}
 use Rattle.witx_bytes.proofs.ReadBack.{read-back}
 use Rattle.witx_bytes.proofs.RangeLaws.{Disjoint, agrees-placed, agrees-written, held-own, held-placed, held-written}
-use Rattle.witx_invoke.specs.Ranges.{addresses}
+use Rattle.witx_call.specs.Ranges.{addresses}
 use Rattle.witx_invoke.specs.Placing.{is_writable, is_readable, is_address}
 use Rattle.witx_invoke.proofs.BothEnd.{Meets, Alike, meets_self}
 use Rattle.witx_invoke.proofs.Answers.{some-none, some-same}

@@ -19,9 +19,9 @@ use Rattle.witx_bytes.specs.Images.{image}
 use Rattle.witx_bytes.specs.Reading.{value_at}
 use Rattle.witx_bytes.specs.ByteMachine.{Store, bytes, range_size, range_given, value_written, has_room}
 use Rattle.witx_bytes.specs.Follow.{AreApart, AreUnused, AreWritable}
-use Rattle.witx_invoke.specs.Ranges.{StandFrom, EndBelow, AreStated}
-use Rattle.witx_invoke.specs.Runs.{no_bytes}
-use Rattle.witx_invoke.specs.Placing.{Room, is_place, range_placed, next_address, is_writable, is_readable, is_address, value_put, placing}
+use Rattle.witx_call.specs.Ranges.{StandFrom, EndBelow, AreStated}
+use Rattle.witx_call.specs.Room.{no_bytes, Room, is_place, range_placed, next_address}
+use Rattle.witx_invoke.specs.Placing.{is_writable, is_readable, is_address, value_put, placing}
 use Rattle.witx_machine.proofs.Simulation.{Follows, Makes, Simulates, Backwards}
 use Rattle.witx_bytes.proofs.BytesFollow.{Related, Same, Front, bytes_simulate_cells, fronts_go_back}
 use Rattle.witx_invoke.proofs.StatedRanges.{stand-at, below-at, stated-apart, stated-unused, free-place}

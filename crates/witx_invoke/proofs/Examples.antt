@@ -3,7 +3,7 @@ use Rattle.std.proofs.Common.{◌≡◌, [], ◌∷◌, true, false, pos, negsuc
 use Rattle.std.specs.Fmt.{digits}
 use Rattle.witx_ast.specs.declared.types.BuiltinType.{BuiltinType}
 use Rattle.witx_ast.specs.Values.{Value, Values}
-use Rattle.witx_invoke.specs.ValueTexts.{value_text}
+use Rattle.witx_call.specs.ValueTexts.{value_text}
 
 u64-most : value_text (Value.number BuiltinType.U64 (pos 18446744073709551615)) ≡ codes "18446744073709551615"
 unfolding digits

@@ -13,12 +13,13 @@ use Rattle.witx_machine.specs.Positions.{Spot}
 use Rattle.witx_machine.specs.Run.{Outcome}
 use Rattle.witx_instructions.specs.Views.{event_of}
 use Rattle.witx_instructions.specs.declared.event.Event as declared_event
-use Rattle.witx_invoke.specs.Answering.{EndsSeen, HasNotEnded, IsSeen, IsStuck, stated_run}
+use Rattle.witx_call.specs.CallSeen.{IsSeen, seen_of}
+use Rattle.witx_invoke.specs.Answering.{EndsSeen, HasNotEnded, IsStuck, stated_run}
 use Rattle.witx_invoke.specs.Excepting.{is_excepted}
-use Rattle.witx_invoke.specs.Invoking.{CanRun, IsAnswer, Refuses, seen_of}
-use Rattle.witx_invoke.specs.Placing.{Room}
+use Rattle.witx_invoke.specs.Invoking.{CanRun, IsAnswer, Refuses}
+use Rattle.witx_call.specs.Room.{Room}
 use Rattle.witx_invoke.specs.declared.error.InvokeError.{InvokeError}
-use Rattle.witx_invoke.specs.declared.invoked.Invoked.{Invoked}
+use Rattle.witx_call.specs.declared.call_seen.Invoked.{Invoked}
 use Rattle.witx_invoke.proofs.ExceptLemmas.{excepted-reply}
 use Rattle.witx_invoke.proofs.PlacedRuns.{ends-in, no-run, has-room}
 

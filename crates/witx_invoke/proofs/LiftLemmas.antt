@@ -10,7 +10,7 @@ use Rattle.witx_ast.specs.Tree.{Tree}
 use Rattle.witx_ast.specs.Views.{tree_of, named_tree}
 use Rattle.witx_ast.proofs.Trees.{tree-NamedType}
 use Rattle.witx_machine.specs.Cells.{is_i32}
-use Rattle.witx_invoke.specs.WordViews.{u32_in}
+use Rattle.witx_call.specs.WordViews.{u32_in}
 use Rattle.witx_ast.specs.SameLaws.{builtin-self}
 use Rattle.witx_ast.specs.Values as plain_value
 use Rattle.witx_ast.specs.ValueTests.{in_range}

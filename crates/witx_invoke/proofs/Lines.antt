@@ -21,9 +21,9 @@ use Rattle.witx_bytes.specs.Readings.{Reads}
 use Rattle.witx_bytes.specs.Seen.{seen}
 use Rattle.witx_bytes.specs.declared.read_error.ReadError.{ReadError}
 use Rattle.witx_bytes.specs.declared.value.Value as program
-use Rattle.witx_invoke.specs.Lines.{AreLines, FirstFault, Gives, IsBehind, IsLine, NoLine, line_text, lines_text, param_types, types_of, values_given}
+use Rattle.witx_call.specs.Lines.{AreLines, FirstFault, Gives, IsBehind, IsLine, NoLine, line_text, lines_text, param_types, types_of, values_given}
 use Rattle.witx_invoke.specs.Reading.{taken, type_at}
-use Rattle.witx_invoke.specs.ValueTexts.{value_text}
+use Rattle.witx_call.specs.ValueTexts.{value_text}
 use Rattle.witx_invoke.proofs.ReadBack.{type-taken}
 
 -- of the line of a value the reader takes the value

@@ -14,8 +14,9 @@ use Rattle.witx_machine.specs.Cells.{Taken, cells, is_i32}
 use Rattle.witx_bytes.specs.Bytes.{placed, is_free}
 use Rattle.witx_bytes.specs.Reading.{value_at}
 use Rattle.witx_bytes.specs.ByteMachine.{Store, bytes, has_room, range_size, range_given, value_written}
-use Rattle.witx_invoke.specs.Ranges.{AreStated, addresses}
-use Rattle.witx_invoke.specs.Placing.{Room, is_place, next_address, is_writable, is_readable, is_address, value_put, placing}
+use Rattle.witx_call.specs.Ranges.{AreStated, addresses}
+use Rattle.witx_call.specs.Room.{Room, is_place, next_address}
+use Rattle.witx_invoke.specs.Placing.{is_writable, is_readable, is_address, value_put, placing}
 use Rattle.witx_machine.proofs.Simulation.{Follows, Makes, Simulates, Backwards}
 use Rattle.witx_machine.proofs.Following.{follows_at}
 use Rattle.witx_machine.proofs.Following as following

@@ -9,8 +9,9 @@ use Rattle.witx_ast.proofs.Trees.{tree-NamedType}
 use Rattle.witx_layout.specs.Numbers.{size_of}
 use Rattle.witx_machine.specs.Words.{Word, when}
 use Rattle.witx_bytes.specs.Reading.{value_at}
-use Rattle.witx_invoke.specs.Placing.{Room, is_address, is_readable, placing}
-use Rattle.witx_invoke.specs.WordViews.{u32_in}
+use Rattle.witx_call.specs.Room.{Room}
+use Rattle.witx_invoke.specs.Placing.{is_address, is_readable, placing}
+use Rattle.witx_call.specs.WordViews.{u32_in}
 use Rattle.witx_invoke.proofs.StoreLemmas.{is-number, no-number}
 
 clash : {A : Type 0} → false ≡ true → A

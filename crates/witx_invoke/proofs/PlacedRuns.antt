@@ -21,9 +21,11 @@ use Rattle.witx_bytes.specs.Follow.{AreUnused, AreWritable}
 use Rattle.witx_invoke.specs.Answering.{stated_run}
 use Rattle.witx_invoke.specs.Invoking.{AllocatesWritable}
 use Rattle.witx_invoke.specs.Laws.{SameSeen}
-use Rattle.witx_invoke.specs.Ranges.{AreStated, addresses, ranges}
-use Rattle.witx_invoke.specs.Runs.{no_bytes, CallSeen, RunsAsStated, ComesTo, NoRoom}
-use Rattle.witx_invoke.specs.Placing.{Room, placing}
+use Rattle.witx_call.specs.Ranges.{AreStated, addresses, ranges}
+use Rattle.witx_call.specs.Room.{no_bytes, Room}
+use Rattle.witx_call.specs.CallSeen.{CallSeen}
+use Rattle.witx_invoke.specs.Runs.{RunsAsStated, ComesTo, NoRoom}
+use Rattle.witx_invoke.specs.Placing.{placing}
 use Rattle.witx_machine.proofs.Simulation.{Follows, Each, went_same}
 use Rattle.witx_machine.proofs.Simulation as sim
 use Rattle.witx_machine.proofs.RunSimulation as two

@@ -16,8 +16,9 @@ use Rattle.witx_bytes.specs.Bytes.{Bytes, is_free, none_held, placed, written}
 use Rattle.witx_bytes.specs.Images.{image}
 use Rattle.witx_bytes.specs.ByteMachine.{has_room, range_size}
 use Rattle.witx_bytes.proofs.RangeLaws.{held-own, room-of}
-use Rattle.witx_invoke.specs.Ranges.{range_end}
-use Rattle.witx_invoke.specs.Placing.{Room, behind, given, is_place, is_writable, next_address, placing, value_put}
+use Rattle.witx_call.specs.Ranges.{range_end}
+use Rattle.witx_call.specs.Room.{Room, behind, given, is_place, next_address}
+use Rattle.witx_invoke.specs.Placing.{is_writable, placing, value_put}
 
 above : (at : ℕ) (xs : Taken) → 0 < at → 0 < behind at xs
 above at [] l = l

@@ -8,7 +8,7 @@ use Rattle.witx_ast.specs.Plain.{Plain, Fields, Arms, field_count, arm_count, al
 use Rattle.witx_ast.specs.Tags.{AllFit, AllFieldsFit, AllArmsFit}
 use Rattle.witx_ast.specs.Values.{Value, Values, InRange, IsValue, AreValues, IsBareCase, IsCaseWith}
 use Rattle.witx_bytes.proofs.ReadBack.{bare-below, with-below, with-payload}
-use Rattle.witx_invoke.specs.ValueTexts.{value_text, values_text, flags_text, flag_text, space_before}
+use Rattle.witx_call.specs.ValueTexts.{value_text, values_text, flags_text, flag_text, space_before}
 use Rattle.witx_invoke.specs.Reading.{after, made, item_at, flag_at, flags_at, closed, list_behind, index_at, cases_at, type_at, members_at, payload_at, signed_at}
 use Rattle.witx_invoke.proofs.Numbers.{Stops, word-taken, signed-taken, negative-taken}
 

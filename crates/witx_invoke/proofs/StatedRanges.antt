@@ -14,9 +14,8 @@ use Rattle.witx_bytes.specs.Bytes.{Bytes, in_bounds, none_held, is_free}
 use Rattle.witx_bytes.specs.ByteMachine.{range_size}
 use Rattle.witx_bytes.specs.Follow.{ApartFrom, AreApart, AreUnused}
 use Rattle.witx_bytes.proofs.Agreement.{free-from}
-use Rattle.witx_invoke.specs.Ranges.{range_end, StandFrom, EndBelow, AreStated, addresses}
-use Rattle.witx_invoke.specs.Runs.{no_bytes}
-use Rattle.witx_invoke.specs.Placing.{behind, is_place}
+use Rattle.witx_call.specs.Ranges.{range_end, StandFrom, EndBelow, AreStated, addresses}
+use Rattle.witx_call.specs.Room.{no_bytes, behind, is_place}
 
 up : (n : ℕ) → n ≤ align_to n 8
 up n = omega arith

@@ -14,8 +14,9 @@ use Rattle.witx_machine.specs.Words.{Word, when}
 use Rattle.witx_bytes.specs.Bytes.{Bytes, all_held, written}
 use Rattle.witx_bytes.specs.Images.{image}
 use Rattle.witx_bytes.specs.ByteMachine.{has_room}
-use Rattle.witx_invoke.specs.Placing.{Room, is_address, is_writable, placing, value_put}
-use Rattle.witx_invoke.specs.WordViews.{u32_in}
+use Rattle.witx_call.specs.Room.{Room}
+use Rattle.witx_invoke.specs.Placing.{is_address, is_writable, placing, value_put}
+use Rattle.witx_call.specs.WordViews.{u32_in}
 
 none_some : {A : Type 0} {x : A} → None ≡ Some x → ⊥
 none_some e = cc

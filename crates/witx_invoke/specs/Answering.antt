@@ -1,31 +1,21 @@
 -- What is answered of a run with the stated addresses: the parts of its outcome, or that there is no room.
-use Rattle.std.specs.Prelude.{◌≡◌, ℕ, List, [], Option, Some, option_to_list}
+use Rattle.std.specs.Prelude.{ℕ, List, [], Option}
 use Rattle.witx_ast.specs.Values.{Value}
 use Rattle.witx_machine.specs.Words.{Word}
 use Rattle.witx_machine.specs.Events.{Event}
 use Rattle.witx_machine.specs.Functions.{Function}
 use Rattle.witx_machine.specs.Machine.{Tried, went, no_rule, stuck_at}
 use Rattle.witx_machine.specs.Positions.{Spot, spotted_run}
-use Rattle.witx_machine.specs.Run.{Outcome, values_in}
-use Rattle.witx_invoke.specs.Invoking.{seen_of}
-use Rattle.witx_invoke.specs.Placing.{Room, placing}
-use Rattle.witx_invoke.specs.Ranges.{ranges}
-use Rattle.witx_invoke.specs.Runs.{CallSeen, no_bytes}
-use Rattle.witx_invoke.specs.declared.invoked.Invoked.{Invoked}
+use Rattle.witx_machine.specs.Run.{Outcome}
+use Rattle.witx_call.specs.CallSeen.{IsSeen, seen_of}
+use Rattle.witx_call.specs.Room.{Room, no_bytes}
+use Rattle.witx_call.specs.declared.call_seen.Invoked.{Invoked}
+use Rattle.witx_invoke.specs.Placing.{placing}
 use Rattle.witx_invoke.specs.declared.error.InvokeError.{InvokeError}
 
 -- the run over bytes with the stated addresses, from an empty memory
 abbrev pub stated_run : List ℕ → Function → (caller callee : List Event) → List Value → Option Value → Tried Spot (Outcome Value Word Room)
 stated_run m f caller callee arguments reply = spotted_run placing m f caller callee arguments reply (record { bytes = no_bytes; taken = [] })
-
--- the parts of an outcome
-pub record IsSeen (q : Outcome Value Word Room) (s : CallSeen) : Type 0 where
-  pub pass : s.pass ≡ q.call.words
-  pub notes : s.notes ≡ q.call.noted
-  pub back : s.back ≡ q.call.callee_words
-  pub returned : (reply : Option Value) → values_in q.back ≡ Some (option_to_list reply) → s.returned ≡ reply
-  pub taken : s.taken ≡ ranges q.memory.taken
-  pub bytes : s.bytes ≡ q.memory.bytes
 
 -- the run has ended, and these are its parts
 abbrev pub EndsSeen : Tried Spot (Outcome Value Word Room) → Invoked → Type 0

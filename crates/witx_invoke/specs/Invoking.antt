@@ -1,4 +1,4 @@
--- What the call of one function is asked for and answers: how its answer is read, under which condition it is made, and when it is refused.
+-- What the call of one function is asked for and answers: under which condition it is made, what an answer says, and when it is refused.
 use Rattle.std.specs.Prelude.{◌≡◌, ℕ, List, map, IsTrue, IsFalse, Option, option_map}
 use Rattle.witx_ast.specs.Values.{Value}
 use Rattle.witx_machine.specs.Words.{Word}
@@ -7,28 +7,12 @@ use Rattle.witx_machine.specs.Functions.{Function}
 use Rattle.witx_machine.specs.Run.{Outcome}
 use Rattle.witx_machine.specs.Cells.{Memory}
 use Rattle.witx_machine.specs.Faithful.{Faithful, are_arguments, is_reply, zero_error}
-use Rattle.witx_bytes.specs.Bytes.{held}
 use Rattle.witx_bytes.specs.Follow.{AreWritable}
 use Rattle.witx_bytes.specs.Seen.{seen}
-use Rattle.witx_invoke.specs.Runs.{CallSeen, ComesTo, NoRoom, RunsAsStated}
-use Rattle.witx_invoke.specs.WordViews.{word_of}
-use Rattle.witx_invoke.specs.declared.invoked.Placed.{Placed}
-use Rattle.witx_invoke.specs.declared.invoked.Invoked.{Invoked}
+use Rattle.witx_call.specs.CallSeen.{seen_of}
+use Rattle.witx_call.specs.declared.call_seen.Invoked.{Invoked}
+use Rattle.witx_invoke.specs.Runs.{ComesTo, NoRoom, RunsAsStated}
 use Rattle.witx_invoke.specs.declared.error.InvokeError.{InvokeError}
-
-abbrev pub placed_of : Placed → ℕ × ℕ
-placed_of p = (p.at, p.len)
-
--- what is seen of a call, as the program answers it
-abbrev pub seen_of : Invoked → CallSeen
-seen_of i = record {
-  pass = map word_of i.pass;
-  notes = map seen i.notes;
-  back = map word_of i.back;
-  returned = option_map seen i.returned;
-  taken = map placed_of i.taken;
-  bytes = held i.memory;
-}
 
 module _ (m : List ℕ) (f : Function) (caller callee : List Event) (arguments : List Value) (reply : Option Value) where
   -- each type that the traces allocate, in a run on these with the stated addresses, fits its tags

@@ -7,10 +7,11 @@ use Rattle.witx_ast.specs.Values.{Value}
 use Rattle.witx_ast.specs.ValueTests.{is_value}
 use Rattle.witx_machine.specs.Events.{Event}
 use Rattle.witx_machine.specs.Functions.{Function}
+use Rattle.witx_call.specs.CallSeen.{CallSeen}
+use Rattle.witx_call.specs.Lines.{IsLine}
+use Rattle.witx_call.specs.ValueTexts.{value_text}
 use Rattle.witx_invoke.specs.Invoking.{CanRun}
-use Rattle.witx_invoke.specs.Lines.{IsLine}
-use Rattle.witx_invoke.specs.Runs.{CallSeen, ComesTo}
-use Rattle.witx_invoke.specs.ValueTexts.{value_text}
+use Rattle.witx_invoke.specs.Runs.{ComesTo}
 
 -- A TEXT TELLS ITS VALUE
 abbrev pub AtMostOneValue : Type 0

@@ -1,16 +1,8 @@
-pub mod ValueTexts
 pub mod Reading
-pub mod Lines
-pub mod Cases
 pub mod Laws
-pub mod Ranges
 pub mod Runs
-pub mod WordViews
 pub mod Picking
 pub mod Placing
-pub mod RangeViews
-pub mod Zeroing
-pub mod PlacementViews
 pub mod Invoking
 pub mod Excepting
 pub mod Answering

@@ -1,45 +1,21 @@
 -- The machine over bytes with the stated addresses: a range begins behind the one before it, and none ends above 2^20.
 -- Beyond that it asks what a program can't do without: what is written is a value of its type, which fits its tags, and what is read is of a type
 -- that fits its tags and whose size is a machine's number. The runs of a call are defined in Runs, and not by this.
-use Rattle.std.specs.Prelude.{ℕ, ◌+◌, ◌^◌, [], ◌∷◌, ◌++◌, Bool, ◌&&◌, Option, Some, option_map, nat_le, nat_lt}
-use Rattle.witx_ast.specs.Tree.{Tree}
+use Rattle.std.specs.Prelude.{ℕ, ◌^◌, Bool, ◌&&◌, Some, option_map, nat_lt}
 use Rattle.witx_ast.specs.Plain.{Plain, plain}
 use Rattle.witx_ast.specs.Tags.{fits}
 use Rattle.witx_ast.specs.Values.{Value}
 use Rattle.witx_ast.specs.ValueTests.{is_value}
-use Rattle.witx_layout.specs.Numbers.{align_to, size_of}
-use Rattle.witx_machine.specs.Words.{Word, i32, is_u32, when}
+use Rattle.witx_layout.specs.Numbers.{size_of}
+use Rattle.witx_machine.specs.Words.{Word, is_u32, when}
 use Rattle.witx_machine.specs.Functions.{by_address}
 use Rattle.witx_machine.specs.Machine.{Domain}
-use Rattle.witx_machine.specs.Cells.{Taken, cells, is_i32}
-use Rattle.witx_bytes.specs.Bytes.{Bytes, none_held, placed, written}
+use Rattle.witx_machine.specs.Cells.{cells, is_i32}
+use Rattle.witx_bytes.specs.Bytes.{written}
 use Rattle.witx_bytes.specs.Images.{image}
 use Rattle.witx_bytes.specs.Reading.{value_at}
-use Rattle.witx_bytes.specs.ByteMachine.{has_room, range_size}
-use Rattle.witx_invoke.specs.Ranges.{range_end}
-
--- bytes, and the ranges that were given, with their types
-pub record Room : Type 0 where
-  pub bytes : Bytes
-  pub taken : Taken
-
--- where the next range begins, the first at an address
-abbrev pub behind : ℕ → Taken → ℕ
-behind at [] = at
-behind at (x ∷ xs) = behind (align_to (range_end x) 8) xs
-
-abbrev pub next_address : Taken → ℕ
-next_address taken = behind 16 taken
-
-abbrev pub is_place : ℕ → ℕ → Bytes → Bool
-is_place at size m = nat_le (at + size) (2 ^ 20) && none_held at size m
-
--- the next address, with a range of zeros for the type
-abbrev pub range_placed : Tree → ℕ → ℕ → Room → Option (Word × Room)
-range_placed t at size m = when (is_place at size m.bytes) (Some (i32 at, record { bytes = placed at size m.bytes; taken = m.taken ++ (at, t) ∷ [] }))
-
-abbrev pub given : Tree → Room → Option (Word × Room)
-given t m = range_placed t (next_address m.taken) (range_size (plain t)) m
+use Rattle.witx_bytes.specs.ByteMachine.{has_room}
+use Rattle.witx_call.specs.Room.{Room, given}
 
 abbrev pub is_writable : Plain → Value → Bool
 is_writable t v = is_value t v && fits t

@@ -1,27 +1,15 @@
 -- What a call that is run over a memory of bytes comes to, and when there is no room for it.
-use Rattle.std.specs.Prelude.{◌≡◌, ℕ, ◌+◌, ◌^◌, ◌<◌, ◌⊎◌, List, [], ◌++◌, length, Option, Some, None, option_to_list}
+use Rattle.std.specs.Prelude.{◌≡◌, ℕ, ◌+◌, ◌^◌, ◌<◌, ◌⊎◌, List, [], ◌++◌, length, Option, Some, option_to_list}
 use Rattle.witx_ast.specs.Values.{Value}
 use Rattle.witx_machine.specs.Words.{Word}
 use Rattle.witx_machine.specs.Events.{Event}
 use Rattle.witx_machine.specs.Functions.{Function}
 use Rattle.witx_machine.specs.Run.{Outcome, values_in}
 use Rattle.witx_machine.specs.Cells.{Memory, run_cells}
-use Rattle.witx_bytes.specs.Bytes.{Bytes}
 use Rattle.witx_bytes.specs.ByteMachine.{Store, run_bytes}
-use Rattle.witx_invoke.specs.Ranges.{AreStated, addresses, ranges}
-
-abbrev pub no_bytes : Bytes
-no_bytes at = None
-
--- what is seen of a call: the words that pass, the values that are noted, the words that come back, the value that is returned,
--- the ranges in the order in which they were given, and the bytes in the end
-pub record CallSeen : Type 0 where
-  pub pass : List Word
-  pub notes : List Value
-  pub back : List Word
-  pub returned : Option Value
-  pub taken : List (ℕ × ℕ)
-  pub bytes : Bytes
+use Rattle.witx_call.specs.Ranges.{AreStated, addresses, ranges}
+use Rattle.witx_call.specs.Room.{no_bytes}
+use Rattle.witx_call.specs.CallSeen.{CallSeen}
 
 module _ (m : List ℕ) (f : Function) (caller callee : List Event) (arguments : List Value) (reply : Option Value) where
   -- THE RUN WITH THE STATED ADDRESSES, over cells from an empty memory: the ranges that it takes stand where they are to stand; more: addresses that it doesn't take

@@ -4,26 +4,29 @@ ghost use Rattle.std.specs.Prelude.{◌≡◌, IfOk, map, option_map};
 ghost use Rattle.witx_ast.specs.Values as plain;
 ghost use Rattle.witx_machine.specs.Words as machine;
 ghost use Rattle.witx_bytes.specs.Seen.{seen};
-ghost use Rattle.witx_invoke.specs.Placing.{Room, placing};
-ghost use Rattle.witx_invoke.specs.PlacementViews.{room_of};
-ghost use Rattle.witx_invoke.specs.WordViews.{word_of};
+ghost use Rattle.witx_call.specs.PlacementViews.{room_of};
+ghost use Rattle.witx_call.specs.Room.{Room};
+ghost use Rattle.witx_call.specs.WordViews.{word_of};
+ghost use Rattle.witx_invoke.specs.Placing.{placing};
 
 use crate::copies::copy_value;
 use crate::lifting::{
     lift_const_pointer, lift_enum, lift_flags, lift_handle, lift_number, lift_pointer,
 };
+use crate::loading::load;
 use crate::lowering::{
     lower_const_pointer, lower_enum, lower_flags, lower_handle, lower_number, lower_pointer,
 };
 use crate::picking::picks;
-use crate::placement::Placement;
 use crate::shapes::{list_value, list_words, parts, result, tuple};
-use crate::word::Word;
+use crate::storing::{put, store};
+use crate::word_parts::{case_word, chooses, has_type, i32_word};
 use std::alloc::Global;
 use std::rc::Rc;
 use witx_ast::{NamedType, TypeRef};
 use witx_base::OutOfMemory;
 use witx_bytes::Value;
+use witx_call::{Placement, Word};
 use witx_machine::WasmType;
 use witx_run::{Conversion, Domain, Picked};
 
@@ -116,7 +119,7 @@ impl Domain for ByteDomain {
         ty: &Rc<NamedType>,
     ) -> Result<Option<Word>, OutOfMemory> {
         match memory.give(ty)? {
-            Some(at) => Ok(Some(Word::i32(at))),
+            Some(at) => Ok(Some(i32_word(at))),
             None => Ok(None),
         }
     }
@@ -127,10 +130,10 @@ impl Domain for ByteDomain {
         ty: &Rc<NamedType>,
         value: Value,
     ) -> Result<Option<Word>, OutOfMemory> {
-        let given = memory.put(ty, &value);
+        let given = put(memory, ty, &value);
         drop(value);
         match given? {
-            Some(at) => Ok(Some(Word::i32(at))),
+            Some(at) => Ok(Some(i32_word(at))),
             None => Ok(None),
         }
     }
@@ -141,7 +144,7 @@ impl Domain for ByteDomain {
         ty: &Rc<NamedType>,
         word: &Word,
     ) -> Result<Option<Value>, OutOfMemory> {
-        memory.load(self.alloc, ty, *word)
+        load(memory, self.alloc, ty, *word)
     }
 
     fn set(
@@ -151,7 +154,7 @@ impl Domain for ByteDomain {
         word: &Word,
         value: Value,
     ) -> Result<bool, OutOfMemory> {
-        let stored = memory.store(ty, *word, &value);
+        let stored = store(memory, ty, *word, &value);
         drop(value);
         Ok(stored)
     }
@@ -166,11 +169,11 @@ impl Domain for ByteDomain {
     }
 
     fn case_word(&self, error: bool) -> Word {
-        Word::of_case(error)
+        case_word(error)
     }
 
     fn chooses(&self, word: &Word) -> Option<bool> {
-        word.chooses()
+        chooses(*word)
     }
 
     fn result(&self, error: bool, payload: Option<Value>) -> Result<Value, OutOfMemory>
@@ -180,6 +183,6 @@ impl Domain for ByteDomain {
     }
 
     fn has_type(&self, ty: WasmType, word: &Word) -> bool {
-        word.has_type(ty)
+        has_type(*word, ty)
     }
 }

@@ -8,7 +8,7 @@ ghost use Rattle.witx_ast.specs.Tree.{Tree};
 ghost use Rattle.witx_ast.specs.Views.{tree_of};
 ghost use Rattle.witx_bytes.specs.Seen.{seen};
 ghost use Rattle.witx_machine.specs.Functions.{function_of};
-ghost use Rattle.witx_invoke.specs.Lines.{AreLines, FirstFault, Gives, IsLine, NoLine, param_types, types_of};
+ghost use Rattle.witx_call.specs.Lines.{AreLines, FirstFault, Gives, IsLine, NoLine, param_types, types_of};
 
 use crate::error::ValuesError;
 use crate::line::read_line;

@@ -7,22 +7,20 @@ ghost use Rattle.witx_invoke.specs.Answering.{stated_run};
 ghost use Rattle.witx_invoke.specs.Invoking.{CanRun, IsAnswer, Refuses};
 ghost use Rattle.witx_run.specs.OutcomeViews.{run_of};
 ghost use Rattle.witx_run.specs.Views.{reply_of};
-ghost use Rattle.witx_invoke.specs.PlacementViews.{room_of};
-ghost use Rattle.witx_invoke.specs.WordViews.{word_of};
+ghost use Rattle.witx_call.specs.PlacementViews.{room_of};
+ghost use Rattle.witx_call.specs.WordViews.{word_of};
 
 use crate::answering::answer;
 use crate::byte_domain::ByteDomain;
 use crate::error::InvokeError;
 use crate::excepting::is_excepted;
-use crate::invoked::Invoked;
-use crate::placement::Placement;
-use crate::word::Word;
 use std::alloc::Global;
 use witx_abi::Events;
 use witx_adapt::AdaptedFunc;
 use witx_ast::InterfaceFunc;
 use witx_base::{Id, OutOfMemory};
 use witx_bytes::{Value, Values};
+use witx_call::{Invoked, Placement, Word};
 use witx_run::{Run, run_traces};
 
 /// How many events are run at most.

@@ -7,14 +7,15 @@ ghost use Rattle.witx_ast.specs.Views.{tree_of, named_tree};
 ghost use Rattle.witx_machine.specs.Cells.{cells};
 ghost use Rattle.witx_machine.specs.Words.{checked, const_pointer, enum_of, flags_in, flags_of as flags_by, handle_of, number_of as number_by, pointer};
 ghost use Rattle.witx_bytes.specs.Seen.{seen};
-ghost use Rattle.witx_invoke.specs.WordViews.{word_of};
+ghost use Rattle.witx_call.specs.WordViews.{word_of};
 
 use crate::kinds::{cut_to, flags_repr, repr_word_type, tag_repr};
-use crate::word::Word;
+use crate::word_parts::i32_number;
 use std::alloc::Global;
 use witx_ast::{BuiltinType, NamedType, TypeRef};
 use witx_base::OutOfMemory;
 use witx_bytes::{ReadError, Value, flags_of, in_range, is_value, number_of};
+use witx_call::Word;
 use witx_machine::WasmType;
 use witx_run::{builtin_word_type, same_type};
 
@@ -39,7 +40,7 @@ pub(crate) fn lift_number(builtin: BuiltinType, word: Word) -> Option<Value>
 pub(crate) fn lift_pointer(word: Word) -> Option<Value>
     ensures { option_map seen result ≡ cells.lift pointer (word_of word) }
 {
-    match word.number() {
+    match i32_number(word) {
         Some(address) => Some(Value::Pointer(address)),
         None => None,
     }
@@ -50,7 +51,7 @@ pub(crate) fn lift_pointer(word: Word) -> Option<Value>
 pub(crate) fn lift_const_pointer(word: Word) -> Option<Value>
     ensures { option_map seen result ≡ cells.lift const_pointer (word_of word) }
 {
-    match word.number() {
+    match i32_number(word) {
         Some(address) => Some(Value::ConstPointer(address)),
         None => None,
     }
@@ -61,7 +62,7 @@ pub(crate) fn lift_const_pointer(word: Word) -> Option<Value>
 pub(crate) fn lift_handle(named: &NamedType, word: Word) -> Option<Value>
     ensures { option_map seen result ≡ cells.lift (handle_of (named_tree named.now)) (word_of word) }
 {
-    match word.number() {
+    match i32_number(word) {
         Some(number) => value_if(&named.tref, Value::Handle(number)),
         None => None,
     }

@@ -7,36 +7,34 @@ ghost use Rattle.witx_bytes.specs.Bytes.{held};
 ghost use Rattle.witx_bytes.specs.Reading.{value_at};
 ghost use Rattle.witx_bytes.specs.Seen.{seen};
 ghost use Rattle.witx_invoke.specs.Placing.{is_readable as can_be_read, placing};
-ghost use Rattle.witx_invoke.specs.PlacementViews.{room_of};
-ghost use Rattle.witx_invoke.specs.WordViews.{word_of};
+ghost use Rattle.witx_call.specs.PlacementViews.{room_of};
+ghost use Rattle.witx_call.specs.WordViews.{word_of};
 
-use crate::placement::Placement;
-use crate::word::Word;
+use crate::word_parts::i32_number;
 use std::alloc::Global;
 use witx_ast::{NamedType, TypeRef};
 use witx_base::OutOfMemory;
 use witx_bytes::{ByteMemory, ReadError, Value, read_value, writable};
+use witx_call::{Placement, Word};
 use witx_layout::Layout;
 
-impl Placement {
-    /// The value that stands at an address, of a type that fits its tags and whose size is a machine's number.
-    #[tactic(auto, using(crate::proofs::LoadLemmas::load_rules))]
-    pub(crate) fn load(
-        &self,
-        alloc: Global,
-        ty: &NamedType,
-        word: Word,
-    ) -> Result<Option<Value>, OutOfMemory>
-        ensures { IfOk result (λ value. option_map seen value ≡ placing.get (named_tree ty.now) (word_of word) (room_of self.now)) }
-    {
-        let Some(at) = word.number() else {
-            return Ok(None);
-        };
-        if !is_readable(&ty.tref) {
-            return Ok(None);
-        }
-        value_there(alloc, &self.bytes, at, &ty.tref)
+/// The value that stands at an address, of a type that fits its tags and whose size is a machine's number.
+#[tactic(auto, using(crate::proofs::LoadLemmas::load_rules))]
+pub(crate) fn load(
+    placement: &Placement,
+    alloc: Global,
+    ty: &NamedType,
+    word: Word,
+) -> Result<Option<Value>, OutOfMemory>
+    ensures { IfOk result (λ value. option_map seen value ≡ placing.get (named_tree ty.now) (word_of word) (room_of placement.now)) }
+{
+    let Some(at) = i32_number(word) else {
+        return Ok(None);
+    };
+    if !is_readable(&ty.tref) {
+        return Ok(None);
     }
+    value_there(alloc, &placement.bytes, at, &ty.tref)
 }
 
 /// Whether the type fits its tags and its size is a machine's number.

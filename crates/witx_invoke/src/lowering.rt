@@ -8,14 +8,15 @@ ghost use Rattle.witx_machine.specs.Cells.{cells};
 ghost use Rattle.witx_machine.specs.Words.{bits_of_flags, const_pointer, enum_of, flags_of, handle_of, i32 as word_i32, number_of, number_word, pointer, repr_word_type as type_of_word, when};
 ghost use Rattle.witx_bytes.specs.Seen.{seen};
 ghost use Rattle.witx_invoke.specs.Representing.{flags_in_word};
-ghost use Rattle.witx_invoke.specs.WordViews.{word_of};
+ghost use Rattle.witx_call.specs.WordViews.{word_of};
 
 use crate::builtins::word_bits;
 use crate::kinds::{flags_repr, repr_word_type};
-use crate::word::Word;
+use crate::word_parts::i32_word;
 use witx_ast::{BuiltinType, IntRepr, NamedType};
 use witx_base::OutOfMemory;
 use witx_bytes::{Value, flag_bits, in_range, is_value};
+use witx_call::Word;
 use witx_machine::WasmType;
 use witx_run::{builtin_word_type, same_type};
 
@@ -64,7 +65,7 @@ pub(crate) fn lower_pointer(value: &Value) -> Option<Word>
     ensures { option_map word_of result ≡ cells.lower pointer (seen value.now) }
 {
     match value {
-        Value::Pointer(address) => Some(Word::i32(*address)),
+        Value::Pointer(address) => Some(i32_word(*address)),
         Value::Num(_, _) => None,
         Value::Handle(_) => None,
         Value::ConstPointer(_) => None,
@@ -84,7 +85,7 @@ pub(crate) fn lower_const_pointer(value: &Value) -> Option<Word>
     ensures { option_map word_of result ≡ cells.lower const_pointer (seen value.now) }
 {
     match value {
-        Value::ConstPointer(address) => Some(Word::i32(*address)),
+        Value::ConstPointer(address) => Some(i32_word(*address)),
         Value::Num(_, _) => None,
         Value::Handle(_) => None,
         Value::Pointer(_) => None,
@@ -143,7 +144,7 @@ fn word_if(has_one: bool, number: u32) -> Option<Word>
     ensures { option_map word_of result ≡ when has_one (Some (word_i32 number)) }
 {
     if has_one {
-        Some(Word::i32(number))
+        Some(i32_word(number))
     } else {
         None
     }

@@ -4,13 +4,14 @@ ghost use Rattle.std.specs.Prelude.{◌≡◌, IfOk, Some, cond, length, map, na
 ghost use Rattle.witx_machine.specs.Cells.{cells};
 ghost use Rattle.witx_machine.specs.Words.{when};
 ghost use Rattle.witx_bytes.specs.Seen.{seen};
-ghost use Rattle.witx_invoke.specs.WordViews.{word_of};
+ghost use Rattle.witx_call.specs.WordViews.{word_of};
 
-use crate::word::Word;
+use crate::word_parts::{i32_number, i32_word};
 use std::alloc::Global;
 use std::boxed::Box;
 use witx_base::{Items, OutOfMemory};
 use witx_bytes::Value;
+use witx_call::Word;
 
 /// The address and the length of a list.
 #[tactic(auto, using(crate::proofs::ShapeLemmas::shape_rules))]
@@ -18,7 +19,7 @@ pub(crate) fn list_words(value: &Value) -> Option<(Word, Word)>
     ensures { option_map (λ p. (word_of p.0, word_of p.1)) result ≡ cells.list_words (seen value.now) }
 {
     match value {
-        Value::List { address, length } => Some((Word::i32(*address), Word::i32(*length))),
+        Value::List { address, length } => Some((i32_word(*address), i32_word(*length))),
         Value::Num(_, _) => None,
         Value::Handle(_) => None,
         Value::Pointer(_) => None,
@@ -37,7 +38,7 @@ pub(crate) fn list_words(value: &Value) -> Option<(Word, Word)>
 pub(crate) fn list_value(address: Word, length: Word) -> Option<Value>
     ensures { option_map seen result ≡ cells.list_value (word_of address) (word_of length) }
 {
-    match (address.number(), length.number()) {
+    match (i32_number(address), i32_number(length)) {
         (Some(address), Some(length)) => Some(Value::List { address, length }),
         _ => None,
     }

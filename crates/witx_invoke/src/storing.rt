@@ -8,36 +8,34 @@ ghost use Rattle.witx_bytes.specs.ByteMachine.{has_room as is_room};
 ghost use Rattle.witx_bytes.specs.Bytes.{held};
 ghost use Rattle.witx_bytes.specs.Seen.{seen};
 ghost use Rattle.witx_invoke.specs.Placing.{is_writable as fits_there, placing};
-ghost use Rattle.witx_invoke.specs.PlacementViews.{room_of};
-ghost use Rattle.witx_invoke.specs.WordViews.{word_of};
+ghost use Rattle.witx_call.specs.PlacementViews.{room_of};
+ghost use Rattle.witx_call.specs.WordViews.{word_of};
 
 use crate::kinds::is_by_address;
-use crate::placement::Placement;
-use crate::word::Word;
+use crate::word_parts::i32_number;
 use std::rc::Rc;
 use witx_ast::{NamedType, TypeRef};
 use witx_base::OutOfMemory;
 use witx_bytes::{ByteMemory, Value, is_value, writable, write_value};
+use witx_call::{Placement, Word};
 use witx_layout::Layout;
 
-impl Placement {
-    /// Puts a value of a type at an address where there is room for it, and answers whether it did.
-    #[tactic(auto, using(crate::proofs::StoreLemmas::storing_rules))]
-    pub(crate) fn store(&mut self, ty: &NamedType, word: Word, value: &Value) -> bool
-        ensures { when result (Some (room_of self.new)) ≡ placing.set (named_tree ty.now) (word_of word) (seen value.now) (room_of self.old) }
-    {
-        let Some(at) = word.number() else {
-            return false;
-        };
-        if !has_room(&self.bytes, at, &ty.tref) {
-            return false;
-        }
-        if !is_writable(&ty.tref, value) {
-            return false;
-        }
-        write_value(&mut self.bytes, at, &ty.tref, value);
-        true
+/// Puts a value of a type at an address where there is room for it, and answers whether it did.
+#[tactic(auto, using(crate::proofs::StoreLemmas::storing_rules))]
+pub(crate) fn store(placement: &mut Placement, ty: &NamedType, word: Word, value: &Value) -> bool
+    ensures { when result (Some (room_of placement.new)) ≡ placing.set (named_tree ty.now) (word_of word) (seen value.now) (room_of placement.old) }
+{
+    let Some(at) = i32_number(word) else {
+        return false;
+    };
+    if !has_room(&placement.bytes, at, &ty.tref) {
+        return false;
     }
+    if !is_writable(&ty.tref, value) {
+        return false;
+    }
+    write_value(&mut placement.bytes, at, &ty.tref, value);
+    true
 }
 
 /// Whether it is a value of the type, which fits its tags.
@@ -58,28 +56,27 @@ fn has_room(memory: &ByteMemory, at: u32, ty: &TypeRef) -> bool
     }
 }
 
-impl Placement {
-    /// Puts a value at the next range, given for its type; none where the type isn't passed by address, where
-    /// it isn't a value of the type, and where there is no room.
-    pub(crate) fn put(
-        &mut self,
-        ty: &Rc<NamedType>,
-        value: &Value,
-    ) -> Result<Option<u32>, OutOfMemory>
-        ensures { IfOk result (λ at. option_map (λ a. (word_i32 a, room_of self.new)) at ≡ placing.put (named_tree ty.now.value) (seen value.now) (room_of self.old)) }
-    {
-        if !is_by_address(&ty.tref) {
-            return Ok(None);
+/// Puts a value at the next range, given for its type; none where the type isn't passed by address, where
+/// it isn't a value of the type, and where there is no room.
+pub(crate) fn put(
+    placement: &mut Placement,
+    ty: &Rc<NamedType>,
+    value: &Value,
+) -> Result<Option<u32>, OutOfMemory>
+    ensures { IfOk result (λ at. option_map (λ a. (word_i32 a, room_of placement.new)) at
+        ≡ placing.put (named_tree ty.now.value) (seen value.now) (room_of placement.old)) }
+{
+    if !is_by_address(&ty.tref) {
+        return Ok(None);
+    }
+    if !is_writable(&ty.tref, value) {
+        return Ok(None);
+    }
+    match placement.give(ty)? {
+        Some(at) => {
+            write_value(&mut placement.bytes, at, &ty.tref, value);
+            Ok(Some(at))
         }
-        if !is_writable(&ty.tref, value) {
-            return Ok(None);
-        }
-        match self.give(ty)? {
-            Some(at) => {
-                write_value(&mut self.bytes, at, &ty.tref, value);
-                Ok(Some(at))
-            }
-            None => Ok(None),
-        }
+        None => Ok(None),
     }
 }

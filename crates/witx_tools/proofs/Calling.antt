@@ -27,11 +27,12 @@ use Rattle.witx_bytes.specs.Follow.{TakeWritable}
 use Rattle.witx_bytes.specs.Seen.{seen}
 use Rattle.witx_bytes.specs.declared.value.Value as program
 use Rattle.witx_run.specs.Views.{reply_of}
-use Rattle.witx_invoke.specs.Invoking.{AllocatesWritable, CanRun, IsAnswer, seen_of}
-use Rattle.witx_invoke.specs.Ranges.{addresses}
-use Rattle.witx_invoke.specs.Lines.{FirstFault, types_of}
-use Rattle.witx_invoke.specs.Runs.{CallSeen, ComesTo, NoRoom}
-use Rattle.witx_invoke.specs.declared.invoked.Invoked.{Invoked}
+use Rattle.witx_call.specs.CallSeen.{seen_of, CallSeen}
+use Rattle.witx_invoke.specs.Invoking.{AllocatesWritable, CanRun, IsAnswer}
+use Rattle.witx_call.specs.Ranges.{addresses}
+use Rattle.witx_call.specs.Lines.{FirstFault, types_of}
+use Rattle.witx_invoke.specs.Runs.{ComesTo, NoRoom}
+use Rattle.witx_call.specs.declared.call_seen.Invoked.{Invoked}
 use Rattle.witx.specs.Stops.{StopsWith}
 use Rattle.witx.specs.declared.refusal.Stop.{Stop}
 use Rattle.witx.proofs.Refusing.{memory-stops, stops-as}

@@ -19,7 +19,7 @@ use Rattle.witx_machine.specs.declared.surface.Place.{Place}
 use Rattle.witx_machine.specs.declared.surface.WasmType.{WasmType}
 use Rattle.witx_adapt.specs.Entries.{Owned}
 use Rattle.witx_bytes.specs.Bytes.{Bytes}
-use Rattle.witx_invoke.specs.Runs.{CallSeen}
+use Rattle.witx_call.specs.CallSeen.{CallSeen}
 use Rattle.witx_traces.specs.Traces.{Sides}
 use Rattle.witx_symbols.specs.declared.surface.Doubt.{Doubt}
 use Rattle.witx_symbols.specs.declared.surface.Verdict.{Verdict}

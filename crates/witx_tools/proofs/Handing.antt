@@ -15,7 +15,7 @@ use Rattle.witx_machine.specs.Functions.{Function, function_of}
 use Rattle.witx_adapt.proofs.Fitting.{FunctionsFit}
 use Rattle.witx_adapt.specs.Entries.{Entry, Owned, entry_for}
 use Rattle.witx_invoke.specs.Laws.{AtMostOneLine}
-use Rattle.witx_invoke.specs.Lines.{FirstFault, Gives, IsLine, lines_text, types_of, values_given}
+use Rattle.witx_call.specs.Lines.{FirstFault, Gives, IsLine, lines_text, types_of, values_given}
 use Rattle.witx_tools.specs.Calls.{CallFails, CanCall, GivesValues, Handed, HandedFails, LacksRoom, LineFails, called_function}
 
 -- ---- lines of values

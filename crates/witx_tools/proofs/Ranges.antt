@@ -8,9 +8,9 @@ use Rattle.witx_adapt.proofs.Appending.{flat-end, flat-more}
 use Rattle.witx_ast.specs.Plain.{plain}
 use Rattle.witx_bytes.specs.ByteMachine.{range_size}
 use Rattle.witx_bytes.specs.Bytes.{Bytes}
-use Rattle.witx_invoke.specs.Invoking.{placed_of}
-use Rattle.witx_invoke.specs.Ranges.{EndBelow, range_end, ranges}
-use Rattle.witx_invoke.specs.declared.invoked.Placed.{Placed}
+use Rattle.witx_call.specs.CallSeen.{placed_of}
+use Rattle.witx_call.specs.Ranges.{EndBelow, range_end, ranges}
+use Rattle.witx_call.specs.declared.call_seen.Placed.{Placed}
 use Rattle.witx_tools.specs.InvokeTexts.{byte_text}
 
 -- ---- the bytes of a range

@@ -10,8 +10,9 @@ use Rattle.witx_ast.specs.Values.{Value}
 use Rattle.witx_machine.specs.Faithful.{zero_error}
 use Rattle.witx_machine.specs.Functions.{Function, function_of}
 use Rattle.witx_adapt.specs.Entries.{Entry, all_functions, entry_for}
-use Rattle.witx_invoke.specs.Lines.{FirstFault, Gives, types_of}
-use Rattle.witx_invoke.specs.Runs.{CallSeen, ComesTo, NoRoom}
+use Rattle.witx_call.specs.Lines.{FirstFault, Gives, types_of}
+use Rattle.witx_call.specs.CallSeen.{CallSeen}
+use Rattle.witx_invoke.specs.Runs.{ComesTo, NoRoom}
 use Rattle.witx_tools.specs.InvokeTexts.{call_text}
 
 -- ---- the function

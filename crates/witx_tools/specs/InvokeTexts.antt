@@ -8,8 +8,8 @@ use Rattle.witx_machine.specs.Run.{numbers}
 use Rattle.witx_machine.specs.Words.{Word}
 use Rattle.witx_adapt.specs.Names.{digit, spaced}
 use Rattle.witx_bytes.specs.Bytes.{Bytes}
-use Rattle.witx_invoke.specs.Runs.{CallSeen}
-use Rattle.witx_invoke.specs.ValueTexts.{value_text}
+use Rattle.witx_call.specs.CallSeen.{CallSeen}
+use Rattle.witx_call.specs.ValueTexts.{value_text}
 
 -- a word behind a space: its type and its bits
 abbrev pub word_text : Word → List ℕ

@@ -3,7 +3,7 @@ use Rattle.std.proofs.lemmas.List.{map-append}
 use Rattle.witx_ast.specs.Views.{tree_of}
 use Rattle.witx_ast.specs.declared.function.InterfaceFuncParam.{InterfaceFuncParam}
 use Rattle.witx_bytes.specs.Seen.{seen}
-use Rattle.witx_invoke.specs.Lines.{IsLine}
+use Rattle.witx_call.specs.Lines.{IsLine}
 use Rattle.witx_invoke.proofs.Lines.{LinesLeft, lines-next, lines-done}
 use Rattle.witx_invoke.proofs.given.read_lines.Goals as goal
 

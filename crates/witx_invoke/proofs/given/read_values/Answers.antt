@@ -5,7 +5,7 @@ use Rattle.witx_ast.specs.Functions.{func_tree}
 use Rattle.witx_ast.specs.Tree.{Tree}
 use Rattle.witx_bytes.specs.Seen.{seen}
 use Rattle.witx_machine.specs.Functions.{function_of}
-use Rattle.witx_invoke.specs.Lines.{AreLines, FirstFault, param_types, types_of}
+use Rattle.witx_call.specs.Lines.{AreLines, FirstFault, param_types, types_of}
 use Rattle.witx_invoke.proofs.Lines.{reply-fault, too-many, values-given}
 use Rattle.witx_invoke.proofs.given.read_values.Goals as goal
 

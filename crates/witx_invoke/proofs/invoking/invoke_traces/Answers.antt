@@ -3,8 +3,8 @@ use Rattle.witx_instructions.specs.Views.{called, event_of}
 use Rattle.witx_bytes.specs.Seen.{seen}
 use Rattle.witx_run.specs.OutcomeViews.{run_of}
 use Rattle.witx_run.specs.Views.{reply_of}
-use Rattle.witx_invoke.specs.PlacementViews.{room_of}
-use Rattle.witx_invoke.specs.WordViews.{word_of}
+use Rattle.witx_call.specs.PlacementViews.{room_of}
+use Rattle.witx_call.specs.WordViews.{word_of}
 use Rattle.witx_invoke.proofs.InvokeLemmas.{answers, counted, many-refused, refusals, zero-refused}
 use Rattle.witx_invoke.proofs.invoking.invoke_traces.Goals as goal
 

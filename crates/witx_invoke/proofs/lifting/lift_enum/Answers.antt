@@ -5,7 +5,7 @@ use Rattle.witx_machine.specs.declared.surface.WasmType.{WasmType}
 use Rattle.witx_machine.specs.Words.{checked, same_type}
 use Rattle.witx_bytes.proofs.Seen.{seen-Enum}
 use Rattle.witx_invoke.specs.Representing.{tag_kept}
-use Rattle.witx_invoke.specs.WordViews.{word_of}
+use Rattle.witx_call.specs.WordViews.{word_of}
 use Rattle.witx_invoke.proofs.FlagLemmas.{lifts-case, lifts-no-case}
 use Rattle.witx_invoke.proofs.lifting.lift_enum.Goals as goal
 

@@ -6,7 +6,7 @@ use Rattle.witx_ast.specs.declared.types.IntRepr.{IntRepr}
 use Rattle.witx_machine.specs.Words.{flags_in, repr_word_type, same_type}
 use Rattle.witx_bytes.specs.Seen.{seen}
 use Rattle.witx_invoke.specs.Representing.{flags_kept}
-use Rattle.witx_invoke.specs.WordViews.{word_of}
+use Rattle.witx_call.specs.WordViews.{word_of}
 use Rattle.witx_invoke.proofs.FlagLemmas.{lifts-flags, lifts-no-flags, lifts-no-width, lifts-no-word, moved}
 use Rattle.witx_invoke.proofs.lifting.lift_flags.Goals as goal
 

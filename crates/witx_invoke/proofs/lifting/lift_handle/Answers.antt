@@ -5,7 +5,7 @@ use Rattle.witx_ast.specs.Views.{tree_of}
 use Rattle.witx_machine.specs.Words.{checked}
 use Rattle.witx_bytes.specs.Seen.{seen}
 use Rattle.witx_bytes.proofs.Seen.{seen-Handle}
-use Rattle.witx_invoke.specs.WordViews.{u32_in, word_of}
+use Rattle.witx_call.specs.WordViews.{u32_in, word_of}
 use Rattle.witx_invoke.proofs.LiftLemmas.{handle-lifted}
 use Rattle.witx_invoke.proofs.lifting.lift_handle.Goals as goal
 

@@ -5,7 +5,7 @@ use Rattle.witx_ast.specs.Views.{tree_of}
 use Rattle.witx_bytes.specs.Readings.{Reads}
 use Rattle.witx_bytes.specs.Seen.{seen}
 use Rattle.witx_bytes.specs.declared.read_error.ReadError.{ReadError}
-use Rattle.witx_invoke.specs.Lines.{IsBehind, NoLine}
+use Rattle.witx_call.specs.Lines.{IsBehind, NoLine}
 use Rattle.witx_invoke.specs.Reading.{taken, type_at}
 use Rattle.witx_invoke.proofs.Lines.{none_read, no-line-other}
 use Rattle.witx_invoke.proofs.line.read_line.Goals as goal

@@ -4,7 +4,7 @@ use Rattle.witx_ast.specs.Values as plain_value
 use Rattle.witx_bytes.specs.Seen.{seen}
 use Rattle.witx_bytes.proofs.Seen.{seen-Flags}
 use Rattle.witx_invoke.specs.Representing.{flags_in_word}
-use Rattle.witx_invoke.specs.WordViews.{word_of}
+use Rattle.witx_call.specs.WordViews.{word_of}
 use Rattle.witx_invoke.proofs.FlagLemmas.{moved}
 use Rattle.witx_invoke.proofs.lowering.flags_word.Goals as goal
 

@@ -1,5 +1,5 @@
 use Rattle.std.specs.Prelude.{option_map}
-use Rattle.witx_invoke.specs.WordViews.{word_of}
+use Rattle.witx_call.specs.WordViews.{word_of}
 use Rattle.witx_invoke.proofs.LowerLemmas.{enum-word}
 use Rattle.witx_invoke.proofs.lowering.lower_enum.Goals as goal
 

@@ -7,7 +7,7 @@ use Rattle.witx_ast.specs.declared.types.IntRepr.{IntRepr}
 use Rattle.witx_machine.specs.Words.{repr_word_type, same_type}
 use Rattle.witx_bytes.specs.Seen.{seen}
 use Rattle.witx_invoke.specs.Representing.{flags_kept}
-use Rattle.witx_invoke.specs.WordViews.{word_of}
+use Rattle.witx_call.specs.WordViews.{word_of}
 use Rattle.witx_invoke.proofs.FlagLemmas.{flags-word, moved, no-flags-of-it, other-word}
 use Rattle.witx_invoke.proofs.lowering.lower_flags.Goals as goal
 

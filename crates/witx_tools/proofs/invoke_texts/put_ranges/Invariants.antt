@@ -1,7 +1,7 @@
 use Rattle.std.proofs.Common.{◌≡◌, ◌++◌, drop, map, string_bytes}
 use Rattle.std.specs.List.{flat_map}
 use Rattle.witx_bytes.specs.Bytes.{held}
-use Rattle.witx_invoke.specs.Invoking.{placed_of}
+use Rattle.witx_call.specs.CallSeen.{placed_of}
 use Rattle.witx_tools.specs.InvokeTexts.{range_line}
 use Rattle.witx_tools.proofs.invoke_texts.put_ranges.Given as goal
 

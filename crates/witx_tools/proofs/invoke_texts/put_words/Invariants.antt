@@ -1,6 +1,6 @@
 use Rattle.std.proofs.Common.{◌≡◌, ◌++◌, drop, map, string_bytes}
 use Rattle.std.specs.List.{flat_map}
-use Rattle.witx_invoke.specs.WordViews.{word_of}
+use Rattle.witx_call.specs.WordViews.{word_of}
 use Rattle.witx_tools.specs.InvokeTexts.{word_text}
 use Rattle.witx_tools.proofs.invoke_texts.put_words.Given as goal
 

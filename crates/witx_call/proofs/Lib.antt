@@ -1,0 +1,4 @@
+pub mod Texts
+pub mod CopyLemmas
+pub mod PlacementLemmas
+pub mod AnswerLemmas

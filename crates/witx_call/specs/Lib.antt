@@ -1,0 +1,10 @@
+pub mod ValueTexts
+pub mod Cases
+pub mod Lines
+pub mod Ranges
+pub mod Room
+pub mod RangeViews
+pub mod Zeroing
+pub mod PlacementViews
+pub mod WordViews
+pub mod CallSeen

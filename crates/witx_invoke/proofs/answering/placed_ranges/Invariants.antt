@@ -1,8 +1,0 @@
-use Rattle.std.proofs.Common.{◌≡◌, ◌++◌, drop, map}
-use Rattle.witx_invoke.specs.Invoking.{placed_of}
-use Rattle.witx_invoke.specs.RangeViews.{taken_of}
-use Rattle.witx_invoke.specs.Ranges.{ranges}
-use Rattle.witx_invoke.proofs.answering.placed_ranges.Given as goal
-
-abbrev pub invariant-loop-range : goal.invariant-loop-range
-invariant-loop-range l = map placed_of l.made ++ ranges (taken_of (drop l.range-index l.ranges)) ≡ ranges (taken_of l.ranges)
