@@ -23,7 +23,7 @@ pub use input::{InputError, READS, read_bundle};
 pub use laws::{
     constants_have_typenames, output_or_refusal, valid_files_are_not_refused, valid_is_not_refused,
 };
-pub use output::{Output, kept, let_document_go, let_go, no_notes};
+pub use output::{Output, kept, leave, let_document_go, let_go, no_notes};
 pub use pages::page_of_files;
 pub use parsing::{parsed_or_stop, text_stop};
 pub use polyfill::{mapped_modules, module_names, new_file, old_file, polyfill_files};

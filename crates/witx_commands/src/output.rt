@@ -2,6 +2,7 @@ ghost use Rattle.std.specs.Prelude.{◌≡◌, ◌==◌, [], None, if◌then◌e
 
 use crate::status::DONE;
 use std::alloc::Global;
+use std::mem::forget;
 use witx_adapt::Adapted;
 use witx_ast::Document;
 use witx_base::Text;
@@ -36,6 +37,11 @@ pub fn kept(status: u8, adapted: Option<Adapted>) -> Option<Adapted>
 /// Lets the value of an output go.
 pub fn let_go(adapted: Option<Adapted>) {
     drop(adapted);
+}
+
+/// Leaves the value of an output where it is, for a process that ends.
+pub fn leave(adapted: Option<Adapted>) {
+    forget(adapted);
 }
 
 /// Lets a document go.
