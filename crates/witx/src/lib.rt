@@ -4,37 +4,20 @@
 //! have for each other; and the crates of the tools, which are named by themselves.
 #![tactic(auto)]
 
-mod adapting;
 mod commands;
-mod error;
-mod input;
-mod laws;
 mod output;
-mod pages;
-mod parsing;
-mod polyfill;
 mod program;
-mod refusal;
 mod refused;
-mod report;
-mod status;
-mod words;
 
-pub use adapting::adapt;
-pub use commands::adapted_or_stop;
-pub use error::AdaptError;
-pub use input::{InputError, read_bundle};
-pub use laws::{
-    constants_have_typenames, output_or_refusal, valid_files_are_not_refused, valid_is_not_refused,
-};
 pub use output::{put_text, put_whole};
-pub use parsing::text_stop;
-pub use polyfill::{mapped_modules, module_names, new_file, old_file};
 pub use program::{Ran, run};
-pub use refusal::{Refusal, Stop};
 pub use refused::put_refusal;
-pub use status::{DONE, NO_BUNDLE, NO_FORM, NO_MEMORY, REFUSED, UNREAD, UNWRITTEN};
-pub use words::{Command, arguments_of, command_of, has_form, paths_of};
+pub use witx_commands::{
+    AdaptError, Command, DONE, InputError, NO_BUNDLE, NO_FORM, NO_MEMORY, REFUSED, Refusal, Stop,
+    UNREAD, UNWRITTEN, adapt, adapted_or_stop, arguments_of, command_of, constants_have_typenames,
+    has_form, mapped_modules, module_names, new_file, old_file, output_or_refusal, paths_of,
+    read_bundle, text_stop, valid_files_are_not_refused, valid_is_not_refused,
+};
 // By hand, since more than a hundred names would be laid out one a line.
 #[rattlefmt::skip]
 pub use witx_base::{

@@ -1,29 +1,10 @@
 ghost use Rattle.std.specs.Prelude.{◌≡◌, ◌<◌, ◌≤◌, ◌-◌, ◌⊎◌, [], OnOk, OnErr, length, drop};
 ghost use Rattle.std.specs.Io.KnownBytes.{Appends};
 ghost use Rattle.witx_base.specs.Causes.{Rose};
-ghost use Rattle.witx.specs.Streams.{TookPrefix};
+ghost use Rattle.witx_commands.specs.Streams.{TookPrefix};
 
-use crate::status::{DONE, UNWRITTEN};
-use std::alloc::Global;
-use witx_adapt::Adapted;
-use witx_base::{Failed, Sink, Text};
-
-/// What a command is to write, what it notes beside that, and the value that it lists.
-#[derive(Drop)]
-pub struct Output {
-    /// For the first sink.
-    pub text: Text,
-    /// For the second sink; empty, but for what `docs` tells of links that lead nowhere.
-    pub notes: Text,
-    pub adapted: Option<Adapted>,
-}
-
-/// No notes; takes no memory.
-pub fn no_notes(alloc: Global) -> Text
-    ensures { result ≡ [] }
-{
-    Text::from_string(String::new(alloc))
-}
+use witx_base::{Failed, Sink};
+use witx_commands::{DONE, UNWRITTEN};
 
 /// The bytes from `at` on.
 fn from(bytes: &[u8], at: usize) -> &[u8]
@@ -35,7 +16,7 @@ fn from(bytes: &[u8], at: usize) -> &[u8]
 
 /// Writes a whole text, or fails where the sink does; the sink then holds a prefix of the text. A sink
 /// for which there is no text isn't touched.
-#[tactic(auto, using(crate::proofs::WrittenWhole::writing_rules))]
+#[tactic(auto, using(witx_commands::proofs::WrittenWhole::writing_rules))]
 pub fn put_text<K: Sink>(sink: &mut K, text: &str) -> Result<(), Failed>
     ensures whole { OnOk result (Appends (K.taken sink.old) (K.taken sink.new) text.now) }
     ensures no_fault { OnOk result (K.faults sink.new ≡ K.faults sink.old) }

@@ -6,26 +6,25 @@ ghost use Rattle.witx_bundle.specs.declared.error.BundleError.{BundleError};
 ghost use Rattle.witx_adapt.specs.Entries.{IsFaithful, all_functions, entry_for, entry_of};
 ghost use Rattle.witx_layout.specs.Layouts.{all_layouts};
 ghost use Rattle.witx_adapt.specs.declared.adapted.Adapted.{Adapted};
-ghost use Rattle.witx.specs.Words.{IsAdapting, IsBounded, IsNoting, IsReading, adapted_paths, arguments_of, bundle_bytes, command_of, reads_source};
-ghost use Rattle.witx.specs.Streams.{Finished, TookPrefix};
-ghost use Rattle.witx.specs.Texts.{IsRefused, status_of, text_of};
-ghost use Rattle.witx.specs.Adapting.{defined};
-ghost use Rattle.witx.specs.Reports.{CommandRefuses};
+ghost use Rattle.witx_commands.specs.Words.{IsAdapting, IsBounded, IsNoting, IsReading, adapted_paths, arguments_of, bundle_bytes, command_of, reads_source};
+ghost use Rattle.witx_commands.specs.Streams.{Finished, TookPrefix};
+ghost use Rattle.witx_commands.specs.Texts.{IsRefused, status_of, text_of};
+ghost use Rattle.witx_commands.specs.Adapting.{defined};
+ghost use Rattle.witx_commands.specs.Reports.{CommandRefuses};
 ghost use Rattle.witx_files.specs.Files.{Files};
-ghost use Rattle.witx.specs.declared.words.Command.{Command};
-ghost use Rattle.witx.specs.Causes.{Cause, FilesCause, IsAnswered, IsCause, IsMeaning, IsTold, IsValidFor, Reads, StopCause, adapted_text, input_of, run_input};
+ghost use Rattle.witx_commands.specs.declared.words.Command.{Command};
+ghost use Rattle.witx_commands.specs.Causes.{Cause, FilesCause, IsAnswered, IsCause, IsMeaning, IsTold, IsValidFor, Reads, StopCause, adapted_text, input_of, run_input};
 
 use crate::commands::perform;
-use crate::input::{InputError, READS, read_bundle};
-use crate::laws::{output_or_refusal, valid_is_not_refused};
-use crate::output::{Output, put_both};
-use crate::refusal::{Refusal, Stop};
+use crate::output::put_both;
 use crate::refused::put_refusal;
-use crate::status::{DONE, NO_MEMORY};
-use crate::words::{Command, arguments_of, command_of};
 use std::alloc::Global;
 use witx_adapt::Adapted;
 use witx_base::{Sink, Source, Text};
+use witx_commands::{
+    Command, InputError, NO_MEMORY, Output, READS, Refusal, Stop, arguments_of, command_of, kept,
+    output_or_refusal, read_bundle, valid_is_not_refused,
+};
 use witx_files::MockFs;
 use witx_sample::sample_files;
 
@@ -152,7 +151,7 @@ fn prepare_command<S: Source>(
 
 /// The files that a command works on: those of its source's bundle, or those of the sample's, for which
 /// the source isn't read.
-#[tactic(auto, using(crate::proofs::Preparing::file_rules))]
+#[tactic(auto, using(witx_commands::proofs::Preparing::file_rules))]
 fn files_for<S: Source>(
     alloc: Global,
     command: Command,
@@ -199,6 +198,6 @@ fn put_output<O: Sink, E: Sink>(output: Output, out: &mut O, err: &mut E) -> Ran
     let status = put_both(out, err, output.text.as_str(), output.notes.as_str());
     Ran {
         status,
-        adapted: if status == DONE { output.adapted } else { None },
+        adapted: kept(status, output.adapted),
     }
 }

@@ -1,14 +1,13 @@
 ghost use Rattle.std.specs.Prelude.{◌≡◌, ◌<◌, ◌≤◌};
 ghost use Rattle.std.specs.Io.KnownBytes.{Appends};
 ghost use Rattle.witx_base.specs.Causes.{Rose};
-ghost use Rattle.witx.specs.Streams.{TookPrefix};
-ghost use Rattle.witx.specs.Texts.{IsRefused, status_of, text_of};
+ghost use Rattle.witx_commands.specs.Streams.{TookPrefix};
+ghost use Rattle.witx_commands.specs.Texts.{IsRefused, status_of, text_of};
 
 use crate::output::put_text;
-use crate::refusal::Refusal;
-use crate::status::{NO_MEMORY, UNWRITTEN};
 use std::alloc::Global;
 use witx_base::Sink;
+use witx_commands::{NO_MEMORY, Refusal, UNWRITTEN};
 
 /// Writes what is to be said of a refusal, and answers the status: that of the refusal, or 4 where the
 /// sink failed, or 5 where there was no memory for the text.

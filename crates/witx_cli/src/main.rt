@@ -4,9 +4,9 @@
 use std::alloc::Global;
 use std::env;
 use std::io::ErrorKind;
-use std::mem::forget;
 use std::process::ExitCode;
 use witx_base::{Items, OutOfMemory, Reading, Text, Writing};
+use witx_commands::leave;
 use witx_tools::run_all;
 
 /// The status of a run that found no memory for its words.
@@ -23,7 +23,7 @@ fn main(rt: HostRuntime) -> ExitCode {
     let ran = run_all(alloc, words.as_slice(), &mut source, &mut out, &mut err);
     let status = ran.status;
     // The process ends here, and gives all memory back at once.
-    forget(ran);
+    leave(ran.adapted);
     ExitCode::from(status)
 }
 

@@ -20,6 +20,7 @@ use std::io::{Read, Write as _};
 use std::process::ExitCode;
 use std::str::from_utf8;
 use witx_base::{Bytes, Calls, Items, MemSink, MemSource, OutOfMemory, Text};
+use witx_commands::let_go;
 use witx_tools::run_all;
 
 /// Why a batch wasn't run to its end.
@@ -173,7 +174,7 @@ fn answer_on(
 ) -> Result<(), AllocError> {
     let ran = run_all(alloc, words.as_slice(), &mut source, &mut out, &mut err);
     let status = ran.status;
-    drop(ran);
+    let_go(ran.adapted);
     write!(answers, "{status}")?;
     put_taken(answers, out.bytes())?;
     put_taken(answers, err.bytes())?;

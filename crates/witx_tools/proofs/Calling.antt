@@ -33,15 +33,15 @@ use Rattle.witx_call.specs.Ranges.{addresses}
 use Rattle.witx_call.specs.Lines.{FirstFault, types_of}
 use Rattle.witx_invoke.specs.Runs.{ComesTo, NoRoom}
 use Rattle.witx_call.specs.declared.call_seen.Invoked.{Invoked}
-use Rattle.witx.specs.Stops.{StopsWith}
-use Rattle.witx.specs.declared.refusal.Stop.{Stop}
-use Rattle.witx.proofs.Refusing.{memory-stops, stops-as}
+use Rattle.witx_commands.specs.Stops.{StopsWith}
+use Rattle.witx_commands.specs.declared.refusal.Stop.{Stop}
+use Rattle.witx_commands.proofs.Refusing.{memory-stops, stops-as}
 use Rattle.witx_tools.specs.Callable.{AreFor, IsCallable}
 use Rattle.witx_tools.specs.Calls.{CallFails, GivesValues, Handed, HandedFails, IsCallText, IsHandedText, IsNamedText, LineFails, Names, NamedFails, absent_report, first_named, has_names, line_report}
 use Rattle.witx_tools.specs.InvokeTexts.{call_text}
 use Rattle.witx_tools.specs.ToolWords.{first_word, named_by}
 use Rattle.witx_tools.proofs.Ranges.{IsWithin, all-within}
-use Rattle.witx.specs.Words.{arguments_of}
+use Rattle.witx_commands.specs.Words.{arguments_of}
 
 -- ---- the first function with the names
 

@@ -27,7 +27,7 @@ use Rattle.witx_scope.specs.Trees.{fields_meant}
 use Rattle.witx_order.specs.Items.{Declared}
 use Rattle.witx_walk.specs.Meaning.{definitions_from, definitions_of, form_accepted, form_definitions, form_of, past_from, past_with, places_of, definitions_with}
 use Rattle.witx_walk.specs.Readings.{OneReading}
-use Rattle.witx.specs.Adapting.{IsParsed, Parses}
+use Rattle.witx_commands.specs.Adapting.{IsParsed, Parses}
 
 -- ---- as what a name is introduced: as a type, or as something else
 

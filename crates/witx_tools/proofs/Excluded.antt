@@ -20,13 +20,13 @@ use Rattle.witx_invoke.specs.Laws.{AtMostOneLine}
 use Rattle.witx_traces.specs.Traces.{IsUnfit, Sides, TracesLeaveNoneUnfit}
 use Rattle.witx_imports.specs.Reads as list
 use Rattle.witx_imports.specs.declared.import.WasmImport.{WasmImport}
-use Rattle.witx.specs.Adapting.{IsParsed, Parses}
-use Rattle.witx.specs.Causes.{CanAdapt}
-use Rattle.witx.specs.Laws.{ValidIsNotRefused}
-use Rattle.witx.specs.Reports.{AdaptingFails, CommandRefuses, MappingFails}
-use Rattle.witx.specs.Causes.{CanMap}
-use Rattle.witx.specs.Words.{arguments_of, paths_of}
-use Rattle.witx.specs.declared.words.Command.TheVariants as command
+use Rattle.witx_commands.specs.Adapting.{IsParsed, Parses}
+use Rattle.witx_commands.specs.Causes.{CanAdapt}
+use Rattle.witx_commands.specs.Laws.{ValidIsNotRefused}
+use Rattle.witx_commands.specs.Reports.{AdaptingFails, CommandRefuses, MappingFails}
+use Rattle.witx_commands.specs.Causes.{CanMap}
+use Rattle.witx_commands.specs.Words.{arguments_of, paths_of}
+use Rattle.witx_commands.specs.declared.words.Command.TheVariants as command
 use Rattle.witx_tools.specs.Calls.{CallFails, CanCall, IsCallText, NamedFails, Names, entries_of, first_named, has_names}
 use Rattle.witx_tools.specs.ImportTexts.{IsBadList}
 use Rattle.witx_tools.specs.ToolCauses.{CallReads, CallRefuses, CanAdaptAll, HoldsOwn, IsOwnValid, IsToolOutput, IsToolText, IsValidForTool, LacksOwn, ListFails, ListReads, ListingFails, ListingReads, OneIsUnadapted, OwnRefuses, ToolRefuses}

@@ -5,14 +5,14 @@ use Rattle.witx_base.specs.Causes.{Rose}
 use Rattle.witx_files.specs.Files.{Files}
 use Rattle.witx_bundle.specs.Bundles.{IsRead}
 use Rattle.witx_bundle.specs.declared.error.BundleError.{BundleError}
-use Rattle.witx.specs.Causes.{IsCause, IsTold, Reads}
-use Rattle.witx.specs.Stops.{StopsWith}
-use Rattle.witx.specs.Texts.{IsRefused, status_of, text_of}
-use Rattle.witx.specs.declared.refusal.Refusal.{Refusal}
-use Rattle.witx.specs.declared.refusal.Refusal.TheVariants as refusal
-use Rattle.witx.specs.declared.refusal.Stop.{Stop}
-use Rattle.witx.specs.declared.refusal.Stop.TheVariants as stop
-use Rattle.witx.proofs.Exclusion.{bundle-excluded}
+use Rattle.witx_commands.specs.Causes.{IsCause, IsTold, Reads}
+use Rattle.witx_commands.specs.Stops.{StopsWith}
+use Rattle.witx_commands.specs.Texts.{IsRefused, status_of, text_of}
+use Rattle.witx_commands.specs.declared.refusal.Refusal.{Refusal}
+use Rattle.witx_commands.specs.declared.refusal.Refusal.TheVariants as refusal
+use Rattle.witx_commands.specs.declared.refusal.Stop.{Stop}
+use Rattle.witx_commands.specs.declared.refusal.Stop.TheVariants as stop
+use Rattle.witx_commands.proofs.Exclusion.{bundle-excluded}
 use Rattle.witx_tools.specs.ToolCauses.{IsToolAnswered, IsValidForTool, ToolCause, ToolInput, ToolRefuses, ToolStop}
 use Rattle.witx_tools.specs.ToolLaws.{ValidIsNotRefusedByTools}
 use Rattle.witx_tools.specs.ToolRuns.{IsToolRun, SinkSeen, Took, TookFront}

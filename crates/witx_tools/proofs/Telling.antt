@@ -26,14 +26,14 @@ use Rattle.witx_compat.specs.declared.modules.ModulePolyfill.{ModulePolyfill}
 use Rattle.witx_imports.specs.Faults.{offered}
 use Rattle.witx_imports.specs.Reads as list
 use Rattle.witx_imports.specs.declared.import.WasmImport.{WasmImport}
-use Rattle.witx.specs.Adapting.{IsAdapted, Parses, defined}
-use Rattle.witx.specs.Causes.{CanAdapt}
-use Rattle.witx.specs.Mappings.{IsAbsentReport, mapping_of, module_names, new_file, old_file}
-use Rattle.witx.specs.Reports.{AdaptingFails, IsTextReport}
-use Rattle.witx.specs.Stops.{StopsWith}
-use Rattle.witx.specs.Words.{arguments_of, paths_of}
-use Rattle.witx.specs.declared.refusal.Stop.{Stop}
-use Rattle.witx.proofs.Refusing.{memory-stops, stops-as}
+use Rattle.witx_commands.specs.Adapting.{IsAdapted, Parses, defined}
+use Rattle.witx_commands.specs.Causes.{CanAdapt}
+use Rattle.witx_commands.specs.Mappings.{IsAbsentReport, mapping_of, module_names, new_file, old_file}
+use Rattle.witx_commands.specs.Reports.{AdaptingFails, IsTextReport}
+use Rattle.witx_commands.specs.Stops.{StopsWith}
+use Rattle.witx_commands.specs.Words.{arguments_of, paths_of}
+use Rattle.witx_commands.specs.declared.refusal.Stop.{Stop}
+use Rattle.witx_commands.proofs.Refusing.{memory-stops, stops-as}
 use Rattle.witx_tools.specs.Callable.{IsCallable}
 use Rattle.witx_tools.specs.Calls.{IsNamedText, NamedFails, entries_of, first_named}
 use Rattle.witx_tools.specs.ImportTexts.{IsBadList, bad_report, faults_text}

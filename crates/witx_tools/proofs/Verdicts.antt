@@ -17,7 +17,7 @@ use Rattle.witx_traces.specs.Passages.{sides_of}
 use Rattle.witx_traces.specs.Traces as traces
 use Rattle.witx_traces.specs.Traces.{HasEachEntry, Sides, function_number, listed}
 use Rattle.witx_traces.specs.declared.reading.TracePair.{TracePair}
-use Rattle.witx.specs.Adapting.{IsAdapted, defined}
+use Rattle.witx_commands.specs.Adapting.{IsAdapted, defined}
 use Rattle.witx_tools.specs.VerdictTexts.{judged_line, listed_for, offered_by, owned_of}
 
 -- ---- the lines

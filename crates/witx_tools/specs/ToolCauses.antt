@@ -15,17 +15,17 @@ use Rattle.witx_traces.specs.Traces.{GivesTraces, Sides}
 use Rattle.witx_imports.specs.Faults.{offered}
 use Rattle.witx_imports.specs.Reads as list
 use Rattle.witx_imports.specs.declared.import.WasmImport.{WasmImport}
-use Rattle.witx.specs.Adapting.{IsAdapted, Parses, defined}
-use Rattle.witx.specs.Causes.{CanAdapt, CanMap, IsCause, Reads}
-use Rattle.witx.specs.Mappings.{MeansBoth, mapping_of, module_names}
-use Rattle.witx.specs.Reports.{AdaptingFails, MappingFails}
-use Rattle.witx.specs.Streams.{Finished}
-use Rattle.witx.specs.Texts.{line, usage_lines}
-use Rattle.witx.specs.Words.{arguments_of, paths_of}
-use Rattle.witx.specs.declared.refusal.Refusal.{Refusal}
-use Rattle.witx.specs.declared.refusal.Refusal.TheVariants as refusal
-use Rattle.witx.specs.declared.refusal.Stop.{Stop}
-use Rattle.witx.specs.declared.refusal.Stop.TheVariants as stop
+use Rattle.witx_commands.specs.Adapting.{IsAdapted, Parses, defined}
+use Rattle.witx_commands.specs.Causes.{CanAdapt, CanMap, IsCause, Reads}
+use Rattle.witx_commands.specs.Mappings.{MeansBoth, mapping_of, module_names}
+use Rattle.witx_commands.specs.Reports.{AdaptingFails, MappingFails}
+use Rattle.witx_commands.specs.Streams.{Finished}
+use Rattle.witx_commands.specs.Texts.{line, usage_lines}
+use Rattle.witx_commands.specs.Words.{arguments_of, paths_of}
+use Rattle.witx_commands.specs.declared.refusal.Refusal.{Refusal}
+use Rattle.witx_commands.specs.declared.refusal.Refusal.TheVariants as refusal
+use Rattle.witx_commands.specs.declared.refusal.Stop.{Stop}
+use Rattle.witx_commands.specs.declared.refusal.Stop.TheVariants as stop
 use Rattle.witx_tools.specs.Calls.{CanCall, IsNamedText, NamedFails, entries_of, first_named}
 use Rattle.witx_tools.specs.ImportTexts.{IsBadList, faults_text}
 use Rattle.witx_tools.specs.ShimTexts.{shims_text}

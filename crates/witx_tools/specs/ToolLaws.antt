@@ -3,8 +3,8 @@
 use Rattle.std.specs.Prelude.{◌≡◌, ℕ, List, Some, None, Ok}
 use Rattle.witx_files.specs.Files.{Files}
 use Rattle.witx_bundle.specs.Bundles.{IsRead}
-use Rattle.witx.specs.Words.{command_of}
-use Rattle.witx.specs.declared.words.Command.{Command}
+use Rattle.witx_commands.specs.Words.{command_of}
+use Rattle.witx_commands.specs.declared.words.Command.{Command}
 use Rattle.witx_tools.specs.ToolCauses.{IsValidForTool, ToolRefuses}
 use Rattle.witx_tools.specs.ToolWords.{tool_of}
 use Rattle.witx_tools.specs.declared.tool.Tool.{Tool}

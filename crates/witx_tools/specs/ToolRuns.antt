@@ -5,10 +5,10 @@ use Rattle.witx_base.specs.Causes.{Rose}
 use Rattle.witx_files.specs.Files.{Files}
 use Rattle.witx_bundle.specs.Bundles.{IsRead}
 use Rattle.witx_bundle.specs.declared.error.BundleError.{BundleError}
-use Rattle.witx.specs.Causes.{IsCause, IsTold}
-use Rattle.witx.specs.Streams.{TookPrefix}
-use Rattle.witx.specs.Texts.{IsRefused, status_of, text_of}
-use Rattle.witx.specs.declared.refusal.Refusal.{Refusal}
+use Rattle.witx_commands.specs.Causes.{IsCause, IsTold}
+use Rattle.witx_commands.specs.Streams.{TookPrefix}
+use Rattle.witx_commands.specs.Texts.{IsRefused, status_of, text_of}
+use Rattle.witx_commands.specs.declared.refusal.Refusal.{Refusal}
 use Rattle.witx_tools.specs.ToolCauses.{IsToolAnswered, IsValidForTool, ToolCause, ToolInput, ToolRefuses}
 
 -- a sink before and after a run: which bytes it has taken, where it tells them, and its count of faults

@@ -5,8 +5,8 @@
 use Rattle.std.specs.Prelude.{◌==◌, ℕ, ◌%◌, List, [], ◌∷◌, length, ◌&&◌, nat_le, Option, Some, None, codes, if◌then◌else◌}
 use Rattle.witx_base.specs.Paths.{Path, path_of}
 use Rattle.witx_base.specs.Texts.{same_text}
-use Rattle.witx.specs.Mappings.{new_file, old_file}
-use Rattle.witx.specs.Words.{arguments_of}
+use Rattle.witx_commands.specs.Mappings.{new_file, old_file}
+use Rattle.witx_commands.specs.Words.{arguments_of}
 use Rattle.witx_tools.specs.Calls.{Names}
 use Rattle.witx_tools.specs.declared.tool.Tool.{Tool}
 use Rattle.witx_tools.specs.declared.tool.Tool.TheVariants as tool

@@ -7,7 +7,7 @@ ghost use Rattle.witx_files.specs.declared.fault.IoFault.{IoFault};
 ghost use Rattle.witx_walk.specs.ErrorReports.{io_report};
 ghost use Rattle.witx_imports.specs.Faults.{offered};
 ghost use Rattle.witx_imports.specs.Reads.{Reads};
-ghost use Rattle.witx.specs.Stops.{StopsWith};
+ghost use Rattle.witx_commands.specs.Stops.{StopsWith};
 ghost use Rattle.witx_tools.specs.ImportTexts.{IsBadList, asked_text, bad_report, differs_line, expected_text, fault_line, faults_text, missing_line, names_text};
 ghost use Rattle.witx_tools.specs.ToolCauses.{IsToolOutput, ToolRefuses};
 ghost use Rattle.witx_tools.specs.declared.tool.Tool.{Tool};

@@ -10,7 +10,7 @@ ghost use Rattle.witx_bytes.specs.Seen.{seen};
 ghost use Rattle.witx_call.specs.CallSeen.{placed_of, seen_of};
 ghost use Rattle.witx_call.specs.ValueTexts.{value_text as text_of};
 ghost use Rattle.witx_call.specs.WordViews.{word_of};
-ghost use Rattle.witx.specs.Stops.{StopsWith};
+ghost use Rattle.witx_commands.specs.Stops.{StopsWith};
 ghost use Rattle.witx_tools.specs.Callable.{AreFor, IsCallable, handed_of};
 ghost use Rattle.witx_tools.specs.Calls.{CallFails, GivesValues, HandedFails, IsCallText, IsHandedText, IsNamedText, LineFails, NamedFails, absent_report, first_named, has_names, line_report};
 ghost use Rattle.witx_tools.specs.InvokeTexts.{byte_text, call_text, note_line, range_line, returned_line, word_text, words_line};

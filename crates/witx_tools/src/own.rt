@@ -3,10 +3,10 @@ ghost use Rattle.std.specs.Prelude.{◌≡◌, IfErr, IfOk, None, OnOk, Ok, Some
 ghost use Rattle.witx_files.specs.Files.{held};
 ghost use Rattle.witx_files.specs.declared.fault.IoFault.{IoFault};
 ghost use Rattle.witx_walk.specs.ErrorReports.{io_report};
-ghost use Rattle.witx.specs.Adapting.{IsAdapted, Parses, defined};
-ghost use Rattle.witx.specs.Reports.{AdaptingFails, IsTextReport};
-ghost use Rattle.witx.specs.Stops.{StopsWith};
-ghost use Rattle.witx.specs.Words.{paths_of};
+ghost use Rattle.witx_commands.specs.Adapting.{IsAdapted, Parses, defined};
+ghost use Rattle.witx_commands.specs.Reports.{AdaptingFails, IsTextReport};
+ghost use Rattle.witx_commands.specs.Stops.{StopsWith};
+ghost use Rattle.witx_commands.specs.Words.{paths_of};
 ghost use Rattle.witx_tools.specs.ToolCauses.{LacksOwn};
 ghost use Rattle.witx_tools.specs.ToolWords.{first_path};
 

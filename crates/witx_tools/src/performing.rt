@@ -1,6 +1,6 @@
 //! What each tool tells.
 ghost use Rattle.std.specs.Prelude.{IfErr, IfOk};
-ghost use Rattle.witx.specs.Stops.{StopsWith};
+ghost use Rattle.witx_commands.specs.Stops.{StopsWith};
 ghost use Rattle.witx_tools.specs.ToolCauses.{IsToolOutput, ToolRefuses};
 
 use crate::import_texts::faults_of_files;

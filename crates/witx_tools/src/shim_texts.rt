@@ -4,7 +4,7 @@ ghost use Rattle.std.specs.List.{flat_map};
 ghost use Rattle.witx_compat.specs.Views.{function_view, module_view};
 ghost use Rattle.witx_ast.specs.Functions.{func_tree};
 ghost use Rattle.witx_shim.specs.Refusals.{Refusal, Says, refusal_of};
-ghost use Rattle.witx.specs.Stops.{StopsWith};
+ghost use Rattle.witx_commands.specs.Stops.{StopsWith};
 ghost use Rattle.witx_tools.specs.ShimTexts.{function_lines, listed_line, module_line, module_lines, pass_line, passing_line, refusal_line, shims_text, spaced_number};
 ghost use Rattle.witx_tools.specs.ToolCauses.{IsToolOutput, ToolRefuses};
 ghost use Rattle.witx_tools.specs.MappedBy.{AreMapped, IsMapped};

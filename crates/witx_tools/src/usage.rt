@@ -2,7 +2,7 @@
 ghost use Rattle.std.specs.Prelude.{◌≡◌, ◌<◌, ◌≤◌, ◌⊎◌};
 ghost use Rattle.std.specs.Io.KnownBytes.{Appends};
 ghost use Rattle.witx_base.specs.Causes.{Rose};
-ghost use Rattle.witx.specs.Streams.{TookPrefix};
+ghost use Rattle.witx_commands.specs.Streams.{TookPrefix};
 ghost use Rattle.witx_tools.specs.ToolCauses.{usage_text};
 
 use witx::{NO_FORM, UNWRITTEN, put_text};

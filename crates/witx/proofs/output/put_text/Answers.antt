@@ -1,5 +1,5 @@
 use Rattle.std.proofs.Common.{◌≡◌, ◌∙◌, ap, length, drop, arith, length-drop}
-use Rattle.witx.proofs.WrittenWhole.{wrote-more}
+use Rattle.witx_commands.proofs.WrittenWhole.{wrote-more}
 use Rattle.witx.proofs.output.put_text.Goals as goal
 
 pub loop-at-preserved : goal.loop-at-preserved

@@ -1,10 +1,10 @@
 use Rattle.std.specs.Prelude.{◌≡◌, []}
 use Rattle.std.specs.Io.KnownBytes.{Appends}
-use Rattle.witx.specs.Causes.{input_of}
-use Rattle.witx.specs.Streams.{TookPrefix}
-use Rattle.witx.proofs.Exclusion.{no-bundle-answered, no-bundle-stopped}
-use Rattle.witx.proofs.Noting.{finishes, left-unwritten}
-use Rattle.witx.proofs.Running.{kept-adapted, kept-document, kept-done, kept-faithful, kept-functions, kept-layouts, kept-listed, kept-listing}
+use Rattle.witx_commands.specs.Causes.{input_of}
+use Rattle.witx_commands.specs.Streams.{TookPrefix}
+use Rattle.witx_commands.proofs.Exclusion.{no-bundle-answered, no-bundle-stopped}
+use Rattle.witx_commands.proofs.Noting.{finishes, left-unwritten}
+use Rattle.witx_commands.proofs.Running.{kept-adapted, kept-document, kept-done, kept-faithful, kept-functions, kept-layouts, kept-listed, kept-listing}
 use Rattle.witx.proofs.program.run.Goals as goal
 
 pub returns-in-Ok-clause-listing : goal.returns-in-Ok-clause-listing

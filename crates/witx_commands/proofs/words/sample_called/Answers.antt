@@ -1,0 +1,13 @@
+use Rattle.std.proofs.Common.{arith, rules}
+use Rattle.std.specs.Prelude.{slice_index}
+use Rattle.std.specs.Int.{IsInRange}
+use Rattle.witx_commands.proofs.SampleWords.{read-sample, unread-word}
+use Rattle.witx_commands.proofs.words.sample_called.Goals as goal
+
+pub returns-in_default-clause-command : goal.returns-in_default-clause-command
+returns-in_default-clause-command c = unread-word c.args.word.now c.in_default.field-0 c.in_default.ensures.value.0
+
+pub returns-clause-command : goal.returns-clause-command
+returns-clause-command c =
+    let first : IsInRange 49 57 (slice_index c.args.word.now 0) = search rules in
+    read-sample c.args.word.now c.in-Ok.functions first c.in-Ok.ensures.value.0 (omega (arith, c.if-functions-gt-LARGEST_SAMPLE.false))

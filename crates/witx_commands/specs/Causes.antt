@@ -1,0 +1,186 @@
+-- When a run refuses or has its output, and what the bytes of its source say then, where these are told.
+use Rattle.std.specs.Prelude.{◌≡◌, ℕ, ◌^◌, ◌<◌, List, [], ◌∷◌, All, Option, None, Some, Result, Ok, Err}
+use Rattle.witx_base.specs.Causes.{Rose}
+use Rattle.witx_base.specs.Paths.{Path}
+use Rattle.witx_files.specs.Files.{Files}
+use Rattle.witx_bundle.specs.Bundles.{IsRead}
+use Rattle.witx_bundle.specs.declared.error.BundleError.{BundleError}
+use Rattle.witx_bundle.specs.declared.error.BundleError.TheVariants as bundle
+use Rattle.witx_ast.specs.Definitions.{DefinitionTree}
+use Rattle.witx_compat.specs.Polyfills.{MappedModule, polyfill_answer}
+use Rattle.witx_render.specs.DocumentTexts.{document_text}
+use Rattle.witx_layout.specs.LayoutsText.{layouts_text, typename_sizes}
+use Rattle.witx_adapt.specs.declared.adapted.Adapted.{Adapted}
+use Rattle.witx_adapt.specs.Adaptable.{IsAdaptable}
+use Rattle.witx_adapt.specs.Listings.{listing_text}
+use Rattle.witx_sample.specs.Samples.{sample_path}
+use Rattle.witx_sample.specs.Summaries.{summary_text}
+use Rattle.witx_commands.specs.Adapting.{IsAdapted, Parses, defined}
+use Rattle.witx_docs.specs.LaidOut.{document_refusal}
+use Rattle.witx_commands.specs.MeantPages.{IsPage}
+use Rattle.witx_commands.specs.Mappings.{IsPolyfillText, MeansBoth, mapping_of, module_names}
+use Rattle.witx_commands.specs.Reports.{CommandRefuses}
+use Rattle.witx_commands.specs.declared.words.Command.{Command}
+use Rattle.witx_commands.specs.declared.words.Command.TheVariants as command
+use Rattle.witx_commands.specs.declared.input.InputError.{InputError}
+use Rattle.witx_commands.specs.declared.input.InputError.TheVariants as input
+use Rattle.witx_commands.specs.Streams.{Finished}
+use Rattle.witx_commands.specs.Words.{IsReading, arguments_of, bundle_bytes, command_of, paths_of}
+use Rattle.witx_commands.specs.declared.refusal.Stop.{Stop}
+use Rattle.witx_commands.specs.declared.refusal.Stop.TheVariants as stop
+use Rattle.witx_commands.specs.declared.refusal.Refusal.{Refusal}
+use Rattle.witx_commands.specs.declared.refusal.Refusal.TheVariants as refusal
+
+-- what reading the bytes as a bundle answers, where they are told
+abbrev pub Reads : Option (List ℕ) → Result Files BundleError → Type 0
+Reads None r = Unit {0}
+Reads (Some bytes) r = IsRead bytes r
+
+abbrev pub IsCause : BundleError → Type 0
+IsCause bundle.OutOfMemory = ⊥
+IsCause _ = Unit {0}
+
+-- why the source wasn't read through
+abbrev pub ReadCause : (before now : ℕ) → InputError → Type 0
+ReadCause before now input.Source = Rose before now
+ReadCause before now (input.Bundle e) = ⊥
+ReadCause before now input.OutOfMemory = now ≡ before
+
+-- why no bundle was read
+abbrev pub InputCause : (left : Option (List ℕ)) → (before now : ℕ) → InputError → Type 0
+InputCause left before now input.Source = Rose before now
+InputCause left before now (input.Bundle e) = (now ≡ before) × IsCause e × Reads left (Err e)
+InputCause left before now input.OutOfMemory = now ≡ before
+
+-- why there are no files for a command: only one that works on its source's bundle has a cause in it
+abbrev pub FilesCause : Option Command → (left : Option (List ℕ)) → (before now : ℕ) → InputError → Type 0
+FilesCause form left before now input.Source = IsReading form × Rose before now
+FilesCause form left before now (input.Bundle e) = IsReading form × (now ≡ before) × IsCause e × Reads (bundle_bytes form left) (Err e)
+FilesCause form left before now input.OutOfMemory = now ≡ before
+
+-- the command of a form refuses
+abbrev pub FormRefuses : Option Command → Files → List (List ℕ) → List ℕ → Type 0
+FormRefuses None files arguments report = ⊥
+FormRefuses (Some c) files arguments report = CommandRefuses c files arguments report
+
+-- what a run is given: the command of its words, where they have a form, the words behind the first, and what is told of
+-- its source: which bytes it had left before and has left after, and its count of faults before and now
+pub record RunInput : Type 0 where
+  pub form : Option Command
+  pub arguments : List (List ℕ)
+  pub left : Option (List ℕ)
+  pub after : Option (List ℕ)
+  pub before : ℕ
+  pub now : ℕ
+
+-- with a source, by what is told of it
+abbrev pub run_input : {S : Type 0} → Option Command → List (List ℕ) → (S → Option (List ℕ)) → (S → ℕ) → (old new : S) → RunInput
+run_input form arguments left faults old new =
+    record { form = form; arguments = arguments; left = left old; after = left new; before = faults old; now = faults new }
+
+-- with words
+abbrev pub input_of : {S : Type 0} → List (List ℕ) → (S → Option (List ℕ)) → (S → ℕ) → (old new : S) → RunInput
+input_of words left faults old new = run_input (command_of words) (arguments_of words) left faults old new
+
+-- the bytes of the bundle that it works on
+abbrev pub input_bytes : RunInput → Option (List ℕ)
+input_bytes i = bundle_bytes i.form i.left
+
+-- what is so where a run refuses
+abbrev pub Cause : RunInput → Refusal → Type 0
+Cause i refusal.Usage = (i.form ≡ None) × (i.now ≡ i.before)
+Cause i refusal.Source = IsReading i.form × Rose i.before i.now
+Cause i (refusal.Bundle e) = IsReading i.form × (i.now ≡ i.before) × IsCause e × Reads (input_bytes i) (Err e)
+Cause i (refusal.Command report) = (i.now ≡ i.before) × (files : Files) × Reads (input_bytes i) (Ok files) × FormRefuses i.form files i.arguments report
+
+-- why a run has no output
+abbrev pub StopCause : RunInput → Stop → Type 0
+StopCause i (stop.Refused r) = Cause i r
+StopCause i stop.OutOfMemory = i.now ≡ i.before
+
+-- this text of the adapted document that the files at these paths mean
+abbrev pub IsAdaptedText : (Adapted → List ℕ) → Files → List Path → List ℕ → Option Adapted → Type 0
+IsAdaptedText text_for files handed text None = ⊥
+IsAdaptedText text_for files handed text (Some a) = Parses files handed (Ok (defined a)) × IsAdapted a × (text ≡ text_for a)
+
+-- the document that they mean, printed
+abbrev pub IsPrinted : Files → List Path → List ℕ → Type 0
+IsPrinted files handed text = (ds : List DefinitionTree) × Parses files handed (Ok ds) × (text ≡ document_text ds)
+
+-- the layouts of the document that they mean
+abbrev pub IsLayoutsText : Files → List Path → List ℕ → Type 0
+IsLayoutsText files handed text =
+    (ds : List DefinitionTree) × Parses files handed (Ok ds) × All (λ size. size < 2 ^ 64) (typename_sizes ds) × (text ≡ layouts_text ds)
+
+-- the page of the document that they mean, and its notes
+abbrev pub IsMeantPage : Files → List Path → (text notes : List ℕ) → Type 0
+IsMeantPage files handed text notes = (ds : List DefinitionTree) × Parses files handed (Ok ds) × IsPage ds text notes
+
+-- the report on the modules of the old file in terms of those of the new one
+abbrev pub IsPolyfill : Files → List (List ℕ) → List ℕ → Type 0
+IsPolyfill files arguments text =
+    (new : List DefinitionTree) × (old : List DefinitionTree) × MeansBoth files arguments new old × IsPolyfillText new old (module_names arguments) text
+
+-- the text that a command writes over the files of a bundle, its notes, and the value that it lists: a row for each command, by
+-- what stands behind its word
+unfoldable pub IsOutput : Option Command → Files → List (List ℕ) → (text notes : List ℕ) → Option Adapted → Type 0
+IsOutput None files arguments text notes adapted = ⊥
+IsOutput (Some command.Adapt) files arguments text notes adapted = (notes ≡ []) × IsAdaptedText listing_text files (paths_of arguments) text adapted
+IsOutput (Some command.Print) files arguments text notes adapted = (notes ≡ []) × (adapted ≡ None) × IsPrinted files (paths_of arguments) text
+IsOutput (Some command.Layouts) files arguments text notes adapted = (notes ≡ []) × (adapted ≡ None) × IsLayoutsText files (paths_of arguments) text
+IsOutput (Some command.Docs) files arguments text notes adapted = (adapted ≡ None) × IsMeantPage files (paths_of arguments) text notes
+IsOutput (Some command.Polyfill) files arguments text notes adapted = (notes ≡ []) × (adapted ≡ None) × IsPolyfill files arguments text
+IsOutput (Some (command.Sample n)) files arguments text notes adapted = (notes ≡ []) × IsAdaptedText summary_text files (sample_path ∷ []) text adapted
+
+-- what is written of an adapted document
+abbrev pub adapted_text : Option Command → Adapted → List ℕ
+adapted_text (Some (command.Sample n)) a = summary_text a
+adapted_text _ a = listing_text a
+
+-- the files at these paths mean a document
+abbrev pub HasMeaning : Files → List Path → Type 0
+HasMeaning files handed = (ds : List DefinitionTree) × Parses files handed (Ok ds)
+
+-- they mean one that can be adapted
+abbrev pub CanAdapt : Files → List Path → Type 0
+CanAdapt files handed = (ds : List DefinitionTree) × Parses files handed (Ok ds) × IsAdaptable ds
+
+-- they mean one whose typenames all have a size
+abbrev pub HasSizes : Files → List Path → Type 0
+HasSizes files handed = (ds : List DefinitionTree) × Parses files handed (Ok ds) × All (λ size. size < 2 ^ 64) (typename_sizes ds)
+
+-- they mean one that has a page
+abbrev pub HasPage : Files → List Path → Type 0
+HasPage files handed = (ds : List DefinitionTree) × Parses files handed (Ok ds) × (document_refusal ds ≡ None)
+
+-- the new file and the old one mean documents whose modules and functions are all there
+abbrev pub CanMap : Files → List (List ℕ) → Type 0
+CanMap files arguments = (new : List DefinitionTree) × (old : List DefinitionTree) × MeansBoth files arguments new old
+    × (modules : List MappedModule) × (polyfill_answer new old (mapping_of (module_names arguments)) ≡ Ok modules)
+
+-- the files mean a document of which the command tells everything
+abbrev pub IsValidFor : Command → Files → List (List ℕ) → Type 0
+IsValidFor command.Adapt files arguments = CanAdapt files (paths_of arguments)
+IsValidFor command.Print files arguments = HasMeaning files (paths_of arguments)
+IsValidFor command.Layouts files arguments = HasSizes files (paths_of arguments)
+IsValidFor command.Docs files arguments = HasPage files (paths_of arguments)
+IsValidFor command.Polyfill files arguments = CanMap files arguments
+IsValidFor (command.Sample n) files arguments = CanAdapt files (sample_path ∷ [])
+
+-- what is so where a run has its output: the source, if it is read, was read to its end; there is a bundle, and the output is
+-- over its files
+pub record IsAnswered (i : RunInput) (text notes : List ℕ) (adapted : Option Adapted) : Type 0 where
+  pub finished : IsReading i.form → Finished i.left i.after
+  pub no_fault : i.now ≡ i.before
+  pub files : Files
+  pub bundle : Reads (input_bytes i) (Ok files)
+  pub output : IsOutput i.form files i.arguments text notes adapted
+
+-- the definitions of the document that the bytes of a bundle mean, where they are told
+abbrev pub IsMeaning : (left : Option (List ℕ)) → (handed : List Path) → List DefinitionTree → Type 0
+IsMeaning None handed ds = Unit {0}
+IsMeaning (Some bytes) handed ds = (files : Files) × IsRead bytes (Ok files) × Parses files handed (Ok ds)
+
+-- a status with which something is told
+abbrev pub IsTold : ℕ → Type 0
+IsTold status = (status ≡ 0 → ⊥) × (status ≡ 4 → ⊥) × (status ≡ 5 → ⊥)

@@ -1,0 +1,135 @@
+ghost use Rattle.std.specs.Prelude.{◌≡◌, ◌<◌, ◌≤◌, ◌+◌, [], Ok, Err, IfOk, OnOk, IfErr, length};
+ghost use Rattle.witx_base.specs.Causes.{one_more};
+ghost use Rattle.witx_commands.specs.Streams.{Finished, IsInput, TakesMore};
+ghost use Rattle.witx_commands.specs.Causes.{InputCause, ReadCause, Reads};
+
+use std::alloc::{AllocError, Global};
+use witx_base::{Failed, Source};
+use witx_bundle::{Bundle, BundleError, LONGEST_BUNDLE};
+use witx_files::MockFs;
+
+/// How often a run reads at most: each read but the last gives a byte.
+pub const READS: usize = LONGEST_BUNDLE + 1;
+
+/// How many bytes one read asks for.
+const CHUNK: usize = 65_536;
+
+/// Why no bundle was read.
+#[derive(Clone, Copy, PartialEq, Eq, Debug)]
+pub enum InputError {
+    /// The source failed.
+    Source,
+    /// The bytes are no bundle.
+    Bundle(BundleError),
+    OutOfMemory,
+}
+
+impl From<Failed> for InputError {
+    ghost use Rattle.std.specs.Prelude.{◌≡◌};
+    ghost use Rattle.witx_commands.specs.declared.input.InputError.TheVariants as input_error;
+
+    ghost from_gives = { λ _ e. e ≡ input_error.Source };
+
+    fn from(_: Failed) -> InputError {
+        InputError::Source
+    }
+}
+
+impl From<AllocError> for InputError {
+    ghost use Rattle.std.specs.Prelude.{◌≡◌};
+    ghost use Rattle.witx_commands.specs.declared.input.InputError.TheVariants as input_error;
+
+    ghost from_gives = { λ _ e. e ≡ input_error.OutOfMemory };
+
+    fn from(_: AllocError) -> InputError {
+        InputError::OutOfMemory
+    }
+}
+
+/// Reads once, and puts what was read behind the bytes so far; 0 is the end of the input.
+fn read_more<S: Source>(
+    source: &mut S,
+    buffer: &mut [u8],
+    bytes: &mut Vec<u8>,
+) -> Result<usize, InputError>
+    requires { 0 < length buffer.old }
+    ensures more { IfOk result (λ n. TakesMore (S.left source.old) (S.left source.new) bytes.old.items bytes.new.items n) }
+    ensures bounded { IfOk result (λ n. n ≤ length buffer.old) }
+    ensures no_fault { OnOk result (S.faults source.new ≡ S.faults source.old) }
+    ensures refused { IfErr result (ReadCause (S.faults source.old) (S.faults source.new)) }
+    ensures later { S.faults source.old ≤ S.faults source.new }
+    ensures one_read { S.reads source.new ≡ one_more (S.reads source.old) }
+{
+    let count = source.read(buffer)?;
+    match bytes.extend_from_slice(&buffer[..count]) {
+        Ok(()) => Ok(count),
+        Err(_) => Err(InputError::OutOfMemory),
+    }
+}
+
+/// An empty buffer for one read.
+fn read_buffer(alloc: Global) -> Result<Vec<u8>, AllocError>
+    ensures { IfOk result (λ v. 0 < length v.items) }
+{
+    vec![in alloc; 0; CHUNK]
+}
+
+/// Reads until the end, or until there is one byte more than a bundle may have.
+#[tactic(auto, using(crate::proofs::ReadThrough::reading_rules))]
+fn read_through<S: Source>(
+    source: &mut S,
+    buffer: &mut [u8],
+    bytes: &mut Vec<u8>,
+) -> Result<(), InputError>
+    requires room { 0 < length buffer.old }
+    requires none { bytes.old.items ≡ [] }
+    ensures input { OnOk result (IsInput (S.left source.old) (S.left source.new) bytes.new.items) }
+    ensures no_fault { OnOk result (S.faults source.new ≡ S.faults source.old) }
+    ensures refused { IfErr result (ReadCause (S.faults source.old) (S.faults source.new)) }
+    ensures later { S.faults source.old ≤ S.faults source.new }
+    ensures reads { S.reads source.new ≤ S.reads source.old + READS }
+{
+    for turn in 0..READS {
+        let room = (LONGEST_BUNDLE + 1 - bytes.len()).min(buffer.len());
+        let count = read_more(source, &mut buffer[..room], bytes)?;
+        if count == 0 || LONGEST_BUNDLE < bytes.len() {
+            return Ok(());
+        }
+    }
+    Ok(())
+}
+
+/// Reads the source to its end, or until it has given one byte more than a bundle may have.
+fn read_bytes<S: Source>(alloc: Global, source: &mut S) -> Result<Vec<u8>, InputError>
+    ensures input { IfOk result (λ v. IsInput (S.left source.old) (S.left source.new) v.items) }
+    ensures no_fault { OnOk result (S.faults source.new ≡ S.faults source.old) }
+    ensures refused { IfErr result (ReadCause (S.faults source.old) (S.faults source.new)) }
+    ensures later { S.faults source.old ≤ S.faults source.new }
+    ensures reads { S.reads source.new ≤ S.reads source.old + READS }
+{
+    let mut buffer = read_buffer(alloc)?;
+    let mut bytes = Vec::new(alloc);
+    read_through(source, buffer.as_mut_slice(), &mut bytes)?;
+    Ok(bytes)
+}
+
+/// Reads the source to its end, and the files of the bundle that it gives.
+///
+/// `Source` comes only where the source failed; `Bundle` exactly where its bytes are no bundle, unless
+/// it failed before.
+#[tactic(auto, using(crate::proofs::ReadThrough::bundle_rules))]
+pub fn read_bundle<S: Source>(alloc: Global, source: &mut S) -> Result<MockFs, InputError>
+    ensures files { IfOk result (λ files. Reads (S.left source.old) (Ok files)) }
+    ensures finished { OnOk result (Finished (S.left source.old) (S.left source.new)) }
+    ensures no_fault { OnOk result (S.faults source.new ≡ S.faults source.old) }
+    ensures refused { IfErr result (InputCause (S.left source.old) (S.faults source.old) (S.faults source.new)) }
+    ensures later { S.faults source.old ≤ S.faults source.new }
+    ensures reads { S.reads source.new ≤ S.reads source.old + READS }
+{
+    let bytes = read_bytes(alloc, source)?;
+    match Bundle::read(alloc, bytes.as_slice()) {
+        Ok(files) => Ok(files),
+        Err(BundleError::OutOfMemory) => Err(InputError::OutOfMemory),
+        Err(error) => Err(InputError::Bundle(error)),
+    }
+}
