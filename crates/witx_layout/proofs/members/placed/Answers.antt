@@ -3,7 +3,7 @@ use Rattle.std.proofs.lemmas.List.{take_more, map-append}
 use Rattle.witx_ast.specs.Plain.{plain}
 use Rattle.witx_ast.specs.Views.{tree_of}
 use Rattle.witx_layout.specs.Numbers.{align_to, align_of}
-use Rattle.witx_layout.proofs.Begins.{reached, reached-more, next-begin, begin-large, all-small}
+use Rattle.witx_layout.proofs.Begins.{begin_rules, reached, reached-more, next-begin, begin-large, all-small}
 use Rattle.witx_layout.proofs.members.placed.Goals as goal
 
 pub returns-in_default-clause-too_large : goal.returns-in_default-clause-too_large
@@ -26,3 +26,6 @@ loop-member-preserved c =
       small = rw (pushed, map-append) (all-small _ _ c.loop-member.invariant.small (omega arith));
       end = rw (reached-more xs i m c.loop-member-test.true c.member-item.is, ← begun) c.end_of-end.ensures;
     }
+
+pub next_begin-requires : goal.next_begin-requires
+next_begin-requires c = grind (arith, begin_rules)

@@ -3,7 +3,7 @@ use Rattle.witx_ast.specs.Tree.{fields_of, arms_of}
 use Rattle.witx_ast.specs.Views.{tree_of, datatype_tree, record_tree, variant_tree, member_field, case_arm}
 use Rattle.witx_layout.specs.Nodes.{type_nodes, field_nodes, arm_nodes}
 use Rattle.witx_layout.proofs.Onward.{next-end, next-align, bare-size, bare-align, carries-size, carries-align}
-use Rattle.witx_layout.proofs.Nodes.{in-record, in-variant, in-value, in-record-nodes, in-variant-nodes, in-value-nodes, record-nodes, variant-nodes, record-known, variant-known, member-known, members-known, member-nodes, fewer-nodes, next-nodes, within-nodes, payload-known, payload-nodes, within-arm-nodes, same-arm-nodes, fewer-arm-nodes, bare-known, bare-nodes, payloads-known, carries-nodes}
+use Rattle.witx_layout.proofs.Nodes.{node_rules, in-record, in-variant, in-value, in-record-nodes, in-variant-nodes, in-value-nodes, record-nodes, variant-nodes, record-known, variant-known, member-known, members-known, member-nodes, fewer-nodes, next-nodes, within-nodes, payload-known, payload-nodes, within-arm-nodes, same-arm-nodes, fewer-arm-nodes, bare-known, bare-nodes, payloads-known, carries-nodes}
 use Rattle.witx_layout.proofs.table.+tabled.Goals as goal
 
 pub datatype_layout-record_layout-requires : goal.datatype_layout-record_layout-requires
@@ -114,3 +114,123 @@ greatest_payload-loop-case-preserved g t c =
       most = carries-nodes xs i one payload c.loop-case.steps c.type_layout.new.steps _ here is has before.most c.type_layout.ensures.most;
       least = omega (arith, before.least, c.type_layout.ensures.least);
     }
+
+pub datatype_layout-returns-in-Record-clause-layout : goal.datatype_layout-returns-in-Record-clause-layout
+datatype_layout-returns-in-Record-clause-layout g t c = grind (arith, node_rules)
+
+pub datatype_layout-returns-in-Record-clause-most : goal.datatype_layout-returns-in-Record-clause-most
+datatype_layout-returns-in-Record-clause-most g t c = grind (arith, node_rules)
+
+pub datatype_layout-returns-in-Record-clause-least : goal.datatype_layout-returns-in-Record-clause-least
+datatype_layout-returns-in-Record-clause-least g t c = grind (arith, node_rules)
+
+pub datatype_layout-returns-in-Variant-clause-layout : goal.datatype_layout-returns-in-Variant-clause-layout
+datatype_layout-returns-in-Variant-clause-layout g t c = grind (arith, node_rules)
+
+pub datatype_layout-returns-in-Variant-clause-most : goal.datatype_layout-returns-in-Variant-clause-most
+datatype_layout-returns-in-Variant-clause-most g t c = grind (arith, node_rules)
+
+pub datatype_layout-returns-in-Variant-clause-least : goal.datatype_layout-returns-in-Variant-clause-least
+datatype_layout-returns-in-Variant-clause-least g t c = grind (arith, node_rules)
+
+pub type_layout-returns-in-Name-clause-layout : goal.type_layout-returns-in-Name-clause-layout
+type_layout-returns-in-Name-clause-layout g t c = grind (arith, node_rules)
+
+pub type_layout-returns-in-Name-clause-most : goal.type_layout-returns-in-Name-clause-most
+type_layout-returns-in-Name-clause-most g t c = grind (arith, node_rules)
+
+pub type_layout-returns-in-Name-clause-least : goal.type_layout-returns-in-Name-clause-least
+type_layout-returns-in-Name-clause-least g t c = grind (arith, node_rules)
+
+pub type_layout-returns-in-Value-clause-layout : goal.type_layout-returns-in-Value-clause-layout
+type_layout-returns-in-Value-clause-layout g t c = grind (arith, node_rules)
+
+pub type_layout-returns-in-Value-clause-most : goal.type_layout-returns-in-Value-clause-most
+type_layout-returns-in-Value-clause-most g t c = grind (arith, node_rules)
+
+pub type_layout-returns-in-Value-clause-least : goal.type_layout-returns-in-Value-clause-least
+type_layout-returns-in-Value-clause-least g t c = grind (arith, node_rules)
+
+pub record_layout-returns-in-Bitflags-clause-layout : goal.record_layout-returns-in-Bitflags-clause-layout
+record_layout-returns-in-Bitflags-clause-layout g t c = grind (arith, node_rules)
+
+pub record_layout-returns-in-Bitflags-clause-most : goal.record_layout-returns-in-Bitflags-clause-most
+record_layout-returns-in-Bitflags-clause-most g t c = grind (arith, node_rules)
+
+pub record_layout-returns-in-Bitflags-clause-least : goal.record_layout-returns-in-Bitflags-clause-least
+record_layout-returns-in-Bitflags-clause-least g t c = grind (arith, node_rules)
+
+pub record_layout-returns-in_err-members-clause-layout : goal.record_layout-returns-in_err-members-clause-layout
+record_layout-returns-in_err-members-clause-layout g t c = grind (arith, node_rules)
+
+pub record_layout-returns-in_err-members-clause-most : goal.record_layout-returns-in_err-members-clause-most
+record_layout-returns-in_err-members-clause-most g t c = grind (arith, node_rules)
+
+pub record_layout-returns-in_err-members-clause-least : goal.record_layout-returns-in_err-members-clause-least
+record_layout-returns-in_err-members-clause-least g t c = grind (arith, node_rules)
+
+pub record_layout-padded-requires : goal.record_layout-padded-requires
+record_layout-padded-requires g t c = grind (arith, node_rules)
+
+pub record_layout-returns-clause-layout : goal.record_layout-returns-clause-layout
+record_layout-returns-clause-layout g t c = grind (arith, node_rules)
+
+pub record_layout-returns-clause-most : goal.record_layout-returns-clause-most
+record_layout-returns-clause-most g t c = grind (arith, node_rules)
+
+pub record_layout-returns-clause-least : goal.record_layout-returns-clause-least
+record_layout-returns-clause-least g t c = grind (arith, node_rules)
+
+pub variant_layout-tagged-requires-clause-tag : goal.variant_layout-tagged-requires-clause-tag
+variant_layout-tagged-requires-clause-tag g t c = grind (arith, node_rules)
+
+pub variant_layout-tagged-requires-clause-payload : goal.variant_layout-tagged-requires-clause-payload
+variant_layout-tagged-requires-clause-payload g t c = grind (arith, node_rules)
+
+pub variant_layout-returns-in_err-payload-clause-layout : goal.variant_layout-returns-in_err-payload-clause-layout
+variant_layout-returns-in_err-payload-clause-layout g t c = grind (arith, node_rules)
+
+pub variant_layout-returns-in_err-payload-clause-most : goal.variant_layout-returns-in_err-payload-clause-most
+variant_layout-returns-in_err-payload-clause-most g t c = grind (arith, node_rules)
+
+pub variant_layout-returns-in_err-payload-clause-least : goal.variant_layout-returns-in_err-payload-clause-least
+variant_layout-returns-in_err-payload-clause-least g t c = grind (arith, node_rules)
+
+pub variant_layout-returns-clause-layout : goal.variant_layout-returns-clause-layout
+variant_layout-returns-clause-layout g t c = grind (arith, node_rules)
+
+pub variant_layout-returns-clause-most : goal.variant_layout-returns-clause-most
+variant_layout-returns-clause-most g t c = grind (arith, node_rules)
+
+pub variant_layout-returns-clause-least : goal.variant_layout-returns-clause-least
+variant_layout-returns-clause-least g t c = grind (arith, node_rules)
+
+pub members_layout-followed_by-requires : goal.members_layout-followed_by-requires
+members_layout-followed_by-requires g t c = grind (arith, node_rules)
+
+pub members_layout-returns-in_err-part-clause-layout : goal.members_layout-returns-in_err-part-clause-layout
+members_layout-returns-in_err-part-clause-layout g t c = grind (arith, node_rules)
+
+pub members_layout-returns-in_err-reached-clause-layout : goal.members_layout-returns-in_err-reached-clause-layout
+members_layout-returns-in_err-reached-clause-layout g t c = grind (arith, node_rules)
+
+pub members_layout-returns-clause-layout : goal.members_layout-returns-clause-layout
+members_layout-returns-clause-layout g t c = grind (arith, node_rules)
+
+pub members_layout-returns-clause-most : goal.members_layout-returns-clause-most
+members_layout-returns-clause-most g t c = grind (arith, node_rules)
+
+pub members_layout-returns-clause-least : goal.members_layout-returns-clause-least
+members_layout-returns-clause-least g t c = grind (arith, node_rules)
+
+pub greatest_payload-returns-in_err-payload-clause-layout : goal.greatest_payload-returns-in_err-payload-clause-layout
+greatest_payload-returns-in_err-payload-clause-layout g t c = grind (arith, node_rules)
+
+pub greatest_payload-returns-clause-layout : goal.greatest_payload-returns-clause-layout
+greatest_payload-returns-clause-layout g t c = grind (arith, node_rules)
+
+pub greatest_payload-returns-clause-most : goal.greatest_payload-returns-clause-most
+greatest_payload-returns-clause-most g t c = grind (arith, node_rules)
+
+pub greatest_payload-returns-clause-least : goal.greatest_payload-returns-clause-least
+greatest_payload-returns-clause-least g t c = grind (arith, node_rules)
