@@ -29,3 +29,6 @@ loop-planned-preserved g c =
 
 pub returns-clause-events : goal.returns-clause-events
 returns-clause-events g c = grind (arith, common_steps)
+
+pub play_one-requires : goal.play_one-requires
+play_one-requires g c = grind (arith, common_steps)
