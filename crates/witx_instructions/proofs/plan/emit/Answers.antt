@@ -1,6 +1,4 @@
-use Rattle.std.proofs.Common.{arith}
-use Rattle.std.proofs.Common.{rules}
-use Rattle.std.proofs.lemmas.Grind.{common_steps}
+use Rattle.std.proofs.Common.{rules, arith}
 use Rattle.witx_instructions.proofs.plan.emit.Goals as goal
 
 pub returns-in_err-append-clause-front : goal.returns-in_err-append-clause-front
