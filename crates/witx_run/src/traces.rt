@@ -20,7 +20,7 @@ use crate::item::Item;
 use crate::machine::{Machine, MachineOf};
 use crate::naming::CallRow;
 use crate::outcome::{Outcome, Run};
-use crate::progress::{ProgressOf, Stop, run, run_on, start};
+use crate::progress::{Progress, ProgressOf, Stop, run, run_on, start};
 use crate::script::{Script, ScriptOf};
 use crate::sides::{argument_items, word_items};
 use std::alloc::Global;
@@ -97,20 +97,42 @@ fn end_of<D: Domain>(progress: ProgressOf<D>, script: &ScriptOf<'_, D>, stop: St
         (finished x (events_of script.now) (stopped d D.value_of D.word_of D.memory_of x (events_of script.now) progress stop.entry)) }
 {
     match stop {
-        Stop::Stuck(i) => End::Stuck(i),
-        Stop::Over => end_of_machine::<D>(progress.machine, script.events.len()),
+        Stop::Stuck(i) => {
+            drop(progress);
+            End::Stuck(i)
+        }
+        Stop::Over => {
+            let Progress {
+                machine,
+                frames,
+                inside,
+                at: _,
+                end: _,
+            } = progress;
+            drop(frames);
+            drop(inside);
+            end_of_machine::<D>(machine, script.events.len())
+        }
         Stop::Wasm {
             module: _,
             name: _,
             params: _,
             results: _,
-        } => End::Stuck(progress.at),
+        } => {
+            let at = progress.at;
+            drop(progress);
+            End::Stuck(at)
+        }
         Stop::Interface {
             module: _,
             name: _,
             params: _,
             results: _,
-        } => End::Stuck(progress.at),
+        } => {
+            let at = progress.at;
+            drop(progress);
+            End::Stuck(at)
+        }
     }
 }
 
@@ -130,8 +152,13 @@ fn finish<D: Domain>(
         (whole_behind (D.domain domain.now) D.value_of D.word_of D.memory_of x (events_of script.now) progress
         (went (state_in D.value_of D.word_of D.memory_of x (events_of script.now) progress.machine))))) }
 {
-    let stop = run_on(alloc, domain, &mut progress, script)?;
-    Ok(end_of::<D>(progress, script, stop))
+    match run_on(alloc, domain, &mut progress, script) {
+        Ok(stop) => Ok(end_of::<D>(progress, script, stop)),
+        Err(refused) => {
+            drop(progress);
+            Err(refused)
+        }
+    }
 }
 
 /// Runs the callee's trace on these words, where this stands at the addresses.
@@ -170,8 +197,13 @@ fn run_callee_from<D: Domain>(
         «module».now (reply_of D.value_of reply.entry) None script.now
         (λ x es. whole (D.domain domain.now) D.value_of D.word_of D.memory_of x es progress) end) }
 {
-    let stop = run(alloc, domain, &mut progress, script, false)?;
-    callee_halted(alloc, domain, module, reply, script, progress, stop)
+    match run(alloc, domain, &mut progress, script, false) {
+        Ok(stop) => callee_halted(alloc, domain, module, reply, script, progress, stop),
+        Err(refused) => {
+            drop(progress);
+            Err(refused)
+        }
+    }
 }
 
 /// The callee's trace has halted before its call.
@@ -192,14 +224,24 @@ fn callee_halted<D: Domain>(
         (λ x es. stopped (D.domain domain.now) D.value_of D.word_of D.memory_of x es progress stop.entry) end) }
 {
     match stop {
-        Stop::Stuck(i) => Ok(CalleeEnd::Stuck(i)),
-        Stop::Over => Ok(CalleeEnd::Stuck(script.events.len())),
+        Stop::Stuck(i) => {
+            drop(progress);
+            Ok(CalleeEnd::Stuck(i))
+        }
+        Stop::Over => {
+            drop(progress);
+            Ok(CalleeEnd::Stuck(script.events.len()))
+        }
         Stop::Wasm {
             module: _,
             name: _,
             params: _,
             results: _,
-        } => Ok(CalleeEnd::Stuck(progress.at)),
+        } => {
+            let at = progress.at;
+            drop(progress);
+            Ok(CalleeEnd::Stuck(at))
+        }
         Stop::Interface {
             module: of,
             name,
@@ -245,7 +287,11 @@ fn call_interface<D: Domain>(
         call,
     )? {
         Some(noted) => finish_callee(alloc, domain, script, progress, noted),
-        None => Ok(CalleeEnd::Stuck(progress.at)),
+        None => {
+            let at = progress.at;
+            drop(progress);
+            Ok(CalleeEnd::Stuck(at))
+        }
     }
 }
 
@@ -329,8 +375,13 @@ fn run_caller<D: Domain>(
         «module».now (map event_of callee.now) (reply_of D.value_of reply.entry) None script.now
         (λ x es. whole (D.domain domain.now) D.value_of D.word_of D.memory_of x es progress) run) }
 {
-    let stop = run(alloc, domain, &mut progress, script, false)?;
-    caller_halted(alloc, domain, module, reply, script, progress, stop, callee)
+    match run(alloc, domain, &mut progress, script, false) {
+        Ok(stop) => caller_halted(alloc, domain, module, reply, script, progress, stop, callee),
+        Err(refused) => {
+            drop(progress);
+            Err(refused)
+        }
+    }
 }
 
 /// The caller's trace has halted before its call.
@@ -352,14 +403,24 @@ fn caller_halted<D: Domain>(
         (λ x es. stopped (D.domain domain.now) D.value_of D.word_of D.memory_of x es progress stop.entry) run) }
 {
     match stop {
-        Stop::Stuck(i) => Ok(Run::StuckInCaller(i)),
-        Stop::Over => Ok(Run::StuckInCaller(script.events.len())),
+        Stop::Stuck(i) => {
+            drop(progress);
+            Ok(Run::StuckInCaller(i))
+        }
+        Stop::Over => {
+            drop(progress);
+            Ok(Run::StuckInCaller(script.events.len()))
+        }
         Stop::Interface {
             module: _,
             name: _,
             params: _,
             results: _,
-        } => Ok(Run::StuckInCaller(progress.at)),
+        } => {
+            let at = progress.at;
+            drop(progress);
+            Ok(Run::StuckInCaller(at))
+        }
         Stop::Wasm {
             module: of,
             name,
@@ -407,7 +468,11 @@ fn call_wasm<D: Domain>(
         Some(words) => hand_on(
             alloc, domain, module, reply, script, progress, words, callee,
         ),
-        None => Ok(Run::StuckInCaller(progress.at)),
+        None => {
+            let at = progress.at;
+            drop(progress);
+            Ok(Run::StuckInCaller(at))
+        }
     }
 }
 
