@@ -99,6 +99,7 @@ fn lower_value<'a, D: Domain>(
     ensures here { IfOk result (λ turn. TurnsHere progress.new turn) }
 {
     let Some((first, second)) = last_two(&mut progress.machine.blocks) else {
+        drop(value);
         return Ok(Turn::Stops(Stop::Stuck(progress.at)));
     };
     match domain.picks(ok, err, value)? {
@@ -153,6 +154,7 @@ fn lift_word<'a, D: Domain>(
     ensures here { IfOk result (λ turn. TurnsHere progress.new turn) }
 {
     let Some((first, second)) = last_two(&mut progress.machine.blocks) else {
+        drop(word);
         return Ok(Turn::Stops(Stop::Stuck(progress.at)));
     };
     let choice = domain.chooses(&word);

@@ -277,7 +277,7 @@ fn call_interface<D: Domain>(
         (λ x es. whole_at (D.domain domain.now) D.value_of D.word_of D.memory_of x es progress
         (call_interface call.entry.module.now call.entry.name.now (map tree_of call.entry.params.now) (map tree_of call.entry.results.now))) end) }
 {
-    match reply_to(
+    let Ok(answer) = reply_to(
         alloc,
         domain,
         &mut progress.machine,
@@ -285,7 +285,11 @@ fn call_interface<D: Domain>(
         script.func,
         reply,
         call,
-    )? {
+    ) else {
+        drop(progress);
+        return Err(OutOfMemory);
+    };
+    match answer {
         Some(noted) => finish_callee(alloc, domain, script, progress, noted),
         None => {
             let at = progress.at;
@@ -457,14 +461,18 @@ fn call_wasm<D: Domain>(
         (λ x es. whole_at (D.domain domain.now) D.value_of D.word_of D.memory_of x es progress
         (call_wasm call.entry.module.now call.entry.name.now call.entry.params.now call.entry.results.now)) run) }
 {
-    match take_words(
+    let Ok(taken) = take_words(
         alloc,
         domain,
         &mut progress.machine,
         module,
         script.func,
         call,
-    )? {
+    ) else {
+        drop(progress);
+        return Err(OutOfMemory);
+    };
+    match taken {
         Some(words) => hand_on(
             alloc, domain, module, reply, script, progress, words, callee,
         ),
@@ -493,14 +501,43 @@ fn hand_on<D: Domain>(
     ensures { IfOk result (λ run. HandedOn (D.domain domain.now) D.value_of D.word_of D.memory_of
         «module».now (map event_of callee.now) (reply_of D.value_of reply.entry) script.now progress (map D.word_of words.items) run) }
 {
-    let memory = domain.copy_memory(&progress.machine.memory)?;
     let slice = words.as_slice();
     let func = script.func;
-    let end = run_callee(alloc, domain, module, func, callee, reply, slice, memory)?;
+    let memory = &progress.machine.memory;
+    let Ok(end) = run_callee_beside(alloc, domain, module, func, callee, reply, slice, memory)
+    else {
+        drop(words);
+        drop(progress);
+        return Err(OutOfMemory);
+    };
     match end {
-        CalleeEnd::Stuck(i) => Ok(Run::StuckInCallee(i)),
+        CalleeEnd::Stuck(i) => {
+            drop(words);
+            drop(progress);
+            Ok(Run::StuckInCallee(i))
+        }
         CalleeEnd::Returned(returned) => take_up(alloc, domain, script, progress, words, returned),
     }
+}
+
+/// Runs the callee's trace on these words, on a copy of what stands at the addresses.
+#[tactic(auto, using(crate::proofs::RunLemmas::run_rules))]
+fn run_callee_beside<D: Domain>(
+    alloc: Global,
+    domain: &D,
+    module: &Id,
+    func: &InterfaceFunc,
+    events: &[Event],
+    reply: Option<&D::Value>,
+    words: &[D::Word],
+    memory: &D::Memory,
+) -> Result<CalleeEndOf<D>, OutOfMemory>
+    ensures { IfOk result (λ end. CalleeEnds D.value_of D.word_of D.memory_of end
+        (callee_run (D.domain domain.now) «module».now (called func.now) (map event_of events.now)
+        (reply_of D.value_of reply.entry) (map D.word_of words.now) (D.memory_of memory.now))) }
+{
+    let copy = domain.copy_memory(memory)?;
+    run_callee(alloc, domain, module, func, events, reply, words, copy)
 }
 
 /// Takes back what comes of the callee's run, and goes on to the trace's end.
@@ -525,7 +562,7 @@ fn take_up<D: Domain>(
         memory,
     } = returned;
     let machine = &mut progress.machine;
-    match take_back(
+    let Ok(made) = take_back(
         alloc,
         domain,
         machine,
@@ -534,9 +571,17 @@ fn take_up<D: Domain>(
         noted,
         back,
         memory,
-    )? {
+    ) else {
+        drop(progress);
+        return Err(OutOfMemory);
+    };
+    match made {
         Some(call) => finish_caller(alloc, domain, script, progress, call),
-        None => Ok(Run::StuckInCaller(progress.at)),
+        None => {
+            let at = progress.at;
+            drop(progress);
+            Ok(Run::StuckInCaller(at))
+        }
     }
 }
 

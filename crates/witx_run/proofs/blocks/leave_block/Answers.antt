@@ -1,4 +1,5 @@
 use Rattle.std.proofs.Common.{sym, ◌∙◌, arith}
+use Rattle.std.proofs.lemmas.Grind.{common_steps}
 use Rattle.witx_instructions.specs.Views.{event_of}
 use Rattle.witx_instructions.proofs.Results.{length-map}
 use Rattle.std.specs.Prelude.{option_map}
@@ -15,3 +16,9 @@ returns-clause-comes g c = λ x.
     leaves-block (g.D.Domain.domain c.args.domain.now) g.D.Domain.value_of g.D.Domain.word_of g.D.Domain.memory_of x (events_of c.args.script.now) c.args.progress.now c.args.frame c.replace.new.dest (option_map (item_of g.D.Domain.value_of g.D.Domain.word_of) c.in-Some.left) c.replace-2.new.dest c.push_left.new.stack c.in_ok-went.went
     c.replace.ensures.after c.replace-2.ensures.after (omega (arith, c.requires.deep, length-map event_of c.args.script.now.events.now)) (sym c.in-Some.ensures) c.in_ok-went.ensures
     ∙ c.settle.ensures.comes (g.D.Domain.domain c.args.domain.now) x
+
+pub returns-clause-falls : goal.returns-clause-falls
+returns-clause-falls g c = grind (arith, common_steps)
+
+pub returns-clause-here : goal.returns-clause-here
+returns-clause-here g c = grind (arith, common_steps)

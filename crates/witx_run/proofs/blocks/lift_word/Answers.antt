@@ -1,4 +1,5 @@
-use Rattle.std.proofs.Common.{suc, ◌-◌, sym, ◌∙◌}
+use Rattle.std.proofs.Common.{suc, ◌-◌, sym, ◌∙◌, arith}
+use Rattle.std.proofs.lemmas.Grind.{common_steps}
 use Rattle.witx_run.specs.Turns.{events_of}
 use Rattle.witx_run.proofs.BlockLemmas.{no-two, no-choice, lifts-case}
 use Rattle.witx_run.proofs.MachineLemmas.{moved}
@@ -21,3 +22,9 @@ pub returns-in-Some-choice-clause-comes : goal.returns-in-Some-choice-clause-com
 returns-in-Some-choice-clause-comes g c =
     moved c.enter.result _ _ (λ turn h x. lifts-case (g.D.Domain.domain c.args.domain.now) g.D.Domain.value_of g.D.Domain.word_of g.D.Domain.memory_of x (events_of c.args.script.now) c.args.progress.now c.last_two.new.blocks c.in-Some.first c.in-Some.second c.in-Some.ensures (g.D.Domain.word_of c.args.word)
     c.in-Some-choice.error c.chosen-block.result (sym c.chooses-choice.ensures ∙ c.in-Some-choice.is) c.chosen-block.ensures ∙ h (g.D.Domain.domain c.args.domain.now) x) c.enter.ensures.comes
+
+pub returns-in_default-clause-falls : goal.returns-in_default-clause-falls
+returns-in_default-clause-falls g c = grind (arith, common_steps)
+
+pub returns-in-None-clause-falls : goal.returns-in-None-clause-falls
+returns-in-None-clause-falls g c = grind (arith, common_steps)

@@ -1,4 +1,5 @@
-use Rattle.std.proofs.Common.{sym, ap, ◌∙◌}
+use Rattle.std.proofs.Common.{sym, ap, ◌∙◌, arith}
+use Rattle.std.proofs.lemmas.Grind.{common_steps}
 use Rattle.witx_machine.specs.Run.{result_has_cases}
 use Rattle.witx_instructions.specs.Views.{param_types}
 use Rattle.witx_run.specs.Views.{type_tree}
@@ -24,3 +25,9 @@ returns-in-None-clause-comes g c = λ called x known.
     no-symbol (g.D.Domain.domain c.args.domain.now) g.D.Domain.value_of g.D.Domain.word_of g.D.Domain.memory_of x (events_of c.args.script.now) c.args.progress.now (type_tree c.args.ok) (type_tree c.args.err)
     (known.cases (type_tree c.args.ok) (type_tree c.args.err) ∙ ap (λ ps. result_has_cases (param_types ps) (type_tree c.args.ok) (type_tree c.args.err)) (sym c.as_slice.ensures) ∙ sym c.has_cases.ensures ∙ c.if-not-has_cases.false)
     c.in-None.ensures
+
+pub returns-then-not-has_cases-clause-falls : goal.returns-then-not-has_cases-clause-falls
+returns-then-not-has_cases-clause-falls g c = grind (arith, common_steps)
+
+pub returns-in-None-clause-falls : goal.returns-in-None-clause-falls
+returns-in-None-clause-falls g c = grind (arith, common_steps)

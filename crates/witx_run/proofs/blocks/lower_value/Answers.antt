@@ -1,7 +1,8 @@
 use Rattle.std.specs.Prelude.{option_map}
 use Rattle.witx_machine.specs.Machine.{in_lower}
 use Rattle.witx_run.specs.Views.{picked_of, type_tree}
-use Rattle.std.proofs.Common.{suc, ◌-◌, sym, ap, ◌∙◌}
+use Rattle.std.proofs.Common.{suc, ◌-◌, sym, ap, ◌∙◌, arith}
+use Rattle.std.proofs.lemmas.Grind.{common_steps}
 use Rattle.witx_run.specs.Turns.{events_of}
 use Rattle.witx_run.proofs.BlockLemmas.{no-two, no-case, lowers-case}
 use Rattle.witx_run.proofs.MachineLemmas.{moved}
@@ -25,3 +26,9 @@ pub returns-in-Some-2-clause-comes : goal.returns-in-Some-2-clause-comes
 returns-in-Some-2-clause-comes g c =
     moved c.enter.result _ _ (λ turn h x. lowers-case (g.D.Domain.domain c.args.domain.now) g.D.Domain.value_of g.D.Domain.word_of g.D.Domain.memory_of x (events_of c.args.script.now) c.args.progress.now c.last_two.new.blocks c.in-Some.first c.in-Some.second c.in-Some.ensures (type_tree c.args.ok) (type_tree c.args.err) (g.D.Domain.value_of c.args.value)
     (picked_of g.D.Domain.value_of c.in-Some-2.picked) c.chosen-block.result _ (sym c.in_ok-picked.ensures ∙ ap (option_map (picked_of g.D.Domain.value_of)) c.in-Some-2.is) c.chosen-block.ensures (ap in_lower c.payload_item.ensures) ∙ h (g.D.Domain.domain c.args.domain.now) x) c.enter.ensures.comes
+
+pub returns-in_default-clause-falls : goal.returns-in_default-clause-falls
+returns-in_default-clause-falls g c = grind (arith, common_steps)
+
+pub returns-in-None-clause-falls : goal.returns-in-None-clause-falls
+returns-in-None-clause-falls g c = grind (arith, common_steps)

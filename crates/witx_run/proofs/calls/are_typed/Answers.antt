@@ -1,4 +1,5 @@
-use Rattle.std.proofs.Common.{◌∙◌, get_or}
+use Rattle.std.proofs.Common.{◌∙◌, get_or, arith}
+use Rattle.std.proofs.lemmas.Grind.{common_steps}
 use Rattle.witx_machine.specs.declared.surface.WasmType.{WasmType}
 use Rattle.witx_run.proofs.PairLemmas.{pair-fails, pairs-end, pairs-uneven, same-item}
 use Rattle.witx_run.proofs.CallLemmas.{is_typed, typed-pairs}
@@ -21,3 +22,6 @@ pub returns : goal.returns
 returns g c =
     let d = g.D.Domain.domain c.args.domain.now in
     pairs-end (is_typed d g.D.Domain.word_of) c.args.types.now c.args.words.now c.loop-i.i c.loop-i-test.false c.if-types-words.false c.loop-i.invariant ∙ typed-pairs d g.D.Domain.word_of c.args.types.now c.args.words.now
+
+pub loop-i-preserved : goal.loop-i-preserved
+loop-i-preserved g c = grind (arith, common_steps)

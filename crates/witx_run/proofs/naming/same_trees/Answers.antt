@@ -1,4 +1,5 @@
-use Rattle.std.proofs.Common.{◌∙◌}
+use Rattle.std.proofs.Common.{◌∙◌, arith}
+use Rattle.std.proofs.lemmas.Grind.{common_steps}
 use Rattle.witx_run.proofs.PairLemmas.{pair-fails, pairs-end, pairs-uneven}
 use Rattle.witx_run.proofs.NameLemmas.{is_type, trees-pairs}
 use Rattle.witx_run.proofs.naming.same_trees.Goals as goal
@@ -13,3 +14,6 @@ returns-then-not-is_type c =
 
 pub returns : goal.returns
 returns c = pairs-end is_type c.args.types.now c.args.params.now c.loop-i.i c.loop-i-test.false c.if-types-params.false c.loop-i.invariant ∙ trees-pairs c.args.types.now c.args.params.now
+
+pub loop-i-preserved : goal.loop-i-preserved
+loop-i-preserved c = grind (arith, common_steps)
