@@ -1,9 +1,10 @@
-use Rattle.std.proofs.Common.{arith, option_map, ◌∙◌, ap, sym}
+use Rattle.std.proofs.Common.{rules, arith, option_map, ◌∙◌, ap, sym}
+use Rattle.std.proofs.lemmas.Grind.{common_steps}
 use Rattle.witx_ast.specs.Plain.{plain}
 use Rattle.witx_ast.specs.Views.{tree_of, cases_plain}
 use Rattle.witx_compat.specs.Represents.{case_by, payload_by, last_case}
 use Rattle.witx_compat.specs.Answers.{worse}
-use Rattle.witx_compat.proofs.Steps.{counterpart, next-case, refused-case, other-count, member-same, member-other}
+use Rattle.witx_compat.proofs.Steps.{counterpart, next-case, refused-case, other-count, member-same, member-other, compat_rules}
 use Rattle.witx_compat.proofs.representable.+compat.Goals as goal
 
 pub case_answer-returns-then-j-i : goal.case_answer-returns-then-j-i
@@ -34,3 +35,105 @@ pub members_same-loop-i-preserved : goal.members_same-loop-i-preserved
 members_same-loop-i-preserved t c = record {
   same = member-same c.args.members.now c.args.by.now c.loop-i.i c.index-members-i.result c.index-by-i.result _ c.loop-i-test.true (omega (arith, c.loop-i-test.true, c.if-members-by.false)) c.index-members-i.is c.index-by-i.is (sym c.member_same.ensures ∙ c.if-not-member_same.false) c.loop-i.invariant.same;
 }
+
+pub DatatypeRepresentable::representable-returns-in-Builtin-Builtin-clause-alike : goal.DatatypeRepresentable::representable-returns-in-Builtin-Builtin-clause-alike
+DatatypeRepresentable::representable-returns-in-Builtin-Builtin-clause-alike t c = search rules
+
+pub DatatypeRepresentable::representable-returns-in-Builtin-Builtin-clause-exact : goal.DatatypeRepresentable::representable-returns-in-Builtin-Builtin-clause-exact
+DatatypeRepresentable::representable-returns-in-Builtin-Builtin-clause-exact t c = search (rules, compat_rules)
+
+pub DatatypeRepresentable::representable-returns-in-ConstPointer-ConstPointer-clause-alike : goal.DatatypeRepresentable::representable-returns-in-ConstPointer-ConstPointer-clause-alike
+DatatypeRepresentable::representable-returns-in-ConstPointer-ConstPointer-clause-alike t c = search (rules, compat_rules)
+
+pub DatatypeRepresentable::representable-returns-in-ConstPointer-ConstPointer-clause-exact : goal.DatatypeRepresentable::representable-returns-in-ConstPointer-ConstPointer-clause-exact
+DatatypeRepresentable::representable-returns-in-ConstPointer-ConstPointer-clause-exact t c = search (rules, compat_rules)
+
+pub DatatypeRepresentable::representable-returns-in-Handle-Handle-clause-alike : goal.DatatypeRepresentable::representable-returns-in-Handle-Handle-clause-alike
+DatatypeRepresentable::representable-returns-in-Handle-Handle-clause-alike t c = search rules
+
+pub DatatypeRepresentable::representable-returns-in-Handle-Handle-clause-exact : goal.DatatypeRepresentable::representable-returns-in-Handle-Handle-clause-exact
+DatatypeRepresentable::representable-returns-in-Handle-Handle-clause-exact t c = search (rules, compat_rules)
+
+pub DatatypeRepresentable::representable-returns-in-List-List-clause-alike : goal.DatatypeRepresentable::representable-returns-in-List-List-clause-alike
+DatatypeRepresentable::representable-returns-in-List-List-clause-alike t c = search (rules, compat_rules)
+
+pub DatatypeRepresentable::representable-returns-in-List-List-clause-exact : goal.DatatypeRepresentable::representable-returns-in-List-List-clause-exact
+DatatypeRepresentable::representable-returns-in-List-List-clause-exact t c = search (rules, compat_rules)
+
+pub DatatypeRepresentable::representable-returns-in-Pointer-Pointer-clause-alike : goal.DatatypeRepresentable::representable-returns-in-Pointer-Pointer-clause-alike
+DatatypeRepresentable::representable-returns-in-Pointer-Pointer-clause-alike t c = search (rules, compat_rules)
+
+pub DatatypeRepresentable::representable-returns-in-Pointer-Pointer-clause-exact : goal.DatatypeRepresentable::representable-returns-in-Pointer-Pointer-clause-exact
+DatatypeRepresentable::representable-returns-in-Pointer-Pointer-clause-exact t c = search (rules, compat_rules)
+
+pub DatatypeRepresentable::representable-returns-in-Record-Record-clause-alike : goal.DatatypeRepresentable::representable-returns-in-Record-Record-clause-alike
+DatatypeRepresentable::representable-returns-in-Record-Record-clause-alike t c = search (rules, compat_rules)
+
+pub DatatypeRepresentable::representable-returns-in-Record-Record-clause-exact : goal.DatatypeRepresentable::representable-returns-in-Record-Record-clause-exact
+DatatypeRepresentable::representable-returns-in-Record-Record-clause-exact t c = search (rules, compat_rules)
+
+pub DatatypeRepresentable::representable-returns-in-Variant-Variant-clause-alike : goal.DatatypeRepresentable::representable-returns-in-Variant-Variant-clause-alike
+DatatypeRepresentable::representable-returns-in-Variant-Variant-clause-alike t c = search (rules, compat_rules)
+
+pub DatatypeRepresentable::representable-returns-in-Variant-Variant-clause-exact : goal.DatatypeRepresentable::representable-returns-in-Variant-Variant-clause-exact
+DatatypeRepresentable::representable-returns-in-Variant-Variant-clause-exact t c = search (rules, compat_rules)
+
+pub DatatypeRepresentable::representable-returns-in_default : goal.DatatypeRepresentable::representable-returns-in_default
+DatatypeRepresentable::representable-returns-in_default t c = search (rules, compat_rules)
+
+pub DatatypeRepresentable::representable-returns-in_default-2 : goal.DatatypeRepresentable::representable-returns-in_default-2
+DatatypeRepresentable::representable-returns-in_default-2 t c = search (rules, compat_rules)
+
+pub DatatypeRepresentable::representable-returns-in_default-3 : goal.DatatypeRepresentable::representable-returns-in_default-3
+DatatypeRepresentable::representable-returns-in_default-3 t c = search (rules, compat_rules)
+
+pub DatatypeRepresentable::representable-returns-in_default-4 : goal.DatatypeRepresentable::representable-returns-in_default-4
+DatatypeRepresentable::representable-returns-in_default-4 t c = search (rules, compat_rules)
+
+pub DatatypeRepresentable::representable-returns-in_default-5 : goal.DatatypeRepresentable::representable-returns-in_default-5
+DatatypeRepresentable::representable-returns-in_default-5 t c = search (rules, compat_rules)
+
+pub DatatypeRepresentable::representable-returns-in_default-6 : goal.DatatypeRepresentable::representable-returns-in_default-6
+DatatypeRepresentable::representable-returns-in_default-6 t c = search (rules, compat_rules)
+
+pub DatatypeRepresentable::representable-returns-in_default-7 : goal.DatatypeRepresentable::representable-returns-in_default-7
+DatatypeRepresentable::representable-returns-in_default-7 t c = search (rules, compat_rules)
+
+pub RecordDatatypeRepresentable::representable-returns-then-members_same-clause-alike : goal.RecordDatatypeRepresentable::representable-returns-then-members_same-clause-alike
+RecordDatatypeRepresentable::representable-returns-then-members_same-clause-alike t c = grind (arith, common_steps, compat_rules)
+
+pub RecordDatatypeRepresentable::representable-returns-then-members_same-clause-exact : goal.RecordDatatypeRepresentable::representable-returns-then-members_same-clause-exact
+RecordDatatypeRepresentable::representable-returns-then-members_same-clause-exact t c = search (rules, compat_rules)
+
+pub TypeRefRepresentable::representable-returns-in-Name-clause-alike : goal.TypeRefRepresentable::representable-returns-in-Name-clause-alike
+TypeRefRepresentable::representable-returns-in-Name-clause-alike t c = search (rules, compat_rules)
+
+pub TypeRefRepresentable::representable-returns-in-Name-clause-exact : goal.TypeRefRepresentable::representable-returns-in-Name-clause-exact
+TypeRefRepresentable::representable-returns-in-Name-clause-exact t c = search (rules, compat_rules)
+
+pub TypeRefRepresentable::representable-returns-in-Value-clause-alike : goal.TypeRefRepresentable::representable-returns-in-Value-clause-alike
+TypeRefRepresentable::representable-returns-in-Value-clause-alike t c = search (rules, compat_rules)
+
+pub TypeRefRepresentable::representable-returns-in-Value-clause-exact : goal.TypeRefRepresentable::representable-returns-in-Value-clause-exact
+TypeRefRepresentable::representable-returns-in-Value-clause-exact t c = search (rules, compat_rules)
+
+pub VariantRepresentable::representable-returns-clause-alike : goal.VariantRepresentable::representable-returns-clause-alike
+VariantRepresentable::representable-returns-clause-alike t c = search (rules, compat_rules)
+
+pub VariantRepresentable::representable-returns-clause-exact : goal.VariantRepresentable::representable-returns-clause-exact
+VariantRepresentable::representable-returns-clause-exact t c = search (rules, compat_rules)
+
+pub VariantRepresentable::representable-returns-then-is_refused-clause-alike : goal.VariantRepresentable::representable-returns-then-is_refused-clause-alike
+VariantRepresentable::representable-returns-then-is_refused-clause-alike t c = search rules
+
+pub VariantRepresentable::representable-returns-then-is_refused-clause-exact : goal.VariantRepresentable::representable-returns-then-is_refused-clause-exact
+VariantRepresentable::representable-returns-then-is_refused-clause-exact t c = search (rules, compat_rules)
+
+pub members_same-returns : goal.members_same-returns
+members_same-returns t c = grind (arith, common_steps)
+
+pub payload_answer-returns-in-Some-Some : goal.payload_answer-returns-in-Some-Some
+payload_answer-returns-in-Some-Some t c = search rules
+
+pub worst_case-returns : goal.worst_case-returns
+worst_case-returns t c = grind (arith, common_steps)

@@ -1,4 +1,5 @@
-use Rattle.std.proofs.Common.{map}
+use Rattle.std.proofs.Common.{map, arith}
+use Rattle.std.proofs.lemmas.Grind.{common_steps}
 use Rattle.witx_compat.specs.Polyfills.{first_called}
 use Rattle.witx_compat.specs.Halves.{target_of}
 use Rattle.witx_compat.specs.Views.{mapped_view}
@@ -10,3 +11,6 @@ loop-one-preserved c = record {
   first = next-target c.args.part _ _ c.one-item.result _ _ _ (λ q. first_called q (map (target_of c.args.part) (map mapped_view c.args.mapped.now)))
       c.loop-one-test.true c.one-item.is c.target.ensures c.in_ok-put_first.ensures c.loop-one.invariant.first;
 }
+
+pub returns : goal.returns
+returns c = grind (arith, common_steps)
