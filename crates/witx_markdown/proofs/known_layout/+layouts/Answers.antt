@@ -1,10 +1,11 @@
-use Rattle.std.proofs.Common.{◌≡◌, ◌+◌, arith, ap, sym, ◌∙◌, map}
+use Rattle.std.proofs.Common.{rules, ◌≡◌, ◌+◌, arith, ap, sym, ◌∙◌, map}
+use Rattle.std.proofs.lemmas.Grind.{common_steps}
 use Rattle.witx_ast.specs.Tree.{fields_of, arms_of}
 use Rattle.witx_ast.specs.Views.{tree_of, datatype_tree, record_tree, variant_tree, member_field, case_arm}
 use Rattle.witx_layout.specs.Nodes.{type_nodes, field_nodes, arm_nodes}
 use Rattle.witx_layout.proofs.Onward.{next-end, next-align, bare-size, bare-align, carries-size, carries-align}
 use Rattle.witx_layout.proofs.Nodes.{in-record-nodes, in-variant-nodes, in-value-nodes, record-nodes, variant-nodes, member-nodes, fewer-nodes, payload-nodes, same-arm-nodes, fewer-arm-nodes}
-use Rattle.witx_markdown.proofs.NameSteps.{value-in, record-in, variant-in, members-in, cases-in, member-in, members-left, payload-in, cases-left, bare-left}
+use Rattle.witx_markdown.proofs.NameSteps.{value-in, record-in, variant-in, members-in, cases-in, member-in, members-left, payload-in, cases-left, bare-left, layout_steps}
 use Rattle.witx_markdown.proofs.known_layout.+layouts.Goals as goal
 
 pub datatype_layout-record_layout-requires : goal.datatype_layout-record_layout-requires
@@ -97,3 +98,45 @@ greatest_payload-loop-case-preserved t c =
       left = fewer-arm-nodes xs i one payload _ here is has before.left;
       known = cases-left c.args.names xs i one payload here is has before.known;
     }
+
+pub datatype_layout-returns-in-Record : goal.datatype_layout-returns-in-Record
+datatype_layout-returns-in-Record t c = search (rules, layout_steps)
+
+pub datatype_layout-returns-in-Variant : goal.datatype_layout-returns-in-Variant
+datatype_layout-returns-in-Variant t c = search (rules, layout_steps)
+
+pub greatest_payload-returns : goal.greatest_payload-returns
+greatest_payload-returns t c = search (rules, layout_steps)
+
+pub greatest_payload-returns-in_err-payload : goal.greatest_payload-returns-in_err-payload
+greatest_payload-returns-in_err-payload t c = search (rules, layout_steps)
+
+pub members_layout-returns : goal.members_layout-returns
+members_layout-returns t c = search (rules, layout_steps)
+
+pub members_layout-returns-in_err-part : goal.members_layout-returns-in_err-part
+members_layout-returns-in_err-part t c = search (rules, layout_steps)
+
+pub members_layout-returns-in_err-reached : goal.members_layout-returns-in_err-reached
+members_layout-returns-in_err-reached t c = grind (arith, common_steps, layout_steps)
+
+pub record_layout-returns : goal.record_layout-returns
+record_layout-returns t c = search (rules, layout_steps)
+
+pub record_layout-returns-in_err-members : goal.record_layout-returns-in_err-members
+record_layout-returns-in_err-members t c = search (rules, layout_steps)
+
+pub type_layout-returns-in-Name : goal.type_layout-returns-in-Name
+type_layout-returns-in-Name t c = search (rules, layout_steps)
+
+pub type_layout-returns-in-Value : goal.type_layout-returns-in-Value
+type_layout-returns-in-Value t c = search (rules, layout_steps)
+
+pub variant_layout-returns : goal.variant_layout-returns
+variant_layout-returns t c = search (rules, layout_steps)
+
+pub variant_layout-returns-in_err-behind : goal.variant_layout-returns-in_err-behind
+variant_layout-returns-in_err-behind t c = search (rules, layout_steps)
+
+pub variant_layout-returns-in_err-payload : goal.variant_layout-returns-in_err-payload
+variant_layout-returns-in_err-payload t c = search (rules, layout_steps)

@@ -13,3 +13,9 @@ loop-before-preserved c = (
       (next-missing (keys_of c.args.known.now) c.loop-before.rest.now c.in-Some.before.now c.in-Some.link.now c.in-Some.behind.now c.loop-before.missing_links _
       c.in-Some.ensures c.loop-before.invariant.2),
 )
+
+pub returns-clause-missing : goal.returns-clause-missing
+returns-clause-missing c = search rules
+
+pub returns-clause-text : goal.returns-clause-text
+returns-clause-text c = search rules
