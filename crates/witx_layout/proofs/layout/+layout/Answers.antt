@@ -14,12 +14,6 @@ DatatypeLayout::mem_size_align-returns-in-Variant-clause-exact t c = grind (arit
 pub DatatypeLayout::mem_size_align-returns-in-Variant-clause-too_large : goal.DatatypeLayout::mem_size_align-returns-in-Variant-clause-too_large
 DatatypeLayout::mem_size_align-returns-in-Variant-clause-too_large t c = grind (arith, layout_rules)
 
-pub NamedTypeLayout::mem_size_align-returns-clause-exact : goal.NamedTypeLayout::mem_size_align-returns-clause-exact
-NamedTypeLayout::mem_size_align-returns-clause-exact t c = grind (arith, layout_rules)
-
-pub NamedTypeLayout::mem_size_align-returns-clause-too_large : goal.NamedTypeLayout::mem_size_align-returns-clause-too_large
-NamedTypeLayout::mem_size_align-returns-clause-too_large t c = grind (arith, layout_rules)
-
 pub RecordDatatypeLayout::mem_size_align-returns-in-Bitflags-clause-exact : goal.RecordDatatypeLayout::mem_size_align-returns-in-Bitflags-clause-exact
 RecordDatatypeLayout::mem_size_align-returns-in-Bitflags-clause-exact t c = grind (arith, layout_rules)
 
@@ -49,9 +43,6 @@ TypeRefLayout::mem_size_align-returns-in-Value-clause-too_large t c = grind (ari
 
 pub VariantLayout::mem_size_align-returns-in_err-payload-clause-too_large : goal.VariantLayout::mem_size_align-returns-in_err-payload-clause-too_large
 VariantLayout::mem_size_align-returns-in_err-payload-clause-too_large t c = grind (arith, layout_rules)
-
-pub VariantLayout::mem_size_align-tagged-requires-clause-payload : goal.VariantLayout::mem_size_align-tagged-requires-clause-payload
-VariantLayout::mem_size_align-tagged-requires-clause-payload t c = grind (arith, layout_rules)
 
 pub VariantLayout::mem_size_align-returns-clause-exact : goal.VariantLayout::mem_size_align-returns-clause-exact
 VariantLayout::mem_size_align-returns-clause-exact t c = grind (arith, layout_rules)
