@@ -186,55 +186,55 @@ read_cases-returns t c =
     (subst (λ o. payload_at c.index-cases-i.result.tref (held c.args.memory.now) (c.args.at + o) ≡ Some (option_map seen_in c.in_ok-payload.payload)) c.requires.offset c.in_ok-payload.ensures)
 
 pub read_cases-returns-in_default : goal.read_cases-returns-in_default
-read_cases-returns-in_default t c = search (rules, write_rules, read_rules)
+read_cases-returns-in_default t c = search (rules, read_rules)
 
 pub read_cases-returns-then-are_bare : goal.read_cases-returns-then-are_bare
-read_cases-returns-then-are_bare t c = search (rules, write_rules, read_rules)
+read_cases-returns-then-are_bare t c = search (rules, read_rules)
 
 pub read_datatype-returns-in-Record : goal.read_datatype-returns-in-Record
-read_datatype-returns-in-Record t c = search (rules, write_rules, read_rules)
+read_datatype-returns-in-Record t c = search (rules, write_rules)
 
 pub read_datatype-returns-in-Variant : goal.read_datatype-returns-in-Variant
-read_datatype-returns-in-Variant t c = search (rules, write_rules, read_rules)
+read_datatype-returns-in-Variant t c = search (rules, write_rules)
 
 pub read_datatype-returns-in-Handle : goal.read_datatype-returns-in-Handle
-read_datatype-returns-in-Handle t c = search (rules, write_rules, read_rules)
+read_datatype-returns-in-Handle t c = search (rules, write_rules)
 
 pub read_datatype-returns-in-List : goal.read_datatype-returns-in-List
-read_datatype-returns-in-List t c = search (rules, write_rules, read_rules)
+read_datatype-returns-in-List t c = search (rules, write_rules)
 
 pub read_datatype-returns-in-Pointer : goal.read_datatype-returns-in-Pointer
-read_datatype-returns-in-Pointer t c = search (rules, write_rules, read_rules)
+read_datatype-returns-in-Pointer t c = search (rules, write_rules)
 
 pub read_datatype-returns-in-ConstPointer : goal.read_datatype-returns-in-ConstPointer
-read_datatype-returns-in-ConstPointer t c = search (rules, write_rules, read_rules)
+read_datatype-returns-in-ConstPointer t c = search (rules, write_rules)
 
 pub read_datatype-returns-in-Builtin : goal.read_datatype-returns-in-Builtin
-read_datatype-returns-in-Builtin t c = search (rules, write_rules, read_rules)
+read_datatype-returns-in-Builtin t c = search (rules, write_rules)
 
 pub read_members-returns : goal.read_members-returns
-read_members-returns t c = search (rules, write_rules, read_rules)
+read_members-returns t c = search (rules, read_rules)
 
 pub read_other-returns : goal.read_other-returns
-read_other-returns t c = search (rules, write_rules, read_rules)
+read_other-returns t c = search (rules, read_rules)
 
 pub read_record-returns-in-Bitflags : goal.read_record-returns-in-Bitflags
-read_record-returns-in-Bitflags t c = search (rules, write_rules, read_rules)
+read_record-returns-in-Bitflags t c = search (rules, write_rules)
 
 pub read_record-returns-in-Tuple : goal.read_record-returns-in-Tuple
-read_record-returns-in-Tuple t c = search (rules, write_rules, read_rules)
+read_record-returns-in-Tuple t c = search (rules, write_rules)
 
 pub read_record-returns-in-Other : goal.read_record-returns-in-Other
-read_record-returns-in-Other t c = search (rules, write_rules, read_rules)
+read_record-returns-in-Other t c = search (rules, write_rules)
 
 pub read_tuple-returns : goal.read_tuple-returns
-read_tuple-returns t c = search (rules, write_rules, read_rules)
+read_tuple-returns t c = search (rules, read_rules)
 
 pub read_type-returns-in-Name : goal.read_type-returns-in-Name
-read_type-returns-in-Name t c = search (rules, write_rules, read_rules)
+read_type-returns-in-Name t c = search (rules, write_rules)
 
 pub read_type-returns-in-Value : goal.read_type-returns-in-Value
-read_type-returns-in-Value t c = search (rules, write_rules, read_rules)
+read_type-returns-in-Value t c = search (rules, write_rules)
 
 pub read_variant-returns : goal.read_variant-returns
-read_variant-returns t c = search (rules, write_rules, read_rules)
+read_variant-returns t c = search (rules, write_rules)

@@ -18,7 +18,6 @@ use Rattle.witx_bytes.specs.Writes.{CanWriteCase, HasRange, Writes}
 use Rattle.witx_bytes.proofs.Writing.{range_kept}
 use Rattle.witx_bytes.proofs.Members.{MembersLeft, members_first, members_bound, members_can, members_room, members_within, members_next, tuple_written, record_written, enum_written, case_written, case_can, payload_room, can_by, room_by, payload_bound, case_can_be, case_has_room, case_is_written}
 use Rattle.witx_bytes.proofs.Members.{write_rules}
-use Rattle.witx_bytes.proofs.Parts.{scalar_rules}
 use Rattle.witx_bytes.proofs.write.+writing.Goals as goal
 
 pub write_cases-write_payload-requires : goal.write_cases-write_payload-requires
@@ -173,25 +172,25 @@ pub write_other-returns : goal.write_other-returns
 write_other-returns t c = record_written (members_plain c.args.members.now) c.args.value.now c.in-Rec.values c.args.at (held c.args.memory.now) (held c.write_members.new.memory) c.in-Rec.is (subst (λ vs. Writes c.args.at (Rattle.witx_bytes.specs.Images.members_image 0 (members_plain c.args.members.now) (Rattle.witx_machine.specs.Cells.values_of (Rattle.std.proofs.Common.map seen vs))) (held c.args.memory.now) (held c.write_members.new.memory)) c.as_slice.ensures c.write_members.ensures)
 
 pub write_datatype-returns-in-Record : goal.write_datatype-returns-in-Record
-write_datatype-returns-in-Record t c = search (rules, write_rules, scalar_rules)
+write_datatype-returns-in-Record t c = search (rules, write_rules)
 
 pub write_datatype-returns-in-Variant : goal.write_datatype-returns-in-Variant
-write_datatype-returns-in-Variant t c = search (rules, write_rules, scalar_rules)
+write_datatype-returns-in-Variant t c = search (rules, write_rules)
 
 pub write_datatype-returns-in-Handle : goal.write_datatype-returns-in-Handle
-write_datatype-returns-in-Handle t c = search (rules, write_rules, scalar_rules)
+write_datatype-returns-in-Handle t c = search (rules, write_rules)
 
 pub write_datatype-returns-in-List : goal.write_datatype-returns-in-List
-write_datatype-returns-in-List t c = search (rules, write_rules, scalar_rules)
+write_datatype-returns-in-List t c = search (rules, write_rules)
 
 pub write_datatype-returns-in-Pointer : goal.write_datatype-returns-in-Pointer
-write_datatype-returns-in-Pointer t c = search (rules, write_rules, scalar_rules)
+write_datatype-returns-in-Pointer t c = search (rules, write_rules)
 
 pub write_datatype-returns-in-ConstPointer : goal.write_datatype-returns-in-ConstPointer
-write_datatype-returns-in-ConstPointer t c = search (rules, write_rules, scalar_rules)
+write_datatype-returns-in-ConstPointer t c = search (rules, write_rules)
 
 pub write_datatype-returns-in-Builtin : goal.write_datatype-returns-in-Builtin
-write_datatype-returns-in-Builtin t c = search (rules, write_rules, scalar_rules)
+write_datatype-returns-in-Builtin t c = search (rules, write_rules)
 
 pub write_members-bounds-values-i : goal.write_members-bounds-values-i
 write_members-bounds-values-i t c = grind (arith, common_steps)
@@ -200,19 +199,19 @@ pub write_members-returns : goal.write_members-returns
 write_members-returns t c = grind (arith, common_steps)
 
 pub write_record-returns-in-Bitflags : goal.write_record-returns-in-Bitflags
-write_record-returns-in-Bitflags t c = search (rules, write_rules, scalar_rules)
+write_record-returns-in-Bitflags t c = search (rules, write_rules)
 
 pub write_record-returns-in-Tuple : goal.write_record-returns-in-Tuple
-write_record-returns-in-Tuple t c = search (rules, write_rules, scalar_rules)
+write_record-returns-in-Tuple t c = search (rules, write_rules)
 
 pub write_record-returns-in-Other : goal.write_record-returns-in-Other
-write_record-returns-in-Other t c = search (rules, write_rules, scalar_rules)
+write_record-returns-in-Other t c = search (rules, write_rules)
 
 pub write_type-returns-in-Name : goal.write_type-returns-in-Name
-write_type-returns-in-Name t c = search (rules, write_rules, scalar_rules)
+write_type-returns-in-Name t c = search (rules, write_rules)
 
 pub write_type-returns-in-Value : goal.write_type-returns-in-Value
-write_type-returns-in-Value t c = search (rules, write_rules, scalar_rules)
+write_type-returns-in-Value t c = search (rules, write_rules)
 
 pub write_variant-returns : goal.write_variant-returns
-write_variant-returns t c = search (rules, write_rules, scalar_rules)
+write_variant-returns t c = search (rules, write_rules)
