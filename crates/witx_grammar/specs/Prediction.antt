@@ -91,9 +91,13 @@ is_grounded q g k (Terminal t ∷ w) = true
 is_grounded q g zero (Nonterminal f ∷ w) = false
 is_grounded q g (suc k) (Nonterminal f ∷ w) = list_all (λ x. is_some_want x.symbols && is_grounded q g k x.symbols) (rewrites_of q g f)
 
--- the same of each production: with its own nonterminal, a token comes first within DEPTH that are opened
+-- So many nonterminals are opened behind that of a production before a token comes: with it these are DEPTH, 8.
+abbrev pub opened_behind : ℕ
+opened_behind = 7
+
+-- the same of each production, which isn't empty
 abbrev pub all_grounded : {T N P : Type 0} → (N → N → Bool) → List (Rewrite T N P) → List (Rewrite T N P) → Bool
-all_grounded q g xs = list_all (λ x. is_some_want x.symbols && is_grounded q g 7 x.symbols) xs
+all_grounded q g xs = list_all (λ x. is_some_want x.symbols && is_grounded q g opened_behind x.symbols) xs
 
 -- no two are the same
 abbrev pub are_distinct : {X : Type 0} → (X → X → Bool) → List X → Bool

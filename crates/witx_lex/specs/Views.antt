@@ -17,7 +17,7 @@ token_view (variant.Id s) = id s.now
 token_view (variant.Word s) = word s.now
 token_view (variant.Annot s) = annot s.now
 token_view (variant.Int s) = int s.now
-token_view (variant.Quoted t) = quoted t.value
+token_view (variant.Quoted t) = quoted t
 
 abbrev pub lexed_view : code_lexed.Lexed → Lexed
 lexed_view l = record { token = token_view l.token; start = l.span.start; end = l.span.end; comments = texts_view l.comments }

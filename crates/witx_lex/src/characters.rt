@@ -17,6 +17,7 @@ pub fn byte_at(text: &str, index: usize) -> u8
     byte_of(text.as_bytes(), index)
 }
 
+/// Whether the byte is a blank: a space, a tab, a line feed or a carriage return.
 pub fn is_blank(byte: u8) -> bool
     ensures { result ≡ spec.is_blank byte }
 {
@@ -39,6 +40,7 @@ pub fn is_name(byte: u8) -> bool
             || byte == b'}')
 }
 
+/// Whether the byte may stand in a line comment: it is no line feed.
 pub fn is_line_byte(byte: u8) -> bool
     ensures { result ≡ spec.is_line_byte byte }
 {
@@ -52,6 +54,7 @@ pub fn is_raw(byte: u8) -> bool
     !(byte < 32 || byte == 127) && !(byte == b'"' || byte == b'\\')
 }
 
+/// Whether the byte is a digit of the base, which is 2 to 36; letters are digits in both cases.
 pub fn is_digit(byte: u8, base: u32) -> bool
     requires low { 2 ≤ base }
     requires high { base ≤ 36 }

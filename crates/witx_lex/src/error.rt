@@ -1,3 +1,4 @@
+//! The lexical faults of a text.
 ghost use Rattle.std.specs.Prelude.{◌≡◌};
 ghost use Rattle.witx_lex.specs.declared.error.LexError.TheVariants.{OutOfMemory};
 

@@ -1,9 +1,7 @@
 //! Strings.
-ghost use Rattle.std.specs.Prelude.{◌≡◌, ℕ, ◌≤◌, IfOk, slice_index, string_bytes};
+ghost use Rattle.std.specs.Prelude.{◌≡◌, ℕ, ◌≤◌, slice_index};
 ghost use Rattle.witx_lex.specs.Pieces.{most_open};
 ghost use Rattle.witx_lex.specs.Reads.{ReadsPiece};
-ghost use Rattle.witx_lex.specs.Tokens.{quoted};
-ghost use Rattle.witx_lex.specs.Views.{token_view};
 
 use crate::characters::is_raw;
 use crate::error::{LexError, LexKind};
@@ -11,14 +9,7 @@ use crate::escape::{push_escaped, read_escape};
 use crate::piece::{Read, Seen, fault};
 use crate::token::Token;
 use std::alloc::Global;
-use witx_base::{OutOfMemory, Text};
-
-/// The token of a decoded string.
-fn quoted<'a>(alloc: Global, value: String) -> Result<Token<'a>, OutOfMemory>
-    ensures { IfOk result (λ token. token_view token ≡ quoted (string_bytes value)) }
-{
-    Ok(Token::Quoted(Box::new(alloc, Text::from_string(value))?))
-}
+use witx_base::Text;
 
 /// The string that begins the text, decoded.
 pub fn read_string<'a>(alloc: Global, text: &'a str) -> Result<Read<'a>, LexError>
@@ -33,9 +24,8 @@ pub fn read_string<'a>(alloc: Global, text: &'a str) -> Result<Read<'a>, LexErro
         if byte == b'"' {
             match String::from_utf8(out) {
                 Ok(value) => {
-                    let token = quoted(alloc, value)?;
                     return Ok(Read {
-                        seen: Seen::Token(token),
+                        seen: Seen::Token(Token::Quoted(Text::from_string(value))),
                         len: at + 1,
                     });
                 }

@@ -1,3 +1,5 @@
+//! Tokens, with their places and the comments before them.
+
 use witx_base::{Items, Text};
 
 /// The bytes of a text from `start` up to `end`, without the byte at `end`.
@@ -7,8 +9,7 @@ pub struct Span {
     pub end: usize,
 }
 
-/// A token. All but `Quoted` borrow the text; its string stands behind a pointer, so that no token is
-/// larger than one that borrows.
+/// A token. All but `Quoted` borrow the text.
 #[derive(PartialEq, Eq, Drop)]
 pub enum Token<'a> {
     /// `(`.
@@ -24,7 +25,7 @@ pub enum Token<'a> {
     /// An integer as it is spelled, with its sign, its `0x` and each `_`.
     Int(&'a str),
     /// A string, decoded.
-    Quoted(Box<Text>),
+    Quoted(Text),
 }
 
 /// The texts of comments, without the marks that begin and end them.

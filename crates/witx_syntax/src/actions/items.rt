@@ -17,6 +17,7 @@ use witx_syntax_tree::{
     ModuleImportSyntax, ModuleSyntax, TopLevelSyntax, TypedefSyntax, TypenameSyntax,
 };
 
+/// A top-level form, with its comments, in front of those behind it.
 pub fn more_items<'a>(
     alloc: Global,
     tokens: &[Lexed<'a>],
@@ -34,6 +35,7 @@ pub fn more_items<'a>(
     push(stack, Value::Items(items))
 }
 
+/// `(use "path")`: the path.
 pub fn use_of<'a>(stack: &mut Vec<Value<'a>>) -> Result<(), OutOfMemory>
     requires { Ready production.Use stack.old.items }
     ensures { IfOk result (λ _. Made production.Use [] stack.old.items stack.new.items) }
@@ -42,6 +44,7 @@ pub fn use_of<'a>(stack: &mut Vec<Value<'a>>) -> Result<(), OutOfMemory>
     push(stack, Value::Item(TopLevelSyntax::Use(text)))
 }
 
+/// `(typename $name TYPE)`.
 pub fn typename<'a>(stack: &mut Vec<Value<'a>>) -> Result<(), OutOfMemory>
     requires { Ready production.Typename stack.old.items }
     ensures { IfOk result (λ _. Made production.Typename [] stack.old.items stack.new.items) }
@@ -57,6 +60,7 @@ pub fn typename<'a>(stack: &mut Vec<Value<'a>>) -> Result<(), OutOfMemory>
     )
 }
 
+/// `(module $name DECL..)`: its declarations, in the order of the text.
 pub fn module<'a>(stack: &mut Vec<Value<'a>>) -> Result<(), OutOfMemory>
     requires { Ready production.Module stack.old.items }
     ensures { IfOk result (λ _. Made production.Module [] stack.old.items stack.new.items) }
@@ -72,6 +76,7 @@ pub fn module<'a>(stack: &mut Vec<Value<'a>>) -> Result<(), OutOfMemory>
     )
 }
 
+/// `(@witx const $type $name NUMBER)`, with the comments behind its parenthesis.
 pub fn constant<'a>(
     alloc: Global,
     tokens: &[Lexed<'a>],
@@ -94,6 +99,7 @@ pub fn constant<'a>(
     )
 }
 
+/// `(import "name" (memory))`, with its comments.
 pub fn import<'a>(
     alloc: Global,
     tokens: &[Lexed<'a>],
@@ -113,6 +119,7 @@ pub fn import<'a>(
     push(stack, Value::Decl(Documented { comments, item }))
 }
 
+/// `(@interface func (export "name") ENTRY..)`, with its comments: parameters and results in two lists.
 pub fn func<'a>(
     alloc: Global,
     tokens: &[Lexed<'a>],
@@ -135,6 +142,7 @@ pub fn func<'a>(
     push(stack, Value::Decl(Documented { comments, item }))
 }
 
+/// `(param $name TYPE)`, with its comments.
 pub fn param<'a>(
     alloc: Global,
     tokens: &[Lexed<'a>],
@@ -153,6 +161,7 @@ pub fn param<'a>(
     )
 }
 
+/// `(result $name TYPE)`, with its comments.
 pub fn result_of<'a>(
     alloc: Global,
     tokens: &[Lexed<'a>],
@@ -171,18 +180,21 @@ pub fn result_of<'a>(
     )
 }
 
+/// `(@witx noreturn)`.
 pub fn noreturn<'a>(stack: &mut Vec<Value<'a>>) -> Result<(), OutOfMemory>
     ensures { IfOk result (λ _. Made production.Noreturn [] stack.old.items stack.new.items) }
 {
     push(stack, Value::Entry(Entry::NoReturn))
 }
 
+/// `(@witx stored)`.
 pub fn stored<'a>(stack: &mut Vec<Value<'a>>) -> Result<(), OutOfMemory>
     ensures { IfOk result (λ _. Made production.Stored [] stack.old.items stack.new.items) }
 {
     push(stack, Value::Entry(Entry::Stored))
 }
 
+/// An entry of a function, added to those behind it.
 pub fn more_entries<'a>(stack: &mut Vec<Value<'a>>) -> Result<(), OutOfMemory>
     requires { Ready production.MoreEntries stack.old.items }
     ensures { IfOk result (λ _. Made production.MoreEntries [] stack.old.items stack.new.items) }

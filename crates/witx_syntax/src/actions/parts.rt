@@ -13,6 +13,7 @@ use witx_language::{comments_at, constructors};
 use witx_lex::Lexed;
 use witx_syntax_tree::{Documented, TypedefSyntax};
 
+/// The name of a member, with its comments.
 pub fn name<'a>(
     alloc: Global,
     tokens: &[Lexed<'a>],
@@ -27,6 +28,7 @@ pub fn name<'a>(
     push(stack, Value::Member(Documented { comments, item }))
 }
 
+/// A type of a union, with its comments.
 pub fn union_field<'a>(
     alloc: Global,
     tokens: &[Lexed<'a>],
@@ -41,6 +43,7 @@ pub fn union_field<'a>(
     push(stack, Value::UnionField(Documented { comments, item }))
 }
 
+/// `(field $name TYPE)`, with its comments.
 pub fn field<'a>(
     alloc: Global,
     tokens: &[Lexed<'a>],
@@ -56,6 +59,7 @@ pub fn field<'a>(
     push(stack, Value::Field(Documented { comments, item }))
 }
 
+/// `(error TYPE)`: the type.
 pub fn error<'a>(alloc: Global, stack: &mut Vec<Value<'a>>) -> Result<(), OutOfMemory>
     requires { Ready production.Error stack.old.items }
     ensures { IfOk result (λ _. Made production.Error [] stack.old.items stack.new.items) }
@@ -64,12 +68,14 @@ pub fn error<'a>(alloc: Global, stack: &mut Vec<Value<'a>>) -> Result<(), OutOfM
     push(stack, Value::Error(Some(Box::new(alloc, error)?)))
 }
 
+/// `(error)`: no type.
 pub fn bare_error<'a>(stack: &mut Vec<Value<'a>>) -> Result<(), OutOfMemory>
     ensures { IfOk result (λ _. Made production.BareError [] stack.old.items stack.new.items) }
 {
     push(stack, Value::Error(None))
 }
 
+/// `(case $name)`, with its comments.
 pub fn bare_case<'a>(
     alloc: Global,
     tokens: &[Lexed<'a>],
@@ -85,6 +91,7 @@ pub fn bare_case<'a>(
     push(stack, Value::Case(Documented { comments, item }))
 }
 
+/// `(case $name TYPE)`, with its comments.
 pub fn case<'a>(
     alloc: Global,
     tokens: &[Lexed<'a>],

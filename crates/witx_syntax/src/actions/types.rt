@@ -18,6 +18,7 @@ type Field<'a> = Documented<'a, FieldSyntax<'a>>;
 
 type UnionField<'a> = Documented<'a, TypedefSyntax<'a>>;
 
+/// `(@witx pointer TYPE)`.
 pub fn pointer<'a>(alloc: Global, stack: &mut Vec<Value<'a>>) -> Result<(), OutOfMemory>
     requires { Ready production.Pointer stack.old.items }
     ensures { IfOk result (λ _. Made production.Pointer [] stack.old.items stack.new.items) }
@@ -29,6 +30,7 @@ pub fn pointer<'a>(alloc: Global, stack: &mut Vec<Value<'a>>) -> Result<(), OutO
     )
 }
 
+/// `(@witx const_pointer TYPE)`.
 pub fn const_pointer<'a>(alloc: Global, stack: &mut Vec<Value<'a>>) -> Result<(), OutOfMemory>
     requires { Ready production.ConstPointer stack.old.items }
     ensures { IfOk result (λ _. Made production.ConstPointer [] stack.old.items stack.new.items) }
@@ -40,6 +42,7 @@ pub fn const_pointer<'a>(alloc: Global, stack: &mut Vec<Value<'a>>) -> Result<()
     )
 }
 
+/// `(list TYPE)`.
 pub fn list<'a>(alloc: Global, stack: &mut Vec<Value<'a>>) -> Result<(), OutOfMemory>
     requires { Ready production.List stack.old.items }
     ensures { IfOk result (λ _. Made production.List [] stack.old.items stack.new.items) }
@@ -51,24 +54,28 @@ pub fn list<'a>(alloc: Global, stack: &mut Vec<Value<'a>>) -> Result<(), OutOfMe
     )
 }
 
+/// `string`.
 pub fn string<'a>(stack: &mut Vec<Value<'a>>) -> Result<(), OutOfMemory>
     ensures { IfOk result (λ _. Made production.String [] stack.old.items stack.new.items) }
 {
     push(stack, Value::Type(constructors::string()))
 }
 
+/// `bool`.
 pub fn boolean<'a>(stack: &mut Vec<Value<'a>>) -> Result<(), OutOfMemory>
     ensures { IfOk result (λ _. Made production.Bool [] stack.old.items stack.new.items) }
 {
     push(stack, Value::Type(constructors::boolean()))
 }
 
+/// `(handle)`.
 pub fn handle<'a>(stack: &mut Vec<Value<'a>>) -> Result<(), OutOfMemory>
     ensures { IfOk result (λ _. Made production.Handle [] stack.old.items stack.new.items) }
 {
     push(stack, Value::Type(constructors::handle()))
 }
 
+/// `$name`: the type of that name.
 pub fn ident<'a>(stack: &mut Vec<Value<'a>>) -> Result<(), OutOfMemory>
     requires { Ready production.Ident stack.old.items }
     ensures { IfOk result (λ _. Made production.Ident [] stack.old.items stack.new.items) }
@@ -77,6 +84,7 @@ pub fn ident<'a>(stack: &mut Vec<Value<'a>>) -> Result<(), OutOfMemory>
     push(stack, Value::Type(constructors::ident(id)))
 }
 
+/// A builtin word as a type.
 pub fn builtin_type<'a>(stack: &mut Vec<Value<'a>>) -> Result<(), OutOfMemory>
     requires { Ready production.BuiltinType stack.old.items }
     ensures { IfOk result (λ _. Made production.BuiltinType [] stack.old.items stack.new.items) }
@@ -85,6 +93,7 @@ pub fn builtin_type<'a>(stack: &mut Vec<Value<'a>>) -> Result<(), OutOfMemory>
     push(stack, Value::Type(constructors::builtin(builtin)))
 }
 
+/// `(enum (@witx tag WORD) $name..)`: at least one name.
 pub fn tagged_enum<'a>(stack: &mut Vec<Value<'a>>) -> Result<(), OutOfMemory>
     requires { Ready production.TaggedEnum stack.old.items }
     ensures { IfOk result (λ _. Made production.TaggedEnum [] stack.old.items stack.new.items) }
@@ -94,6 +103,7 @@ pub fn tagged_enum<'a>(stack: &mut Vec<Value<'a>>) -> Result<(), OutOfMemory>
     push(stack, Value::Type(enumeration(Some(word.builtin), members)))
 }
 
+/// `(enum $name..)`, without a tag.
 pub fn plain_enum<'a>(stack: &mut Vec<Value<'a>>) -> Result<(), OutOfMemory>
     requires { Ready production.Enum stack.old.items }
     ensures { IfOk result (λ _. Made production.Enum [] stack.old.items stack.new.items) }
@@ -103,6 +113,7 @@ pub fn plain_enum<'a>(stack: &mut Vec<Value<'a>>) -> Result<(), OutOfMemory>
     push(stack, Value::Type(enumeration(None, members)))
 }
 
+/// `(flags (@witx repr WORD) $name..)`.
 pub fn tagged_flags<'a>(stack: &mut Vec<Value<'a>>) -> Result<(), OutOfMemory>
     requires { Ready production.TaggedFlags stack.old.items }
     ensures { IfOk result (λ _. Made production.TaggedFlags [] stack.old.items stack.new.items) }
@@ -111,6 +122,7 @@ pub fn tagged_flags<'a>(stack: &mut Vec<Value<'a>>) -> Result<(), OutOfMemory>
     push(stack, Value::Type(flags(Some(word.builtin), names)))
 }
 
+/// `(flags $name..)`, without a representation.
 pub fn plain_flags<'a>(stack: &mut Vec<Value<'a>>) -> Result<(), OutOfMemory>
     requires { Ready production.Flags stack.old.items }
     ensures { IfOk result (λ _. Made production.Flags [] stack.old.items stack.new.items) }
@@ -119,6 +131,7 @@ pub fn plain_flags<'a>(stack: &mut Vec<Value<'a>>) -> Result<(), OutOfMemory>
     push(stack, Value::Type(flags(None, names)))
 }
 
+/// `(record FIELD..)`: at least one field.
 pub fn record<'a>(stack: &mut Vec<Value<'a>>) -> Result<(), OutOfMemory>
     requires { Ready production.Record stack.old.items }
     ensures { IfOk result (λ _. Made production.Record [] stack.old.items stack.new.items) }
@@ -128,6 +141,7 @@ pub fn record<'a>(stack: &mut Vec<Value<'a>>) -> Result<(), OutOfMemory>
     push(stack, Value::Type(constructors::record(fields)))
 }
 
+/// `(tuple TYPE..)`.
 pub fn tuple<'a>(stack: &mut Vec<Value<'a>>) -> Result<(), OutOfMemory>
     requires { Ready production.Tuple stack.old.items }
     ensures { IfOk result (λ _. Made production.Tuple [] stack.old.items stack.new.items) }
@@ -136,6 +150,7 @@ pub fn tuple<'a>(stack: &mut Vec<Value<'a>>) -> Result<(), OutOfMemory>
     push(stack, Value::Type(constructors::tuple(types)))
 }
 
+/// `(expected ERROR)`, without an ok type.
 pub fn expected<'a>(stack: &mut Vec<Value<'a>>) -> Result<(), OutOfMemory>
     requires { Ready production.Expected stack.old.items }
     ensures { IfOk result (λ _. Made production.Expected [] stack.old.items stack.new.items) }
@@ -144,6 +159,7 @@ pub fn expected<'a>(stack: &mut Vec<Value<'a>>) -> Result<(), OutOfMemory>
     push(stack, Value::Type(constructors::expected(None, err)))
 }
 
+/// `(expected TYPE ERROR)`.
 pub fn expected_type<'a>(alloc: Global, stack: &mut Vec<Value<'a>>) -> Result<(), OutOfMemory>
     requires { Ready production.ExpectedType stack.old.items }
     ensures { IfOk result (λ _. Made production.ExpectedType [] stack.old.items stack.new.items) }
@@ -153,6 +169,7 @@ pub fn expected_type<'a>(alloc: Global, stack: &mut Vec<Value<'a>>) -> Result<()
     push(stack, Value::Type(constructors::expected(ok, err)))
 }
 
+/// `(union (@witx tag $type) TYPE..)`.
 pub fn tagged_union<'a>(alloc: Global, stack: &mut Vec<Value<'a>>) -> Result<(), OutOfMemory>
     requires { Ready production.TaggedUnion stack.old.items }
     ensures { IfOk result (λ _. Made production.TaggedUnion [] stack.old.items stack.new.items) }
@@ -162,12 +179,14 @@ pub fn tagged_union<'a>(alloc: Global, stack: &mut Vec<Value<'a>>) -> Result<(),
     push(stack, Value::Type(union_of(tag, fields)))
 }
 
+/// `(union)`: no types.
 pub fn empty_union<'a>(alloc: Global, stack: &mut Vec<Value<'a>>) -> Result<(), OutOfMemory>
     ensures { IfOk result (λ _. Made production.EmptyUnion [] stack.old.items stack.new.items) }
 {
     push(stack, Value::Type(union_of(None, Vec::new(alloc))))
 }
 
+/// `(union TYPE..)`, without a tag: at least one type.
 pub fn plain_union<'a>(stack: &mut Vec<Value<'a>>) -> Result<(), OutOfMemory>
     requires { Ready production.Union stack.old.items }
     ensures { IfOk result (λ _. Made production.Union [] stack.old.items stack.new.items) }
@@ -177,6 +196,7 @@ pub fn plain_union<'a>(stack: &mut Vec<Value<'a>>) -> Result<(), OutOfMemory>
     push(stack, Value::Type(union_of(None, fields)))
 }
 
+/// `(variant (@witx tag $type) CASE..)`.
 pub fn tagged_variant<'a>(alloc: Global, stack: &mut Vec<Value<'a>>) -> Result<(), OutOfMemory>
     requires { Ready production.TaggedVariant stack.old.items }
     ensures { IfOk result (λ _. Made production.TaggedVariant [] stack.old.items stack.new.items) }
@@ -186,6 +206,7 @@ pub fn tagged_variant<'a>(alloc: Global, stack: &mut Vec<Value<'a>>) -> Result<(
     push(stack, Value::Type(variant(tag, cases)))
 }
 
+/// `(variant CASE..)`, without a tag.
 pub fn plain_variant<'a>(stack: &mut Vec<Value<'a>>) -> Result<(), OutOfMemory>
     requires { Ready production.Variant stack.old.items }
     ensures { IfOk result (λ _. Made production.Variant [] stack.old.items stack.new.items) }

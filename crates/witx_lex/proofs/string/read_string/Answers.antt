@@ -14,7 +14,7 @@ returns-in-Ok c n le =
     let there : get_or text c.loop-at.at 0 ≡ 34 = ap (λ (t : List ℕ). get_or t c.loop-at.at 0) (sym c.loop-at.invariant.0) ∙ c.if-byte-eq34.true in
     let out-is : string_bytes c.in-Ok.value ≡ c.loop-at.out.items = ap (λ v. v.items) c.in-Ok.ensures.ok in
     let h = String_end n text c.loop-at.out.items c.loop-at.at c.requires le (omega (arith, c.loop-at-test.true, c.as_bytes-bytes.ensures.len)) there c.loop-at.invariant.2 (subst IsUtf8 out-is (IsUtf8-string_bytes c.in-Ok.value)) in
-    record { piece = quoted h.0; stands = h.1; len = h.2; sees = ap token (c.in_ok-token-in-Ok.ensures ∙ ap quoted_token (out-is ∙ h.3)) }
+    record { piece = quoted h.0; stands = h.1; len = h.2; sees = ap token (ap quoted_token (c.from_string.ensures ∙ out-is ∙ h.3)) }
 
 pub returns-in-Err : goal.returns-in-Err
 returns-in-Err c n le =
