@@ -25,6 +25,7 @@ use Rattle.witx_ast.specs.declared.definition.Entry.{Entry}
 use Rattle.witx_ast.specs.declared.definition.Entry.TheVariants as entry
 use Rattle.witx_ast.specs.contracts.definition.DefinitionPartialEq.TheImpl as definitions
 use Rattle.witx_ast.specs.contracts.definition.EntryPartialEq.TheImpl as entries
+use Rattle.witx_ast.specs.contracts.module.ModuleDefinitionPartialEq.TheImpl as items
 use Rattle.witx_ast.specs.contracts.module.ModuleEntryPartialEq.TheImpl as item_entries
 use Rattle.witx_ast.specs.contracts.types.NamedTypeEq.TheImpl.Laws as typename_laws
 use Rattle.witx_ast.specs.contracts.module.ModuleEq.TheImpl.Laws as module_laws
@@ -54,12 +55,12 @@ fits-copied name_of tree ts us es cs fits same copy = record {
 }
 
 -- what holds the same reads as the same tree
-item-reads : (d c : ModuleDefinition) → HoldSameItem d c → item_tree c ≡ item_tree d
+pub item-reads : (d c : ModuleDefinition) → HoldSameItem d c → item_tree c ≡ item_tree d
 item-reads (item.Import i) (item.Import j) h = ap import_of h
 item-reads (item.Func f) (item.Func g) h = ap (λ g. func_of (func_tree g)) h
 item-reads _ _ h = absurd h
 
-item-entry-reads : (d c : ModuleEntry) → HoldSameItemEntry d c → entry_item c ≡ entry_item d
+pub item-entry-reads : (d c : ModuleEntry) → HoldSameItemEntry d c → entry_item c ≡ entry_item d
 item-entry-reads (item_entry.Import i) (item_entry.Import j) h = ap import_of h
 item-entry-reads (item_entry.Func f) (item_entry.Func g) h = ap (λ g. func_of (func_tree g)) h
 item-entry-reads _ _ h = absurd h
@@ -114,6 +115,11 @@ entry-equal (entry.Typename n) (entry.Typename m) h = rw h (typename_laws.laws-l
 entry-equal (entry.Module n) (entry.Module m) h = rw h (module_laws.laws-law.refl n.value)
 entry-equal _ _ h = absurd h
 
+pub item-equal : (d c : ModuleDefinition) → HoldSameItem d c → items.ghosts.eq c d ≡ true
+item-equal (item.Import i) (item.Import j) h = rw h (import_laws.laws-law.refl i.value)
+item-equal (item.Func f) (item.Func g) h = rw h (func_laws.laws-law.refl f.value)
+item-equal _ _ h = absurd h
+
 pub item-entry-equal : (e c : ModuleEntry) → HoldSameItemEntry e c → item_entries.ghosts.eq c e ≡ true
 item-entry-equal (item_entry.Import i) (item_entry.Import j) h = rw h (import_laws.laws-law.refl i.value)
 item-entry-equal (item_entry.Func f) (item_entry.Func g) h = rw h (func_laws.laws-law.refl f.value)
@@ -122,7 +128,7 @@ item-entry-equal _ _ h = absurd h
 pub both-hold : (a b : Bool) → a ≡ true → b ≡ true → a && b ≡ true
 both-hold a b h k = rw (h, k) refl
 
-list-equal : {A : Type 0} (eq : A → A → Bool) (P : A → A → Type 0) → ((x y : A) → P x y → eq y x ≡ true)
+pub list-equal : {A : Type 0} (eq : A → A → Bool) (P : A → A → Type 0) → ((x y : A) → P x y → eq y x ≡ true)
     → (xs ys : List A) → AllZip P xs ys → pointwise eq ys xs ≡ true
 list-equal eq P k [] [] h = refl
 list-equal eq P k [] (y ∷ ys) h = absurd h

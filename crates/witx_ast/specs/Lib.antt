@@ -24,3 +24,4 @@ pub mod ErrorTypes
 pub mod Seen
 pub mod Misfits
 pub mod Ordered
+pub mod EqualCopies

@@ -1,3 +1,5 @@
+//! Which results a function may have, under each way of calling it.
+
 ghost use Rattle.std.specs.Prelude.{◌≡◌, Some, None, map, option_map, MatchResult};
 ghost use Rattle.std.specs.Option.{option_copied};
 ghost use Rattle.witx_ast.specs.Tree.{behind, fields_of};

@@ -1,3 +1,5 @@
+//! Copies of types, of what they are made of, and of the items of modules.
+
 ghost use Rattle.std.specs.Prelude.{◌≡◌};
 ghost use Rattle.witx_ast.specs.Functions.{param_field, func_tree};
 ghost use Rattle.witx_ast.specs.Copies.{HoldSameItem, HoldSameItemEntry};

@@ -1,3 +1,5 @@
+//! The definitions of a document, in order and by name, and its constants.
+
 ghost use Rattle.std.specs.Prelude.{◌≡◌, ◌∷◌, ◌++◌, [], length, is_ok, if◌then◌else◌, option_map, slice_get, take};
 ghost use Rattle.std.specs.Slice.Iter.{iter_rest};
 ghost use Rattle.witx_ast.specs.Kinds.{typename_kind, module_kind, constant_kind};

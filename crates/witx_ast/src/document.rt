@@ -1,3 +1,5 @@
+//! The document: its definitions, and look-ups among them.
+
 ghost use Rattle.std.specs.Prelude.{◌≡◌, map, option_map};
 ghost use Rattle.std.specs.List.{filter_map, IsDistinct};
 ghost use Rattle.std.specs.Map.{keys_of};

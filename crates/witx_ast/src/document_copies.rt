@@ -1,3 +1,5 @@
+//! Copies of a document's definitions and entries.
+
 ghost use Rattle.witx_ast.specs.Copies.{HoldSame, HoldSameEntry};
 
 use crate::definition::{Definition, Entry};

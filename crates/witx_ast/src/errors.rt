@@ -1,3 +1,5 @@
+//! The error types of a document's functions.
+
 ghost use Rattle.std.specs.Prelude.{◌≡◌, map, option_map, OnOk, IfOk};
 ghost use Rattle.std.specs.Option.{option_copied};
 ghost use Rattle.witx_ast.specs.Tree.{behind};

@@ -1,3 +1,5 @@
+//! Functions, with their parameters and results.
+
 use crate::types::TypeRef;
 use witx_base::{Id, Items, Text};
 

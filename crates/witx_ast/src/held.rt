@@ -1,3 +1,5 @@
+//! What a document and a module share: definitions in order, and entries by name.
+
 ghost use Rattle.std.specs.Prelude.{◌≡◌, option_map};
 ghost use Rattle.witx_base.specs.Found.{found};
 

@@ -1,3 +1,5 @@
+//! The definitions, or the items, of one kind, as an iterator.
+
 ghost use Rattle.std.specs.Prelude.{◌≡◌, Option};
 ghost use Rattle.std.specs.Option.{option_copied};
 ghost use Rattle.std.specs.List.{filter_map};

@@ -12,6 +12,7 @@ mod function;
 mod held;
 mod kinds;
 mod laws;
+mod list_laws;
 mod module;
 mod names;
 mod reads;
@@ -37,6 +38,10 @@ pub use laws::{
     documents_are_hashed_by_names, equal_by_tree, equal_documents_hash_alike,
     equal_modules_hash_alike, misfits_are_exact, modules_are_equal_by_entries,
     modules_are_hashed_by_names, tag_test_is_exact, value_test_is_exact,
+};
+pub use list_laws::{
+    cloned_module_entry_is_equal, copied_item_is_equal, copied_lists_are_equal,
+    copied_parts_are_equal,
 };
 pub use module::{
     Funcs, Imports, Module, ModuleDefinition, ModuleDefinitions, ModuleEntries, ModuleEntry,

@@ -1,3 +1,5 @@
+//! Modules: imports and functions, in order and by name.
+
 ghost use Rattle.std.specs.Prelude.{◌≡◌, map, option_map};
 ghost use Rattle.std.specs.List.{filter_map};
 ghost use Rattle.witx_ast.specs.ItemKinds.{import_kind, func_kind};

@@ -1,3 +1,5 @@
+//! The names under which types are shown.
+
 ghost use Rattle.std.specs.Prelude.{◌≡◌, ◌++◌, IfOk, map, option_map, string_bytes, codes};
 ghost use Rattle.witx_ast.specs.Tree.{list_of, fields_of, arms_of, behind};
 ghost use Rattle.witx_ast.specs.Views.{tree_of, datatype_tree, record_tree, variant_tree, member_field, case_arm};

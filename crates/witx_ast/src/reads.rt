@@ -1,3 +1,5 @@
+//! What is read off a type: the type behind its names, its kind, flags, cases.
+
 ghost use Rattle.std.specs.Prelude.{◌≡◌, true, false, map, option_map};
 ghost use Rattle.std.specs.Option.{option_copied};
 ghost use Rattle.witx_ast.specs.Tree.{behind};

@@ -1,3 +1,5 @@
+//! Types: a use by name or written out, records, variants, handles, lists, pointers and builtins.
+
 use std::hash::{Hash, Hasher};
 use std::rc::Rc;
 use witx_base::{Id, Items, Text};

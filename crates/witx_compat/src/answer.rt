@@ -1,3 +1,5 @@
+//! How the values of one type are represented by another: the answers, and how they are put together.
+
 ghost use Rattle.std.specs.Prelude.{◌≡◌};
 ghost use Rattle.witx_compat.specs.Answers.{joined, worse, is_same, is_refused};
 

@@ -1,3 +1,5 @@
+//! Conversions between types, and parameters and results that are mapped or unknown.
+
 ghost use Rattle.std.specs.Prelude.{◌≡◌, IfOk, option_map};
 ghost use Rattle.witx_ast.specs.Views.{tree_of, datatype_tree};
 ghost use Rattle.witx_ast.specs.Functions.{param_field};

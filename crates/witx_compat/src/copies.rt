@@ -1,3 +1,5 @@
+//! Copies of mappings and of what they are made of.
+
 ghost use Rattle.std.specs.Prelude.{◌≡◌};
 ghost use Rattle.std.specs.List.{AllZip};
 ghost use Rattle.witx_compat.specs.Views.{conversion_view, mapped_view, unknown_view, function_view, IsModuleCopy};

@@ -1,3 +1,5 @@
+//! Why modules can't be mapped to each other.
+
 ghost use Rattle.std.specs.Prelude.{◌≡◌};
 
 use std::alloc::AllocError;

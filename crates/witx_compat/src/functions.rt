@@ -1,3 +1,5 @@
+//! An old function by the new one of its name.
+
 ghost use Rattle.std.specs.Prelude.{◌≡◌, IfOk, map};
 ghost use Rattle.std.specs.List.{list_all};
 ghost use Rattle.witx_ast.specs.Functions.{func_tree};

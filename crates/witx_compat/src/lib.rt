@@ -24,7 +24,8 @@ pub use conversion::{
 };
 pub use copy_laws::{
     copied_conversion_is_equal, copied_mapped_function_is_equal, copied_mapped_module_is_equal,
-    copied_mapped_param_is_equal, copied_polyfill_is_equal, copied_unknown_param_is_equal,
+    copied_mapped_param_is_equal, copied_mappings_are_equal, copied_polyfill_is_equal,
+    copied_unknown_param_is_equal,
 };
 pub use error::PolyfillError;
 pub use functions::{FuncPolyfill, FuncPolyfills};

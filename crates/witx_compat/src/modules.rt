@@ -1,3 +1,5 @@
+//! Old modules, and whole documents, in terms of new ones.
+
 ghost use Rattle.std.specs.Prelude.{◌≡◌, IfOk, MatchResult, map, Ok};
 ghost use Rattle.witx_ast.specs.Items.{item_tree, funcs_of};
 ghost use Rattle.witx_ast.specs.Functions.{func_tree};

@@ -1,3 +1,5 @@
+//! Whether the values of one type can be represented by another, type by type.
+
 ghost use Rattle.std.specs.Prelude.{◌≡◌, option_map, ◌&&◌, IfSome, ◌<◌, length, ℕ, List};
 ghost use Rattle.witx_ast.specs.Plain.{plain};
 ghost use Rattle.witx_ast.specs.Same.{same_bytes};

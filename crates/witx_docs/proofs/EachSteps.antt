@@ -36,5 +36,3 @@ this-holds P g ys i y s q h = (rw (drop_more ys i y s, ← q) at h).0
 pub left-hold : {X Y : Type 0} (P : X → Type 0) (g : Y → X) (ys : List Y) (i : ℕ) (y : Y) → i < length ys → y ≡ get_or ys i y
     → AllByRecursion P (map g (drop i ys)) → AllByRecursion P (map g (drop (i + 1) ys))
 left-hold P g ys i y s q h = (rw (drop_more ys i y s) at h).1
-
-pub ruleset each_rules = (next-each, all-each, next-fit, one-large, all-fit)

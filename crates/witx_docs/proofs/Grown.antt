@@ -25,9 +25,7 @@ parents-followed n p (node c below next) g =
     let h = parents-followed ((n + 1) + node_count below) p next g in
     rw (h, e) (ap (λ ps. Some p ∷ ps) (sym (append_assoc (parents_from (n + 1) n below) (parents_from ((n + 1) + node_count below) p next) (parents_from (n + ((node_count below + node_count next) + 1)) p g))))
 
-next-sprouted : (b : Branch) (p : ℕ) (f : Forest) → next_number (sprouted b p f) ≡ next_number b + node_count f
 unfolding sprouted
-next-sprouted b p f = omega (arith, length-append b.contents (contents_of f), count-contents f)
 
 followed-end : (f : Forest) → followed_by f no_nodes ≡ f
 followed-end no_nodes = refl

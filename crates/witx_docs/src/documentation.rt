@@ -1,3 +1,5 @@
+//! Documentation in Markdown, of whatever has some.
+
 ghost use Rattle.std.specs.Prelude.{◌≡◌, ◌⊎◌, ℕ, List, Result, Ok, Err, IfOk, IfErr};
 ghost use Rattle.witx_docs.specs.declared.error.DocsError.{DocsError};
 

@@ -1,3 +1,5 @@
+//! Why a document has no documentation.
+
 ghost use Rattle.std.specs.Prelude.{◌≡◌};
 
 use std::alloc::AllocError;

@@ -1,3 +1,5 @@
+//! What is shown at a node of a page and below it.
+
 ghost use Rattle.std.specs.Prelude.{◌≡◌, ◌⊎◌, ◌<◌, ℕ, List, Option, Some, None, IfErr, OnErr, OnOk, length};
 ghost use Rattle.witx_markdown.specs.declared.heading.MdHeading.{MdHeading};
 ghost use Rattle.witx_markdown.specs.declared.content.MdContent.{MdContent};

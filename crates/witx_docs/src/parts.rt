@@ -251,6 +251,7 @@ fn link(alloc: Global, name: &str) -> Result<Text, OutOfMemory>
     Ok(Text::from_string(format!(in alloc; "[`{name}`](#{name})")?))
 }
 
+/// A name in backquotes.
 pub fn quoted(alloc: Global, name: &str) -> Result<Text, OutOfMemory>
     ensures { IfOk result (λ text. text ≡ codes "`" ++ name.now ++ codes "`") }
 {

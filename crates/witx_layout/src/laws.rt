@@ -1,3 +1,5 @@
+//! Laws of sizes, alignments and offsets, as functions without work.
+
 ghost use Rattle.std.specs.Prelude.{◌≡◌, ◌≤◌, ◌<◌, ◌%◌};
 ghost use Rattle.witx_layout.specs.Numbers.{align_to, size_of, align_of, repr_size, offsets, part_offsets, payload_offset};
 ghost use Rattle.witx_layout.specs.Laws.{IsPowerOfTwo, IsRoundedUp, IsUnflagged, LieApart, AreMultiples, LieInside};

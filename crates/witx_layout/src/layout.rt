@@ -1,3 +1,5 @@
+//! Sizes and alignments of types, whose names are looked through, and where a payload begins.
+
 ghost use Rattle.std.specs.Prelude.{◌≡◌, ◌≤◌, ◌<◌, ◌^◌, MatchResult, IfOk, IsErr, ◌↔◌};
 ghost use Rattle.witx_layout.specs.Numbers.{size_of, align_of, members_end, members_align, payloads_size, payloads_align, payload_offset as begin_of_payload};
 ghost use Rattle.witx_ast.specs.Plain.{Plain, Arms, plain, builtin, handle};

@@ -1,3 +1,5 @@
+//! The layouts of a document's typenames as text.
+
 ghost use Rattle.std.specs.Prelude.{◌≡◌, ◌≤◌, ◌<◌, ◌++◌, ◌^◌, map, All, Any, IfOk, OnOk, string_bytes};
 ghost use Rattle.witx_layout.specs.Numbers.{size_of, members_end, offsets};
 ghost use Rattle.witx_layout.specs.LayoutsText.{layouts_text as text_of_layouts, typename_sizes, definition_lines, definition_sizes, typename_line, typename_lines, field_line, field_lines, flags_line, tag_line, tag_numbers_line, part_lines};
@@ -122,6 +124,7 @@ fn put_fields(out: &mut String, layouts: &[RecordMemberLayout]) -> Result<(), Ou
     Ok(())
 }
 
+/// Appends `typename NAME size S align A`.
 pub fn put_numbers(out: &mut String, name: &str, numbers: SizeAlign) -> Result<(), OutOfMemory>
     ensures { OnOk result (string_bytes out.new ≡ string_bytes out.old ++ typename_line name.now numbers.size numbers.align) }
 {
@@ -131,6 +134,7 @@ pub fn put_numbers(out: &mut String, name: &str, numbers: SizeAlign) -> Result<(
     Ok(())
 }
 
+/// Appends `  field NAME offset O`.
 pub fn put_field(out: &mut String, name: &str, offset: usize) -> Result<(), OutOfMemory>
     ensures { OnOk result (string_bytes out.new ≡ string_bytes out.old ++ field_line name.now offset) }
 {
@@ -138,6 +142,7 @@ pub fn put_field(out: &mut String, name: &str, offset: usize) -> Result<(), OutO
     Ok(())
 }
 
+/// Appends `  flags REPR`.
 pub fn put_flags(out: &mut String, repr: IntRepr) -> Result<(), OutOfMemory>
     ensures { OnOk result (string_bytes out.new ≡ string_bytes out.old ++ flags_line repr) }
 {
@@ -154,6 +159,7 @@ fn put_tag(out: &mut String, variant: &Variant) -> Result<(), OutOfMemory>
     put_tag_numbers(out, variant.tag_repr.mem_align(), variant.payload_offset())
 }
 
+/// Appends `  tag S payload O`.
 pub fn put_tag_numbers(out: &mut String, tag: usize, payload: usize) -> Result<(), OutOfMemory>
     ensures { OnOk result (string_bytes out.new ≡ string_bytes out.old ++ tag_numbers_line tag payload) }
 {

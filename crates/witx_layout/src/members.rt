@@ -1,3 +1,5 @@
+//! Where the members of a record begin.
+
 ghost use Rattle.std.specs.Prelude.{◌≡◌, ◌≤◌, ◌<◌, ◌+◌, ◌^◌, ℕ, List, map, All, Any, IfOk, OnOk, MatchOption};
 ghost use Rattle.witx_layout.specs.Numbers.{align_to as rounded, offsets as offsets_from, size_of};
 ghost use Rattle.witx_ast.specs.Plain.{plain};

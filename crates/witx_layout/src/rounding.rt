@@ -1,3 +1,5 @@
+//! Offsets that are rounded up, and parts that are placed one behind the other.
+
 ghost use Rattle.std.specs.Prelude.{◌≡◌, ◌≤◌, ◌<◌, ◌+◌, ◌^◌, max, MatchOption, MatchResult};
 ghost use Rattle.witx_layout.specs.Numbers.{align_to as rounded};
 
@@ -57,6 +59,7 @@ pub fn tagged(tag: SizeAlign, payload: SizeAlign) -> Result<SizeAlign, TooLarge>
     padded(followed_by(tag, payload)?)
 }
 
+/// The greater of two numbers.
 pub fn greater(a: usize, b: usize) -> usize
     ensures { result ≡ max a b }
 {

@@ -1,3 +1,5 @@
+//! A count of the steps of a pass.
+
 ghost use Rattle.std.specs.Prelude.{◌≡◌, ◌+◌, ◌<◌, ℕ};
 
 use std::marker::Model;

@@ -1,3 +1,5 @@
+//! The layouts of an ordered document's typenames in one pass: a name is looked up and not looked through.
+
 ghost use Rattle.std.specs.Prelude.{◌≡◌, ◌≤◌, ◌<◌, ◌+◌, ◌++◌, ◌^◌, None, Some, MatchResult, IfErr, IfOk, OnOk, map};
 ghost use Rattle.std.specs.List.{IsDistinct};
 ghost use Rattle.std.specs.Map.{keys_of};
@@ -211,27 +213,29 @@ fn datatype_layout<L: Ledger>(
     }
 }
 
+/// The layout of a record, whose own visit is counted already.
 #[cycle(tabled)]
 #[tactic(auto, using(crate::proofs::Nodes::node_rules))]
 fn record_layout<L: Ledger>(
     table: &Table,
-    record: &RecordDatatype,
+    record_type: &RecordDatatype,
     steps: &mut Steps<L>,
 ) -> Result<SizeAlign, TooLarge>
-    requires { Knows table.now (record_tree «record».now) }
+    requires { Knows table.now (record_tree record_type.now) }
     ensures layout { MatchResult result
-        (λ v. (v.size ≡ size_of (plain (record_tree «record».now))) × (v.align ≡ align_of (plain (record_tree «record».now))))
-        (λ _. 2 ^ 64 ≤ size_of (plain (record_tree «record».now))) }
-    ensures most { steps.new + 1 ≤ steps.old + type_nodes (record_tree «record».now) }
+        (λ v. (v.size ≡ size_of (plain (record_tree record_type.now))) × (v.align ≡ align_of (plain (record_tree record_type.now))))
+        (λ _. 2 ^ 64 ≤ size_of (plain (record_tree record_type.now))) }
+    ensures most { steps.new + 1 ≤ steps.old + type_nodes (record_tree record_type.now) }
     ensures least { steps.old ≤ steps.new }
 {
-    if let RecordKind::Bitflags(repr) = record.kind {
+    if let RecordKind::Bitflags(repr) = record_type.kind {
         return repr.mem_size_align();
     }
-    let members = members_layout(table, record.members.as_slice(), steps)?;
+    let members = members_layout(table, record_type.members.as_slice(), steps)?;
     padded(members)
 }
 
+/// The layout of a variant, whose own visit is counted already.
 #[cycle(tabled)]
 #[tactic(auto, using(crate::proofs::Nodes::node_rules))]
 fn variant_layout<L: Ledger>(

@@ -1,3 +1,5 @@
+//! The first type that has more flags or cases than its tag can tell apart.
+
 ghost use Rattle.std.specs.Prelude.{◌≡◌, ◌∷◌, [], map};
 ghost use Rattle.witx_ast.specs.Tree.{fields_of, arms_of};
 ghost use Rattle.witx_ast.specs.Views.{tree_of, datatype_tree, record_tree, variant_tree, member_field, case_arm};

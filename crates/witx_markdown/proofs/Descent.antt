@@ -4,7 +4,7 @@ use Rattle.std.specs.List.{flat_map, All}
 use Rattle.std.specs.Option.{option_to_list}
 use Rattle.std.proofs.Common.{arith, get_or, refl, sym, ap, ◌∙◌, append_assoc, append-nil, inl, inr, set, replicate}
 use Rattle.std.proofs.lemmas.Bool.{eqb-true, eq-eqb, ne_eqb, cases_eq, cases_lt}
-use Rattle.std.proofs.lemmas.List.{drop_more, drop_all, drop-drop, get_or_past, length-drop, get_or-drop, length-set, get_or-set_same, get_or-set_other, length-replicate, get_or-replicate, get_or_default}
+use Rattle.std.proofs.lemmas.List.{drop_more, drop_all, drop-drop, get_or_past, length-drop, get_or-drop, length-set, get_or-set_same, get_or-set_other, length-replicate, get_or-replicate}
 use Rattle.std.proofs.lemmas.Grind.{flat_map-append}
 use Rattle.std.proofs.lemmas.List.Elements.{All-nil, All-cons, All-append}
 use Rattle.witx_markdown.specs.Trees.{AreParents, is_parent, children_from, children_of, deeper_from, levels_of, order_from}
@@ -312,9 +312,6 @@ fewer-ahead ps before ahead all cs opened c next first h a e n o =
     let same : opened ≡ (cs ++ option_to_list (next_child ps (c + 1) k.parent)) ++ option_to_list (next_child ps 0 c) = cc (o, n.nexts k.parent k.is, n.firsts) in
     omega (arith, ap (λ ns. length (ahead_order ps ns)) e, ap length (both-ahead ps c k.parent cs h k.is), ap (λ ns. length (ahead_order ps ns)) same)
 
-pub none-ahead : (ps : List (Option ℕ)) (before all : List ℕ) → IsAhead ps before [] all → before ≡ all
-none-ahead ps before all a = sym (append-nil before) ∙ a.found
-
 -- every node that is found is there
 
 order-within : (i p : ℕ) (qs : List (Option ℕ)) (n : ℕ) → i + length qs ≤ n → All (λ m. m < n) (order_from i qs p)
@@ -355,10 +352,3 @@ levels-found ps p h = ap (λ ns. children_of ps p ++ ns) (sym (deeper-found ps 0
 
 pub parent-within : (ps first next : List (Option ℕ)) (i j q : ℕ) → AreParents ps → i < length ps → get_or ps i None ≡ Some q → AreLinked ps j first next → q < length first
 parent-within ps first next i j q t l e h = omega (arith, parent-before ps i q t e, h.firsts)
-
-pub first-read : (ps first next : List (Option ℕ)) (n : ℕ) (x : Option ℕ) → AreLinked ps 0 first next → n < length ps → x ≡ get_or first n x → x ≡ next_child ps 0 n
-first-read ps first next n x h l e = e ∙ get_or_default first n x None (omega (arith, h.firsts)) ∙ h.first_children n l
-
-pub next-read : (ps first next : List (Option ℕ)) (n : ℕ) (x : Option ℕ) → AreLinked ps 0 first next → n < length ps → x ≡ get_or next n x
-    → (p : ℕ) → get_or ps n None ≡ Some p → x ≡ next_child ps (n + 1) p
-next-read ps first next n x h l e p f = e ∙ get_or_default next n x None (omega (arith, h.nexts)) ∙ h.next_children n p (omega arith) f

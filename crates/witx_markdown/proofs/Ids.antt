@@ -1,11 +1,11 @@
 -- Which ids are known, once they are put into a set one by one.
-use Rattle.std.specs.Prelude.{◌≡◌, ℕ, ◌+◌, ◌≤◌, ◌<◌, List, [], ◌∷◌, Bool, true, false, ◌||◌, length, drop, Option, Some, None, is_some, cond, option_map}
+use Rattle.std.specs.Prelude.{◌≡◌, ℕ, ◌+◌, ◌<◌, List, [], ◌∷◌, Bool, true, false, ◌||◌, length, drop, Option, Some, None, is_some, cond, option_map}
 use Rattle.std.specs.List.{list_any}
 use Rattle.std.specs.Ordering.{is_eq, nat_cmp}
 use Rattle.std.specs.Cmp.Lexicographic.{slice_cmp}
 use Rattle.std.specs.Map.{keys_of}
 use Rattle.std.proofs.Common.{get_or, refl, sym, ap, ◌∙◌}
-use Rattle.std.proofs.lemmas.List.{drop_more, drop_all}
+use Rattle.std.proofs.lemmas.List.{drop_more}
 use Rattle.witx_base.specs.Found.{found}
 use Rattle.witx_base.specs.Texts.{same_text}
 use Rattle.std.proofs.lemmas.Map.Text.{is_eq-slice_cmp}
@@ -35,10 +35,6 @@ or-moved true true b = refl
 or-moved true false b = refl
 or-moved false a b = refl
 
-or-none : (a : Bool) → a || false ≡ a
-or-none true = refl
-or-none false = refl
-
 -- one more id, or a content without one
 pub next-id : (cs : List MdContent) (i : ℕ) (c : MdContent) (old new : List (List ℕ × Unit {0})) (x q : List ℕ) (all : Bool) → i < length cs → c ≡ get_or cs i c
     → content_id c ≡ Some x → found new q ≡ cond (is_eq (slice_cmp nat_cmp x q)) (Some tt) (found old q)
@@ -49,15 +45,6 @@ next-id cs i c old new x q all l p e f h =
     sym (any-found new q) ∙ ap is_some f
     ∙ found-step (is_eq (slice_cmp nat_cmp x q)) (same_text q x) tt (found old q) (list_any (same_text q) (keys_of old)) (key-same x q ∙ text-swap x q) (any-found old q) in
     rw k (or-moved (same_text q x) (list_any (same_text q) (keys_of old)) (list_any (same_text q) (ids (drop (i + 1) cs))) ∙ (rw (drop_more cs i c l, ← p, e) at h))
-
-pub no-id : (cs : List MdContent) (i : ℕ) (c : MdContent) (old : List (List ℕ × Unit {0})) (q : List ℕ) (all : Bool) → i < length cs → c ≡ get_or cs i c
-    → content_id c ≡ None → list_any (same_text q) (keys_of old) || list_any (same_text q) (ids (drop i cs)) ≡ all
-    → list_any (same_text q) (keys_of old) || list_any (same_text q) (ids (drop (i + 1) cs)) ≡ all
-no-id cs i c old q all l p e h = rw (drop_more cs i c l, ← p, e) at h
-
-pub all-ids : (cs : List MdContent) (i : ℕ) (old : List (List ℕ × Unit {0})) (q : List ℕ) (all : Bool) → length cs ≤ i
-    → list_any (same_text q) (keys_of old) || list_any (same_text q) (ids (drop i cs)) ≡ all → list_any (same_text q) (keys_of old) ≡ all
-all-ids cs i old q all l h = sym (or-none (list_any (same_text q) (keys_of old))) ∙ (rw (drop_all i cs l) at h)
 
 pub known-there : {V : Type 0} (es : List (List ℕ × V)) (q : List ℕ) (b : Bool) → is_some (found es q) ≡ b → list_any (same_text q) (keys_of es) ≡ b
 known-there es q b e = sym (any-found es q) ∙ e

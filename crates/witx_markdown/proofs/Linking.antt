@@ -21,9 +21,6 @@ cut-piece bs (Some x) h =
 some-pieces : (text : List ℕ) → 0 < length (pieces text)
 some-pieces text = omega (arith, length-slice_split (λ b. b == 96) text)
 
-pub fewer-pieces : (rest before x behind : List ℕ) → pieces rest ≡ before ∷ x ∷ pieces behind → length (pieces behind) < length (pieces rest)
-fewer-pieces rest before x behind e = omega (arith, ap length e)
-
 linked-first : (known : List (List ℕ)) (before x : List ℕ) (ps : List (List ℕ)) → 0 < length ps
     → linked_pieces known (before ∷ x ∷ ps) ≡ before ++ (link known x ++ linked_pieces known ps)
 linked-first known before x [] l = absurd (omega arith)
@@ -44,9 +41,6 @@ pub next-missing : (known : List (List ℕ)) (rest before x behind : List ℕ) (
     → names ++ missing known rest ≡ all → (names ++ missing_if known x) ++ missing known behind ≡ all
 next-missing known rest before x behind names all e h =
     append_assoc names (missing_if known x) (missing known behind) ∙ (rw (e, missing-first known before x (pieces behind) (some-pieces behind)) at h)
-
-pub no-pieces : (text : List ℕ) (known : List (List ℕ)) → pieces text ≡ text ∷ [] → (linked known text ≡ text) × (missing known text ≡ [])
-no-pieces text known e = (rw e refl, rw e refl)
 
 pub unclosed : (text before behind : List ℕ) (known : List (List ℕ)) → pieces text ≡ before ∷ pieces behind → pieces behind ≡ behind ∷ []
     → (linked known text ≡ text) × (missing known text ≡ [])

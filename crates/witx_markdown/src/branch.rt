@@ -1,3 +1,5 @@
+//! Nodes that are still to be added to a page's tree.
+
 ghost use Rattle.std.specs.Prelude.{◌≡◌, [], IfOk, OnOk};
 ghost use Rattle.witx_markdown.specs.Forests.{leaf, next_number, sprouted};
 

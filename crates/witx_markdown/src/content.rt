@@ -1,3 +1,5 @@
+//! What a node of a page holds.
+
 ghost use Rattle.std.specs.Prelude.{◌≡◌, [], IfOk, None, option_map};
 ghost use Rattle.witx_markdown.specs.Contents.{content_id, content_docs, with_docs};
 

@@ -1,3 +1,5 @@
+//! What a line of a page begins with.
+
 ghost use Rattle.std.specs.Prelude.{◌≡◌, ◌++◌, OnOk, codes, string_bytes};
 ghost use Rattle.std.specs.List.{repeat};
 ghost use Rattle.witx_markdown.specs.Contents.{drawn, header, level_down, heading_text};

@@ -1,3 +1,5 @@
+//! How the layout of a name is found.
+
 use witx_base::NameMap;
 use witx_layout::SizeAlign;
 

@@ -58,6 +58,7 @@ pub fn padded(whole: SizeAlign) -> Result<SizeAlign, TooLarge>
     }
 }
 
+/// The greater of two numbers.
 pub fn greater(a: usize, b: usize) -> usize
     ensures { result ≡ max a b }
 {

@@ -1,3 +1,5 @@
+//! A page as a tree of numbered nodes.
+
 ghost use Rattle.std.specs.Prelude.{◌≡◌, ◌∷◌, ◌++◌, [], ◌<◌, IfOk, OnOk, OnErr, length, string_bytes, Some, None};
 ghost use Rattle.std.specs.Borrow.{sem};
 ghost use Rattle.std.specs.List.{All, flat_map};

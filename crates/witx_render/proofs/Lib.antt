@@ -4,3 +4,4 @@ pub mod TypesShown
 pub mod ModulesShown
 pub mod LinesPut
 mod Examples
+pub mod ExpressionsEqual

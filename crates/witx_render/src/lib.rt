@@ -5,6 +5,7 @@
 mod document;
 mod expression;
 mod functions;
+mod laws;
 mod modules;
 mod parts;
 mod to_sexpr;
@@ -12,4 +13,5 @@ mod types;
 
 pub use document::document_text;
 pub use expression::{SExpr, SExprs};
+pub use laws::copied_expressions_are_equal;
 pub use to_sexpr::ToSExpr;

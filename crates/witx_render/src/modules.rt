@@ -37,16 +37,16 @@ impl ToSExpr for Module {
 
 /// A module without its documentation: imports, and then functions.
 #[tactic(auto, using(crate::proofs::ModulesShown::shown_rules))]
-fn bare_module(alloc: Global, module: &Module) -> Result<SExpr, OutOfMemory>
-    ensures { IfOk result (λ e. expr_view e ≡ vec (module_parts (module_tree «module».now))) }
+fn bare_module(alloc: Global, shown_module: &Module) -> Result<SExpr, OutOfMemory>
+    ensures { IfOk result (λ e. expr_view e ≡ vec (module_parts (module_tree shown_module.now))) }
 {
     let mut items = two_items(
         alloc,
         SExpr::word(alloc, "module")?,
-        module.name.to_sexpr(alloc)?,
+        shown_module.name.to_sexpr(alloc)?,
     )?;
-    push_imports(alloc, &mut items, module.definitions().as_slice())?;
-    push_funcs(alloc, &mut items, module.definitions().as_slice())?;
+    push_imports(alloc, &mut items, shown_module.definitions().as_slice())?;
+    push_funcs(alloc, &mut items, shown_module.definitions().as_slice())?;
     Ok(in_parentheses(items))
 }
 

@@ -1,3 +1,5 @@
+//! What is printed as an S-expression.
+
 ghost use Rattle.std.specs.Prelude.{◌≡◌, IfOk};
 ghost use Rattle.witx_render.specs.Expressions as printed;
 ghost use Rattle.witx_render.specs.ExpressionViews.{expr_view};

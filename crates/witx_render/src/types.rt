@@ -227,27 +227,27 @@ fn variant_head(alloc: Global, is_enum: bool, tag: IntRepr) -> Result<SExprs, Ou
 /// A case, with its documentation.
 #[cycle(types)]
 #[tactic(auto, using(crate::proofs::TypesShown::shown_rules))]
-fn case_sexpr(alloc: Global, is_enum: bool, case: &Case) -> Result<SExpr, OutOfMemory>
-    ensures { IfOk result (λ e. expr_view e ≡ case_item is_enum (case_arm «case».now)) }
+fn case_sexpr(alloc: Global, is_enum: bool, shown_case: &Case) -> Result<SExpr, OutOfMemory>
+    ensures { IfOk result (λ e. expr_view e ≡ case_item is_enum (case_arm shown_case.now)) }
 {
-    let shown = bare_case(alloc, is_enum, case)?;
-    SExpr::docs(alloc, case.docs.as_str(), shown)
+    let shown = bare_case(alloc, is_enum, shown_case)?;
+    SExpr::docs(alloc, shown_case.docs.as_str(), shown)
 }
 
 /// A case without its documentation: its name in an enum, else with its payload if it has one.
 #[cycle(types)]
 #[tactic(auto, using(crate::proofs::TypesShown::shown_rules))]
-fn bare_case(alloc: Global, is_enum: bool, case: &Case) -> Result<SExpr, OutOfMemory>
-    ensures { IfOk result (λ e. expr_view e ≡ case_expr is_enum «case».now.name (payload_exprs (option_map tree_of «case».now.tref))) }
+fn bare_case(alloc: Global, is_enum: bool, shown_case: &Case) -> Result<SExpr, OutOfMemory>
+    ensures { IfOk result (λ e. expr_view e ≡ case_expr is_enum shown_case.now.name (payload_exprs (option_map tree_of shown_case.now.tref))) }
 {
     if is_enum {
-        return case.name.to_sexpr(alloc);
+        return shown_case.name.to_sexpr(alloc);
     }
-    match &case.tref {
-        None => lone_case(alloc, &case.name),
+    match &shown_case.tref {
+        None => lone_case(alloc, &shown_case.name),
         Some(tref) => {
             let payload = tref.to_sexpr(alloc)?;
-            named(alloc, "case", case.name.as_str(), payload)
+            named(alloc, "case", shown_case.name.as_str(), payload)
         }
     }
 }

@@ -24,9 +24,9 @@ type_layout-datatype_layout-requires g t c κs within =
 
 pub record_layout-members_layout-requires : goal.record_layout-members_layout-requires
 record_layout-members_layout-requires g t c κs within =
-    let nodes : type_nodes (record_tree c.args.«record».now) ≡ field_nodes (fields_of (map member_field c.as_slice.result.now)) + 1 =
-    record-nodes c.args.«record».now ∙ ap (λ ms. field_nodes (fields_of (map member_field ms)) + 1) (sym c.as_slice.ensures) in
-    (omega arith, (within, rw c.as_slice.ensures (record-known c.args.table.now c.args.«record».now c.requires)))
+    let nodes : type_nodes (record_tree c.args.record_type.now) ≡ field_nodes (fields_of (map member_field c.as_slice.result.now)) + 1 =
+    record-nodes c.args.record_type.now ∙ ap (λ ms. field_nodes (fields_of (map member_field ms)) + 1) (sym c.as_slice.ensures) in
+    (omega arith, (within, rw c.as_slice.ensures (record-known c.args.table.now c.args.record_type.now c.requires)))
 
 pub variant_layout-greatest_payload-requires : goal.variant_layout-greatest_payload-requires
 variant_layout-greatest_payload-requires g t c κs within =

@@ -13,7 +13,7 @@ abbrev pub decreases-datatype_layout : goal.decreases-datatype_layout
 decreases-datatype_layout g l = 4 * type_nodes (datatype_tree l.datatype.now) + 2
 
 abbrev pub decreases-record_layout : goal.decreases-record_layout
-decreases-record_layout g l = 4 * type_nodes (record_tree l.«record».now) + 1
+decreases-record_layout g l = 4 * type_nodes (record_tree l.record_type.now) + 1
 
 abbrev pub decreases-variant_layout : goal.decreases-variant_layout
 decreases-variant_layout g l = 4 * type_nodes (variant_tree l.variant.now) + 1

@@ -8,5 +8,5 @@ use Rattle.witx_render.proofs.modules.bare_module.Goals as goal
 pub returns : goal.returns
 returns c =
     c.in_parentheses.ensures
-    ∙ module-built (module_tree c.args.module.now) (map expr_view c.in_ok-items.items) (map expr_view c.push_imports.new.items) (map expr_view c.push_funcs.new.items)
+    ∙ module-built (module_tree c.args.shown_module.now) (map expr_view c.in_ok-items.items) (map expr_view c.push_imports.new.items) (map expr_view c.push_funcs.new.items)
     (search rules) (search rules) (search rules)
