@@ -1,3 +1,5 @@
+//! The documentation text of comments: their lines, cut at the margin that they share.
+
 ghost use Rattle.std.specs.Prelude.{◌≡◌, map, option_map, IfOk};
 ghost use Rattle.witx_comments.specs.Documentation.{documentation_of, indent_in, indent_of, line_of, lines_of, margin_of};
 
