@@ -1,4 +1,5 @@
--- What comes of a run of two traces over cells, as a relation, and that it is at most one thing.
+-- What comes of a run of two traces over cells, as a relation, and that it is at most one thing: by definition, since the
+-- run is a function of its traces, arguments, reply, memory and addresses.
 use Rattle.std.specs.Prelude.{◌≡◌, ℕ, List, Option, Some}
 use Rattle.witx_ast.specs.Values.{Value}
 use Rattle.witx_machine.specs.Words.{Word}

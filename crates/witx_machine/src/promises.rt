@@ -1,3 +1,5 @@
+//! The laws of the machine: what is faithful, the rows and their table, outcomes.
+
 ghost use Rattle.std.specs.Prelude.{◌≡◌, ℕ, List, Some, IsTrue};
 ghost use Rattle.witx_ast.specs.Functions.{FunctionTree};
 ghost use Rattle.witx_ast.specs.Tags.{function_fits};
@@ -32,7 +34,7 @@ pub fn rows_keep_to_the_table()
     ensures { RowsKeepToTable }
 {}
 
-/// A run has at most one outcome.
+/// A run has at most one outcome, by definition: it is a function of what it is given.
 pub fn a_run_has_at_most_one_outcome()
     ensures { AtMostOneOutcome }
 {}

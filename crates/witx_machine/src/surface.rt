@@ -1,3 +1,5 @@
+//! The types of words, and the places of parameters and results.
+
 ghost use Rattle.std.specs.Prelude.{◌≡◌};
 
 use witx_ast::IntRepr;
