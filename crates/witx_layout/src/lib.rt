@@ -18,6 +18,7 @@ pub use laws::{
 pub use layout::{Layout, SizeAlign, TooLarge, VariantOffset};
 pub use lines::layouts_text;
 pub use members::{LayoutError, MemberLayouts, RecordMemberLayout, RecordMembers};
+pub use rounding::{Placed, behind, greater, padded};
 pub use steps::Steps;
 pub use table::{LayoutsError, SizeAligns, layouts, uncounted_layouts};
 pub use table_lines::ordered_layouts_text;

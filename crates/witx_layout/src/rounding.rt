@@ -13,6 +13,36 @@ pub fn align_to(offset: usize, alignment: usize) -> Option<usize>
     offset.checked_add((alignment - offset % alignment) % alignment)
 }
 
+/// A part that is placed.
+#[derive(Clone, Copy)]
+pub struct Placed {
+    /// Where it begins.
+    pub begin: usize,
+    /// What is reached behind it, and the greatest alignment so far.
+    pub reached: SizeAlign,
+}
+
+/// A part behind what is reached, at the next multiple of its alignment.
+pub fn behind(reached: SizeAlign, part: SizeAlign) -> Result<Placed, TooLarge>
+    requires { 0 < part.align }
+    ensures { MatchResult result
+        (λ p. (p.begin ≡ rounded reached.size part.align)
+        × (p.reached.size ≡ rounded reached.size part.align + part.size) × (p.reached.align ≡ max reached.align part.align))
+        (λ _. 2 ^ 64 ≤ rounded reached.size part.align + part.size) }
+{
+    let Some(begin) = align_to(reached.size, part.align) else {
+        return Err(TooLarge);
+    };
+    let Some(size) = begin.checked_add(part.size) else {
+        return Err(TooLarge);
+    };
+    let align = greater(reached.align, part.align);
+    Ok(Placed {
+        begin,
+        reached: SizeAlign { size, align },
+    })
+}
+
 /// What is reached once a part is placed behind what is reached.
 pub fn followed_by(reached: SizeAlign, part: SizeAlign) -> Result<SizeAlign, TooLarge>
     requires { 0 < part.align }
@@ -20,16 +50,7 @@ pub fn followed_by(reached: SizeAlign, part: SizeAlign) -> Result<SizeAlign, Too
         (λ v. (v.size ≡ rounded reached.size part.align + part.size) × (v.align ≡ max reached.align part.align))
         (λ _. 2 ^ 64 ≤ rounded reached.size part.align + part.size) }
 {
-    let Some(start) = align_to(reached.size, part.align) else {
-        return Err(TooLarge);
-    };
-    let Some(size) = start.checked_add(part.size) else {
-        return Err(TooLarge);
-    };
-    Ok(SizeAlign {
-        size,
-        align: greater(reached.align, part.align),
-    })
+    Ok(behind(reached, part)?.reached)
 }
 
 /// The whole, with its size rounded up to its alignment.

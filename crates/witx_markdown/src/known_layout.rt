@@ -8,13 +8,15 @@ ghost use Rattle.witx_layout.specs.Numbers.{size_of, align_of, align_to, members
 ghost use Rattle.witx_markdown.specs.NamesKnown.{NamesKnown, FieldNamesKnown, ArmNamesKnown};
 
 use crate::named_layouts::NamedLayouts;
-use crate::rounding::{behind, greater, padded};
 use std::alloc::Global;
 use witx_ast::{
     Case, Datatype, NamedType, RecordDatatype, RecordKind, RecordMember, TypeRef, Variant,
 };
 use witx_base::NameMap;
-use witx_layout::{Layout, LayoutError, MemberLayouts, RecordMemberLayout, SizeAlign, TooLarge};
+use witx_layout::{
+    Layout, LayoutError, MemberLayouts, RecordMemberLayout, SizeAlign, TooLarge, behind, greater,
+    padded,
+};
 
 /// The layout of a type.
 #[cycle(layouts)]

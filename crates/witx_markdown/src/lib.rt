@@ -11,7 +11,6 @@ mod kin;
 mod known_layout;
 mod links;
 mod named_layouts;
-mod rounding;
 mod tree;
 
 pub use branch::Branch;
