@@ -1,3 +1,5 @@
+//! Symbols from where they come: an argument, the reply, its payload, and the parts of each.
+
 ghost use Rattle.std.specs.Prelude.{◌≡◌, IfOk, map};
 ghost use Rattle.witx_ast.specs.Plain.{plain};
 ghost use Rattle.witx_ast.specs.Views.{tree_of, members_plain};

@@ -25,14 +25,14 @@ use witx_run::run_traces;
 pub fn run_in(
     alloc: Global,
     world: &World,
-    module: &Id,
+    module_name: &Id,
     func: &InterfaceFunc,
     caller: &Events,
     callee: &Events,
     arguments: &[Rc<Symbol>],
 ) -> Result<Run, OutOfMemory>
     ensures { IfOk result (λ run. run_of run ≡
-        spotted_run (symbols (world_of world.now)) «module».now (called func.now) (map event_of caller.now) (map event_of callee.now)
+        spotted_run (symbols (world_of world.now)) module_name.now (called func.now) (map event_of caller.now) (map event_of callee.now)
         (shared_symbols arguments.now) (option_of world.now.whole) (record { made = []; left = length caller.now + length callee.now })) }
 {
     let Some(left) = event_count(caller, callee) else {
@@ -42,7 +42,7 @@ pub fn run_in(
     let cells = Cells::new(alloc, left);
     let reply = reply_in(world);
     run_traces(
-        alloc, &domain, module, func, caller, callee, arguments, reply, cells,
+        alloc, &domain, module_name, func, caller, callee, arguments, reply, cells,
     )
 }
 

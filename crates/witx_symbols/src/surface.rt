@@ -1,3 +1,5 @@
+//! The verdict on two traces.
+
 use witx_machine::Place;
 
 /// What is found of two traces.

@@ -1,3 +1,5 @@
+//! Symbols: where they come from, when two are the same, and how a deep one is let go.
+
 ghost use Rattle.std.specs.Prelude.{◌≡◌, ℕ, IfErr, IfOk, IfSome, map};
 ghost use Rattle.witx_symbols.specs.declared.symbol.Symbol.TheVariants as declared;
 ghost use Rattle.witx_symbols.specs.SymbolViews.{source_of, symbol_of, symbols_read};

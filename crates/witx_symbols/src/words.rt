@@ -1,3 +1,5 @@
+//! What stands for a word, and the conversions between symbols and words.
+
 ghost use Rattle.std.specs.Prelude.{◌≡◌, IfOk, option_map};
 ghost use Rattle.witx_symbols.specs.Symbolic.{lower_symbol, lift_word, list_words, list_of_words, parts_of, word_has_type};
 ghost use Rattle.witx_symbols.specs.SymbolViews.{symbol_of};

@@ -1,3 +1,5 @@
+//! A world: what is known of the reply.
+
 ghost use Rattle.std.specs.Prelude.{◌≡◌, Some, true, cond, IfOk, option_map};
 ghost use Rattle.witx_machine.specs.Words.{when};
 ghost use Rattle.witx_symbols.specs.Symbols.{same_option};

@@ -16,3 +16,11 @@ pub mod PassageSteps
 pub mod Drafting
 pub mod Refusing
 pub mod ReadSteps
+pub mod OneLines
+pub mod OkTexts
+pub mod ReadBackParts
+pub mod ReadBackEvents
+pub mod ReadBackDocs
+pub mod ReadBackSides
+pub mod ReadBackListing
+pub mod ReadBackEntries

@@ -33,7 +33,7 @@ some-same x y e = cc
 pub first-of : (a b : ℕ) (xs ys : List ℕ) → a ∷ xs ≡ b ∷ ys → a ≡ b
 first-of a b xs ys e = cc
 
-rest-of : (a b : ℕ) (xs ys : List ℕ) → a ∷ xs ≡ b ∷ ys → xs ≡ ys
+pub rest-of : (a b : ℕ) (xs ys : List ℕ) → a ∷ xs ≡ b ∷ ys → xs ≡ ys
 rest-of a b xs ys e = cc
 
 -- ---- a text is cut at its first blank
@@ -42,7 +42,7 @@ unbroken : (b : ℕ) (t : Bool) (rest : Bool) → (b == 32) ≡ t → (if t then
 unbroken b true rest h e = absurd (cc)
 unbroken b false rest h e = (λ is. grind (arith, nat_tests), e)
 
-no-start : (b : ℕ) (bs : List ℕ) → no_blank (b ∷ bs) ≡ true → (b ≡ 32 → ⊥) × (no_blank bs ≡ true)
+pub no-start : (b : ℕ) (bs : List ℕ) → no_blank (b ∷ bs) ≡ true → (b ≡ 32 → ⊥) × (no_blank bs ≡ true)
 no-start b bs e = unbroken b (b == 32) (no_blank bs) refl e
 
 pub cut : (x y r t : List ℕ) → no_blank x ≡ true → no_blank y ≡ true → x ++ (32 ∷ r) ≡ y ++ (32 ∷ t) → (x ≡ y) × (r ≡ t)

@@ -5,3 +5,4 @@ pub mod ReadTypes
 pub mod LineReading
 pub mod Refusals
 pub mod Answers
+pub mod ReadBack

@@ -1,5 +1,6 @@
 //! Laws on the traces that a text gives, as functions without work.
 
+ghost use Rattle.witx_traces.specs.ReadBack.{OwnListingsAreReadBack, OwnTracesAreReadBack};
 ghost use Rattle.witx_traces.specs.Traces.{LinesSayOneEvent, ListingShowsOwn, OneLineIsUnfit, TextsGiveOneTrace, TracesLeaveNoneUnfit};
 
 /// The listing is the text with the events that the document was adapted with.
@@ -25,4 +26,15 @@ pub fn traces_leave_no_line_unfit()
 /// A text has at most one first line that can't stand.
 pub fn at_most_one_line_is_unfit()
     ensures { OneLineIsUnfit }
+{}
+
+/// The listing of an adapted document gives traces, its own, each type as what its text stands for. The document is closed,
+/// and neither a blank nor a line feed stands in the name of a typename.
+pub fn own_listings_are_read_back()
+    ensures { OwnListingsAreReadBack }
+{}
+
+/// Where each type is what its text stands for, the listing gives the very traces of the adapted document.
+pub fn own_traces_are_read_back()
+    ensures { OwnTracesAreReadBack }
 {}

@@ -18,7 +18,7 @@ use Rattle.witx_instructions.proofs.Sides.{results-can}
 use Rattle.witx_symbols.specs.declared.surface.Doubt.{Doubt}
 use Rattle.witx_symbols.specs.declared.surface.Verdict.{Verdict}
 use Rattle.witx_symbols.specs.declared.world.World as declared_world
-use Rattle.witx_verify.specs.AdaptedPairs.{AdaptedGetsYes}
+use Rattle.witx_symbols.specs.Adapted.{AdaptedGetsYes}
 use Rattle.witx_symbols.specs.Symbols.{Symbol, SymbolWord}
 use Rattle.witx_symbols.specs.Symbolic.{World, known_world, unknown_world, world_if, worlds_by, worlds_of, worlds, reply_from, SymbolMemory, symbols}
 use Rattle.witx_symbols.specs.Verdicts.{arguments_from, judged, doubt_in, first_doubt, misfit, doubt, verdict_of, verdict}

@@ -15,3 +15,4 @@ pub use witx_symbols::{
     lift, list_of_words, list_words, lower, own_traces_get_a_yes, parts_of, same, symbol_from,
     tests_tell_what_passes, traces_of_an_adapted_get_a_yes,
 };
+pub use witx_traces::{TracePair, TracePairs, TracesError, read_traces};

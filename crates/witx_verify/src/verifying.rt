@@ -4,7 +4,7 @@ ghost use Rattle.witx_machine.specs.Faithful.{Faithful};
 ghost use Rattle.witx_machine.specs.Lowerable.{unlowerable};
 ghost use Rattle.witx_instructions.specs.Views.{called, event_of, param_types};
 ghost use Rattle.witx_symbols.specs.declared.surface.Verdict.TheVariants.{Yes};
-ghost use Rattle.witx_verify.specs.AdaptedPairs.{AdaptedGetsYes};
+ghost use Rattle.witx_symbols.specs.Adapted.{AdaptedGetsYes};
 ghost use Rattle.witx_symbols.specs.Symbolic.{reply_from};
 ghost use Rattle.witx_symbols.specs.Verdicts.{doubt, doubt_in, first_doubt, verdict};
 ghost use Rattle.witx_symbols.specs.WordViews.{option_of, world_of};
@@ -28,19 +28,19 @@ use witx_symbols::{Doubt, Verdict, World, arguments_from, misfit, run_in};
 #[tactic(auto, using(crate::proofs::VerifyLemmas::verify_rules))]
 pub fn verify(
     alloc: Global,
-    module: &Id,
+    module_name: &Id,
     func: &InterfaceFunc,
     caller: &Events,
     callee: &Events,
 ) -> Result<Verdict, OutOfMemory>
     ensures verdict { IfOk result (λ found. found ≡
-        verdict «module».now (called func.now) (map event_of caller.now) (map event_of callee.now)) }
+        verdict module_name.now (called func.now) (map event_of caller.now) (map event_of callee.now)) }
     ensures faithful { IfOk result (λ found. found ≡ Yes →
-        Faithful «module».now (called func.now) (map event_of caller.now) (map event_of callee.now)) }
+        Faithful module_name.now (called func.now) (map event_of caller.now) (map event_of callee.now)) }
     ensures adapted { IfOk result (λ found.
-        AdaptedGetsYes found «module».now (called func.now) (map event_of caller.now) (map event_of callee.now)) }
+        AdaptedGetsYes found module_name.now (called func.now) (map event_of caller.now) (map event_of callee.now)) }
 {
-    match doubt(alloc, module, func, caller, callee)? {
+    match doubt(alloc, module_name, func, caller, callee)? {
         Some(doubt) => Ok(Verdict::No(doubt)),
         None => Ok(Verdict::Yes),
     }
@@ -50,13 +50,13 @@ pub fn verify(
 #[tactic(auto, using(crate::proofs::VerifyLemmas::verify_rules))]
 fn doubt(
     alloc: Global,
-    module: &Id,
+    module_name: &Id,
     func: &InterfaceFunc,
     caller: &Events,
     callee: &Events,
 ) -> Result<Option<Doubt>, OutOfMemory>
     ensures { IfOk result (λ found. found ≡
-        doubt «module».now (called func.now) (map event_of caller.now) (map event_of callee.now)) }
+        doubt module_name.now (called func.now) (map event_of caller.now) (map event_of callee.now)) }
 {
     if let Err(place) = lowerable(func) {
         return Ok(Some(Doubt::Function(place)));
@@ -65,7 +65,7 @@ fn doubt(
         return Ok(Some(Doubt::Function(place)));
     }
     let worlds = worlds(alloc, func)?;
-    first_doubt(alloc, worlds.as_slice(), module, func, caller, callee)
+    first_doubt(alloc, worlds.as_slice(), module_name, func, caller, callee)
 }
 
 // The first doubt in one of these worlds of the function's reply.
@@ -73,7 +73,7 @@ fn doubt(
 fn first_doubt(
     alloc: Global,
     worlds: &[World],
-    module: &Id,
+    module_name: &Id,
     func: &InterfaceFunc,
     caller: &Events,
     callee: &Events,
@@ -81,10 +81,10 @@ fn first_doubt(
     requires lowerable { unlowerable (called func.now) ≡ None }
     requires reply { AreOf (reply_from (param_types func.now.results)) (worlds_read worlds.now) }
     ensures { IfOk result (λ found. found ≡
-        first_doubt (worlds_read worlds.now) «module».now (called func.now) (map event_of caller.now) (map event_of callee.now)) }
+        first_doubt (worlds_read worlds.now) module_name.now (called func.now) (map event_of caller.now) (map event_of callee.now)) }
 {
     for world in worlds {
-        if let Some(doubt) = doubt_in(alloc, world, module, func, caller, callee)? {
+        if let Some(doubt) = doubt_in(alloc, world, module_name, func, caller, callee)? {
             return Ok(Some(doubt));
         }
     }
@@ -96,7 +96,7 @@ fn first_doubt(
 fn doubt_in(
     alloc: Global,
     world: &World,
-    module: &Id,
+    module_name: &Id,
     func: &InterfaceFunc,
     caller: &Events,
     callee: &Events,
@@ -104,12 +104,12 @@ fn doubt_in(
     requires lowerable { unlowerable (called func.now) ≡ None }
     requires reply { option_of world.now.whole ≡ reply_from (param_types func.now.results) }
     ensures { IfOk result (λ found. found ≡
-        doubt_in (world_of world.now) «module».now (called func.now) (map event_of caller.now) (map event_of callee.now)) }
+        doubt_in (world_of world.now) module_name.now (called func.now) (map event_of caller.now) (map event_of callee.now)) }
 {
     let symbols = arguments_from(alloc, func.params.as_slice())?;
     let arguments = symbols.as_slice();
     let pointers = return_pointers(alloc, func.abi, &func.results)?;
-    let run = run_in(alloc, world, module, func, caller, callee, arguments)?;
+    let run = run_in(alloc, world, module_name, func, caller, callee, arguments)?;
     let doubt = judged(world, func, pointers.as_slice(), arguments, &run);
     drop(run);
     doubt
