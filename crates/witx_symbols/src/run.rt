@@ -42,7 +42,15 @@ pub fn run_in(
     let cells = Cells::new(alloc, left);
     let reply = reply_in(world);
     run_traces(
-        alloc, &domain, module_name, func, caller, callee, arguments, reply, cells,
+        alloc,
+        &domain,
+        module_name,
+        func,
+        caller,
+        callee,
+        arguments,
+        reply,
+        cells,
     )
 }
 

@@ -12,8 +12,7 @@ use witx_ast::InterfaceFunc;
 use witx_base::{Id, Items, OutOfMemory};
 use witx_fixtures_run::{ADD_LISTING, Gave, func_of};
 use witx_machine::Place;
-use witx_traces::{TracePair, TracesError, read_traces};
-use witx_verify::{Doubt, Verdict, verify};
+use witx_verify::{Doubt, TracePair, TracesError, Verdict, read_traces, verify};
 
 /// A document with its listing.
 type Listed = (&'static str, &'static str);
@@ -348,6 +347,33 @@ static MODULES_CHANGES: &[Change] = &[
     ("module b\n", "", "witx: listing: unexpected line 23\n"),
 ];
 
+/// A list of a type whose text a typename has, too.
+const SHOWN: Listed = (
+    r#"(typename $u8 u32)
+(module $m (@interface func (export "f") (param $x (list u8))))"#,
+    r#"typename u8 size 4 align 4
+module m
+func "f" (i32 i32) -> ()
+caller
+  get_arg 0
+  list_pointer_length
+  call_wasm "m" "f" (i32 i32) -> ()
+  return 0
+callee
+  get_arg 0
+  get_arg 1
+  list_from_pointer_length u8
+  call_interface "m" "f"
+  return 0
+"#,
+);
+
+#[rattlefmt::skip]
+static SHOWN_CHANGES: &[Change] = &[
+    ("", "", "func \"f\" yes\n"),
+    ("list_from_pointer_length u8", "list_from_pointer_length u16", "witx: listing: unexpected line 12\n"),
+];
+
 /// A document of nothing.
 const NOTHING: Listed = (";; nothing", "");
 
@@ -426,7 +452,9 @@ fn changed_stored_results(rt: HostRuntime) {
 fn changed_documents(rt: HostRuntime) {
     let alloc = rt.alloc();
     assert!(rt;
-        all_tell(alloc, MODULES, MODULES_CHANGES) && all_tell(alloc, NOTHING, NOTHING_CHANGES)
+        all_tell(alloc, MODULES, MODULES_CHANGES)
+            && all_tell(alloc, SHOWN, SHOWN_CHANGES)
+            && all_tell(alloc, NOTHING, NOTHING_CHANGES)
     );
 }
 

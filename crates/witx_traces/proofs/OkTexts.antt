@@ -1,5 +1,5 @@
 -- The text of an ok type ends before the first ` err `.
-use Rattle.std.proofs.Common.{◌≡◌, ℕ, ◌+◌, ◌<◌, ◌≤◌, List, [], ◌∷◌, ◌++◌, length, true, sym, ap, ◌∙◌, Some, arith, append_assoc, length-append}
+use Rattle.std.proofs.Common.{◌≡◌, ℕ, ◌+◌, ◌<◌, ◌≤◌, List, [], ◌∷◌, ◌++◌, length, true, refl, sym, ap, ◌∙◌, Some, arith, append_assoc, length-append}
 use Rattle.std.specs.Prelude.{codes}
 use Rattle.witx_ast.specs.TypeNames.{comma_joined, tuple_text}
 use Rattle.witx_traces.specs.LineParts.{no_blank}

@@ -1,6 +1,6 @@
 -- Texts without a line feed.
-use Rattle.std.proofs.Common.{◌≡◌, ℕ, ◌+◌, ◌/◌, ◌%◌, ◌<◌, ◌≤◌, List, [], ◌∷◌, ◌++◌, Bool, true, false, refl, sym, ap, ◌∙◌, inl, inr, arith, ◌==◌, if◌then◌else◌, cond}
-use Rattle.std.specs.Prelude.{◌||◌, nat_lt, encode_utf8, ◌⊎◌, codes}
+use Rattle.std.proofs.Common.{◌≡◌, ℕ, ◌+◌, ◌/◌, ◌%◌, ◌≤◌, List, [], ◌∷◌, ◌++◌, Bool, true, false, refl, ap, ◌∙◌, arith, ◌==◌, if◌then◌else◌, cond}
+use Rattle.std.specs.Prelude.{◌||◌, nat_lt, encode_utf8, codes}
 use Rattle.std.specs.List.{flat_map}
 use Rattle.std.specs.Str.{chars}
 use Rattle.std.specs.Fmt.{decimal}

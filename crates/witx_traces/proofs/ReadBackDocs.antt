@@ -1,39 +1,28 @@
 -- In a closed document that can be adapted, whose names are unbroken, each type of each function's events stands for something.
-use Rattle.std.proofs.Common.{◌≡◌, ℕ, suc, ◌+◌, ◌≤◌, ◌⊎◌, inl, inr, List, [], ◌∷◌, ◌++◌, length, map, take, Bool, true, false, cond, refl, sym, ap, ◌∙◌, subst, Option, Some, None, option_map, arith, append_assoc, append-nil, length-append, if◌then◌else◌}
-use Rattle.std.specs.Prelude.{⊤, ◌&&◌, ◌||◌, not, codes, position}
-use Rattle.std.specs.List.{AllByRecursion, flat_map, position_from}
-use Rattle.std.specs.Option.{option_and_then, option_or, option_to_list}
-use Rattle.std.specs.Str.{IsUtf8}
+use Rattle.std.proofs.Common.{◌≡◌, ℕ, ◌⊎◌, inl, inr, List, [], ◌∷◌, ◌++◌, map, Bool, true, false, cond, refl, sym, ap, ◌∙◌, subst, Option, Some, None, option_map, append_assoc, append-nil, if◌then◌else◌}
+use Rattle.std.specs.Prelude.{⊤, codes}
+use Rattle.std.specs.List.{AllByRecursion, flat_map}
+use Rattle.std.specs.Option.{option_and_then, option_or}
 use Rattle.std.specs.Ordering.{is_eq, nat_cmp}
 use Rattle.std.specs.Cmp.Lexicographic.{slice_cmp}
 use Rattle.std.proofs.lemmas.List.Elements.{filter_map-append}
 use Rattle.witx_base.specs.Found.{found}
 use Rattle.witx_base.specs.Texts.{same_text}
 use Rattle.witx_base.proofs.Names.{found-append, same-is, same-equal}
-use Rattle.witx_ast.specs.declared.function.Abi.{Abi}
 use Rattle.witx_ast.specs.declared.types.BuiltinType.{BuiltinType}
 use Rattle.witx_ast.specs.declared.types.RecordKind.{RecordKind}
 use Rattle.witx_ast.specs.Tree.{Tree, Fields, Arms, Field, arm_list, behind}
-use Rattle.witx_ast.specs.TypeNames.{builtin_text, comma_joined, is_char, member_texts, payload_texts, result_text, tuple_text, type_text, variant_text}
+use Rattle.witx_ast.specs.TypeNames.{builtin_text, comma_joined, is_char, member_texts, payload_texts, result_text, type_text}
 use Rattle.witx_ast.specs.Plain.{plain_arms}
-use Rattle.witx_ast.specs.Words.{is_bool_arms, is_expected, is_named}
+use Rattle.witx_ast.specs.Words.{is_bool_arms, is_expected}
 use Rattle.witx_ast.specs.Entries.{by_name}
-use Rattle.witx_ast.specs.Items.{ItemTree, import_of, func_of}
-use Rattle.witx_ast.specs.Definitions.{DefinitionTree, ModuleTree, typename_of, module_of, constant_of, introduced, as_typename, typename_called}
+use Rattle.witx_ast.specs.Definitions.{DefinitionTree, typename_of, module_of, constant_of, introduced, as_typename, typename_called}
 use Rattle.witx_ast.specs.Ordered.{NamesStand, FieldNamesStand, ArmNamesStand}
-use Rattle.witx_ast.specs.Closed.{AllNamesStand, ClosedAfter, IsClosed, ItemNamesStand, ParamNamesStand}
-use Rattle.witx_machine.specs.Functions.{Function, err_of, function_of, has_payload, is_tuple, member_types, ok_of, result_cases, tuple_types}
-use Rattle.witx_machine.specs.Signature.{ok_pointers, signature_params}
-use Rattle.witx_machine.specs.Lowerable.{all_names, can_be_ok, can_be_param, unlowerable}
-use Rattle.witx_instructions.proofs.PointerTypes.{ok-members, ok-named, ok-single, ok-tuple}
-use Rattle.witx_adapt.specs.Entries.{Owned, all_functions, owned_functions, owned_item}
-use Rattle.witx_traces.specs.LineParts.{no_blank}
-use Rattle.witx_traces.specs.Traces.{EndsBeforeError, IsWord, Types, err_types, first_shown, held_types, ok_types, one_line, payload_types, shown as shown_in, shown_payload, target, types_of}
-use Rattle.witx_traces.specs.ReadBack.{AreHeld, IsUnbroken, ItemsAreHeld, NamesAreUnbroken}
+use Rattle.witx_ast.specs.Closed.{AllNamesStand, ClosedAfter, ParamNamesStand}
+use Rattle.witx_machine.specs.Functions.{err_of, has_payload, member_types, ok_of, result_cases, tuple_types}
+use Rattle.witx_traces.specs.Traces.{first_shown, one_line, target}
+use Rattle.witx_traces.specs.ReadBack.{IsUnbroken, NamesAreUnbroken}
 use Rattle.witx_traces.proofs.OneLines.{EachOneLine, joined-one, one-append}
-use Rattle.witx_traces.proofs.OkTexts.{EachNoBlank, name-ends, tuple-ends}
-use Rattle.witx_traces.proofs.ReadBackParts.{PayloadStands, Stands}
-use Rattle.witx_traces.proofs.ReadBackEvents.{AllStand, CanBeParam, ErrReads, NameStands, Readable}
 
 -- ---- among
 

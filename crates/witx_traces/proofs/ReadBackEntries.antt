@@ -95,8 +95,11 @@ events-itself types [] h = refl
 events-itself types (e ∷ es) h =
     ap (λ z. z ∷ map (event_read types) es) (ap event_from (parts-itself types (parts e) h.0) ∙ from-parts e) ∙ ap (λ z. e ∷ z) (events-itself types es h.1)
 
+abbrev both-sides : List Event → List Event → Sides
+both-sides caller callee = record { caller = caller; callee = callee }
+
 sides-same : (s t : Sides) → s.caller ≡ t.caller → s.callee ≡ t.callee → s ≡ t
-sides-same s t e f = cc
+sides-same s t e f = ap (λ z. both-sides z s.callee) e ∙ ap (both-sides t.caller) f
 
 read-itself : (ds : List DefinitionTree) (fs : List AdaptedFunc) → AllByRecursion (SidesStand ds) (map offered fs) → map (sides_read ds) (map offered fs) ≡ map own_sides fs
 read-itself ds [] h = refl

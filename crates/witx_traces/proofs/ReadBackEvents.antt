@@ -1,16 +1,15 @@
 -- The events of a function's two sides: each of their types stands for something, where the function's do.
-use Rattle.std.proofs.Common.{◌≡◌, ℕ, suc, ◌+◌, ◌≤◌, List, [], ◌∷◌, ◌++◌, length, take, Bool, true, false, cond, refl, sym, ap, ◌∙◌, subst, Option, Some, None, arith, lit<, length-append}
+use Rattle.std.proofs.Common.{◌≡◌, ℕ, suc, ◌+◌, ◌≤◌, List, [], ◌∷◌, ◌++◌, length, Bool, true, false, cond, Option, Some, None, arith, lit<, length-append}
 use Rattle.std.specs.Prelude.{⊤, is_some}
 use Rattle.std.specs.List.{AllByRecursion}
 use Rattle.std.specs.Str.{IsUtf8}
-use Rattle.witx_ast.specs.declared.function.Abi.{Abi}
 use Rattle.witx_ast.specs.declared.types.BuiltinType.{BuiltinType}
 use Rattle.witx_ast.specs.declared.types.IntRepr.{IntRepr}
 use Rattle.witx_ast.specs.declared.types.RecordKind.{RecordKind}
-use Rattle.witx_ast.specs.Tree.{Tree, Arms}
+use Rattle.witx_ast.specs.Tree.{Tree}
 use Rattle.witx_ast.specs.Plain.{Plain, plain, plain_arms}
 use Rattle.witx_machine.specs.declared.surface.WasmType.{WasmType}
-use Rattle.witx_machine.specs.Events.{Step, Event, emit, space, push, finish}
+use Rattle.witx_machine.specs.Events.{Step, Event, emit, finish}
 use Rattle.witx_machine.specs.Functions.{Function, has_payload, is_tuple}
 use Rattle.witx_machine.specs.Signature.{ok_pointers, param_words, pointers_at, return_pointers, signature_params, signature_results, words_of_params}
 use Rattle.witx_machine.specs.Lowerable.{can_be_param, can_be_err}
@@ -49,7 +48,6 @@ Readable types t = NameStands types t × AllByRecursion (Stands (shown_in types)
 
 abbrev StepTells : Types → Step → Type 0
 StepTells types x = CanTell types (parts (emit x))
-
 
 builtin-lower : (types : Types) (b : BuiltinType) → StepTells types (lower_builtin b)
 builtin-lower types BuiltinType.Char = tt
@@ -241,9 +239,11 @@ lift-cases-tell types ok err w h =
 ok-lowered-tells : (types : Types) (k : ℕ) (ok : Option Tree) → IsWord (k + length (ok_pointers ok)) → AllStand types (ok_pointers ok) → Tells types (ok_lowered k ok)
 ok-lowered-tells types k None w h = tt
 ok-lowered-tells types k (Some t) w h =
-    let count = length (pointers_at t) in
-    (tt, tells-both types (cond (is_tuple t) (emit (Step.TupleLower count) ∷ []) []) (store_all k (pointers_at t))
-      (tells-if types (is_tuple t) (emit (Step.TupleLower count)) (less-word count (k + count) (omega arith) w)) (store-all-tells types k (pointers_at t) w h))
+    let count = length (pointers_at t) in (
+      tt,
+      tells-both types (cond (is_tuple t) (emit (Step.TupleLower count) ∷ []) []) (store_all k (pointers_at t))
+          (tells-if types (is_tuple t) (emit (Step.TupleLower count)) (less-word count (k + count) (omega arith) w)) (store-all-tells types k (pointers_at t) w h),
+    )
 
 err-lowered-tells : (types : Types) (err : Option Tree) → can_be_err err ≡ true → ErrReads types err → Tells types (err_lowered err)
 err-lowered-tells types None e h = tt
@@ -282,8 +282,8 @@ caller-tells types m f h =
     tells-both types (lower_params 0 f.params) (make_spaces 0 (return_pointers f) ++ (call ∷ (lift_results f ++ end)))
     (lower-params-tell types 0 f.params (less-word (0 + length (words_of_params f.params)) all (omega arith) h.words) h.can h.params)
     (tells-both types (make_spaces 0 (return_pointers f)) (call ∷ (lift_results f ++ end))
-      (spaces-tell types 0 (return_pointers f) (less-word (0 + length (return_pointers f)) all (omega arith) h.words) h.pointers)
-      ((h.owner, h.name), tells-both types (lift_results f) end h.lift (one-word (length f.results) h.few, tt)))
+    (spaces-tell types 0 (return_pointers f) (less-word (0 + length (return_pointers f)) all (omega arith) h.words) h.pointers)
+    ((h.owner, h.name), tells-both types (lift_results f) end h.lift (one-word (length f.results) h.few, tt)))
 
 pub callee-tells : (types : Types) (m : List ℕ) (f : Function) → SidesTell types m f → Tells types (callee_events m f)
 callee-tells types m f h =

@@ -1,5 +1,5 @@
 -- The listing of an adapted document has the lines of what it is read back as.
-use Rattle.std.proofs.Common.{◌≡◌, ℕ, zero, suc, List, [], ◌∷◌, ◌++◌, map, refl, sym, ap, ◌∙◌, subst}
+use Rattle.std.proofs.Common.{◌≡◌, ℕ, zero, suc, List, [], ◌∷◌, ◌++◌, map, refl, sym, ap, ◌∙◌}
 use Rattle.std.specs.Prelude.{⊤, codes, drop}
 use Rattle.std.specs.List.{AllByRecursion}
 use Rattle.witx_ast.specs.declared.function.Abi.{Abi}

@@ -13,7 +13,7 @@ use Rattle.witx_machine.specs.Events.{Event}
 use Rattle.witx_adapt.specs.Lines.{event_line, event_lines, event_text}
 use Rattle.witx_adapt.specs.Names.{quoted, signature, spaced, wasm_word, wasm_words}
 use Rattle.witx_traces.specs.declared.line_words.LineWord.{LineWord}
-use Rattle.witx_traces.specs.Traces.{Types, CanSay, EndsBeforeError, IsLine, IsPayload, IsWord, one_line, shown as shown_in, shown_payload}
+use Rattle.witx_traces.specs.Traces.{Types, EndsBeforeError, IsLine, IsPayload, IsWord, one_line, shown as shown_in, shown_payload}
 use Rattle.witx_traces.specs.LineParts.{Parts, plain, number, named, shown, wasm, interface, lower, room, finished, event_from, word_of, lower_tail, tail_of, spelling, the_words, word_spelled, CanSayParts, parts, with_tail}
 use Rattle.witx_traces.specs.ReadBack.{event_read, or_itself, parts_read, read_as}
 use Rattle.witx_traces.proofs.LineWords.{from-parts, text-parts, can-parts, spells}

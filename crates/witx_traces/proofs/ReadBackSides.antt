@@ -1,6 +1,6 @@
 -- The types of the events of each function of such a document stand for something, and so both its sides are read back.
-use Rattle.std.proofs.Common.{◌≡◌, ℕ, suc, ◌+◌, ◌≤◌, inl, inr, List, [], ◌∷◌, ◌++◌, length, map, take, Bool, true, false, cond, refl, sym, ap, ◌∙◌, subst, Option, Some, None, arith, append_assoc, append-nil, length-append}
-use Rattle.std.specs.Prelude.{⊤, ◌&&◌, not, position}
+use Rattle.std.proofs.Common.{◌≡◌, ℕ, ◌+◌, ◌≤◌, inl, List, [], ◌∷◌, ◌++◌, length, map, Bool, true, false, cond, refl, sym, ap, ◌∙◌, subst, Option, Some, None, arith, append_assoc, append-nil, length-append}
+use Rattle.std.specs.Prelude.{not, position}
 use Rattle.std.specs.List.{AllByRecursion, flat_map, position_from}
 use Rattle.std.specs.Option.{option_and_then, option_to_list}
 use Rattle.std.specs.Str.{IsUtf8}
@@ -26,12 +26,12 @@ use Rattle.witx_instructions.proofs.PointerTypes.{ok-members, ok-named, ok-singl
 use Rattle.witx_instructions.proofs.Sides.{result-err, result-ok, word-param}
 use Rattle.witx_adapt.specs.Entries.{Owned, all_functions, owned_functions, owned_item}
 use Rattle.witx_traces.specs.LineParts.{no_blank}
-use Rattle.witx_traces.specs.Traces.{EndsBeforeError, IsWord, err_types, first_shown, held_types, ok_types, payload_types, shown as shown_in, shown_payload, target, types_of}
-use Rattle.witx_traces.specs.ReadBack.{AreHeld, ItemsAreHeld, NamesAreUnbroken}
+use Rattle.witx_traces.specs.Traces.{EndsBeforeError, IsWord, err_types, first_shown, held_types, ok_types, payload_types, shown as shown_in, target, types_of}
+use Rattle.witx_traces.specs.ReadBack.{AreHeld, ItemsAreHeld}
 use Rattle.witx_traces.proofs.OkTexts.{EachNoBlank, name-ends, tuple-ends}
 use Rattle.witx_traces.proofs.ReadBackParts.{PayloadStands, Stands, Tells, both-true}
 use Rattle.witx_traces.proofs.ReadBackEvents.{AllStand, CanBeParam, ErrReads, NameStands, PayloadsTell, Readable, SidesTell, lift-cases-tell, load-all-tells, lower-cases-tell, step-tells, store-all-tells}
-use Rattle.witx_traces.proofs.ReadBackDocs.{Among, Found, Document, OptionStands, among-all, among-flat, among-left, among-right, all-among, behind-stands, cases-stand, err-stands, first-among, ok-stands, or-first, or-found, params-still-stand, target-stands, tuple-stands, type-one, unbroken-name}
+use Rattle.witx_traces.proofs.ReadBackDocs.{Among, Document, OptionStands, among-all, among-flat, among-left, among-right, all-among, behind-stands, cases-stand, err-stands, first-among, ok-stands, or-first, or-found, params-still-stand, target-stands, tuple-stands, type-one, unbroken-name}
 
 can-back : (b : Bool) → cond b None (Some (Place.Result 0)) ≡ None → b ≡ true
 can-back true e = refl
