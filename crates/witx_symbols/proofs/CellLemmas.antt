@@ -1,5 +1,5 @@
 -- What stands at the addresses given.
-use Rattle.std.proofs.Common.{◌≡◌, ℕ, zero, suc, ◌<◌, ◌≤◌, Bool, true, false, refl, sym, ap, ◌∙◌, arith, List, [], ◌∷◌, ◌++◌, map, length, get_or, Option, Some, None, option_map, slice_get}
+use Rattle.std.proofs.Common.{◌≡◌, ℕ, zero, suc, ◌<◌, Bool, true, refl, sym, ap, ◌∙◌, arith, List, [], ◌∷◌, ◌++◌, map, length, get_or, Option, Some, None, option_map, slice_get}
 use Rattle.std.specs.Prelude.{set}
 use Rattle.witx_ast.specs.Tree.{Tree}
 use Rattle.witx_machine.specs.Words.{when}
@@ -31,28 +31,17 @@ got-at [] k x l e = absurd (omega arith)
 got-at (y ∷ xs) zero x l e = ap Some (sym e)
 got-at (y ∷ xs) (suc k) x l e = got-at xs k x (omega arith) e
 
-pub past-end : {A : Type 0} (xs : List A) (k : ℕ) → length xs ≤ k → slice_get xs k ≡ None
-past-end [] k l = refl
-past-end (y ∷ xs) zero l = absurd (omega arith)
-past-end (y ∷ xs) (suc k) l = past-end xs k (omega arith)
-
 abbrev Made : Type 0
 Made = List declared_cell.Cell
 
 abbrev pub stored_at : Made → ℕ → ℕ → Tree → Shared → Option SymbolMemory
 stored_at xs left k t v = put_in t (shared_of v) k (record { made = map cell_of xs; left = left }) (slice_get (map cell_of xs) k)
 
-pub set-past : (xs : Made) (left k : ℕ) (t : Tree) (v : Shared) → length xs ≤ k → None ≡ stored_at xs left k t v
-set-past xs left k t v l = sym (ap (put_in t (shared_of v) k _) (cells-get xs k ∙ ap (option_map cell_of) (past-end xs k l)))
-
 stored-in : (xs : Made) (left k : ℕ) (t : Tree) (v : Shared) (x : declared_cell.Cell) → k < length xs → x ≡ get_or xs k x → (b : Bool) → takes_symbol t (shared_of v) (cell_of x) ≡ b →
     stored_at xs left k t v ≡ when b (Some (record { made = replaced k ((cell_of x).0, Some (shared_of v)) (map cell_of xs); left = left }))
 stored-in xs left k t v x l e b h =
     ap (put_in t (shared_of v) k _) (cells-get xs k ∙ ap (option_map cell_of) (got-at xs k x l e))
     ∙ ap (λ b. when b (Some (record { made = replaced k ((cell_of x).0, Some (shared_of v)) (map cell_of xs); left = left }))) h
-
-pub set-refused : (xs : Made) (left k : ℕ) (t : Tree) (v : Shared) (x : declared_cell.Cell) → k < length xs → x ≡ get_or xs k x → takes_symbol t (shared_of v) (cell_of x) ≡ false → None ≡ stored_at xs left k t v
-set-refused xs left k t v x l e h = sym (stored-in xs left k t v x l e false h)
 
 pub set-cell : (xs : Made) (left k : ℕ) (t : Tree) (v : Shared) (x y : declared_cell.Cell) → k < length xs → x ≡ get_or xs k x → y ≡ get_or xs k y → takes_symbol t (shared_of v) (cell_of x) ≡ true →
     Some (record { made = map cell_of (set xs k (record { made_for = y.made_for; content = Some v })); left = left }) ≡ stored_at xs left k t v

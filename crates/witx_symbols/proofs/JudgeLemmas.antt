@@ -3,10 +3,9 @@ use Rattle.std.proofs.Common.{◌≡◌, ◌≢◌, Bool, true, false, ◌&&◌,
 use Rattle.std.specs.Prelude.{nat_eq, option_and_then}
 use Rattle.std.proofs.Math.Dec.{eqb-suc-zero}
 use Rattle.witx_machine.specs.Run.{values_in}
-use Rattle.witx_symbols.specs.declared.surface.Doubt.{Doubt}
 use Rattle.witx_symbols.specs.Symbols.{Symbol, same_symbol, same_symbols, same_members}
 use Rattle.witx_symbols.specs.SymbolViews.{symbols_read}
-use Rattle.witx_symbols.specs.Verdicts.{unless, are_values}
+use Rattle.witx_symbols.specs.Verdicts.{are_values}
 use Rattle.witx_symbols.specs.WordViews.{Shared, shared_of, shared_symbols}
 use Rattle.witx_symbols.specs.OutcomeViews.{item_of, items_of}
 use Rattle.witx_run.specs.declared.item.Item as declared_item
@@ -61,21 +60,5 @@ other-back (item.Value v k ∷ item.Value z l ∷ xs) u n = go (values_in (items
     go : (o : Option (List Symbol)) → are_values (option_and_then (λ vs. Some (shared_of v ∷ vs)) (option_and_then (λ vs. Some (shared_of z ∷ vs)) o)) (u ∷ []) ≡ false
     go None = refl
     go (Some vs) = none (same_symbol (shared_of v) u)
-
--- the first test that fails
-pub doubt-passes : (p g n r : Bool) → p ≡ false → unless p Doubt.Passes (unless g Doubt.Returns (unless n Doubt.Notes (unless r Doubt.Reply None))) ≡ Some Doubt.Passes
-doubt-passes p g n r h = rw h refl
-
-pub doubt-returns : (p g n r : Bool) → p ≡ true → g ≡ false → unless p Doubt.Passes (unless g Doubt.Returns (unless n Doubt.Notes (unless r Doubt.Reply None))) ≡ Some Doubt.Returns
-doubt-returns p g n r h k = rw (h, k) refl
-
-pub doubt-notes : (p g n r : Bool) → p ≡ true → g ≡ true → n ≡ false → unless p Doubt.Passes (unless g Doubt.Returns (unless n Doubt.Notes (unless r Doubt.Reply None))) ≡ Some Doubt.Notes
-doubt-notes p g n r h k l = rw (h, k, l) refl
-
-pub doubt-reply : (p g n r : Bool) → p ≡ true → g ≡ true → n ≡ true → r ≡ false → unless p Doubt.Passes (unless g Doubt.Returns (unless n Doubt.Notes (unless r Doubt.Reply None))) ≡ Some Doubt.Reply
-doubt-reply p g n r h k l i = rw (h, k, l, i) refl
-
-pub no-doubt : (p g n r : Bool) → p ≡ true → g ≡ true → n ≡ true → r ≡ true → unless p Doubt.Passes (unless g Doubt.Returns (unless n Doubt.Notes (unless r Doubt.Reply None))) ≡ None
-no-doubt p g n r h k l i = rw (h, k, l, i) refl
 
 pub ruleset judge_rules = (return_rules, members-symbols, nothing-back, one-item, value-back, other-back)

@@ -323,10 +323,6 @@ pub pointer-more : (m : SymbolMemory) (ps : Pointers) (ws : Words) (i : ℕ) (p 
     is_made_for m (word_of w) (named_tree p.now.value) ≡ true → left_pointers m ps ws i ≡ all → left_pointers m ps ws (i + 1) ≡ all
 pointer-more m ps ws i p w all l n e f h k = sym (ap (λ b. b && left_pointers m ps ws (i + 1)) h) ∙ sym (pointer-step m ps ws i p w l (omega arith) e f) ∙ k
 
-pub pointer-refused : (m : SymbolMemory) (ps : Pointers) (ws : Words) (i : ℕ) (p : Bor (Rc NamedType Global)) (w : declared_word.Word) (all : Bool) → i < length ps → length ps ≡ length ws → p ≡ get_or ps i p → w ≡ get_or ws i w →
-    is_made_for m (word_of w) (named_tree p.now.value) ≡ false → left_pointers m ps ws i ≡ all → false ≡ all
-pointer-refused m ps ws i p w all l n e f h k = sym (ap (λ b. b && left_pointers m ps ws (i + 1)) h) ∙ sym (pointer-step m ps ws i p w l (omega arith) e f) ∙ k
-
 pub pointers-done : (m : SymbolMemory) (ps : Pointers) (ws : Words) (i : ℕ) (all : Bool) → length ps ≤ i → length ps ≡ length ws → left_pointers m ps ws i ≡ all → true ≡ all
 pointers-done m ps ws i all l n k = sym (rw (drop_all i ps l, drop_all i ws (omega arith)) refl) ∙ k
 

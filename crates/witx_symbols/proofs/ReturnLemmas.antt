@@ -141,10 +141,6 @@ pub held-more : (m : SymbolMemory) (ws : Words) (vs : List Shared) (i : ℕ) (w 
     holds_symbol m (word_of w) (shared_of v) ≡ true → left_held m ws vs i ≡ all → left_held m ws vs (i + 1) ≡ all
 held-more m ws vs i w v all l n e f h k = sym (ap (λ b. b && left_held m ws vs (i + 1)) h) ∙ sym (held-step m ws vs i w v l (omega arith) e f) ∙ k
 
-pub held-refused : (m : SymbolMemory) (ws : Words) (vs : List Shared) (i : ℕ) (w : declared_word.Word) (v : Shared) (all : Bool) → i < length ws → length ws ≡ length vs → w ≡ get_or ws i w → v ≡ get_or vs i v →
-    holds_symbol m (word_of w) (shared_of v) ≡ false → left_held m ws vs i ≡ all → false ≡ all
-held-refused m ws vs i w v all l n e f h k = sym (ap (λ b. b && left_held m ws vs (i + 1)) h) ∙ sym (held-step m ws vs i w v l (omega arith) e f) ∙ k
-
 pub held-done : (m : SymbolMemory) (ws : Words) (vs : List Shared) (i : ℕ) (all : Bool) → length ws ≤ i → length ws ≡ length vs → left_held m ws vs i ≡ all → true ≡ all
 held-done m ws vs i all l n k = sym (rw (drop_all i ws l, drop_all i vs (omega arith)) refl) ∙ k
 

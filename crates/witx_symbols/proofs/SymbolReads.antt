@@ -80,11 +80,6 @@ from_first : {A : Type 0} (xs : List A) → drop 0 xs ≡ xs
 from_first [] = refl
 from_first (x ∷ xs) = refl
 
-pub same-refused : (a b : List Shared) (i : ℕ) (x y : Shared) (t : Bool) → i < length a → length a ≡ length b → x ≡ get_or a i x → y ≡ get_or b i y → t ≡ one_same x y → t ≡ false → left_same a b i ≡ left_same a b 0 → false ≡ same_members (symbols_read a) (symbols_read b)
-same-refused a b i x y t l e p q s n h =
-    let k : i < length b = omega arith in
-    sym (ap (λ t. t && left_same a b (i + 1)) (sym s ∙ n)) ∙ sym (same-step a b i x y l k p q) ∙ h ∙ ap (λ xs. same_members (symbols_read xs) (symbols_read (drop 0 b))) (from_first a) ∙ ap (λ xs. same_members (symbols_read a) (symbols_read xs)) (from_first b)
-
 pub same-done : (a b : List Shared) (i : ℕ) (all : Bool) → length a ≤ i → length a ≡ length b → left_same a b i ≡ all → true ≡ all
 same-done a b i all l e h = let k : length b ≤ i = omega arith in sym (rw (drop_all i a l, drop_all i b k) refl) ∙ h
 

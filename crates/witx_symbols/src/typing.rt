@@ -12,7 +12,7 @@ use crate::types::alike;
 use std::rc::Rc;
 use witx_ast::{Datatype, RecordMember, TypeRef};
 
-/// Whether a symbol is of a type.
+/// Whether a symbol is of a type; a tuple by its parts, whatever the names of the type's members.
 #[cycle(typing)]
 #[tactic(auto, using(crate::proofs::TypingLemmas::typing_rules))]
 pub fn is_of(symbol: &Symbol, ty: &TypeRef) -> bool
