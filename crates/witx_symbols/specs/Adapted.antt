@@ -13,7 +13,9 @@ use Rattle.witx_symbols.specs.Verdicts.{verdict}
 
 -- so it is of each entry of what a closed document is adapted to
 abbrev pub OfEachAdapted : (AdaptedFunc → Type 0) → Type 0
-OfEachAdapted P = (ds : List DefinitionTree) (fs : List AdaptedFunc) → IsClosed ds → IsAdaptable ds → map entry_of fs ≡ map entry_for (all_functions ds) → All P fs
+OfEachAdapted P =
+    (ds : List DefinitionTree) (fs : List AdaptedFunc) →
+    IsClosed ds → IsAdaptable ds → map entry_of fs ≡ map entry_for (all_functions ds) → All P fs
 
 -- the two traces of an entry get a yes
 abbrev pub GetsYes : AdaptedFunc → Type 0

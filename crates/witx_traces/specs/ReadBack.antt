@@ -102,9 +102,11 @@ pub record IsReadable (a : Adapted) : Type 0 where
 
 -- its listing gives its own traces, each type as what its text stands for
 abbrev pub OwnListingsAreReadBack : Type 0
-OwnListingsAreReadBack = (a : Adapted) → IsReadable a → GivesTraces (listed a) (listing_text a) (map (sides_read (listed a).definitions) (listed a).functions)
+OwnListingsAreReadBack =
+    (a : Adapted) → IsReadable a → GivesTraces (listed a) (listing_text a) (map (sides_read (listed a).definitions) (listed a).functions)
 
 -- and the very traces, where each type is what its text stands for
 abbrev pub OwnTracesAreReadBack : Type 0
 OwnTracesAreReadBack =
-    (a : Adapted) → IsReadable a → AllByRecursion (SidesStand (listed a).definitions) (listed a).functions → GivesTraces (listed a) (listing_text a) (map own_sides a.functions)
+    (a : Adapted) → IsReadable a → AllByRecursion (SidesStand (listed a).definitions) (listed a).functions
+    → GivesTraces (listed a) (listing_text a) (map own_sides a.functions)
