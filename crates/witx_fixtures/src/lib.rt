@@ -1,11 +1,9 @@
 //! What several files of tests need, of one crate of tests or of two: numbers of calls that fail, long
-//! texts, files in memory, and a page. It is a library, since a crate of tests gives nothing on.
+//! texts, and files in memory. It is a library, since a crate of tests gives nothing on.
 #![tactic(auto)]
 
 mod files;
 mod fixtures;
-mod pages;
 
 pub use files::{Files, Links, files_of, links_of};
 pub use fixtures::{Pieces, built_text, calls_of, long_text};
-pub use pages::ADDS_PAGE;

@@ -1,11 +1,11 @@
-//! The program over a source and two sinks in memory: a row with what a run gives, and whether it does.
+//! The program over a source and two sinks in memory, and whether a run gives what its row says.
 
 ghost use Rattle.std.specs.Prelude.{◌<◌};
 
 use std::alloc::Global;
 use witx::run;
 use witx_base::{Bytes, Items, MemSink, MemSource, OutOfMemory, Text};
-use witx_fixtures::{Pieces, built_text, calls_of};
+use witx_fixtures::calls_of;
 
 /// A bundle of one document, whose function `add` takes two numbers.
 pub const ADD: &str = r#";;;; file /a
@@ -34,15 +34,6 @@ callee
 
 /// Words, the bundle, the status, and what is written on the output and of the refusal.
 pub type Case = (&'static str, &'static str, u8, &'static str, &'static str);
-
-/// Words, the pieces of the bundle, the status, what the output ends with, and the refusal.
-pub type Built = (
-    &'static str,
-    Pieces<'static>,
-    u8,
-    &'static str,
-    &'static str,
-);
 
 fn bytes_of(alloc: Global, bytes: &[u8]) -> Result<Bytes, OutOfMemory> {
     let mut list = Items::new(alloc);
@@ -111,14 +102,6 @@ impl Gave {
             && self.out.bytes() == listing.as_bytes()
             && self.err.bytes() == refusal.as_bytes()
     }
-
-    /// Whether the run ended so, with a text that ends so, or none, and with this refusal.
-    fn ends(&self, line: &str, status: u8, end: &str, refusal: &str) -> bool {
-        self.ended(line, status)
-            && self.out.bytes().ends_with(end.as_bytes())
-            && self.out.bytes().is_empty() == end.is_empty()
-            && self.err.bytes() == refusal.as_bytes()
-    }
 }
 
 /// A run of the words of a line over these devices.
@@ -149,43 +132,4 @@ pub fn run_over(alloc: Global, line: &str, bundle: &[u8]) -> Result<Gave, OutOfM
     let err = sink_of(alloc, 500, &[])?;
     let source = source_of(alloc, bundle, 50_000, &[])?;
     run_on(alloc, line, source, out, err)
-}
-
-/// Whether a run gives this over devices that don't fail.
-fn gives(alloc: Global, (line, bundle, status, listing, refusal): &Case) -> bool {
-    run_over(alloc, line, bundle.as_bytes()).is_ok_and(|gave| gave.is(
-        line, *status, listing, refusal,
-    ))
-}
-
-/// Whether each of these runs gives what its row says.
-pub fn all_give(alloc: Global, cases: &[Case]) -> bool {
-    for case in cases {
-        if !gives(alloc, case) {
-            return false;
-        }
-    }
-    true
-}
-
-/// Whether a run over a bundle gives what the row says.
-fn bundle_gives(alloc: Global, bundle: &str, (line, _, status, end, refusal): &Built) -> bool {
-    run_over(alloc, line, bundle.as_bytes()).is_ok_and(|gave| gave.ends(
-        line, *status, end, refusal,
-    ))
-}
-
-fn built_gives(alloc: Global, row: &Built) -> Result<bool, OutOfMemory> {
-    let text = built_text(alloc, row.1)?;
-    Ok(bundle_gives(alloc, text.as_str(), row))
-}
-
-/// Whether each of these runs over a built bundle gives what its row says.
-pub fn all_built_give(alloc: Global, built: &[Built]) -> bool {
-    for row in built {
-        if !built_gives(alloc, row).unwrap_or(false) {
-            return false;
-        }
-    }
-    true
 }

@@ -1,5 +1,6 @@
-//! Tests of what is read of a text: the checks of declarations, constants, files that use one another, printed
-//! text that reads back, calls that find no memory, and the library by its one crate.
+//! Tests of what is read of a text, and of what is written of a document: the checks of declarations, files that
+//! use one another, printed text that reads back, the tree of a page, calls that find no memory, and the library
+//! by its one crate.
 //!
 //! Rows were worked out by hand. docs/PROVING.md tells why tests stand apart, and the form of one.
 #![tactic(auto)]
@@ -7,11 +8,15 @@
 #[cfg(test)]
 mod check;
 #[cfg(test)]
-mod constants;
+mod generated;
+#[cfg(test)]
+mod pages;
 #[cfg(test)]
 mod read_back;
 #[cfg(test)]
 mod refused;
+#[cfg(test)]
+mod render;
 #[cfg(test)]
 mod surface;
 #[cfg(test)]

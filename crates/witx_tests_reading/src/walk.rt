@@ -1,282 +1,14 @@
-//! Files in order: what a use finds, which fault comes first, that each file is read once, and each
-//! call of the reader of files failing.
+//! Files that use one another: that each is read once, each call of the reader of files failing, paths that
+//! stand for others; texts by themselves, and how errors display.
 
 ghost use Rattle.std.specs.Prelude.{None};
 
 use std::alloc::{AllocError, Global};
 use witx::{WitxError, parse, parse_witx_with};
-use witx_ast::{Document, NamedType};
+use witx_ast::Document;
 use witx_base::{CallCounter, Duplicate, Items, OutOfMemory, Text, WitxPath};
 use witx_files::{FailingFs, IoError, MockFs, WitxIo};
 use witx_fixtures::{Files, Links, calls_of, files_of, links_of};
-use witx_fixtures_run::{Built, Case, all_built_give, all_give};
-
-#[rattlefmt::skip]
-static WALKS: &[Case] = &[
-    // A file that two use, and two files that use each other, with a module.
-    (
-        "adapt /a",
-        r#";;;; file /a
-(use "b")(use "c")
-;;;; file /b
-(use "d")
-;;;; file /c
-(use "d")
-;;;; file /d
-(module $m)"#,
-        0,
-        "module m\n",
-        "",
-    ),
-    (
-        "adapt /a",
-        r#";;;; file /a
-(use "b")
-;;;; file /b
-(use "a")(module $m)"#,
-        0,
-        "module m\n",
-        "",
-    ),
-    // A file that uses itself, and two that use each other.
-    (
-        "adapt /a",
-        r#";;;; file /a
-(use "a")(typename $t u8)"#,
-        0,
-        "typename t size 1 align 1\n",
-        "",
-    ),
-    (
-        "adapt /a",
-        r#";;;; file /a
-(use "b")(typename $t u8)
-;;;; file /b
-(use "a")(typename $u u16)"#,
-        0,
-        "\
-typename u size 2 align 2
-typename t size 1 align 1
-",
-        "",
-    ),
-    // What a used file declares stands before what follows the use, and the handed files in turn.
-    (
-        "adapt /a",
-        r#";;;; file /a
-(typename $s u8)(use "b")(typename $t $u)
-;;;; file /b
-(typename $u $s)"#,
-        0,
-        "\
-typename s size 1 align 1
-typename u size 1 align 1
-typename t size 1 align 1
-",
-        "",
-    ),
-    (
-        "adapt /b /a",
-        "\
-;;;; file /a
-(typename $t u16)
-;;;; file /b
-(typename $s u8)",
-        0,
-        "\
-typename s size 1 align 1
-typename t size 2 align 2
-",
-        "",
-    ),
-    (
-        "adapt a/.",
-        r#";;;; file a
-(use "b")"#,
-        1,
-        "",
-        r#"witx: with file "b": file not found
-"#,
-    ),
-    (
-        "adapt /a /",
-        "\
-;;;; file /a
-(",
-        1,
-        "",
-        "\
-witx: unexpected token
-     --> /a:1:2
-",
-    ),
-    (
-        "adapt /a /",
-        ";;;; file /a\n",
-        1,
-        "",
-        r#"witx: path "/" has no file name
-"#,
-    ),
-    // A file is read whole before its uses are followed, and a used file before what follows the use.
-    (
-        "adapt /a",
-        r#";;;; file /b
-(typename
-;;;; file /a
-(use "b")(typename"#,
-        1,
-        "",
-        "\
-witx: expected an identifier
-     --> /a:1:19
-",
-    ),
-    (
-        "adapt /a",
-        r#";;;; file /a
-(use "b")(typename $t $x)
-;;;; file /b
-(typename"#,
-        1,
-        "",
-        "\
-witx: expected an identifier
-     --> /b:1:10
-",
-    ),
-    // The fault of a declaration before a bad use, and behind it.
-    (
-        "adapt /a",
-        r#";;;; file /a
-(typename $t $x)(use "b")"#,
-        1,
-        "",
-        r#"witx: in "/a":
-    1 | (typename $t $x)(use "b")
-                      ^
-Unknown name `x`
-"#,
-    ),
-    (
-        "adapt /a",
-        r#";;;; file /a
-(use "b")(typename $t $x)"#,
-        1,
-        "",
-        r#"witx: with file "/b": file not found
-"#,
-    ),
-    // A name that two files declare.
-    (
-        "adapt /a",
-        r#";;;; file /a
-(use "b")(typename $t u8)
-;;;; file /b
-(typename $t u8)"#,
-        1,
-        "",
-        r#"witx: in "/a":
-    1 | (use "b")(typename $t u8)
-                            ^
-Redefinition of name `t`
-Originally defined at:
-in "/b":
-    1 | (typename $t u8)
-                   ^
-"#,
-    ),
-];
-
-#[test]
-fn walks(rt: HostRuntime) {
-    assert!(rt; all_give(rt.alloc(), WALKS));
-}
-
-/// Files, the handed path, and the typenames that are found with their types, in order.
-type Used = (Files, &'static str, &'static [(&'static str, &'static str)]);
-
-#[rattlefmt::skip]
-const USED: &[Used] = &[
-    (&[("/a", ";; empty")], "/a", &[]),
-    (&[("/a", "(use \"b\")"), ("/b", ";; empty")], "/a", &[]),
-    (
-        &[
-            ("/a", "(use \"b\")"),
-            ("/b", "(use \"c\")\n(typename $b_float f64)"),
-            ("/c", "(typename $c_int u32)"),
-        ],
-        "/a",
-        &[("c_int", "u32"), ("b_float", "f64")],
-    ),
-    (
-        &[
-            ("/a", "(use \"b\")\n(use \"c\")"),
-            ("/b", "(use \"d\")"),
-            ("/c", "(use \"d\")"),
-            ("/d", "(typename $d_char u8)"),
-        ],
-        "/a",
-        &[("d_char", "u8")],
-    ),
-    (
-        &[
-            ("/root.witx", "(use \"subdir/child.witx\")"),
-            ("/subdir/child.witx", "(use \"sibling.witx\")\n(typename $b_float f64)"),
-            ("/subdir/sibling.witx", "(typename $c_int u32)"),
-            ("/sibling.witx", "(typename $c_int u64)"),
-        ],
-        "/root.witx",
-        &[("c_int", "u32"), ("b_float", "f64")],
-    ),
-];
-
-fn is_typename(
-    alloc: Global,
-    named: &NamedType,
-    name: &str,
-    type_name: &str,
-) -> Result<bool, OutOfMemory> {
-    Ok(named.name.is(name) && named.tref.type_name(alloc)?.as_str() == type_name)
-}
-
-fn has_typenames(alloc: Global, document: &Document, wanted: &[(&str, &str)]) -> bool {
-    let mut typenames = document.typenames();
-    for (name, type_name) in wanted {
-        match typenames.next() {
-            Some(named) => {
-                if !is_typename(alloc, named, name, type_name).unwrap_or(false) {
-                    return false;
-                }
-            }
-            None => return false,
-        }
-    }
-    typenames.next().is_none()
-}
-
-fn is_used(alloc: Global, (files, handed, wanted): &Used) -> Result<bool, OutOfMemory> {
-    let path = WitxPath::new(alloc, handed)?;
-    let mut files = files_of(alloc, files)?;
-    match parse_witx_with(alloc, &[path], &mut files) {
-        Ok(document) => Ok(has_typenames(alloc, &document, wanted)),
-        Err(_) => Ok(false),
-    }
-}
-
-fn all_used(alloc: Global) -> bool {
-    for row in USED {
-        if !is_used(alloc, row).unwrap_or(false) {
-            return false;
-        }
-    }
-    true
-}
-
-#[test]
-fn used_files(rt: HostRuntime) {
-    assert!(rt; all_used(rt.alloc()));
-}
 
 /// How many definitions the document has, or the report of the refusal.
 fn text_of<I: WitxIo>(
@@ -648,39 +380,10 @@ fn untold_files(rt: HostRuntime) {
     assert!(rt; is_untold(rt.alloc(), 5, wanted, 5).unwrap_or(false));
 }
 
-/// Files, each of which uses the next one, as many as may be and one more.
-#[rattlefmt::skip]
-const CHAINS: &[Built] = &[
-    (
-        "adapt /f0",
-        &[(r#";;;; file /f#
-(use "f^")
-"#, 1023), ("\
-;;;; file /f1023
-(typename $t u8)", 1)],
-        0,
-        "typename t size 1 align 1\n",
-        "",
-    ),
-    (
-        "adapt /f0",
-        &[(r#";;;; file /f#
-(use "f^")
-"#, 1024), ("\
-;;;; file /f1024
-(typename $t u8)", 1)],
-        1,
-        "",
-        r#"witx: more than 1024 files at "/f1024"
-"#,
-    ),
-];
-
 #[test]
-fn long_chains(rt: HostRuntime) {
+fn too_many_files(rt: HostRuntime) {
     let wanted = "more than 1024 files at \"/f1024\"";
-    let is_untold = is_untold(rt.alloc(), 2000, wanted, 1024).unwrap_or(false);
-    assert!(rt; is_untold && all_built_give(rt.alloc(), CHAINS));
+    assert!(rt; is_untold(rt.alloc(), 2000, wanted, 1024).unwrap_or(false));
 }
 
 /// An error as it displays, with what it holds.
@@ -710,6 +413,31 @@ Parse error: expected an identifier
      --> -:1:10",
     ),
     ("(typename $a $b)", "Validation error: Unknown name `b`"),
+    ("(typename $a $a)", "Validation error: Recursive definition of name `a`"),
+    ("(typename $a u8) (typename $a u8)", "Validation error: Redefinition of name `a`"),
+    ("(module $m) (typename $t $m)", "Validation error: Wrong kind of name `m`: expected datatype, got module"),
+    ("(typename $a (flags (@witx repr char) $x))", "Validation error: Invalid representation `Char`"),
+    (
+        r#"(module $m (@interface func (export "f") (result $r bool)))"#,
+        "Validation error: ABI error: invalid return type",
+    ),
+    (
+        "(typename $t (variant (case $a u8) (case $b))) (typename $a (union (@witx tag $t) u8))",
+        "Validation error: Invalid union tag: all variant cases should have empty payloads",
+    ),
+    (
+        "(typename $a (list (handle)))",
+        "Validation error: Anonymous structured types (struct, union, enum, flags, handle) are not permitted",
+    ),
+    (
+        "(typename $t (enum $a $b)) (typename $a (union (@witx tag $t) u8))",
+        "Validation error: Union expected 2 variants, found 1",
+    ),
+    (
+        "(typename $t (enum $a)) (typename $a (variant (@witx tag $t) (case $c)))",
+        "Validation error: Invalid union field `c`: does not correspond to variant in tag `tag`",
+    ),
+    ("(typename $n u8) (@witx const $n $max 256)", "Validation error: Constant `max` is 256, at most 255"),
 ];
 
 fn error_displays(alloc: Global, text: &str, wanted: &str) -> bool {

@@ -1,4 +1,4 @@
-//! Sizes, alignments and offsets of types, the text of layouts, and tags.
+//! Sizes, alignments and offsets of types, by each call.
 
 ghost use Rattle.std.specs.Prelude.{◌≡◌, ◌<◌, IfSome, map};
 ghost use Rattle.witx_ast.specs.Definitions.{definition_tree};
@@ -12,8 +12,8 @@ use witx_ast::{Datatype, Document, NamedType, RecordDatatype};
 use witx_fixtures::built_text;
 use witx_fixtures_run::typename_of;
 use witx_layout::{
-    Layout, LayoutError, LayoutsError, RecordMembers, SizeAlign, SizeAligns, Steps, TagTooNarrow,
-    VariantOffset, fits_tags, layouts, layouts_text,
+    Layout, LayoutError, LayoutsError, RecordMembers, SizeAlign, SizeAligns, Steps, VariantOffset,
+    layouts,
 };
 
 /// A record of an enum on u32, twice a u64, and flags on u16.
@@ -193,26 +193,6 @@ fn layouts_are_counted(rt: HostRuntime) {
     assert!(rt; all_counted(rt.alloc()));
 }
 
-/// So many bytes, what follows them, and where that begins.
-static ALIGNED: &[(usize, &str, usize)] = &[
-    (0, "u8", 0),
-    (0, "u16", 0),
-    (0, "u32", 0),
-    (0, "u64", 0),
-    (1, "u8", 1),
-    (1, "u16", 2),
-    (1, "u32", 4),
-    (1, "u64", 8),
-    (2, "u8", 2),
-    (2, "u16", 2),
-    (2, "u32", 4),
-    (2, "u64", 8),
-    (5, "u8", 5),
-    (5, "u16", 6),
-    (5, "u32", 8),
-    (5, "u64", 8),
-];
-
 /// Whether there are so many members, of which the last begins there.
 fn ends_at(
     alloc: Global,
@@ -230,137 +210,6 @@ fn named_ends_at(alloc: Global, named: &NamedType, len: usize, offset: usize) ->
         Datatype::Record(record) => ends_at(alloc, record, len, offset).unwrap_or(false),
         _ => false,
     }
-}
-
-fn is_aligned(alloc: Global, bytes: usize, last: &str, offset: usize) -> Option<bool> {
-    let pieces = [
-        ("(typename $t (record", 1),
-        (" (field $b# u8)", bytes),
-        (" (field $last ", 1),
-        (last, 1),
-        (")))", 1),
-    ];
-    let text = built_text(alloc, &pieces).ok()?;
-    let named = typename_of(alloc, text.as_str())?;
-    Some(named_ends_at(alloc, &named, bytes.saturating_add(1), offset))
-}
-
-fn all_aligned(alloc: Global) -> bool {
-    for (bytes, last, offset) in ALIGNED {
-        if !is_aligned(alloc, *bytes, last, *offset).unwrap_or(false) {
-            return false;
-        }
-    }
-    true
-}
-
-#[test]
-fn members_begin(rt: HostRuntime) {
-    assert!(rt; all_aligned(rt.alloc()));
-}
-
-/// Texts, and the text of their layouts.
-const PRINTED: &[(&str, &str)] = &[
-    (
-        MIXED,
-        "\
-typename t size 12 align 4
-  field m offset 0
-  field n offset 4
-  field o offset 8
-",
-    ),
-    (
-        "(typename $t (variant (@witx tag u8) (case $a (tuple u8 u8 u8 u8 u8)) (case $b u32)))",
-        "\
-typename t size 12 align 4
-  tag 1 payload 4
-",
-    ),
-    (
-        "(typename $t (flags (@witx repr u16) $a $b $c))",
-        "\
-typename t size 2 align 2
-  flags u16
-",
-    ),
-    // Names are looked through.
-    (
-        "(typename $b (flags (@witx repr u8) $a)) (typename $a $b)",
-        "\
-typename b size 1 align 1
-  flags u8
-typename a size 1 align 1
-  flags u8
-",
-    ),
-];
-
-fn is_printed(alloc: Global, document: &Document, wanted: &str) -> bool {
-    layouts_text(alloc, document).is_ok_and(|text| text.as_str() == wanted)
-}
-
-fn all_printed(alloc: Global) -> bool {
-    for (text, wanted) in PRINTED {
-        if !parse(alloc, text).is_ok_and(|document| is_printed(alloc, &document, wanted)) {
-            return false;
-        }
-    }
-    true
-}
-
-#[test]
-fn layouts_are_printed(rt: HostRuntime) {
-    assert!(rt; all_printed(rt.alloc()));
-}
-
-/// The begin of a type, how many names it has, and how many it may have at most, if it has more.
-const TAGS: &[(&str, usize, Option<u64>)] = &[
-    ("(flags (@witx repr u8)", 8, None),
-    ("(flags (@witx repr u8)", 9, Some(8)),
-    ("(flags (@witx repr u16)", 16, None),
-    ("(flags (@witx repr u16)", 17, Some(16)),
-    ("(flags (@witx repr u32)", 32, None),
-    ("(flags (@witx repr u32)", 33, Some(32)),
-    ("(flags (@witx repr u64)", 64, None),
-    ("(flags (@witx repr u64)", 65, Some(64)),
-    ("(enum (@witx tag u8)", 256, None),
-    ("(enum (@witx tag u8)", 257, Some(256)),
-    // Texts of half a megabyte.
-    ("(enum (@witx tag u16)", 65_536, None),
-    ("(enum (@witx tag u16)", 65_537, Some(65_536)),
-];
-
-fn is_checked(answer: Result<(), TagTooNarrow>, count: usize, most: Option<u64>) -> bool {
-    match (answer, most) {
-        (Ok(()), None) => true,
-        (Err(tag), Some(most)) => tag.definition == 0 && tag.count == count && tag.most == most,
-        _ => false,
-    }
-}
-
-fn document_is_checked(alloc: Global, text: &str, count: usize, most: Option<u64>) -> bool {
-    parse(alloc, text).is_ok_and(|document| is_checked(fits_tags(&document), count, most))
-}
-
-fn text_is_checked(alloc: Global, begin: &str, count: usize, most: Option<u64>) -> Option<bool> {
-    let pieces = [("(typename $t ", 1), (begin, 1), (" $x#", count), ("))", 1)];
-    let text = built_text(alloc, &pieces).ok()?;
-    Some(document_is_checked(alloc, text.as_str(), count, most))
-}
-
-fn all_checked(alloc: Global) -> bool {
-    for (begin, count, most) in TAGS {
-        if !text_is_checked(alloc, begin, *count, *most).unwrap_or(false) {
-            return false;
-        }
-    }
-    true
-}
-
-#[test]
-fn tags_are_checked(rt: HostRuntime) {
-    assert!(rt; all_checked(rt.alloc()));
 }
 
 /// More flags than their number has bits: it has its own size, and each has an offset, as a `bool` of four bytes.

@@ -1,5 +1,5 @@
-//! Tests of the types and functions of a document: layouts, words, bytes, shims, what can't be adapted, and
-//! functions made by hand.
+//! Tests of the types and functions of a document: layouts, words, bytes, types by types, shims, and functions
+//! made by hand.
 //!
 //! Rows were worked out by hand. docs/PROVING.md tells why tests stand apart, and the form of one.
 #![tactic(auto)]
@@ -7,16 +7,14 @@
 #[cfg(test)]
 mod abi;
 #[cfg(test)]
-mod adapt;
-#[cfg(test)]
 mod ast;
 #[cfg(test)]
 mod bytes;
 #[cfg(test)]
+mod compat;
+#[cfg(test)]
 mod hostile;
 #[cfg(test)]
 mod layout;
-#[cfg(test)]
-mod limits;
 #[cfg(test)]
 mod shim;

@@ -1,0 +1,155 @@
+//! Cases, what each gives, and what is stored of it.
+//!
+//! A file of cases, or of what they give, begins with a line that tells its topic, and has a piece for
+//! each case behind the mark `==== `: the case's name, up to the end of the line, and what follows.
+//!
+//! In `cases` that is a line `$ witx` with the words, `''` for an empty one, and then the bundle
+//! (`bundles.rt` has its notation). A case with no line behind the words is run over the bundle before.
+//!
+//! In `gives` it is a line with the status, `and a document` where the run hands one back; then, behind
+//! the marks `---- out` and `---- err`, what the run wrote on the output and as a refusal, if anything. Of
+//! a text of more than 4,096 bytes the mark tells the length, and only its last lines follow.
+//!
+//! A text ends before the line feed that stands before the next mark or at the file's end: one that ends
+//! with a line feed has an empty line behind it.
+
+use crate::bundles::bundle_of;
+use crate::devices::{Devices, run_over, whole};
+use std::alloc::{AllocError, Global};
+use std::fmt::Write;
+use std::str::from_utf8;
+use witx_base::{Items, OutOfMemory, Text};
+
+/// What stands before each case.
+const CASE: &str = "\n==== ";
+
+/// The most bytes of a text that is written whole.
+const MOST: usize = 4096;
+
+/// How many bytes a sink holds besides as many as the bundle has.
+const ROOM: usize = 65_536;
+
+/// How many lines of a longer one are written.
+const LAST: usize = 20;
+
+/// Runs the cases of a topic. Writes those that give something else than is stored, and their number.
+pub fn hold(
+    alloc: Global,
+    topic: &str,
+    cases: &str,
+    gives: &str,
+    answers: &mut String,
+) -> Result<(), OutOfMemory> {
+    let mut stored = without_end(gives).split(CASE);
+    let mut last = String::new(alloc);
+    let mut count: usize = 0;
+    for (number, case) in without_end(cases).split(CASE).enumerate() {
+        let gave = gave(alloc, number, case, &mut last)?;
+        if stored.next() != Some(gave.as_str()) {
+            put(answers, number, gave.as_str())?;
+        }
+        count = number;
+    }
+    let more = stored.count();
+    if more > 0 {
+        writeln!(answers, "stored without a case: {more}")?;
+    }
+    Ok(writeln!(answers, "{topic}: {count} cases")?)
+}
+
+/// Runs the cases of a topic, and writes what all give.
+pub fn put_all(alloc: Global, cases: &str, answers: &mut String) -> Result<(), OutOfMemory> {
+    let mut last = String::new(alloc);
+    for (number, case) in without_end(cases).split(CASE).enumerate() {
+        let gave = gave(alloc, number, case, &mut last)?;
+        put(answers, number, gave.as_str())?;
+    }
+    Ok(())
+}
+
+fn without_end(text: &str) -> &str {
+    text.strip_suffix('\n').unwrap_or(text)
+}
+
+/// Writes a piece, behind the mark of a case where it isn't the first one.
+fn put(answers: &mut String, number: usize, piece: &str) -> Result<(), AllocError> {
+    if number > 0 {
+        answers.push_str("==== ")?;
+    }
+    answers.push_str(piece)?;
+    answers.push('\n')
+}
+
+/// What is stored of a piece of the cases; of the head, which is no case, the head.
+fn gave(
+    alloc: Global,
+    number: usize,
+    case: &str,
+    last: &mut String,
+) -> Result<String, OutOfMemory> {
+    if number == 0 {
+        return Ok(String::from_str(alloc, case)?);
+    }
+    let (name, rest) = case.split_once('\n').unwrap_or((case, ""));
+    let (line, text) = match rest.split_once('\n') {
+        Some((line, text)) => (line, Some(text)),
+        None => (rest, None),
+    };
+    let bundle = bundle_of(alloc, text, last)?;
+    let mut piece = String::from_str(alloc, name)?;
+    put_run(alloc, line, bundle.as_str(), &mut piece)?;
+    Ok(piece)
+}
+
+/// Runs the words of a line over a bundle, and writes what that gives.
+fn put_run(alloc: Global, line: &str, bundle: &str, piece: &mut String) -> Result<(), OutOfMemory> {
+    let words = words_of(alloc, line)?;
+    let settings = whole(bundle.len().saturating_add(ROOM));
+    let mut devices = Devices::new(alloc, settings, bundle.as_bytes())?;
+    let (status, has_document) = run_over(alloc, words.as_slice(), &mut devices);
+    write!(piece, "\nstatus {status}")?;
+    if has_document {
+        piece.push_str(" and a document")?;
+    }
+    put_text(piece, "out", devices.out.bytes())?;
+    put_text(piece, "err", devices.err.bytes())?;
+    Ok(())
+}
+
+/// The words of a line behind `$ witx`.
+fn words_of(alloc: Global, line: &str) -> Result<Items<Text>, OutOfMemory> {
+    let mut words = Items::new(alloc);
+    for word in line.split(' ').skip(2) {
+        words.push(Text::new(alloc, if word == "''" { "" } else { word })?)?;
+    }
+    Ok(words)
+}
+
+/// Writes what stands on a sink, if anything.
+fn put_text(piece: &mut String, sink: &str, bytes: &[u8]) -> Result<(), AllocError> {
+    match from_utf8(bytes) {
+        Ok("") => Ok(()),
+        Ok(text) if text.len() <= MOST => write!(piece, "\n---- {sink}\n{text}"),
+        Ok(text) => {
+            write!(
+                piece,
+                "\n---- {sink}: {} bytes, with these last lines",
+                text.len()
+            )?;
+            put_last_lines(piece, text)
+        }
+        Err(_) => write!(
+            piece,
+            "\n---- {sink}: {} bytes that are no text",
+            bytes.len()
+        ),
+    }
+}
+
+fn put_last_lines(piece: &mut String, text: &str) -> Result<(), AllocError> {
+    let count = text.lines().count();
+    for line in text.lines().skip(count.saturating_sub(LAST)) {
+        write!(piece, "\n{line}")?;
+    }
+    Ok(())
+}
