@@ -58,7 +58,7 @@ pub introducer_append : (ts : List Taken) (x : Taken) (n : List ℕ) → introdu
 introducer_append [] x n = refl
 introducer_append (t ∷ ts) x n = introducer_cond (is_name n t.name) t (introducer (ts ++ x ∷ []) n) (introducer ts n) (cond (is_name n x.name) (Some x) None) (introducer_append ts x n)
 
-found_append : (es : Known) (m : List ℕ) (x : Option Tree) (n : List ℕ) → found (es ++ (m, x) ∷ []) n ≡ or_else (found es n) (cond (is_name n m) (Some x) None)
+pub found_append : (es : Known) (m : List ℕ) (x : Option Tree) (n : List ℕ) → found (es ++ (m, x) ∷ []) n ≡ or_else (found es n) (cond (is_name n m) (Some x) None)
 found_append [] m x n = refl
 found_append (e ∷ es) m x n = found_cond (is_name n e.0) e.1 (found (es ++ (m, x) ∷ []) n) (found es n) (cond (is_name n m) (Some x) None) (found_append es m x n)
 
@@ -86,14 +86,14 @@ agree_at : (o : Option Taken) (own : Bool) (t : Tree) → TracksAt o (Some (Some
 agree_at None own t h = absurd h
 agree_at (Some x) own t h = (h.0, ap (λ (k : Outcome). sense_from k) h.1, h.2)
 
-agrees : (past : Past) (known : Known) (place : ℕ → Location) (own : Name) → Tracks past known → Agrees (denoted known) (after past.taken place own)
+pub agrees : (past : Past) (known : Known) (place : ℕ → Location) (own : Name) → Tracks past known → Agrees (denoted known) (after past.taken place own)
 agrees past known place own h n t d = agree_at (introducer past.taken n) (is_name n own.name) t (subst (λ (o : Option (Option Tree)). TracksAt (introducer past.taken n) o) d (h n))
 
 none_at : (o : Option Taken) → TracksAt o None → o ≡ None
 none_at None h = refl
 none_at (Some t) h = absurd h
 
-name_is_new : (past : Past) (known : Known) (place : ℕ → Location) (own : Name) → Tracks past known → found known own.name ≡ None → declared_name past.taken place own ≡ None
+pub name_is_new : (past : Past) (known : Known) (place : ℕ → Location) (own : Name) → Tracks past known → found known own.name ≡ None → declared_name past.taken place own ≡ None
 name_is_new past known place own h e =
     ap (λ (o : Option Taken). option_map (λ earlier. name_already_exists own.name (place own.start) earlier) (option_map (λ t. t.place) o))
     (none_at (introducer past.taken own.name) (subst (λ (o : Option (Option Tree)). TracksAt (introducer past.taken own.name) o) e (h own.name)))
@@ -134,7 +134,7 @@ module_fine past known path text cs m ds o h st f q =
       leaves = tracks_more past.taken known (record { name = m.name; place = place m.start; outcome = made_module }) o.name None h f tt;
     }
 
-definition_fine : (past : Past) (known : Known) (path : Path) (text : List ℕ) (i : NotedItem) (d : DefinitionTree) → Tracks past known → DefinitionStands known d → SaysDefinition d i.item
+pub definition_fine : (past : Past) (known : Known) (path : Path) (text : List ℕ) (i : NotedItem) (d : DefinitionTree) → Tracks past known → DefinitionStands known d → SaysDefinition d i.item
     → DefinitionFine past known (declared_in path text i) d
 definition_fine past known path text i (typename_of n t d) h st q =
     subst (λ (x : forms.ItemTree). DefinitionFine past known (declared_in path text (record { comments = i.comments; item = x })) (typename_of n t d)) (sym q.2)

@@ -36,7 +36,7 @@ use Rattle.witx_read_back.specs.Says.{Says, SaysParams, SaysItem, SaysItems, Say
 use Rattle.witx_read_back.proofs.Writable.{IsWritable, ParamsWritable, ItemWritable, ItemsWritable, DefinitionWritable, DocumentWritable, OneField, IsField, OneEntries, IsEntries}
 use Rattle.witx_read_back.proofs.TypeReads.{type_reads, w_typename, w_module, w_import, w_memory, w_func, w_export, w_param, w_result, w_noreturn, w_stored}
 
-kinds_of : (ts : List Lexed) (xs : List LexToken) → map (λ l. l.token) ts ≡ xs → map token_kind xs ++ kind.End ∷ [] ≡ token_kinds ts
+pub kinds_of : (ts : List Lexed) (xs : List LexToken) → map (λ l. l.token) ts ≡ xs → map token_kind xs ++ kind.End ∷ [] ≡ token_kinds ts
 kinds_of ts xs e = ap (λ (k : List TokenKind). k ++ kind.End ∷ []) (ap (λ (x : List LexToken). map token_kind x) (sym e) ∙ map_map ts)
   where
     map_map : (ls : List Lexed) → map token_kind (map (λ l. l.token) ls) ≡ map (λ l. token_kind l.token) ls
@@ -45,7 +45,7 @@ kinds_of ts xs e = ap (λ (k : List TokenKind). k ++ kind.End ∷ []) (ap (λ (x
 
 -- ---- entries of a function
 
-param_reads : (n : List ℕ) (t : Tree) → IsWritable t
+pub param_reads : (n : List ℕ) (t : Tree) → IsWritable t
     → Reads (expr_tokens (vec (bare_word (codes "param") ▹ ident n ▹ type_expr t ▹ nil)) []) form.Entry OneField (λ f. an_entry (param f.comments f.called f.type_)) (IsField n t)
 param_reads n t w = row prod.Param 63 refl (opening (a_word (codes "param") w_param (name n (expr (type_expr t) (type_reads t w) (closing (stop
     (λ s q m e ls. (record { comments = _; called = m; type_ = s }, (λ vs. refl), (e, q)))))))))
@@ -145,7 +145,7 @@ items_read (i ∷ is) w = row prod.MoreDecls 62 refl (expr (item_expr i) (item_r
 
 -- ---- definitions
 
-definition_reads : (d : DefinitionTree) → DefinitionWritable d → Reads (expr_tokens (definition_expr d) []) form.Item forms.ItemTree (λ i. an_item i) (SaysDefinition d)
+pub definition_reads : (d : DefinitionTree) → DefinitionWritable d → Reads (expr_tokens (definition_expr d) []) form.Item forms.ItemTree (λ i. an_item i) (SaysDefinition d)
 definition_reads (typename_of n t d) w = under_docs d (vec (bare_word (codes "typename") ▹ ident n ▹ type_expr t ▹ nil))
     (row prod.Typename 3 refl (opening (a_word (codes "typename") w_typename (name n (expr (type_expr t) (type_reads t w) (closing (stop
     (λ s q m e ls. (forms.typename m s, (λ vs. refl), (m, s, refl, e, q))))))))))

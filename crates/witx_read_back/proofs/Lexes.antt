@@ -74,7 +74,7 @@ with_seen_tokens nothing at end cs more xs h = h cs
 with_seen_tokens (comment t) at end cs more xs h = h (cs ++ t ∷ [])
 with_seen_tokens (token t) at end cs more xs h = ap (λ (l : List Token). t ∷ l) (h [])
 
-tokens_from_pieces : (at : ℕ) (cs : List (List ℕ)) (ps : List Piece) → tokens (tokens_from at cs ps) ≡ piece_tokens ps
+pub tokens_from_pieces : (at : ℕ) (cs : List (List ℕ)) (ps : List Piece) → tokens (tokens_from at cs ps) ≡ piece_tokens ps
 tokens_from_pieces at cs [] = refl
 tokens_from_pieces at cs (p ∷ ps) = with_seen_tokens (seen p) at (at + length (spelling p)) cs (λ ds. tokens_from (at + length (spelling p)) ds ps) (piece_tokens ps)
     (λ ds. tokens_from_pieces (at + length (spelling p)) ds ps)
@@ -92,7 +92,7 @@ raw_parts [] = refl
 raw_parts (b ∷ s) = ap (λ (t : Bool). is_raw b && t) (raw_parts s)
 
 mutual
-  expr_piece_tokens : (n : ℕ) (e : SExpr) → Lexable n e → (more : List Piece) → piece_tokens (expr_pieces e more) ≡ expr_tokens e (piece_tokens more)
+  pub expr_piece_tokens : (n : ℕ) (e : SExpr) → Lexable n e → (more : List Piece) → piece_tokens (expr_pieces e more) ≡ expr_tokens e (piece_tokens more)
   expr_piece_tokens n (vec es) h more = ap (λ (l : List Token). left ∷ l) (exprs_piece_tokens (n + 1) es h.1 (closing ∷ more))
   expr_piece_tokens n (word s) h more = refl
   expr_piece_tokens n (ident s) h more = refl
@@ -190,7 +190,7 @@ back_again : (n : ℕ) → n + 1 - 1 ≡ n
 back_again n = omega arith
 
 mutual
-  expr_stand : (n : ℕ) (e : SExpr) → Lexable n e → n ≤ most_open → (more : List Piece) (after rest : List ℕ) → begins is_name after ≡ false
+  pub expr_stand : (n : ℕ) (e : SExpr) → Lexable n e → n ≤ most_open → (more : List Piece) (after rest : List ℕ) → begins is_name after ≡ false
       → Stand n more after rest → Stand n (expr_pieces e more) (text_of e ++ after) rest
   expr_stand n (vec es) h le more after rest b k = (
     text_of_all es ++ 41 ∷ after,

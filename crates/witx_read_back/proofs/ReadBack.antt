@@ -38,7 +38,7 @@ use Rattle.witx_read_back.proofs.Entries.{same_entries}
 
 -- ---- the walk of one file of declarations
 
-abbrev AreDeclarations : List NotedItem → Type 0
+abbrev pub AreDeclarations : List NotedItem → Type 0
 AreDeclarations [] = Unit {0}
 AreDeclarations (i ∷ is) = (item_of i ≡ declaration i) × AreDeclarations is
 
@@ -52,7 +52,7 @@ all_declarations [] is q = subst (λ (x : List NotedItem). AreDeclarations x) (s
 all_declarations (d ∷ ds) is q = subst (λ (x : List NotedItem). AreDeclarations x) (sym q.2) (is_declaration d q.0 q.3, all_declarations ds q.1 q.4)
 
 module _ {F : Type 0} (w : World F) (path : Path) (text : List ℕ) (folder : Path) (taken : List Path) where
-  abbrev inside : List Item → List Declared → Place
+  abbrev pub inside : List Item → List Declared → Place
   inside items before = place (open_file path text folder (Ok items) ∷ []) [] taken before
 
   goes_on : (i : NotedItem) (items : List Item) (x : Item) (before : List Declared) → x ≡ declaration i → w.fault_of before (declared_in path text i) ≡ None
@@ -61,7 +61,7 @@ module _ {F : Type 0} (w : World F) (path : Path) (text : List ℕ) (folder : Pa
       ap (λ (y : Item). turn w (inside (y ∷ items) before)) e
       ∙ ap (λ (o : Option F). checked o (decl (declared_in path text i)) (inside items (before ++ declared_in path text i ∷ []))) n
 
-  ends_fine : (is : List NotedItem) (before : List Declared) → AreDeclarations is → AreSound w before (map (declared_in path text) is)
+  pub ends_fine : (is : List NotedItem) (before : List Declared) → AreDeclarations is → AreSound w before (map (declared_in path text) is)
       → Ends w (inside (items_of is) before) (fine (before ++ map (declared_in path text) is))
   ends_fine [] before a s = record {
     last = place [] [] taken before;

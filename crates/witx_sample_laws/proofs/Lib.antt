@@ -1,0 +1,9 @@
+pub mod Names
+pub mod Counts
+pub mod SampleFiles
+pub mod Lines
+pub mod Reading
+pub mod Sound
+pub mod Meaning
+pub mod Numbers
+pub mod Summed

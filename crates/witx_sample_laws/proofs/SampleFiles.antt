@@ -1,0 +1,111 @@
+-- The bundle of a sample holds one file: what stands behind its header, in which no byte is a `;`.
+use Rattle.std.proofs.Common.{◌≡◌, ℕ, zero, suc, ◌+◌, ◌^◌, ◌<◌, ◌≤◌, Bool, true, false, not, ◌&&◌, ◌==◌, cond, nat_eq, if◌then◌else◌, List, [], ◌∷◌, ◌++◌, take, take_while, reverse, Some, Ok, refl, ap, ◌∙◌, arith, codes, decimal, flat_map}
+use Rattle.std.specs.List.{list_all, list_any, range_with_len, onto_first, join_with_byte}
+use Rattle.std.specs.Cmp.Lexicographic.{pointwise}
+use Rattle.std.proofs.lemmas.Bool.{and_from, and_parts}
+use Rattle.std.proofs.lemmas.List.Folds.{list_all-append}
+use Rattle.std.proofs.lemmas.List.Splits.{join_with_byte-slice_split}
+use Rattle.witx_base.specs.Paths.{path_of}
+use Rattle.witx_files.specs.Files.{Files, held}
+use Rattle.witx_bundle.specs.Bundles.{IsRead, lines_of, is_header, ended_lines, text_before, header_path, given, told_at}
+use Rattle.witx_sample.specs.Samples.{sample_path, each, header_line, enum_line, record_line, variant_head, record_case, list_case, variant_line, func_head, func_params, func_result, func_line, type_lines, types_text, module_text, sample_text}
+use Rattle.witx_read_back.proofs.Orders.{or_parts, or_none}
+use Rattle.witx_sample_laws.proofs.Names.{number_passes}
+
+-- what stands behind the header
+abbrev pub body : ℕ → List ℕ
+body n = enum_line ++ (each type_lines n ++ module_text n)
+
+pub sample_is : (n : ℕ) → sample_text n ≡ header_line ++ body n
+unfolding sample_text types_text
+sample_is n = refl
+
+-- ---- no byte of it is a `;`
+
+abbrev no_semicolon : ℕ → Bool
+no_semicolon b = not (nat_eq 59 b)
+
+both : (xs ys : List ℕ) → list_all no_semicolon xs ≡ true → list_all no_semicolon ys ≡ true → list_all no_semicolon (xs ++ ys) ≡ true
+both xs ys h k = list_all-append no_semicolon xs ys ∙ and_from (list_all no_semicolon xs) (list_all no_semicolon ys) h k
+
+number : (i : ℕ) → i < 2 ^ 64 → list_all no_semicolon (decimal i) ≡ true
+number i l = number_passes no_semicolon refl i l
+
+around : (a b : List ℕ) (i : ℕ) → i < 2 ^ 64 → list_all no_semicolon a ≡ true → list_all no_semicolon b ≡ true → list_all no_semicolon ((a ++ decimal i) ++ b) ≡ true
+around a b i l h k = both (a ++ decimal i) b (both a (decimal i) h (number i l)) k
+
+types_clean : (i : ℕ) → i < 2 ^ 64 → list_all no_semicolon (type_lines i) ≡ true
+unfolding type_lines record_line variant_line variant_head record_case list_case
+types_clean i l =
+    both (record_line i) (variant_line i) (around (codes "(typename $r") (codes " (record (field $a u32) (field $b $e) (field $c u64)))\n") i l refl refl)
+    (both (variant_head i) (record_case i ++ list_case i) (around (codes "(typename $v") (codes " (variant (@witx tag u8)") i l refl refl)
+    (both (record_case i) (list_case i) (around (codes " (case $x $r") (codes ")") i l refl refl) (around (codes " (case $y (list $r") (codes ")) (case $z)))\n") i l refl refl)))
+
+func_clean : (i : ℕ) → i < 2 ^ 64 → list_all no_semicolon (func_line i) ≡ true
+unfolding func_line func_head func_params func_result
+func_clean i l =
+    both (func_head i) (func_params i ++ func_result i) (around (codes "(@interface func (export \"f") (codes "\")") i l refl refl)
+    (both (func_params i) (func_result i) (around (codes " (param $p $v") (codes ") (param $q string)") i l refl refl)
+    (around (codes " (result $s (expected (tuple $r") (codes " $e) (error $e))))\n") i l refl refl))
+
+each_clean : (f : ℕ → List ℕ) → ((i : ℕ) → i < 2 ^ 64 → list_all no_semicolon (f i) ≡ true) → (a n : ℕ) → a + n ≤ 2 ^ 64 → list_all no_semicolon (flat_map f (range_with_len a n)) ≡ true
+each_clean f h a zero l = refl
+each_clean f h a (suc n) l = both (f a) (flat_map f (range_with_len (a + 1) n)) (h a (omega (arith, l))) (each_clean f h (a + 1) n (omega (arith, l)))
+
+body_clean : (n : ℕ) → n ≤ 4096 → list_all no_semicolon (body n) ≡ true
+unfolding module_text
+body_clean n l =
+    both enum_line (each type_lines n ++ module_text n) refl
+    (both (each type_lines n) (module_text n) (each_clean type_lines types_clean 0 n (omega (arith, l)))
+    (both (codes "(module $m\n") (each func_line n ++ codes ")\n") refl (both (each func_line n) (codes ")\n") (each_clean func_line func_clean 0 n (omega (arith, l))) refl)))
+
+-- ---- so none of its lines is a header
+
+not_true : (b : Bool) → not b ≡ true → b ≡ false
+not_true true e = absurd (cc)
+not_true false e = refl
+
+no_header_first : (x : ℕ) (l : List ℕ) → nat_eq 59 x ≡ false → is_header (x ∷ l) ≡ false
+no_header_first x l e = ap (λ (b : Bool). b && pointwise nat_eq (codes ";;; file ") (take 9 l)) e
+
+onto_none : (x : ℕ) (ls : List (List ℕ)) → nat_eq 59 x ≡ false → list_any is_header ls ≡ false → list_any is_header (onto_first x ls) ≡ false
+onto_none x [] e h = or_none (is_header (x ∷ [])) false (no_header_first x [] e) refl
+onto_none x (l ∷ ls) e h = or_none (is_header (x ∷ l)) (list_any is_header ls) (no_header_first x l e) (or_parts (is_header l) (list_any is_header ls) h).1
+
+cut_none : (t : Bool) (x : ℕ) (ls : List (List ℕ)) → nat_eq 59 x ≡ false → list_any is_header ls ≡ false → list_any is_header (cond t ([] ∷ ls) (onto_first x ls)) ≡ false
+cut_none true x ls e h = h
+cut_none false x ls e h = onto_none x ls e h
+
+no_header : (bs : List ℕ) → list_all no_semicolon bs ≡ true → list_any is_header (lines_of bs) ≡ false
+no_header [] h = refl
+no_header (x ∷ xs) h =
+    let p = and_parts (no_semicolon x) (list_all no_semicolon xs) h in
+    cut_none (x == 10) x (lines_of xs) (not_true (nat_eq 59 x) p.0) (no_header xs p.1)
+
+nothing_given : (ls : List (List ℕ)) → list_any is_header ls ≡ false → given ls ≡ []
+nothing_given [] h = refl
+nothing_given (l ∷ ls) h =
+    let p = or_parts (is_header l) (list_any is_header ls) h in
+    ap (λ (b : Bool). if b then (header_path l ls, text_before ls) ∷ given ls else given ls) p.0 ∙ nothing_given ls p.1
+
+text_is : (bs : List ℕ) → list_any is_header (lines_of bs) ≡ false → text_before (lines_of bs) ≡ bs
+text_is bs h = ap (λ (b : Bool). if b then ended_lines (take_while (λ line. not (is_header line)) (lines_of bs)) else join_with_byte 10 (lines_of bs)) h ∙ join_with_byte-slice_split 10 bs
+
+-- ---- the one file
+
+behind_header : (xs : List ℕ) → given (lines_of (header_line ++ (enum_line ++ xs))) ≡ (sample_path, text_before (lines_of (enum_line ++ xs))) ∷ given (lines_of (enum_line ++ xs))
+unfolding path_of
+behind_header xs = refl
+
+held_alone : (text : List ℕ) → held (reverse ((sample_path, text) ∷ [])) sample_path ≡ Some text
+unfolding path_of
+held_alone text = refl
+
+pub sample_held : (n : ℕ) → n ≤ 4096 → (files : Files) → IsRead (sample_text n) (Ok files) → held files sample_path ≡ Some (body n)
+sample_held n l files r =
+    let none = no_header (body n) (body_clean n l) in
+    r.3 sample_path
+    ∙ (ap (λ (bs : List ℕ). told_at (lines_of bs) sample_path) (sample_is n)
+    ∙ (ap (λ (fs : Files). held (reverse fs) sample_path) (behind_header (each type_lines n ++ module_text n))
+    ∙ (ap (λ (fs : Files). held (reverse ((sample_path, text_before (lines_of (body n))) ∷ fs)) sample_path) (nothing_given (lines_of (body n)) none)
+    ∙ (ap (λ (t : List ℕ). held (reverse ((sample_path, t) ∷ [])) sample_path) (text_is (body n) none) ∙ held_alone (body n)))))

@@ -1,0 +1,174 @@
+-- The laws of samples, of what their bundles mean.
+use Rattle.std.proofs.Common.{◌≡◌, ℕ, ◌+◌, ◌*◌, ◌%◌, ◌≤◌, Bool, true, false, ◌&&◌, ◌==◌, nat_le, if◌then◌else◌, List, [], ◌∷◌, ◌++◌, length, map, sum_by, Option, Some, None, Result, Ok, refl, sym, ap, ◌∙◌, subst, arith, codes, decimal}
+use Rattle.std.specs.Str.Parse.{digits_value}
+use Rattle.std.proofs.lemmas.Bool.{and_parts, leb-true}
+use Rattle.std.proofs.lemmas.List.{length-map}
+use Rattle.witx_base.specs.Paths.{Path}
+use Rattle.witx_base.specs.Texts.{same_text}
+use Rattle.witx_files.specs.Files.{Files, Aliases}
+use Rattle.witx_bundle.specs.Bundles.{IsRead}
+use Rattle.witx_ast.specs.Definitions.{DefinitionTree}
+use Rattle.witx_layout.specs.declared.layout.SizeAlign.{SizeAlign}
+use Rattle.witx_layout.specs.Layouts.{all_layouts}
+use Rattle.witx_instructions.specs.Views.{event_of}
+use Rattle.witx_adapt.specs.declared.adapted.Adapted.{Adapted}
+use Rattle.witx_adapt.specs.declared.adapted.AdaptedFunc.{AdaptedFunc}
+use Rattle.witx_adapt.specs.Entries.{all_functions, entry_for, entry_of}
+use Rattle.witx_walk.specs.Meaning.{world, MeansDocument}
+use Rattle.witx_walk.specs.Answers.{OneAnswer}
+use Rattle.witx_sample.specs.Samples.{is_size, sample_path, sample_text}
+use Rattle.witx_sample.specs.Summaries.{event_count, size_in_bytes, summary_text}
+use Rattle.witx_commands.specs.declared.words.Command.{Command}
+use Rattle.witx_commands.specs.declared.words.Command.TheVariants as command
+use Rattle.witx_commands.specs.declared.refusal.Refusal.TheVariants as refusal
+use Rattle.witx_commands.specs.Words.{is_printed_size, sample_of, polyfill_of, bundle_bytes, reads_source}
+use Rattle.witx_commands.specs.Adapting.{IsAdapted, IsParsed, Parses, defined}
+use Rattle.witx_commands.specs.Laws.{ValidIsNotRefused}
+use Rattle.witx_commands.specs.Causes.{FormRefuses, IsAdaptedText, IsOutput, Reads}
+use Rattle.witx_commands.specs.Reports.{CommandRefuses}
+use Rattle.witx_sample_laws.specs.SampleLaws.{SamplesAreValid, SampleWordsHaveASize, SamplesAreNotRefused, SamplesAreSummedUp, sample_summary}
+use Rattle.witx_sample_laws.proofs.Counts.{IsSample, sample_adaptable, sample_layouts}
+use Rattle.witx_sample_laws.proofs.Meaning.{SampleMeant, sample_meant}
+use Rattle.witx_sample_laws.proofs.Numbers.{functions_counted}
+
+few : (n : ℕ) → is_size n ≡ true → n ≤ 4096
+few n e = leb-true n 4096 (and_parts (nat_le 1 n) (nat_le n 4096) e).1
+
+same_files : (files fs : Files) → Some files ≡ Some fs → files ≡ fs
+same_files files fs e = cc
+
+same_aliases : (as_ bs : Aliases) → Some as_ ≡ Some bs → as_ ≡ bs
+same_aliases as_ bs e = cc
+
+-- what they mean is what parsing them answers
+parsed : (n : ℕ) (files : Files) (m : SampleMeant n files) → Parses files (sample_path ∷ []) (Ok m.definitions)
+unfolding IsParsed
+parsed n files m fs links reading e f is = (
+  refl,
+  subst (λ (bs : Aliases). MeansDocument (world fs bs reading) (sample_path ∷ []) m.definitions) (same_aliases [] links f)
+      (subst (λ (gs : Files). MeansDocument (world gs [] reading) (sample_path ∷ []) m.definitions) (same_files files fs e) (m.meant reading is)),
+)
+
+pub samples-are-valid : SamplesAreValid
+samples-are-valid n e files r arguments =
+    let m = sample_meant n (few n e) files r in
+    (m.definitions, parsed n files m, sample_adaptable n m.definitions m.sample)
+
+-- ---- words
+
+is_some : {A : Type 0} (x y : A) → Some x ≡ Some y → x ≡ y
+is_some x y e = cc
+
+none_some : {A : Type 0} (x : A) → None ≡ Some x → ⊥
+none_some x e = cc
+
+same_sample : (m n : ℕ) → command.Sample m ≡ command.Sample n → m ≡ n
+same_sample m n e = cc
+
+called_size : (t : Bool) (m n : ℕ) → is_size m ≡ true → (if t then Some (command.Sample m) else None) ≡ Some (command.Sample n) → is_size n ≡ true
+called_size true m n h e = subst (λ (k : ℕ). is_size k ≡ true) (same_sample m n (is_some (command.Sample m) (command.Sample n) e)) h
+called_size false m n h e = absurd (none_some (command.Sample n) e)
+
+printed_size : (word : List ℕ) (n : ℕ) (t : Bool) → is_printed_size word ≡ t → (if t then Some (command.Sample (digits_value 10 word)) else None) ≡ Some (command.Sample n) → is_size n ≡ true
+printed_size word n true h e = called_size true (digits_value 10 word) n (and_parts (is_size (digits_value 10 word)) (same_text word (decimal (digits_value 10 word))) h).0 e
+printed_size word n false h e = absurd (none_some (command.Sample n) e)
+
+sample_size : (arguments : List (List ℕ)) (n : ℕ) → sample_of arguments ≡ Some (command.Sample n) → is_size n ≡ true
+sample_size [] n e = absurd (none_some (command.Sample n) e)
+sample_size (word ∷ []) n e = printed_size word n (is_printed_size word) refl e
+sample_size (word ∷ other ∷ more) n e = absurd (none_some (command.Sample n) e)
+
+-- another command
+abbrev NoSample : Option Command → Type 0
+NoSample o = (n : ℕ) → o ≡ Some (command.Sample n) → ⊥
+
+passed_over : (t : Bool) (o p : Option Command) (n : ℕ) → NoSample o → (if t then o else p) ≡ Some (command.Sample n) → p ≡ Some (command.Sample n)
+passed_over true o p n h e = absurd (h n e)
+passed_over false o p n h e = e
+
+no_polyfill : (t : Bool) → NoSample (if t then Some command.Polyfill else None)
+no_polyfill true n e = cc
+no_polyfill false n e = cc
+
+taken_sample : (t : Bool) (o : Option Command) (n : ℕ) → (if t then o else None) ≡ Some (command.Sample n) → o ≡ Some (command.Sample n)
+taken_sample true o n e = e
+taken_sample false o n e = absurd (none_some (command.Sample n) e)
+
+pub words-have-a-size : SampleWordsHaveASize
+words-have-a-size [] n e = absurd (none_some (command.Sample n) e)
+words-have-a-size (word ∷ arguments) n e =
+    let s = sample_of arguments in
+    let p = polyfill_of arguments in
+    let is : List ℕ → Bool = λ w. same_text word w in
+    let five = if is (codes "sample") then s else None in
+    let four = if is (codes "polyfill") then p else five in
+    let three = if is (codes "docs") then Some command.Docs else four in
+    let two = if is (codes "layouts") then Some command.Layouts else three in
+    let one = if is (codes "print") then Some command.Print else two in
+    let e1 = passed_over (is (codes "adapt")) (Some command.Adapt) one n (λ m f. cc) e in
+    let e2 = passed_over (is (codes "print")) (Some command.Print) two n (λ m f. cc) e1 in
+    let e3 = passed_over (is (codes "layouts")) (Some command.Layouts) three n (λ m f. cc) e2 in
+    let e4 = passed_over (is (codes "docs")) (Some command.Docs) four n (λ m f. cc) e3 in
+    let e5 = passed_over (is (codes "polyfill")) p five n (no_polyfill (nat_le 2 (length arguments) && (length arguments % 2 == 0))) e4 in
+    sample_size arguments n (taken_sample (is (codes "sample")) s n e5)
+
+-- ---- refusals
+
+no_true : false ≡ true → ⊥
+no_true e = cc
+
+not_reading : (n : ℕ) → reads_source (Some (command.Sample n)) ≡ true → ⊥
+not_reading n e = no_true e
+
+refused : (files : Files) (n : ℕ) (arguments : List (List ℕ)) (report : List ℕ) → ValidIsNotRefused → is_size n ≡ true → Reads (bundle_bytes (Some (command.Sample n)) None) (Ok files)
+    → CommandRefuses (command.Sample n) files arguments report → ⊥
+refused files n arguments report law e r h = law (sample_text n) files files r r arguments (command.Sample n) report (samples-are-valid n e files r arguments) h
+
+pub samples-are-not-refused : ValidIsNotRefused → SamplesAreNotRefused
+samples-are-not-refused law i n e s refusal.Usage c = none_some (command.Sample n) (sym c.0 ∙ e)
+samples-are-not-refused law i n e s refusal.Source c = not_reading n (subst (λ (f : Option Command). reads_source f ≡ true) e c.0)
+samples-are-not-refused law i n e s (refusal.Bundle b) c = not_reading n (subst (λ (f : Option Command). reads_source f ≡ true) e c.0)
+samples-are-not-refused law i n e s (refusal.Command report) c =
+    refused c.1 n i.arguments report law s (subst (λ (f : Option Command). Reads (bundle_bytes f i.left) (Ok c.1)) e c.2)
+    (subst (λ (f : Option Command). FormRefuses f c.1 i.arguments report) e c.3)
+
+-- ---- the summary
+
+abbrev numbered : (t f e b : ℕ) → List ℕ
+numbered t f e b = codes "typenames " ++ decimal t ++ codes "\nfunctions " ++ decimal f ++ codes "\nevents " ++ decimal e ++ codes "\nbytes " ++ decimal b ++ codes "\n"
+
+events_seen : (f : AdaptedFunc) → event_count f ≡ length (entry_of f).lowered.caller + length (entry_of f).lowered.callee
+events_seen f = omega (arith, length-map f.caller.events event_of, length-map f.callee.events event_of)
+
+summed_up : (n : ℕ) (a : Adapted) (ds : List DefinitionTree) → IsSample n ds → defined a ≡ ds → IsAdapted a → summary_text a ≡ sample_summary n
+unfolding summary_text
+summed_up n a ds s d h =
+    let ls = sample_layouts n ds s in
+    let layouts : a.layouts ≡ all_layouts ds = h.layouts ∙ ap (λ (l : List DefinitionTree). all_layouts l) d in
+    let fs = functions_counted n ds entry_of event_count a.functions s (h.functions ∙ ap (λ (l : List DefinitionTree). map entry_for (all_functions l)) d) events_seen in
+    ap (λ (x : ℕ). numbered x (length a.functions) (sum_by event_count a.functions) (sum_by size_in_bytes a.layouts)) (ap (λ (l : List SizeAlign). length l) layouts ∙ ls.0)
+    ∙ (ap (λ (x : ℕ). numbered (2 * n + 1) x (sum_by event_count a.functions) (sum_by size_in_bytes a.layouts)) fs.0
+    ∙ (ap (λ (x : ℕ). numbered (2 * n + 1) n x (sum_by size_in_bytes a.layouts)) fs.1
+    ∙ ap (λ (x : ℕ). numbered (2 * n + 1) n (42 * n) x) (ap (λ (l : List SizeAlign). sum_by size_in_bytes l) layouts ∙ ls.1)))
+
+same_ok : {E : Type 0} (xs ys : List DefinitionTree) → ◌≡◌ {A = Result (List DefinitionTree) E} (Ok xs) (Ok ys) → xs ≡ ys
+same_ok xs ys e = cc
+
+one_meaning : OneAnswer → (files : Files) (handed : List Path) (xs ys : List DefinitionTree) → Parses files handed (Ok xs) → Parses files handed (Ok ys) → xs ≡ ys
+unfolding IsParsed
+one_meaning law files handed xs ys p q = same_ok xs ys (law files [] handed 0 0 0 0 (Ok xs) (Ok ys) (Ok xs) (Ok ys) p q refl refl)
+
+text_summed : OneAnswer → (n : ℕ) → is_size n ≡ true → (files : Files) → IsRead (sample_text n) (Ok files) → (text : List ℕ) (adapted : Option Adapted)
+    → IsAdaptedText summary_text files (sample_path ∷ []) text adapted → text ≡ sample_summary n
+text_summed law n e files r text None o = absurd o
+text_summed law n e files r text (Some a) o =
+    let m = sample_meant n (few n e) files r in
+    o.2 ∙ summed_up n a m.definitions m.sample (one_meaning law files (sample_path ∷ []) (defined a) m.definitions o.0 (parsed n files m)) o.1
+
+pub samples-are-summed-up : OneAnswer → SamplesAreSummedUp
+unfolding IsOutput
+samples-are-summed-up law i n e s text notes adapted h =
+    let files = h.files in
+    let read : IsRead (sample_text n) (Ok files) = subst (λ (f : Option Command). Reads (bundle_bytes f i.left) (Ok files)) e h.bundle in
+    let output : IsOutput (Some (command.Sample n)) files i.arguments text notes adapted = subst (λ (f : Option Command). IsOutput f files i.arguments text notes adapted) e h.output in
+    (text_summed law n s files read text adapted output.1, output.0)

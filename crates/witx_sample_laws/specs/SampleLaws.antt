@@ -1,0 +1,36 @@
+-- What holds of each sample that can be made: the files of its bundle are valid for the command, so that none of the refusals has
+-- its cause in a run with the words of a sample; and where such a run is answered, its text is the summary with the sample's numbers.
+use Rattle.std.specs.Prelude.{◌≡◌, ℕ, ◌+◌, ◌*◌, List, [], ◌++◌, true, Option, Some, Ok, codes}
+use Rattle.std.specs.Fmt.{decimal}
+use Rattle.witx_files.specs.Files.{Files}
+use Rattle.witx_bundle.specs.Bundles.{IsRead}
+use Rattle.witx_adapt.specs.declared.adapted.Adapted.{Adapted}
+use Rattle.witx_sample.specs.Samples.{is_size, sample_text}
+use Rattle.witx_commands.specs.declared.words.Command.TheVariants as command
+use Rattle.witx_commands.specs.declared.refusal.Refusal.{Refusal}
+use Rattle.witx_commands.specs.Words.{command_of}
+use Rattle.witx_commands.specs.Causes.{Cause, IsAnswered, IsValidFor, RunInput}
+
+-- the files of its bundle mean a document that can be adapted
+abbrev pub SamplesAreValid : Type 0
+SamplesAreValid = (n : ℕ) → is_size n ≡ true → (files : Files) → IsRead (sample_text n) (Ok files) → (arguments : List (List ℕ))
+    → IsValidFor (command.Sample n) files arguments
+
+-- words that have the form of a sample name one that can be made
+abbrev pub SampleWordsHaveASize : Type 0
+SampleWordsHaveASize = (words : List (List ℕ)) (n : ℕ) → command_of words ≡ Some (command.Sample n) → is_size n ≡ true
+
+-- in a run of such a command no refusal has its cause
+abbrev pub SamplesAreNotRefused : Type 0
+SamplesAreNotRefused = (i : RunInput) (n : ℕ) → i.form ≡ Some (command.Sample n) → is_size n ≡ true → (r : Refusal) → Cause i r → ⊥
+
+-- the summary: 2n + 1 typenames, n functions, 42n events and 40n + 2 bytes
+abbrev pub sample_summary : ℕ → List ℕ
+sample_summary n =
+    codes "typenames " ++ decimal (2 * n + 1) ++ codes "\nfunctions " ++ decimal n
+    ++ codes "\nevents " ++ decimal (42 * n) ++ codes "\nbytes " ++ decimal (40 * n + 2) ++ codes "\n"
+
+-- where such a run is answered, this is its text
+abbrev pub SamplesAreSummedUp : Type 0
+SamplesAreSummedUp = (i : RunInput) (n : ℕ) → i.form ≡ Some (command.Sample n) → is_size n ≡ true
+    → (text notes : List ℕ) (adapted : Option Adapted) → IsAnswered i text notes adapted → (text ≡ sample_summary n) × (notes ≡ [])
