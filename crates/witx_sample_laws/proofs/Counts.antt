@@ -29,7 +29,7 @@ use Rattle.witx_adapt.specs.Entries.{Owned, Entry, entry_for, owned_item, all_fu
 use Rattle.witx_adapt.specs.Adaptable.{IsAdaptable, first_unlowered}
 use Rattle.witx_read_back.specs.Emptied.{emptied, emptied_fields, emptied_arms}
 use Rattle.witx_read_back.proofs.Printed.{emptied_definition}
-use Rattle.witx_sample_laws.specs.Documents.{the_enum, named_enum, the_record, named_record, the_variant, named_variant, the_string, enum_name, record_name, variant_name}
+use Rattle.witx_sample_laws.proofs.Documents.{the_enum, named_enum, the_record, named_record, the_variant, named_variant, the_string, enum_name, record_name, variant_name}
 
 -- ---- documentation plays no part
 

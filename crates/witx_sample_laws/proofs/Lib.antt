@@ -1,3 +1,4 @@
+pub mod Documents
 pub mod Names
 pub mod Counts
 pub mod SampleFiles

@@ -11,7 +11,7 @@ use Rattle.witx_render.specs.DocumentTexts.{definition_expr}
 use Rattle.witx_read_back.specs.PrintedTokens.{tokens, expr_tokens}
 use Rattle.witx_read_back.proofs.Lexes.{Lexable, expr_pieces, piece_tokens, tokens_from_pieces, expr_piece_tokens, expr_stand}
 use Rattle.witx_sample.specs.Samples.{each, enum_line, record_line, variant_head, record_case, list_case, variant_line, func_head, func_params, func_result, func_line, type_lines, module_text}
-use Rattle.witx_sample_laws.specs.Documents.{enum_name, module_name, record_name, variant_name, function_name, record_definition, variant_definition}
+use Rattle.witx_sample_laws.proofs.Documents.{enum_name, module_name, record_name, variant_name, function_name, record_definition, variant_definition}
 use Rattle.witx_sample_laws.proofs.Names.{run_of, record_run, variant_run, function_raw, function_utf8}
 use Rattle.witx_sample_laws.proofs.SampleFiles.{body}
 

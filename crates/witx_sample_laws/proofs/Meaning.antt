@@ -17,7 +17,7 @@ use Rattle.witx_walk.specs.Meaning.{definitions_of, world, MeansDocument}
 use Rattle.witx_read_back.specs.Says.{SaysDefinition}
 use Rattle.witx_read_back.proofs.ReadBack.{AreDeclarations, ends_fine}
 use Rattle.witx_sample.specs.Samples.{sample_path, sample_text}
-use Rattle.witx_sample_laws.specs.Documents.{enum_name, the_enum, record_name, the_record, variant_name, the_variant}
+use Rattle.witx_sample_laws.proofs.Documents.{enum_name, the_enum, record_name, the_record, variant_name, the_variant}
 use Rattle.witx_sample_laws.proofs.SampleFiles.{body, sample_held}
 use Rattle.witx_sample_laws.proofs.Reading.{Front, SaysTypes, SaysModule, IsLast, SaysSample, sample_reads}
 use Rattle.witx_sample_laws.proofs.Counts.{IsSample}

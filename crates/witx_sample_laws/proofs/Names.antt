@@ -10,7 +10,7 @@ use Rattle.std.proofs.lemmas.Str.Parse.{digit_from_value}
 use Rattle.witx_lex.specs.Characters.{is_name, is_raw, dollar}
 use Rattle.witx_read_back.proofs.Orders.{same, same_is}
 use Rattle.witx_read_back.proofs.Readable.{IsRun}
-use Rattle.witx_sample_laws.specs.Documents.{record_name, variant_name, function_name}
+use Rattle.witx_sample_laws.proofs.Documents.{record_name, variant_name, function_name}
 
 -- ---- what holds of the ten digits holds of each byte of a number
 

@@ -26,7 +26,7 @@ use Rattle.witx_read_back.proofs.Forms.{Reads, ReadsOut, row, opening, closing, 
 use Rattle.witx_read_back.proofs.Writable.{DefinitionWritable, OneField, IsField, OneEntries}
 use Rattle.witx_read_back.proofs.TypeReads.{type_reads, w_module, w_func, w_export, w_param, w_result}
 use Rattle.witx_read_back.proofs.DocumentReads.{kinds_of, param_reads, definition_reads}
-use Rattle.witx_sample_laws.specs.Documents.{enum_name, module_name, variant_name, function_name, named_enum, named_variant, the_tuple, enum_definition, record_definition, variant_definition}
+use Rattle.witx_sample_laws.proofs.Documents.{enum_name, module_name, variant_name, function_name, named_enum, named_variant, the_tuple, enum_definition, record_definition, variant_definition}
 use Rattle.witx_sample_laws.proofs.SampleFiles.{body}
 use Rattle.witx_sample_laws.proofs.Lines.{enum_expr, record_expr, variant_expr, result_expr, func_expr, types_tokens, funcs_tokens, module_tokens, sample_tokens, body_tokens}
 

@@ -42,7 +42,7 @@ use Rattle.witx_read_back.proofs.Stands.{Known, denoted, learned, DefinitionStan
 use Rattle.witx_read_back.proofs.Fine.{Pass, passes, both_pass, new_mark_passes, Agrees, Fine, type_fine}
 use Rattle.witx_read_back.proofs.Permitted.{same_reason}
 use Rattle.witx_read_back.proofs.DocumentFine.{Tracks, agrees, name_is_new, found_append, past_append, definition_fine}
-use Rattle.witx_sample_laws.specs.Documents.{enum_name, module_name, record_name, variant_name, function_name, the_enum, named_enum, the_record, named_record, the_variant, named_variant, enum_definition, record_definition, variant_definition}
+use Rattle.witx_sample_laws.proofs.Documents.{enum_name, module_name, record_name, variant_name, function_name, the_enum, named_enum, the_record, named_record, the_variant, named_variant, enum_definition, record_definition, variant_definition}
 use Rattle.witx_sample_laws.proofs.Names.{numbers_differ}
 use Rattle.witx_sample_laws.proofs.Reading.{SaysFunc, SaysFuncs, Front, SaysTypes, SaysModule, IsLast, SaysSample}
 use Rattle.witx_sample_laws.proofs.Counts.{IsCounted, a_function, is_counted, IsTypename, is_typename, AreCounted, IsModule, AreTypes, IsSample}

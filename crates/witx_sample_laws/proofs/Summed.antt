@@ -25,7 +25,6 @@ use Rattle.witx_commands.specs.Words.{is_printed_size, sample_of, polyfill_of, b
 use Rattle.witx_commands.specs.Adapting.{IsAdapted, IsParsed, Parses, defined}
 use Rattle.witx_commands.specs.Laws.{ValidIsNotRefused}
 use Rattle.witx_commands.specs.Causes.{FormRefuses, IsAdaptedText, IsOutput, Reads}
-use Rattle.witx_commands.specs.Reports.{CommandRefuses}
 use Rattle.witx_sample_laws.specs.SampleLaws.{SamplesAreValid, SampleWordsHaveASize, SamplesAreNotRefused, SamplesAreSummedUp, sample_summary}
 use Rattle.witx_sample_laws.proofs.Counts.{IsSample, sample_adaptable, sample_layouts}
 use Rattle.witx_sample_laws.proofs.Meaning.{SampleMeant, sample_meant}
@@ -120,17 +119,17 @@ no_true e = cc
 not_reading : (n : ℕ) → reads_source (Some (command.Sample n)) ≡ true → ⊥
 not_reading n e = no_true e
 
-refused : (files : Files) (n : ℕ) (arguments : List (List ℕ)) (report : List ℕ) → ValidIsNotRefused → is_size n ≡ true → Reads (bundle_bytes (Some (command.Sample n)) None) (Ok files)
-    → CommandRefuses (command.Sample n) files arguments report → ⊥
-refused files n arguments report law e r h = law (sample_text n) files files r r arguments (command.Sample n) report (samples-are-valid n e files r arguments) h
+-- the bundle of a run of the command is the sample's
+bundle_of : (form : Option Command) (n : ℕ) (left : Option (List ℕ)) (files : Files) → form ≡ Some (command.Sample n) → Reads (bundle_bytes form left) (Ok files) → IsRead (sample_text n) (Ok files)
+bundle_of form n left files e r = subst (λ (f : Option Command). Reads (bundle_bytes f left) (Ok files)) e r
 
 pub samples-are-not-refused : ValidIsNotRefused → SamplesAreNotRefused
 samples-are-not-refused law i n e s refusal.Usage c = none_some (command.Sample n) (sym c.0 ∙ e)
 samples-are-not-refused law i n e s refusal.Source c = not_reading n (subst (λ (f : Option Command). reads_source f ≡ true) e c.0)
 samples-are-not-refused law i n e s (refusal.Bundle b) c = not_reading n (subst (λ (f : Option Command). reads_source f ≡ true) e c.0)
 samples-are-not-refused law i n e s (refusal.Command report) c =
-    refused c.1 n i.arguments report law s (subst (λ (f : Option Command). Reads (bundle_bytes f i.left) (Ok c.1)) e c.2)
-    (subst (λ (f : Option Command). FormRefuses f c.1 i.arguments report) e c.3)
+    let r = bundle_of i.form n _ c.1 e c.2 in
+    law (sample_text n) c.1 c.1 r r i.arguments (command.Sample n) report (samples-are-valid n s c.1 r i.arguments) (subst (λ (f : Option Command). FormRefuses f c.1 i.arguments report) e c.3)
 
 -- ---- the summary
 
@@ -169,6 +168,6 @@ pub samples-are-summed-up : OneAnswer → SamplesAreSummedUp
 unfolding IsOutput
 samples-are-summed-up law i n e s text notes adapted h =
     let files = h.files in
-    let read : IsRead (sample_text n) (Ok files) = subst (λ (f : Option Command). Reads (bundle_bytes f i.left) (Ok files)) e h.bundle in
+    let read = bundle_of i.form n _ files e h.bundle in
     let output : IsOutput (Some (command.Sample n)) files i.arguments text notes adapted = subst (λ (f : Option Command). IsOutput f files i.arguments text notes adapted) e h.output in
     (text_summed law n s files read text adapted output.1, output.0)
