@@ -25,8 +25,9 @@ use Rattle.witx_commands.specs.Words.{is_printed_size, sample_of, polyfill_of, b
 use Rattle.witx_commands.specs.Adapting.{IsAdapted, IsParsed, Parses, defined}
 use Rattle.witx_commands.specs.Laws.{ValidIsNotRefused}
 use Rattle.witx_commands.specs.Causes.{FormRefuses, IsAdaptedText, IsOutput, Reads}
-use Rattle.witx_sample_laws.specs.SampleLaws.{SamplesAreValid, SampleWordsHaveASize, SamplesAreNotRefused, SamplesAreSummedUp, sample_summary}
+use Rattle.witx_sample_laws.specs.SampleLaws.{SamplesAreBundles, SamplesAreValid, SampleWordsHaveASize, SamplesAreNotRefused, SamplesAreSummedUp, sample_summary}
 use Rattle.witx_sample_laws.proofs.Counts.{IsSample, sample_adaptable, sample_layouts}
+use Rattle.witx_sample_laws.proofs.SampleFiles.{sample_read}
 use Rattle.witx_sample_laws.proofs.Meaning.{SampleMeant, sample_meant}
 use Rattle.witx_sample_laws.proofs.Numbers.{functions_counted}
 
@@ -47,6 +48,9 @@ parsed n files m fs links reading e f is = (
   subst (λ (bs : Aliases). MeansDocument (world fs bs reading) (sample_path ∷ []) m.definitions) (same_aliases [] links f)
       (subst (λ (gs : Files). MeansDocument (world gs [] reading) (sample_path ∷ []) m.definitions) (same_files files fs e) (m.meant reading is)),
 )
+
+pub samples-are-bundles : SamplesAreBundles
+samples-are-bundles n e = sample_read n (few n e)
 
 pub samples-are-valid : SamplesAreValid
 samples-are-valid n e files r arguments =

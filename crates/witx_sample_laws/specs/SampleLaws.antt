@@ -1,5 +1,5 @@
--- What holds of each sample that can be made: the files of its bundle are valid for the command, so that none of the refusals has
--- its cause in a run with the words of a sample; and where such a run is answered, its text is the summary with the sample's numbers.
+-- What holds of each sample that can be made: its bytes are a bundle, whose files are valid for the command, so that none of the
+-- refusals has its cause in a run with the words of a sample; and where such a run is answered, its text is the summary with the sample's numbers.
 use Rattle.std.specs.Prelude.{◌≡◌, ℕ, ◌+◌, ◌*◌, List, [], ◌++◌, true, Option, Some, Ok, codes}
 use Rattle.std.specs.Fmt.{decimal}
 use Rattle.witx_files.specs.Files.{Files}
@@ -11,7 +11,11 @@ use Rattle.witx_commands.specs.declared.refusal.Refusal.{Refusal}
 use Rattle.witx_commands.specs.Words.{command_of}
 use Rattle.witx_commands.specs.Causes.{Cause, IsAnswered, IsValidFor, RunInput}
 
--- the files of its bundle mean a document that can be adapted
+-- its bytes are a bundle
+abbrev pub SamplesAreBundles : Type 0
+SamplesAreBundles = (n : ℕ) → is_size n ≡ true → (files : Files) × IsRead (sample_text n) (Ok files)
+
+-- the files of that bundle mean a document that can be adapted
 abbrev pub SamplesAreValid : Type 0
 SamplesAreValid = (n : ℕ) → is_size n ≡ true → (files : Files) → IsRead (sample_text n) (Ok files) → (arguments : List (List ℕ))
     → IsValidFor (command.Sample n) files arguments

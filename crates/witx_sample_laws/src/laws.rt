@@ -1,9 +1,14 @@
 //! What holds of every sample that can be made, as functions that do nothing: each contract is a theorem.
 
-ghost use Rattle.witx_sample_laws.specs.SampleLaws.{SampleWordsHaveASize, SamplesAreNotRefused, SamplesAreSummedUp, SamplesAreValid};
+ghost use Rattle.witx_sample_laws.specs.SampleLaws.{SampleWordsHaveASize, SamplesAreBundles, SamplesAreNotRefused, SamplesAreSummedUp, SamplesAreValid};
 
 use witx_commands::valid_is_not_refused;
 use witx_walk::one_answer;
+
+/// The bytes of a sample are a bundle.
+pub fn samples_are_bundles()
+    ensures { SamplesAreBundles }
+{}
 
 /// The files of a sample's bundle are valid for the command: they mean a document that can be adapted.
 pub fn samples_are_valid()
