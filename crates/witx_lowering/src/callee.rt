@@ -1,3 +1,5 @@
+//! The plan of the side that is called.
+
 ghost use Rattle.std.specs.Prelude.{◌≡◌, ◌+◌, ◌++◌, ◌∷◌, [], cond, IfOk, None, Some, is_some, length, position, not, true, false};
 ghost use Rattle.witx_ast.specs.Plain.{plain};
 ghost use Rattle.witx_ast.specs.declared.function.Abi.TheVariants.{Preview1};

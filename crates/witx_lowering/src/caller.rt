@@ -1,3 +1,5 @@
+//! The plan of the side that calls.
+
 ghost use Rattle.std.specs.Prelude.{◌≡◌, ◌++◌, IfOk, None, is_some, position, not, true};
 ghost use Rattle.witx_ast.specs.declared.function.Abi.TheVariants.{Preview1};
 ghost use Rattle.witx_ast.specs.Views.{tree_of};

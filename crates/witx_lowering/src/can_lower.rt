@@ -1,3 +1,5 @@
+//! Whether a function can be lowered, or its first part that can't.
+
 ghost use Rattle.std.specs.Prelude.{◌≡◌, not, position};
 ghost use Rattle.witx_ast.specs.Views.{tree_of, datatype_tree};
 ghost use Rattle.witx_machine.specs.Lowerable.{can_be_result, can_return, can_be_param, unlowerable, unlowerable_result};

@@ -1,3 +1,5 @@
+//! The instruction that lowers a value of a type, and the one that lifts it.
+
 ghost use Rattle.std.specs.Prelude.{◌≡◌, true};
 ghost use Rattle.witx_ast.specs.Views.{tree_of, datatype_tree, named_tree, record_tree, variant_tree};
 ghost use Rattle.witx_machine.specs.Lowerable.{can_be_param};
@@ -96,7 +98,7 @@ fn lift_as<'a>(ty: &'a Rc<NamedType>, datatype: &'a Datatype) -> Instruction<'a>
 
 #[tactic(auto, using(witx_ast::proofs::TreeKinds::kind_rules, witx_instructions::proofs::Instructions::step_rules))]
 fn lower_record<'a>(ty: &'a Rc<NamedType>, record: &'a RecordDatatype) -> Instruction<'a>
-    ensures { step_of result ≡ lower_at (named_tree ty.now.value) (record_tree record.now) }
+    ensures { step_of result ≡ lower_at (named_tree ty.now.value) (record_tree «record».now) }
 {
     match record.kind {
         RecordKind::Bitflags(IntRepr::U64) => Instruction::I64FromBitflags { ty },
@@ -109,7 +111,7 @@ fn lower_record<'a>(ty: &'a Rc<NamedType>, record: &'a RecordDatatype) -> Instru
 
 #[tactic(auto, using(witx_ast::proofs::TreeKinds::kind_rules, witx_instructions::proofs::Instructions::step_rules))]
 fn lift_record<'a>(ty: &'a Rc<NamedType>, record: &'a RecordDatatype) -> Instruction<'a>
-    ensures { step_of result ≡ lift_at (named_tree ty.now.value) (record_tree record.now) }
+    ensures { step_of result ≡ lift_at (named_tree ty.now.value) (record_tree «record».now) }
 {
     match record.kind {
         RecordKind::Bitflags(IntRepr::U64) => Instruction::BitflagsFromI64 { ty },

@@ -1,3 +1,5 @@
+//! The words that go in.
+
 ghost use Rattle.std.specs.Prelude.{◌≡◌, ◌++◌, IfOk, map, take};
 ghost use Rattle.witx_machine.specs.Signature.{pointers_under, signature_params};
 ghost use Rattle.witx_instructions.specs.Views.{called, param_types};

@@ -1,3 +1,5 @@
+//! Why there is no shim.
+
 ghost use Rattle.std.specs.Prelude.{◌≡◌};
 
 use witx_base::{Id, OutOfMemory};

@@ -1,3 +1,5 @@
+//! A shim: the words that pass, by their numbers.
+
 use witx_base::Items;
 
 /// Numbers of words, in order.

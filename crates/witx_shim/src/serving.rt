@@ -1,3 +1,5 @@
+//! The shim of an old function by a new one.
+
 ghost use Rattle.std.specs.Prelude.{◌≡◌, IfOk, Some};
 ghost use Rattle.witx_ast.specs.Functions.{func_tree};
 ghost use Rattle.witx_compat.specs.Polyfills.{function_mapped};
