@@ -1,3 +1,5 @@
+//! An adapted document, and its entries.
+
 use std::rc::Rc;
 use witx_abi::{Trace, WasmTypes};
 use witx_ast::{Document, InterfaceFunc, Module};

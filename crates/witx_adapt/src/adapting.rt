@@ -1,3 +1,5 @@
+//! A document adapted: checks, layouts, signatures and traces.
+
 ghost use Rattle.std.specs.Prelude.{◌≡◌, ◌++◌, All, None, Some, IfErr, IfOk, OnOk, map};
 ghost use Rattle.witx_ast.specs.Functions.{func_tree};
 ghost use Rattle.witx_ast.specs.Items.{item_tree};

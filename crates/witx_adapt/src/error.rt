@@ -1,3 +1,5 @@
+//! Why a document can't be adapted.
+
 ghost use Rattle.std.specs.Prelude.{◌≡◌};
 
 use std::alloc::AllocError;

@@ -1,3 +1,5 @@
+//! The line of each event of a listing.
+
 ghost use Rattle.std.specs.Prelude.{◌≡◌, ◌++◌, OnOk, string_bytes, map, codes, option_map};
 ghost use Rattle.witx_ast.specs.Views.{tree_of, named_tree};
 ghost use Rattle.witx_instructions.specs.Views.{event_of, kept_step};
@@ -154,7 +156,7 @@ fn put_shown(alloc: Global, text: &mut String, ty: &TypeRef) -> Result<(), OutOf
 
 /// Two quoted names, each behind a space.
 fn put_names(text: &mut String, module: &str, name: &str) -> Result<(), OutOfMemory>
-    ensures { OnOk result (string_bytes text.new ≡ string_bytes text.old ++ two_names module.now name.now) }
+    ensures { OnOk result (string_bytes text.new ≡ string_bytes text.old ++ two_names «module».now name.now) }
 {
     text.push_str(" ")?;
     put_quoted(text, module)?;

@@ -1,3 +1,5 @@
+//! The listing of an adapted document.
+
 ghost use Rattle.std.specs.Prelude.{◌≡◌, ◌++◌, IfOk, OnOk, drop, map, string_bytes};
 ghost use Rattle.witx_ast.specs.Items.{item_tree};
 ghost use Rattle.witx_ast.specs.Definitions.{definition_tree, module_tree};
@@ -98,8 +100,8 @@ fn put_module<'a>(
     functions: &'a [AdaptedFunc],
 ) -> Result<&'a [AdaptedFunc], OutOfMemory>
     ensures lines { IfOk result (λ rest. string_bytes text.new ≡ string_bytes text.old
-        ++ (module_line module.now.name ++ item_lines (module_tree module.now).items (map lowered functions.now))) }
-    ensures rest { IfOk result (λ rest. rest.now ≡ drop (func_count (module_tree module.now).items) functions.now) }
+        ++ (module_line «module».now.name ++ item_lines (module_tree «module».now).items (map lowered functions.now))) }
+    ensures rest { IfOk result (λ rest. rest.now ≡ drop (func_count (module_tree «module».now).items) functions.now) }
 {
     put_module_line(text, module.name.as_str())?;
     put_items(alloc, text, module.definitions().as_slice(), functions)
