@@ -3,3 +3,4 @@ pub mod Unlike
 pub mod Equal
 pub mod Copied
 pub mod Decided
+pub mod Compared

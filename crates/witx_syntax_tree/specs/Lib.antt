@@ -4,3 +4,4 @@ pub mod Unplaced
 pub mod Same
 pub mod SameLaws
 pub mod Copies
+pub mod Compared

@@ -2,10 +2,15 @@
 //! comments of each item.
 #![tactic(auto)]
 
+mod compare_laws;
 mod copies;
 mod laws;
 mod tree;
 
+pub use compare_laws::{
+    declarations_are_compared_without_places, lists_are_compared_by_items,
+    types_are_compared_without_places,
+};
 pub use laws::{
     documents_equal_without_places, identifiers_equal_by_name, types_equal_without_places,
 };
