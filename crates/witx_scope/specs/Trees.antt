@@ -17,12 +17,13 @@ use Rattle.witx_ast.specs.declared.types.BuiltinType.TheVariants as kind
 abbrev pub number_name : ℕ → List ℕ
 number_name i = decimal i
 
-abbrev pub or_empty : Option (List ℕ) → List ℕ
-or_empty None = []
-or_empty (Some n) = n
+-- a name, or the empty one where there is none
+abbrev pub name_or_empty : Option (List ℕ) → List ℕ
+name_or_empty None = []
+name_or_empty (Some n) = n
 
 abbrev pub nth_name : List (List ℕ) → ℕ → List ℕ
-nth_name ns i = or_empty (slice_get ns i)
+nth_name ns i = name_or_empty (slice_get ns i)
 
 -- the name of the case at a place of a union
 abbrev pub union_name : Option (List (List ℕ)) → ℕ → List ℕ

@@ -13,7 +13,8 @@ use Rattle.witx_scope.specs.declared.error.CheckError.{CheckError}
 use Rattle.witx_scope.specs.Answers.{IsFault}
 use Rattle.witx_scope.specs.Blame.{Blames}
 use Rattle.witx_scope.specs.DeclarationForms.{DeclForm, decl_form_of}
-use Rattle.witx_scope.specs.Declarations.{Past, nothing_before, decl_checks, decl_tree, accepted, rejected}
+use Rattle.witx_scope.specs.Declarations as declarations
+use Rattle.witx_scope.specs.Declarations.{Past, nothing_before, decl_checks, decl_tree}
 use Rattle.witx_scope.specs.Faults.{first_fault}
 use Rattle.witx_scope.specs.Kept.{Kept, Keeps}
 use Rattle.witx_scope.specs.Places.{location_in}
@@ -41,14 +42,13 @@ pub record Validates (before after : Kept) (old new : List Definition) (at : Sit
   -- accepted: the declaration has no fault, its definition stands last, and the next one finds it
   pub ok : (past : Past) → OnOk r (Keeps before past → first_fault (decl_checks past at.place at.form) ≡ None)
   pub appended : (past : Past) → OnOk r (Keeps before past → Adds old new (decl_tree past at.place at.comments at.form))
-  pub accepted : (past : Past) → OnOk r (Keeps before past → Keeps after (accepted past at.place at.comments at.form))
-  -- refused: the fault is the first one
+  pub accepted : (past : Past) → OnOk r (Keeps before past → Keeps after (declarations.accepted past at.place at.comments at.form))
+  -- refused: the fault is the first one, and the next one finds what a refused one leaves
   pub fault : (past : Past) → IfErr r (λ e. Keeps before past → Blames e (first_fault (decl_checks past at.place at.form)))
+  pub rejected : (past : Past) → IfErr r (λ e. IsFault e → Keeps before past → Keeps after (declarations.rejected past at.place at.form))
   -- refused, or out of memory: the definitions are unchanged, and at most the name is kept
   pub unchanged : OnErr r (new ≡ old)
-  pub out_of_memory : (past : Past) → OnErr r (Keeps before past → Keeps after past ⊎ Keeps after (rejected past at.place at.form))
-  -- refused: the next one finds what a refused one leaves (the field stands here since it hides the word that the others cite)
-  pub rejected : (past : Past) → IfErr r (λ e. IsFault e → Keeps before past → Keeps after (rejected past at.place at.form))
+  pub out_of_memory : (past : Past) → OnErr r (Keeps before past → Keeps after past ⊎ Keeps after (declarations.rejected past at.place at.form))
   -- in any case: what was true of the definitions still is
   pub fits : (past : Past) → Keeps before past → DefinitionsFit old before.entries → DefinitionsFit new after.entries
   pub ordered : DefinitionsFit old before.entries → IsOrdered (map definition_tree old) → IsOrdered (map definition_tree new)

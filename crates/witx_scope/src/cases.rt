@@ -1,3 +1,5 @@
+//! The cases of a variant, and the names of a tag, in whose order they stand.
+
 ghost use Rattle.std.specs.Prelude.{◌≡◌, length, map, option_map, slice_get, cond, IfOk, OnOk, Some, None};
 ghost use Rattle.std.specs.Option.{option_or};
 ghost use Rattle.std.specs.Ordering.{is_eq, nat_cmp};

@@ -1,3 +1,5 @@
+//! Constants: their keys, the greatest number of each integer type, and their checks.
+
 ghost use Rattle.std.specs.Prelude.{◌≡◌, IfOk, IfErr, OnOk, Some, None};
 ghost use Rattle.witx_ast.specs.Views.{named_tree};
 ghost use Rattle.witx_ast.specs.Tree.{behind};

@@ -1,3 +1,5 @@
+//! What is wrong with a declaration, as an error with its message.
+
 ghost use Rattle.std.specs.Prelude.{◌≡◌};
 
 use crate::report::repr_word;

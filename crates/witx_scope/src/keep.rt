@@ -1,3 +1,5 @@
+//! Constants that are accepted, and where they are kept.
+
 ghost use Rattle.std.specs.Prelude.{◌≡◌, ◌∷◌, ◌++◌, [], IfOk, IfErr, OnOk, OnErr, None, List, ℕ, map};
 ghost use Rattle.witx_ast.specs.Definitions.{definition_tree, constant_of};
 ghost use Rattle.witx_scope.specs.Blame.{Blames};

@@ -1,3 +1,5 @@
+//! A type that is given a name.
+
 ghost use Rattle.std.specs.Prelude.{◌≡◌, IfOk};
 ghost use Rattle.witx_comments.specs.Documentation.{documentation_of};
 ghost use Rattle.witx_comments.specs.Comments.{comments_view};

@@ -1,3 +1,5 @@
+//! Places in the files of declarations. Those of one file share its path.
+
 ghost use Rattle.std.specs.Prelude.{◌≡◌, IfOk};
 ghost use Rattle.witx_files.specs.declared.location.Location.{Location};
 ghost use Rattle.witx_scope.specs.Places.{location_in};

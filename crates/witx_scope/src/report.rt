@@ -1,3 +1,5 @@
+//! What a user reads of a fault: its message, and the lines in which it stands.
+
 ghost use Rattle.std.specs.Prelude.{◌≡◌, ◌++◌, IfOk, codes, option_map, string_bytes};
 ghost use Rattle.witx_scope.specs.Blame.{fault_of};
 ghost use Rattle.witx_scope.specs.Messages.{message, fault_location, quoted, repr_word};

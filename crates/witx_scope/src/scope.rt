@@ -1,3 +1,5 @@
+//! Scopes: names that are introduced once, what they denote, and the fault of each check.
+
 ghost use Rattle.std.specs.Prelude.{◌≡◌, IfOk, IfErr, OnOk, Some, None, ◌∷◌};
 ghost use Rattle.witx_base.specs.Found.{found};
 ghost use Rattle.witx_scope.specs.Places.{location_in};

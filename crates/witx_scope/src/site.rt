@@ -1,3 +1,5 @@
+//! Where a declaration stands.
+
 use crate::place::SharedPlace;
 use witx_base::WitxPath;
 use witx_syntax_tree::CommentSyntax;

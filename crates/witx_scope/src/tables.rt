@@ -1,3 +1,5 @@
+//! What is kept of the declarations so far.
+
 use crate::constants::ConstantPlaces;
 use crate::scope::Names;
 use std::alloc::Global;
