@@ -1,3 +1,5 @@
+//! Functions: their parameters, their results, and whether their ABI permits these.
+
 ghost use Rattle.std.specs.Prelude.{◌≡◌, ◌∷◌, ◌++◌, IfOk, IfErr, OnOk, None, [], map};
 ghost use Rattle.witx_base.specs.Found.{found};
 ghost use Rattle.witx_ast.specs.Views.{tree_of};
@@ -43,6 +45,7 @@ fn push_param(
     Ok(())
 }
 
+/// The parameters of a function. The name of each is taken in before its type is checked.
 #[tactic(auto, using(crate::proofs::Params::param_rules))]
 pub fn checked_params(
     fields: &[Documented<'_, FieldSyntax<'_>>],
@@ -64,6 +67,8 @@ pub fn checked_params(
     Ok(params)
 }
 
+/// The results of a function. The type of each is checked before its name is taken in, behind the names
+/// of the parameters.
 #[tactic(auto, using(crate::proofs::Params::result_rules))]
 pub fn checked_results(
     fields: &[Documented<'_, FieldSyntax<'_>>],

@@ -1,3 +1,5 @@
+//! Modules: their items, in order and by name.
+
 ghost use Rattle.std.specs.Prelude.{◌≡◌, ◌∷◌, ◌++◌, [], IfOk, IfErr, OnOk, OnErr, None, map, option_map};
 ghost use Rattle.witx_base.specs.Found.{found};
 ghost use Rattle.witx_ast.specs.Items.{item_tree, entry_item, ItemsFit};

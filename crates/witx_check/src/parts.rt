@@ -1,3 +1,5 @@
+//! What types are made of: builtins, representations, tags, the names of members and cases.
+
 ghost use Rattle.std.specs.Prelude.{◌≡◌, ◌∷◌, ◌++◌, IfOk, IfErr, OnOk, Some, None, [], map, option_map};
 ghost use Rattle.witx_ast.specs.Tree.{Tree, behind, arms_of};
 ghost use Rattle.witx_ast.specs.Views.{tree_of, datatype_tree, record_tree, variant_tree, member_field, case_arm};
@@ -26,6 +28,7 @@ use witx_syntax_tree::{
     BuiltinSyntax, CommentSyntax, Documented, EnumSyntax, FlagsSyntax, IdSyntax,
 };
 
+/// A use of the type that has no name.
 #[tactic(auto, using(witx_scope::proofs::Steps::step_rules))]
 pub fn value(alloc: Global, datatype: Datatype) -> Result<TypeRef, OutOfMemory>
     ensures { IfOk result (λ t. tree_of t ≡ datatype_tree datatype) }
@@ -33,6 +36,7 @@ pub fn value(alloc: Global, datatype: Datatype) -> Result<TypeRef, OutOfMemory>
     Ok(TypeRef::Value(Rc::new(alloc, datatype)?))
 }
 
+/// The builtin type of its syntax, with the same fields.
 pub fn builtin_type(syntax: BuiltinSyntax) -> BuiltinType
     ensures { result ≡ builtin_type syntax }
 {
@@ -51,6 +55,7 @@ pub fn builtin_type(syntax: BuiltinSyntax) -> BuiltinType
     }
 }
 
+/// The name of the member or case numbered `i`: its decimal digits.
 pub fn number_name(alloc: Global, i: usize) -> Result<Id, OutOfMemory>
     ensures { IfOk result (λ id. id ≡ number_name i) }
 {
@@ -58,6 +63,7 @@ pub fn number_name(alloc: Global, i: usize) -> Result<Id, OutOfMemory>
     Ok(Id::new(alloc, text.as_str())?)
 }
 
+/// The type of a string: a list of `char`.
 #[tactic(auto, using(witx_scope::proofs::Steps::step_rules))]
 pub fn string_type(alloc: Global) -> Result<TypeRef, OutOfMemory>
     ensures { IfOk result (λ t. tree_of t ≡ string_tree) }
@@ -75,6 +81,7 @@ fn two_cases(alloc: Global, first: Case, second: Case) -> Result<Cases, OutOfMem
     Ok(cases)
 }
 
+/// The type of a bool: a variant with the tag u32 and the cases `false` and `true`.
 #[tactic(auto, using(witx_scope::proofs::Steps::step_rules))]
 pub fn bool_type(alloc: Global) -> Result<TypeRef, OutOfMemory>
     ensures { IfOk result (λ t. tree_of t ≡ bool_tree) }
@@ -85,6 +92,7 @@ pub fn bool_type(alloc: Global) -> Result<TypeRef, OutOfMemory>
     variant_type(alloc, IntRepr::U32, cases)
 }
 
+/// The type of an expected result: a variant with the tag u32 and the cases `ok` and `err`.
 #[tactic(auto, using(witx_scope::proofs::Steps::step_rules))]
 pub fn expected_type(
     alloc: Global,
@@ -99,6 +107,7 @@ pub fn expected_type(
     variant_type(alloc, IntRepr::U32, cases)
 }
 
+/// The unsigned representation that the builtin type is, if it is one.
 pub fn unsigned(of: BuiltinType) -> Option<IntRepr>
     ensures { result ≡ repr_of of }
 {
@@ -210,6 +219,7 @@ fn noted_flags(
     Ok(members)
 }
 
+/// The type of an enum: a variant whose cases have no payload.
 #[tactic(auto, using(crate::proofs::Onward::enum_rules))]
 pub fn checked_enum(
     syntax: &EnumSyntax<'_>,
@@ -225,6 +235,7 @@ pub fn checked_enum(
     Ok(variant_type(scope.alloc, tag_repr, cases)?)
 }
 
+/// The type of flags: a record of bools with a representation.
 #[tactic(auto, using(crate::proofs::Onward::enum_rules))]
 pub fn checked_flags(
     syntax: &FlagsSyntax<'_>,
@@ -275,6 +286,7 @@ fn tag_names(alloc: Global, cases: &[Case]) -> Result<TagNames, OutOfMemory>
     TagNames::new(alloc, case_names(alloc, cases)?)
 }
 
+/// What a union or a variant takes from the type of its tag: an enum gives its names, too.
 #[tactic(auto, using(crate::proofs::Onward::case_rules))]
 pub fn tag_of(tag: &TypeRef, scope: &Scope<'_>, near: usize) -> Result<Tag, CheckError>
     ensures ok { OnOk result (tag_check (behind (tree_of tag.now)) ((here_of scope.now).place near) ≡ None) }
@@ -311,6 +323,7 @@ pub fn tag_of(tag: &TypeRef, scope: &Scope<'_>, near: usize) -> Result<Tag, Chec
     }
 }
 
+/// Refuses so many fields or cases, where the tag has another number of names.
 pub fn checked_size(
     names: &Option<TagNames>,
     found: usize,
@@ -386,6 +399,8 @@ pub fn checked_case(
     }
 }
 
+/// The name of a union's case numbered `i`: the tag's name there, or the decimal digits under a tag without
+/// names.
 pub fn union_name(alloc: Global, names: &Option<TagNames>, i: usize) -> Result<Id, OutOfMemory>
     ensures { IfOk result (λ id. id ≡ union_name names.now i) }
 {

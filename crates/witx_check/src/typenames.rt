@@ -1,3 +1,5 @@
+//! Typenames.
+
 ghost use Rattle.std.specs.Prelude.{◌≡◌, ◌∷◌, IfOk, IfErr, OnOk, OnErr, None};
 ghost use Rattle.witx_base.specs.Found.{found};
 ghost use Rattle.witx_ast.specs.Views.{named_tree};

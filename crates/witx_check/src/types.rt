@@ -1,3 +1,5 @@
+//! Types: the checks of each form of syntax, and the type that it means.
+
 ghost use Rattle.std.specs.Prelude.{◌≡◌, IfOk, IfErr, OnOk, None, [], map, option_map};
 ghost use Rattle.witx_syntax_tree.specs.Views.{type_view, fields_view, types_view, union_fields_view, cases_view, boxed_view};
 ghost use Rattle.witx_scope.specs.SyntaxChecks.{lacks_name, checks_of, payload_view, part_checks, record_checks, record_meant, tuple_checks, tuple_meant, expected_checks, expected_meant, all_tag_checks, union_checks, union_meant, variant_checks, variant_meant};

@@ -1,3 +1,5 @@
+//! Whole declarations, checked and kept.
+
 ghost use Rattle.std.specs.Prelude.{◌≡◌, ◌∷◌, ◌++◌, [], OnOk, OnErr, Some, map, option_map};
 ghost use Rattle.witx_base.specs.Found.{found};
 ghost use Rattle.witx_ast.specs.Definitions.{definition_tree, entry_tree, module_of, module_tree};

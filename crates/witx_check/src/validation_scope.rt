@@ -1,3 +1,5 @@
+//! A validator at one file.
+
 ghost use Rattle.std.specs.Prelude.{◌≡◌};
 
 use crate::validator::DocValidation;

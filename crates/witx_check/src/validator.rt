@@ -1,3 +1,5 @@
+//! The validator: what it keeps between declarations, and the document that it ends in.
+
 ghost use Rattle.std.specs.Prelude.{◌≡◌, IfOk, map};
 ghost use Rattle.witx_ast.specs.Definitions.{definition_tree, DefinitionsFit};
 ghost use Rattle.witx_ast.specs.Ordered.{IsOrdered};
