@@ -32,7 +32,7 @@ use Rattle.witx_order.specs.Verdicts.{Verdict, fine, refused}
 use Rattle.witx_order.specs.Walks.{Refusal}
 use Rattle.witx_files.specs.declared.fault.IoFault.TheVariants.{NotFound, LineNotFound, Failed}
 use Rattle.witx_walk.specs.Answers.{Answer, AgreesWith, answer_of}
-use Rattle.witx_walk.specs.OneFile.{IsOfOneFile, IsSourceVerdict}
+use Rattle.witx_walk.specs.OneFile.{IsOfOneFile, IsSourceAnswer, IsSourceVerdict}
 use Rattle.witx_ast.specs.Entries.{Held}
 use Rattle.witx_ast.specs.declared.definition.Definition.{Definition}
 use Rattle.witx_ast.specs.declared.definition.Entry.{Entry}
@@ -230,7 +230,11 @@ parse_reads_back same ds text r e v o m p =
     of_answer (Ok d) h = h
     of_answer (Err f) h = h
 
--- the verdict of a text that is the printed one
+-- the answer and the verdict of a text that is the printed one
+pub printed_answer : (ds : List DefinitionTree) (text : List ℕ) (r : Result (Held Definition Entry) WitxError) → text ≡ document_text ds
+    → IsSourceAnswer text (answer_of r) → IsSourceAnswer (document_text ds) (answer_of r)
+printed_answer ds text r e a = subst (λ (t : List ℕ). IsSourceAnswer t (answer_of r)) e a
+
 pub printed_verdict : (ds : List DefinitionTree) (text : List ℕ) (r : Result (Held Definition Entry) WitxError) → text ≡ document_text ds
     → IsSourceVerdict text (answer_of r) → IsSourceVerdict (document_text ds) (answer_of r)
 printed_verdict ds text r e v = subst (λ (t : List ℕ). IsSourceVerdict t (answer_of r)) e v
