@@ -1,3 +1,5 @@
+//! Why files have no document, as an error with its message.
+
 ghost use Rattle.std.specs.Prelude.{◌≡◌};
 
 use std::alloc::{AllocError, AllocFailed};

@@ -1,3 +1,5 @@
+//! What a user reads of a refusal.
+
 ghost use Rattle.std.specs.Prelude.{◌≡◌, IfOk};
 ghost use Rattle.witx_walk.specs.ErrorReports.{IsErrorReport, bad_path_report, fault_text, io_report, parse_report, too_many_report};
 

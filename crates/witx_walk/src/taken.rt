@@ -1,3 +1,5 @@
+//! The paths of the files that were taken in.
+
 ghost use Rattle.std.specs.Prelude.{◌≡◌, ◌+◌, [], cond, true, false, OnOk};
 ghost use Rattle.std.specs.BTreeSet.{btree_set_len};
 ghost use Rattle.witx_base.specs.Paths.{Path};
@@ -15,6 +17,7 @@ pub struct TakenPaths {
 }
 
 impl TakenPaths {
+    /// No path; takes no memory.
     pub fn new(alloc: Global) -> TakenPaths
         ensures { HasPaths result.paths [] }
     {
@@ -23,18 +26,21 @@ impl TakenPaths {
         }
     }
 
+    /// How many files were taken in.
     pub fn len(&self) -> usize
         ensures { result ≡ btree_set_len self.now.paths }
     {
         self.paths.len()
     }
 
+    /// Whether the file at the path was taken in.
     pub fn contains(&self, path: &WitxPath) -> bool
         ensures { result ≡ has_path self.now.paths path.now }
     {
         self.paths.contains(path)
     }
 
+    /// Adds a path.
     pub fn insert(&mut self, path: &WitxPath) -> Result<(), OutOfMemory>
         ensures known { OnOk result ((q : Path) → has_path self.new.paths q ≡ cond (same_path path.now q) true (has_path self.old.paths q)) }
         ensures count { OnOk result (has_path self.old.paths path.now ≡ false → btree_set_len self.new.paths ≡ btree_set_len self.old.paths + 1) }

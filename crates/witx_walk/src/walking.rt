@@ -1,3 +1,5 @@
+//! What a reading of files keeps while it goes.
+
 use crate::taken::TakenPaths;
 use witx_ast::Definitions;
 use witx_check::DocValidation;
