@@ -42,6 +42,7 @@ fn typename(span: Span) -> DeclSyntax<'static> {
     })
 }
 
+/// No comments.
 pub fn no_comments(alloc: Global) -> CommentSyntax<'static> {
     CommentSyntax {
         comments: Items::new(alloc),
