@@ -2,6 +2,7 @@ pub mod Types
 pub mod Results
 pub mod Signatures
 pub mod Plans
+pub mod Handing
 pub mod Instructions
 pub mod PointerTypes
 pub mod Sides

@@ -14,22 +14,22 @@ use Rattle.witx_machine.proofs.HeightLaws.{caller-level, callee-level}
 use Rattle.witx_instructions.proofs.Sides.{params-can, results-can}
 use Rattle.witx_machine.specs.Heights.{height_after, heights}
 
-map-append : {A B : Type 0} (f : A → B) (xs ys : List A) → map f (xs ++ ys) ≡ map f xs ++ map f ys
+pub map-append : {A B : Type 0} (f : A → B) (xs ys : List A) → map f (xs ++ ys) ≡ map f xs ++ map f ys
 map-append f [] ys = refl
 map-append f (x ∷ xs) ys = ap (λ zs. f x ∷ zs) (map-append f xs ys)
 
 pub planned-more : (plan : List Planned) (p : Planned) → planned_events (plan ++ p ∷ []) ≡ planned_events plan ++ planned_event p ∷ []
 planned-more plan p = map-append planned_event plan (p ∷ [])
 
-pub told-none : (told : Option (List Event)) → told ≡ after told []
+pub told-none : {A : Type 0} (told : Option (List A)) → told ≡ after told []
 told-none None = refl
 told-none (Some es) = ap Some (sym (append-nil es))
 
-pub told-then : (told : Option (List Event)) (a b : List Event) → after (after told a) b ≡ after told (a ++ b)
+pub told-then : {A : Type 0} (told : Option (List A)) (a b : List A) → after (after told a) b ≡ after told (a ++ b)
 told-then None a b = refl
 told-then (Some es) a b = ap Some (append_assoc es a b)
 
-take-next : (plan : List Planned) (i : ℕ) (p : Planned) → i < length plan → p ≡ get_or plan i p → take (suc i) (planned_events plan) ≡ take i (planned_events plan) ++ planned_event p ∷ []
+pub take-next : (plan : List Planned) (i : ℕ) (p : Planned) → i < length plan → p ≡ get_or plan i p → take (suc i) (planned_events plan) ≡ take i (planned_events plan) ++ planned_event p ∷ []
 take-next [] i p l e = absurd (omega arith)
 take-next (q ∷ plan) zero p l e = ap (λ p. planned_event p ∷ []) (sym e)
 take-next (q ∷ plan) (suc i) p l e = ap (λ es. planned_event q ∷ es) (take-next plan i p (omega arith) e)
@@ -39,17 +39,21 @@ pub told-next : (plan : List Planned) (i : ℕ) (p : Planned) (before now later 
 told-next plan i p before now later l e n m =
     m ∙ ap (λ t. after t (planned_event p ∷ [])) n ∙ told-then before (take i (planned_events plan)) (planned_event p ∷ []) ∙ ap (after before) (sym (take-next plan i p l e)) ∙ ap (λ k. after before (take k (planned_events plan))) (sym (add-one i))
 
-take-all : (n : ℕ) (es : List Event) → length es ≤ n → take n es ≡ es
+pub take-all : (n : ℕ) (es : List Event) → length es ≤ n → take n es ≡ es
 take-all zero [] l = refl
 take-all (suc n) [] l = refl
 take-all zero (e ∷ es) l = absurd (omega arith)
 take-all (suc n) (e ∷ es) l = ap (λ es. e ∷ es) (take-all n es (omega arith))
 
-length-events : (plan : List Planned) → length (planned_events plan) ≡ length plan
+pub length-events : (plan : List Planned) → length (planned_events plan) ≡ length plan
 length-events [] = refl
 length-events (p ∷ plan) = ap suc (length-events plan)
 
-take-none : (k : ℕ) (es : List Event) → es ≡ [] → take k es ≡ []
+pub take-zero : (es : List Event) → take {A = Event} 0 es ≡ []
+take-zero [] = refl
+take-zero (e ∷ es) = refl
+
+pub take-none : (k : ℕ) (es : List Event) → es ≡ [] → take k es ≡ []
 take-none zero [] e = refl
 take-none (suc k) [] e = refl
 take-none k (e ∷ es) h = absurd (clash h)
@@ -83,10 +87,10 @@ no-place BindgenError.OutOfMemory e i = ap (λ e. unlowerable_place {R = Unit {0
 -- no event was told
 pub front-none : (es : List Event) (told : Option (List Event)) → TellsFront es told told
 front-none es told = (0, told-none told ∙ ap (after told) (sym (take-zero es)))
-  where
-    take-zero : (es : List Event) → take {A = Event} 0 es ≡ []
-    take-zero [] = refl
-    take-zero (e ∷ es) = refl
+
+-- one event was told
+pub all-front : (e : Event) (before now : Option (List Event)) → now ≡ after before (e ∷ []) → TellsFront (e ∷ []) before now
+all-front e before now h = (1, h)
 
 some-zero : IsSome {T = ℕ} (Some 0)
 some-zero = search rules

@@ -9,12 +9,12 @@ use Rattle.witx_instructions.specs.declared.bindgen.BindgenError.{BindgenError}
 use Rattle.witx_instructions.specs.declared.error.AbiError.{AbiError}
 use Rattle.witx_instructions.specs.declared.error.SignatureError.{SignatureError}
 
--- the events told so far, where they are told, after some more
-abbrev pub after : Option (List Event) → List Event → Option (List Event)
+-- the events told so far, where they are told, after some more; so too of calls
+abbrev pub after : {A : Type 0} → Option (List A) → List A → Option (List A)
 after told es = option_map (λ before. before ++ es) told
 
 -- one more event where the call was done, else none
-abbrev pub told_after : {R E : Type 0} → Result R E → Event → Option (List Event) → Option (List Event)
+abbrev pub told_after : {A R E : Type 0} → Result R E → A → Option (List A) → Option (List A)
 told_after (Ok r) e told = after told (e ∷ [])
 told_after (Err x) e told = told
 

@@ -1,9 +1,12 @@
+//! What a generator of code is: a trait with four calls, one for each kind of event.
+
 ghost use Rattle.std.specs.Prelude.{◌≡◌, ℕ, List, Option, [], is_some, vec_len, OnOk};
 ghost use Rattle.witx_machine.specs.Rows.{operands_count, results_count};
 ghost use Rattle.witx_machine.specs.Events.{Event, emit, space, push, finish};
 ghost use Rattle.witx_ast.specs.Views.{named_tree};
 ghost use Rattle.witx_instructions.specs.Views.{step_of};
 ghost use Rattle.witx_instructions.specs.Told.{told_after, is_fault, Counts};
+ghost use Rattle.witx_instructions.specs.Handed.{Call, emitted, made_room, began, ended};
 
 use crate::instruction::Instruction;
 use std::alloc::AllocError;
@@ -54,10 +57,14 @@ impl From<Failed> for BindgenError {
 /// What it makes of operands is its own affair; an instruction takes as many as
 /// [`Instruction::operands_len`] says, and leaves [`Instruction::results_len`] results.
 pub trait Bindgen {
+    /// What stands for a value or a word in the code that is generated.
     type Operand: Drop;
 
     /// The events so far, where the generator tells them.
     ghost told: { Self → Option (List Event) };
+
+    /// The calls so far, with the operands that passed, where the generator tells them.
+    ghost calls: { Self → Option (List (Call Self.Operand)) };
 
     /// How often it has failed.
     ghost faults: { Self → ℕ };
@@ -73,20 +80,24 @@ pub trait Bindgen {
         requires results { results.old.items ≡ [] }
         ensures filled { OnOk result (vec_len results.new ≡ results_count (step_of inst.now)) }
         ensures event { told self.new ≡ told_after result (emit (step_of inst.now)) (told self.old) }
+        ensures call { calls self.new ≡ told_after result (emitted (step_of inst.now) operands.old.items results.new.items) (calls self.old) }
         ensures cause { Counts (is_fault result) (faults self.old) (faults self.new) };
 
     /// Makes room for a result of this type, under the number of a slot.
     fn allocate_space(&mut self, slot: usize, ty: &Rc<NamedType>) -> Result<(), BindgenError>
         ensures event { told self.new ≡ told_after result (space slot (named_tree ty.now.value)) (told self.old) }
+        ensures call { calls self.new ≡ told_after result (made_room slot (named_tree ty.now.value)) (calls self.old) }
         ensures cause { Counts (is_fault result) (faults self.old) (faults self.new) };
 
     /// Begins a block.
     fn push_block(&mut self) -> Result<(), BindgenError>
         ensures event { told self.new ≡ told_after result push (told self.old) }
+        ensures call { calls self.new ≡ told_after result began (calls self.old) }
         ensures cause { Counts (is_fault result) (faults self.old) (faults self.new) };
 
     /// Ends the innermost block, with the operand that it leaves, if it leaves one.
     fn finish_block(&mut self, operand: Option<Self::Operand>) -> Result<(), BindgenError>
         ensures event { told self.new ≡ told_after result (finish (is_some operand)) (told self.old) }
+        ensures call { calls self.new ≡ told_after result (ended operand) (calls self.old) }
         ensures cause { Counts (is_fault result) (faults self.old) (faults self.new) };
 }

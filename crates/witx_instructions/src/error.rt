@@ -1,3 +1,5 @@
+//! Why a function has no signature, or why its events weren't all made.
+
 ghost use Rattle.std.specs.Prelude.{◌≡◌};
 
 use crate::bindgen::BindgenError;
@@ -29,6 +31,16 @@ impl From<OutOfMemory> for SignatureError {
 
     fn from(_refused: OutOfMemory) -> SignatureError {
         SignatureError::OutOfMemory
+    }
+}
+
+impl From<OutOfMemory> for AbiError {
+    ghost use Rattle.witx_instructions.specs.declared.error.AbiError.{AbiError};
+
+    ghost from_gives = { λ refused error. error ≡ AbiError.OutOfMemory };
+
+    fn from(_refused: OutOfMemory) -> AbiError {
+        AbiError::OutOfMemory
     }
 }
 

@@ -1,3 +1,5 @@
+//! The events of a trace, kept.
+
 use crate::instruction::WasmTypes;
 use std::rc::Rc;
 use witx_ast::{NamedType, TypeRef, TypeRefs};

@@ -1,10 +1,13 @@
-ghost use Rattle.std.specs.Prelude.{◌≡◌, [], map, All, Some, is_some, vec_len, OnOk};
+//! A generator that fails at listed calls.
+
+ghost use Rattle.std.specs.Prelude.{◌≡◌, [], map, All, None, Some, is_some, vec_len, OnOk};
 ghost use Rattle.witx_base.specs.Calls.{counted, fails_next, no_calls};
 ghost use Rattle.witx_ast.specs.Views.{named_tree};
 ghost use Rattle.witx_machine.specs.Events.{emit, space, push, finish};
 ghost use Rattle.witx_machine.specs.Rows.{operands_count, results_count};
 ghost use Rattle.witx_instructions.specs.Views.{event_of, step_of};
 ghost use Rattle.witx_instructions.specs.Told.{told_after, is_fault, Counts};
+ghost use Rattle.witx_instructions.specs.Handed.{emitted, made_room, began, ended};
 
 use crate::bindgen::{Bindgen, BindgenError};
 use crate::event::Events;
@@ -54,6 +57,8 @@ impl Bindgen for FailingBindgen {
 
     ghost told = { λ bindgen. Some (map event_of bindgen.trace.events) };
 
+    ghost calls = { λ _. None };
+
     ghost faults = { λ bindgen. bindgen.calls.faults };
 
     fn emit(
@@ -67,6 +72,7 @@ impl Bindgen for FailingBindgen {
         ensures filled { OnOk result (vec_len results.new ≡ results_count (step_of inst.now)) }
         ensures zeros { OnOk result (All (λ operand. operand ≡ 0) results.new.items) }
         ensures event { Some (map event_of self.new.trace.events) ≡ told_after result (emit (step_of inst.now)) (Some (map event_of self.old.trace.events)) }
+        ensures call { None ≡ told_after result (emitted (step_of inst.now) operands.old.items results.new.items) None }
         ensures cause { Counts (is_fault result) self.old.calls.faults self.new.calls.faults }
         ensures fails { is_fault result ≡ fails_next self.old.calls }
         ensures counted { self.new.calls ≡ counted (is_fault result) self.old.calls }
@@ -78,6 +84,7 @@ impl Bindgen for FailingBindgen {
     fn allocate_space(&mut self, slot: usize, ty: &Rc<NamedType>) -> Result<(), BindgenError>
         ensures event { Some (map event_of self.new.trace.events)
             ≡ told_after result (space slot (named_tree ty.now.value)) (Some (map event_of self.old.trace.events)) }
+        ensures call { None ≡ told_after result (made_room slot (named_tree ty.now.value)) None }
         ensures cause { Counts (is_fault result) self.old.calls.faults self.new.calls.faults }
         ensures fails { is_fault result ≡ fails_next self.old.calls }
         ensures counted { self.new.calls ≡ counted (is_fault result) self.old.calls }
@@ -88,6 +95,7 @@ impl Bindgen for FailingBindgen {
 
     fn push_block(&mut self) -> Result<(), BindgenError>
         ensures event { Some (map event_of self.new.trace.events) ≡ told_after result push (Some (map event_of self.old.trace.events)) }
+        ensures call { None ≡ told_after result began None }
         ensures cause { Counts (is_fault result) self.old.calls.faults self.new.calls.faults }
         ensures fails { is_fault result ≡ fails_next self.old.calls }
         ensures counted { self.new.calls ≡ counted (is_fault result) self.old.calls }
@@ -98,6 +106,7 @@ impl Bindgen for FailingBindgen {
 
     fn finish_block(&mut self, operand: Option<u8>) -> Result<(), BindgenError>
         ensures event { Some (map event_of self.new.trace.events) ≡ told_after result (finish (is_some operand)) (Some (map event_of self.old.trace.events)) }
+        ensures call { None ≡ told_after result (ended operand) None }
         ensures cause { Counts (is_fault result) self.old.calls.faults self.new.calls.faults }
         ensures fails { is_fault result ≡ fails_next self.old.calls }
         ensures counted { self.new.calls ≡ counted (is_fault result) self.old.calls }

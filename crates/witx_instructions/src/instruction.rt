@@ -1,3 +1,5 @@
+//! Instructions, and how many operands each takes and results it leaves.
+
 ghost use Rattle.std.specs.Prelude.{◌≡◌};
 ghost use Rattle.witx_machine.specs.Rows.{operands_count, results_count};
 ghost use Rattle.witx_instructions.specs.Views.{step_of};

@@ -1,3 +1,5 @@
+//! Events to come, kept as those of a trace.
+
 ghost use Rattle.std.specs.Prelude.{◌≡◌, IfOk, map, option_map};
 ghost use Rattle.witx_ast.specs.Views.{tree_of};
 ghost use Rattle.witx_machine.specs.Events as machine;
@@ -117,7 +119,7 @@ fn kept_call_wasm(
     params: &WasmTypes,
     results: &WasmTypes,
 ) -> Result<Step, OutOfMemory>
-    ensures { IfOk result (λ step. kept_step step ≡ machine.Step.CallWasm module.now name.now params.now results.now) }
+    ensures { IfOk result (λ step. kept_step step ≡ machine.Step.CallWasm «module».now name.now params.now results.now) }
 {
     let module = Id::new(alloc, module)?;
     let name = Id::new(alloc, name)?;
@@ -137,7 +139,7 @@ fn kept_call_interface(
     func: &InterfaceFunc,
 ) -> Result<Step, OutOfMemory>
     ensures { IfOk result (λ step. kept_step step
-        ≡ machine.Step.CallInterface module.now func.now.name (param_types func.now.params) (param_types func.now.results)) }
+        ≡ machine.Step.CallInterface «module».now func.now.name (param_types func.now.params) (param_types func.now.results)) }
 {
     let module = Id::new(alloc, module)?;
     let name = func.name.copy()?;

@@ -1,9 +1,12 @@
-ghost use Rattle.std.specs.Prelude.{◌≡◌, ◌≤◌, ◌∷◌, ◌++◌, [], None, Some, IfOk, OnOk, OnErr, IsSome, vec_len};
+//! Plans of events, and how they are handed to a generator.
+
+ghost use Rattle.std.specs.Prelude.{◌≡◌, ◌<◌, ◌≤◌, ◌∷◌, ◌++◌, [], None, Some, true, IfOk, OnOk, OnErr, IsSome, vec_len};
 ghost use Rattle.witx_machine.specs.Events as machine;
 ghost use Rattle.witx_machine.specs.Rows.{operands_count, results_count};
 ghost use Rattle.witx_instructions.specs.Views.{planned_event, planned_events, step_of};
 ghost use Rattle.witx_machine.specs.Heights.{height_after, heights};
 ghost use Rattle.witx_instructions.specs.Told.{after, TellsFront, is_fault, is_bindgen_fault, unlowerable_place, Counts};
+ghost use Rattle.witx_instructions.specs.Handed.{InOrder, OperandsInOrder, FrontInOrder};
 
 use crate::bindgen::{Bindgen, BindgenError};
 use crate::error::AbiError;
@@ -53,11 +56,13 @@ pub fn put<'a>(plan: &mut Plan<'a>, instruction: Instruction<'a>) -> Result<(), 
     add(plan, Planned::Emit(instruction))
 }
 
-/// Hands the events of a plan to a generator, with the operands that each instruction takes.
+/// Hands the events of a plan to a generator; each instruction gets the operands that earlier ones left, in order.
 pub fn play<B: Bindgen>(alloc: Global, plan: &Plan<'_>, bindgen: &mut B) -> Result<(), AbiError>
     requires { IsSome (heights (planned_events plan.now) 0) }
     ensures events { OnOk result (B.told bindgen.new ≡ after (B.told bindgen.old) (planned_events plan.now)) }
     ensures front { OnErr result (TellsFront (planned_events plan.now) (B.told bindgen.old) (B.told bindgen.new)) }
+    ensures operands { OnOk result (OperandsInOrder (planned_events plan.now) (B.calls bindgen.old) (B.calls bindgen.new)) }
+    ensures front_operands { OnErr result (FrontInOrder (planned_events plan.now) (B.calls bindgen.old) (B.calls bindgen.new) []) }
     ensures place { unlowerable_place result ≡ None }
     ensures cause { Counts (is_bindgen_fault result) (B.faults bindgen.old) (B.faults bindgen.new) }
 {
@@ -79,17 +84,31 @@ fn play_one<B: Bindgen>(
     ensures height { OnOk result (height_after (planned_event planned.now) (vec_len stack.old) ≡ Some (vec_len stack.new)) }
     ensures event { OnOk result (B.told bindgen.new ≡ after (B.told bindgen.old) (planned_event planned.now ∷ [])) }
     ensures front { OnErr result (TellsFront (planned_event planned.now ∷ []) (B.told bindgen.old) (B.told bindgen.new)) }
+    ensures operands { OnOk result (InOrder (planned_event planned.now ∷ []) (B.calls bindgen.old) (B.calls bindgen.new) stack.old.items stack.new.items) }
+    ensures front_operands { OnErr result (FrontInOrder (planned_event planned.now ∷ []) (B.calls bindgen.old) (B.calls bindgen.new) stack.old.items) }
     ensures cause { Counts (is_fault result) (B.faults bindgen.old) (B.faults bindgen.new) }
 {
     match planned {
         Planned::Emit(instruction) => emit(alloc, instruction, stack, bindgen),
         Planned::Space { slot, ty } => bindgen.allocate_space(*slot, ty),
         Planned::Push => bindgen.push_block(),
-        Planned::Finish { value } => {
-            let operand = if *value { stack.pop() } else { None };
-            bindgen.finish_block(operand)
-        }
+        Planned::Finish { value: true } => finish(stack, bindgen),
+        Planned::Finish { value: false } => bindgen.finish_block(None),
     }
+}
+
+// The end of a block, with the operand on top of the stack.
+fn finish<B: Bindgen>(stack: &mut Vec<B::Operand>, bindgen: &mut B) -> Result<(), BindgenError>
+    requires { 0 < vec_len stack.old }
+    ensures height { OnOk result (height_after (machine.finish true) (vec_len stack.old) ≡ Some (vec_len stack.new)) }
+    ensures event { OnOk result (B.told bindgen.new ≡ after (B.told bindgen.old) (machine.finish true ∷ [])) }
+    ensures front { OnErr result (TellsFront (machine.finish true ∷ []) (B.told bindgen.old) (B.told bindgen.new)) }
+    ensures operands { OnOk result (InOrder (machine.finish true ∷ []) (B.calls bindgen.old) (B.calls bindgen.new) stack.old.items stack.new.items) }
+    ensures front_operands { OnErr result (FrontInOrder (machine.finish true ∷ []) (B.calls bindgen.old) (B.calls bindgen.new) stack.old.items) }
+    ensures cause { Counts (is_fault result) (B.faults bindgen.old) (B.faults bindgen.new) }
+{
+    let operand = stack.pop();
+    bindgen.finish_block(operand)
 }
 
 // One instruction, with its operands off the stack; its results go onto the stack.
@@ -103,6 +122,8 @@ fn emit<B: Bindgen>(
     ensures height { OnOk result (height_after (machine.emit (step_of instruction.now)) (vec_len stack.old) ≡ Some (vec_len stack.new)) }
     ensures event { OnOk result (B.told bindgen.new ≡ after (B.told bindgen.old) (machine.emit (step_of instruction.now) ∷ [])) }
     ensures front { OnErr result (TellsFront (machine.emit (step_of instruction.now) ∷ []) (B.told bindgen.old) (B.told bindgen.new)) }
+    ensures operands { OnOk result (InOrder (machine.emit (step_of instruction.now) ∷ []) (B.calls bindgen.old) (B.calls bindgen.new) stack.old.items stack.new.items) }
+    ensures front_operands { OnErr result (FrontInOrder (machine.emit (step_of instruction.now) ∷ []) (B.calls bindgen.old) (B.calls bindgen.new) stack.old.items) }
     ensures cause { Counts (is_fault result) (B.faults bindgen.old) (B.faults bindgen.new) }
 {
     let rest = stack.len() - instruction.operands_len();

@@ -1,3 +1,5 @@
+//! The return pointers of a function, by the types that they point to.
+
 ghost use Rattle.std.specs.Prelude.{◌≡◌, ◌++◌, ◌∷◌, [], None, Some, IfOk, map, take, true};
 ghost use Rattle.witx_ast.specs.declared.function.Abi.TheVariants.{Preview1, Stored};
 ghost use Rattle.witx_ast.specs.Views.{tree_of};

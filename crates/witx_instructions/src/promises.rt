@@ -1,3 +1,5 @@
+//! The law on how a function is read.
+
 ghost use Rattle.std.specs.Prelude.{◌≡◌};
 ghost use Rattle.witx_ast.specs.declared.function.InterfaceFunc.{InterfaceFunc};
 ghost use Rattle.witx_ast.specs.Functions.{func_tree};

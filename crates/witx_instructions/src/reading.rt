@@ -1,3 +1,5 @@
+//! What is read off the types of parameters and results.
+
 ghost use Rattle.std.specs.Prelude.{◌≡◌, ◌++◌, ◌∷◌, [], IfOk, map, option_map};
 ghost use Rattle.witx_ast.specs.Plain.{plain};
 ghost use Rattle.witx_ast.specs.Views.{tree_of, datatype_tree, record_tree, case_arm};
@@ -83,7 +85,7 @@ fn datatype_word(datatype: &Datatype) -> Option<WasmType>
 // The word of flags; none for another record.
 #[tactic(auto, using(witx_ast::proofs::TreeKinds::kind_rules, crate::proofs::Types::type_rules))]
 fn record_word(record: &RecordDatatype) -> Option<WasmType>
-    ensures { result ≡ result_word (plain (record_tree record.now)) }
+    ensures { result ≡ result_word (plain (record_tree «record».now)) }
 {
     match record.kind {
         RecordKind::Bitflags(repr) => Some(WasmType::from(repr)),
@@ -199,7 +201,7 @@ fn is_one_i32(datatype: &Datatype) -> bool
 
 #[tactic(auto, using(witx_ast::proofs::TreeKinds::kind_rules, crate::proofs::Types::type_rules))]
 fn record_is_one_i32(record: &RecordDatatype) -> bool
-    ensures { result ≡ same_types (param_words (plain (record_tree record.now))) (WasmType.I32 ∷ []) }
+    ensures { result ≡ same_types (param_words (plain (record_tree «record».now))) (WasmType.I32 ∷ []) }
 {
     match record.kind {
         RecordKind::Bitflags(IntRepr::U64) => false,
@@ -244,7 +246,7 @@ fn datatype_members(datatype: &Datatype) -> Option<&Members>
 
 #[tactic(auto, using(witx_ast::proofs::TreeKinds::kind_rules, crate::proofs::Types::type_rules))]
 fn record_members(record: &RecordDatatype) -> Option<&Members>
-    ensures { option_map (λ ms. map (λ m. tree_of m.tref) ms.now) result ≡ tuple_types (record_tree record.now) }
+    ensures { option_map (λ ms. map (λ m. tree_of m.tref) ms.now) result ≡ tuple_types (record_tree «record».now) }
 {
     match record.kind {
         RecordKind::Tuple => Some(&record.members),

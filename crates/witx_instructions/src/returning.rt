@@ -1,3 +1,5 @@
+//! Whether a record or a variant can come back as a result.
+
 ghost use Rattle.std.specs.Prelude.{◌≡◌, map};
 ghost use Rattle.witx_ast.specs.Views.{tree_of, datatype_tree, record_tree, variant_tree};
 ghost use Rattle.witx_machine.specs.Lowerable.{can_be_ok, can_be_err, can_return, cases_can_return, members_are_named, all_names};
@@ -9,7 +11,7 @@ use witx_ast::{Datatype, IntRepr, Members, RecordDatatype, RecordKind, TypeRef, 
 /// Whether a record can come back: named flags.
 #[tactic(auto, using(witx_ast::proofs::TreeKinds::kind_rules, crate::proofs::Results::lowerable_rules))]
 pub fn record_can_return(record: &RecordDatatype, named: bool) -> bool
-    ensures { result ≡ can_return named (record_tree record.now) }
+    ensures { result ≡ can_return named (record_tree «record».now) }
 {
     match record.kind {
         RecordKind::Bitflags(_) => named,
@@ -71,7 +73,7 @@ fn members_are_named(datatype: &Datatype) -> bool
 
 #[tactic(auto, using(witx_ast::proofs::TreeKinds::kind_rules, crate::proofs::Results::lowerable_rules))]
 fn tuple_is_named(record: &RecordDatatype) -> bool
-    ensures { result ≡ members_are_named (record_tree record.now) }
+    ensures { result ≡ members_are_named (record_tree «record».now) }
 {
     match record.kind {
         RecordKind::Tuple => all_are_named(&record.members),

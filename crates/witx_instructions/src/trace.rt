@@ -1,8 +1,11 @@
-ghost use Rattle.std.specs.Prelude.{◌≡◌, [], map, All, IfOk, OnOk, Some, is_some, vec_len};
+//! A generator that records its events.
+
+ghost use Rattle.std.specs.Prelude.{◌≡◌, [], map, All, IfOk, None, OnOk, Some, is_some, vec_len};
 ghost use Rattle.witx_machine.specs.Events.{emit, finish};
 ghost use Rattle.witx_machine.specs.Rows.{operands_count, results_count};
 ghost use Rattle.witx_instructions.specs.Views.{event_of, planned_events, step_of};
 ghost use Rattle.witx_instructions.specs.Told.{told_after, is_fault, Counts};
+ghost use Rattle.witx_instructions.specs.Handed.{emitted, ended};
 
 use crate::bindgen::{Bindgen, BindgenError};
 use crate::event::{Event, Events, Step};
@@ -55,6 +58,8 @@ impl Bindgen for Trace {
 
     ghost told = { λ trace. Some (map event_of trace.events) };
 
+    ghost calls = { λ _. None };
+
     ghost faults = { λ trace. 0 };
 
     fn emit(
@@ -68,6 +73,7 @@ impl Bindgen for Trace {
         ensures filled { OnOk result (vec_len results.new ≡ results_count (step_of inst.now)) }
         ensures zeros { OnOk result (All (λ operand. operand ≡ 0) results.new.items) }
         ensures event { Some (map event_of self.new.events) ≡ told_after result (emit (step_of inst.now)) (Some (map event_of self.old.events)) }
+        ensures call { None ≡ told_after result (emitted (step_of inst.now) _operands.old.items results.new.items) None }
         ensures cause { Counts (is_fault result) 0 0 }
     {
         results.resize(inst.results_len(), 0)?;
@@ -89,6 +95,7 @@ impl Bindgen for Trace {
 
     fn finish_block(&mut self, operand: Option<u8>) -> Result<(), BindgenError>
         ensures event { Some (map event_of self.new.events) ≡ told_after result (finish (is_some operand)) (Some (map event_of self.old.events)) }
+        ensures call { None ≡ told_after result (ended operand) None }
         ensures cause { Counts (is_fault result) 0 0 }
     {
         self.events.push(Event::Finish {

@@ -1,3 +1,5 @@
+//! The words of parameters, of results and of return pointers.
+
 ghost use Rattle.std.specs.Prelude.{◌≡◌, ◌++◌, IfOk, length, map, replicate};
 ghost use Rattle.witx_ast.specs.Views.{tree_of, datatype_tree, record_tree};
 ghost use Rattle.witx_machine.specs.Functions.{result_cases};
@@ -101,7 +103,7 @@ fn member_count(datatype: &Datatype) -> usize
 
 #[tactic(auto, using(witx_ast::proofs::TreeKinds::kind_rules, crate::proofs::Signatures::signature_rules))]
 fn record_count(record: &RecordDatatype) -> usize
-    ensures { result ≡ pointer_number (record_tree record.now) }
+    ensures { result ≡ pointer_number (record_tree «record».now) }
 {
     match record.kind {
         RecordKind::Tuple => record.members.len(),
