@@ -6,6 +6,7 @@ pub mod Excluded
 pub mod Telling
 pub mod Runs
 pub mod Shims
+pub mod ToldShims
 pub mod Words
 pub mod Verdicts
 pub mod Examples

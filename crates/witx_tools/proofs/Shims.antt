@@ -27,31 +27,40 @@ viewed-end f v xs n done total l e = sym (append-nil done) ∙ ap (λ ys. done +
 pub ruleset viewed_rules = (viewed-more, viewed-end)
 
 -- so is each of a list, told one by one
-abbrev Each : {A : Type 0} → (A → Type 0) → List A → Type 0
+abbrev pub Each : {A : Type 0} → (A → Type 0) → List A → Type 0
 Each P [] = Unit {0}
 Each P (x ∷ xs) = P x × Each P xs
 
-each-all : {A : Type 0} (P : A → Type 0) (xs : List A) → Each P xs → All P xs
+pub each-all : {A : Type 0} (P : A → Type 0) (xs : List A) → Each P xs → All P xs
 each-all P [] h k d l = absurd (omega (arith, l))
 each-all P (x ∷ xs) h zero d l = h.0
 each-all P (x ∷ xs) h (suc k) d l = each-all P xs h.1 k d (omega (arith, l))
 
--- each of what all_of answers is answered for one of the list, so what each answer has all have
-module _ {A B : Type 0} (f : A → Result B polyfill.Refusal) (P : B → Type 0) (each : (x : A) (y : B) → f x ≡ Ok y → P y) where
-  one-has : (x : A) (xs : List A) (r : Result B polyfill.Refusal) (rs : Result (List B) polyfill.Refusal) (ys : List B) → f x ≡ r → ((zs : List B) → rs ≡ Ok zs → Each P zs)
-      → one_more r rs ≡ Ok ys → Each P ys
-  one-has x xs (Ok y) (Ok zs) [] e h k = cc
-  one-has x xs (Ok y) (Ok zs) (w ∷ ws) e h k = subst (Each P) (the-list k) (each x y e, h zs refl)
+-- each of what all_of answers is answered for one of the list, so what each answer for one of these has all have
+module _ {A B : Type 0} (f : A → Result B polyfill.Refusal) (Q : A → Type 0) (P : B → Type 0) (each : (x : A) (y : B) → Q x → f x ≡ Ok y → P y) where
+  one-has : (x : A) (xs : List A) (r : Result B polyfill.Refusal) (rs : Result (List B) polyfill.Refusal) (ys : List B) → Q x → f x ≡ r
+      → ((zs : List B) → rs ≡ Ok zs → Each P zs) → one_more r rs ≡ Ok ys → Each P ys
+  one-has x xs (Ok y) (Ok zs) [] i e h k = cc
+  one-has x xs (Ok y) (Ok zs) (w ∷ ws) i e h k = subst (Each P) (the-list k) (each x y i e, h zs refl)
     where
       the-list : one_more (Ok y) (Ok zs) ≡ Ok (w ∷ ws) → y ∷ zs ≡ w ∷ ws
       the-list q = cc
-  one-has x xs (Ok y) (Err why) ys e h k = cc
-  one-has x xs (Err why) rs ys e h k = cc
+  one-has x xs (Ok y) (Err why) ys i e h k = cc
+  one-has x xs (Err why) rs ys i e h k = cc
 
-  pub all-have : (xs : List A) (ys : List B) → all_of f xs ≡ Ok ys → Each P ys
-  all-have [] [] e = tt
-  all-have [] (y ∷ ys) e = cc
-  all-have (x ∷ xs) ys e = one-has x xs (f x) (all_of f xs) ys refl (λ zs q. all-have xs zs q) e
+  pub each-has : (xs : List A) (ys : List B) → Each Q xs → all_of f xs ≡ Ok ys → Each P ys
+  each-has [] [] i e = tt
+  each-has [] (y ∷ ys) i e = cc
+  each-has (x ∷ xs) ys i e = one-has x xs (f x) (all_of f xs) ys i.0 refl (λ zs q. each-has xs zs i.1 q) e
+
+pub anything : {A : Type 0} (xs : List A) → Each (λ _. Unit {0}) xs
+anything [] = tt
+anything (x ∷ xs) = (tt, anything xs)
+
+-- whatever stands in the list
+all-have : {A B : Type 0} (f : A → Result B polyfill.Refusal) (P : B → Type 0) → ((x : A) (y : B) → f x ≡ Ok y → P y)
+    → (xs : List A) (ys : List B) → all_of f xs ≡ Ok ys → Each P ys
+all-have f P each xs ys e = each-has f (λ _. Unit {0}) P (λ x y i q. each x y q) xs ys (anything xs) e
 
 -- a mapped function, by what its lists are
 abbrev IsMappedView : MappedFunction → Type 0

@@ -1,6 +1,6 @@
 //! What the words and the bytes of a bundle decide, as functions that do nothing: each contract is a
 //! theorem.
-ghost use Rattle.witx_tools.specs.ToolLaws.{CommandsAreNoTools, ValidIsNotRefusedByTools};
+ghost use Rattle.witx_tools.specs.ToolLaws.{CommandsAreNoTools, ShimsTellTwoRefusals, ValidIsNotRefusedByTools};
 
 use witx::valid_is_not_refused;
 use witx_imports::no_fault_where_imports_are_read;
@@ -23,4 +23,12 @@ pub fn valid_is_not_refused_by_tools()
     traces_leave_no_line_unfit();
     one_reading();
     lines_tell_values();
+}
+
+/// Of two documents that files mean and that can be adapted, `shim` tells each function's words, or that it isn't
+/// compatible, or that its ABI is another: no other refusal of a shim comes there.
+pub fn shims_tell_two_refusals()
+    ensures { ShimsTellTwoRefusals }
+{
+    one_reading();
 }

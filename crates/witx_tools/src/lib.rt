@@ -12,6 +12,6 @@ mod tool;
 mod usage;
 mod verdict_texts;
 
-pub use laws::{commands_are_no_tools, valid_is_not_refused_by_tools};
+pub use laws::{commands_are_no_tools, shims_tell_two_refusals, valid_is_not_refused_by_tools};
 pub use program::run_all;
 pub use tool::{Tool, tool_of};
