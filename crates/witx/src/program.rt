@@ -1,3 +1,4 @@
+//! `run`: the commands over a source and two sinks. Its clauses are the headline.
 ghost use Rattle.std.specs.Prelude.{◌≡◌, ◌<◌, ◌≤◌, ◌+◌, ◌⊎◌, ℕ, List, [], Option, All, None, Some, Ok, Err, IfErr, IfOk, IfSome, OnOk, IsSome, map, false, ◌==◌, if◌then◌else◌};
 ghost use Rattle.std.specs.Io.KnownBytes.{Appends};
 ghost use Rattle.witx_base.specs.Causes.{Rose};
@@ -7,7 +8,7 @@ ghost use Rattle.witx_adapt.specs.Entries.{IsFaithful, all_functions, entry_for,
 ghost use Rattle.witx_layout.specs.Layouts.{all_layouts};
 ghost use Rattle.witx_adapt.specs.declared.adapted.Adapted.{Adapted};
 ghost use Rattle.witx_commands.specs.Words.{IsAdapting, IsBounded, IsNoting, IsReading, adapted_paths, arguments_of, bundle_bytes, command_of, reads_source};
-ghost use Rattle.witx_commands.specs.Streams.{Finished, TookPrefix};
+ghost use Rattle.witx_commands.specs.Streams.{BrokeOff, Finished, TookInput, TookPrefix, source_seen};
 ghost use Rattle.witx_commands.specs.Texts.{IsRefused, status_of, text_of};
 ghost use Rattle.witx_commands.specs.Adapting.{defined};
 ghost use Rattle.witx_commands.specs.Reports.{CommandRefuses};
@@ -22,7 +23,7 @@ use std::alloc::Global;
 use witx_adapt::Adapted;
 use witx_base::{Sink, Source, Text};
 use witx_commands::{
-    Command, InputError, NO_MEMORY, Output, READS, Refusal, Stop, arguments_of, command_of, kept,
+    Command, InputError, NO_MEMORY, Output, Refusal, Stop, arguments_of, command_of, kept,
     output_or_refusal, read_bundle, valid_is_not_refused,
 };
 use witx_files::MockFs;
@@ -55,7 +56,7 @@ pub fn run<S: Source, O: Sink, E: Sink>(
     err: &mut E,
 ) -> Ran
     ensures done { result.status ≡ 0 → (text : List ℕ) × (notes : List ℕ)
-        × IsAnswered (input_of words.now S.left S.faults source.old source.new) text notes result.adapted
+        × IsAnswered (input_of words.now S.left S.faults S.reads source.old source.new) text notes result.adapted
         × Appends (O.taken out.old) (O.taken out.new) text × Appends (E.taken err.old) (E.taken err.new) notes × (notes ≡ [] → err.new ≡ err.old) }
     ensures listing { IfSome result.adapted (λ a. Appends (O.taken out.old) (O.taken out.new) (adapted_text (command_of words.now) a)) }
     ensures document { let form = command_of words.now in
@@ -68,27 +69,28 @@ pub fn run<S: Source, O: Sink, E: Sink>(
     ensures usage { command_of words.now ≡ None → IsRefused 2 result.status }
     ensures nothing_read { reads_source (command_of words.now) ≡ false → source.new ≡ source.old }
     ensures told { IsTold result.status → (r : Refusal) × (status_of r ≡ result.status)
-        × Cause (input_of words.now S.left S.faults source.old source.new) r
+        × Cause (input_of words.now S.left S.faults S.reads source.old source.new) r
         × Appends (E.taken err.old) (E.taken err.new) (text_of r) × (out.new ≡ out.old) }
     ensures no_bundle { (bytes : List ℕ) (e : BundleError) → IsReading (command_of words.now) → S.left source.old ≡ Some bytes → IsCause e → IsRead bytes (Err e)
-        → (Rose (S.faults source.old) (S.faults source.new) → ⊥) → IsRefused 6 result.status }
+        → (BrokeOff (source_seen S.left S.faults S.reads source.old source.new) → ⊥) → IsRefused 6 result.status }
     ensures complete { (bytes : List ℕ) (files : Files) (c : Command) → bundle_bytes (command_of words.now) (S.left source.old) ≡ Some bytes
         → IsRead bytes (Ok files) → command_of words.now ≡ Some c → IsValidFor c files (arguments_of words.now)
-        → (Rose (S.faults source.old) (S.faults source.new) → ⊥) → (Rose (O.faults out.old) (O.faults out.new) → ⊥)
+        → (BrokeOff (source_seen S.left S.faults S.reads source.old source.new) → ⊥) → (Rose (O.faults out.old) (O.faults out.new) → ⊥)
         → (IsNoting (command_of words.now) → Rose (E.faults err.old) (E.faults err.new) → ⊥) → (result.status ≡ 0) ⊎ (result.status ≡ 5) }
     ensures refused { (bytes : List ℕ) (files : Files) (c : Command) (report : List ℕ)
         → bundle_bytes (command_of words.now) (S.left source.old) ≡ Some bytes → IsRead bytes (Ok files) → command_of words.now ≡ Some c
-        → CommandRefuses c files (arguments_of words.now) report → (Rose (S.faults source.old) (S.faults source.new) → ⊥) → IsRefused 1 result.status }
+        → CommandRefuses c files (arguments_of words.now) report
+        → (BrokeOff (source_seen S.left S.faults S.reads source.old source.new) → ⊥) → IsRefused 1 result.status }
     ensures source_failed { S.faults source.old < S.faults source.new → IsRefused 3 result.status }
     ensures unwritten { result.status ≡ 4 →
         (Rose (O.faults out.old) (O.faults out.new) × (err.new ≡ err.old) × (text : List ℕ) × (notes : List ℕ) × (adapted : Option Adapted)
-        × IsAnswered (input_of words.now S.left S.faults source.old source.new) text notes adapted
+        × IsAnswered (input_of words.now S.left S.faults S.reads source.old source.new) text notes adapted
         × (TookPrefix (O.taken out.old) (O.taken out.new) text × (text ≡ [] → ⊥)))
         ⊎ (Rose (E.faults err.old) (E.faults err.new) × (text : List ℕ) × (notes : List ℕ) × (adapted : Option Adapted) × (notes ≡ [] → ⊥)
-        × IsAnswered (input_of words.now S.left S.faults source.old source.new) text notes adapted
+        × IsAnswered (input_of words.now S.left S.faults S.reads source.old source.new) text notes adapted
         × Appends (O.taken out.old) (O.taken out.new) text × TookPrefix (E.taken err.old) (E.taken err.new) notes)
         ⊎ (Rose (E.faults err.old) (E.faults err.new) × (out.new ≡ out.old) × (r : Refusal)
-        × Cause (input_of words.now S.left S.faults source.old source.new) r
+        × Cause (input_of words.now S.left S.faults S.reads source.old source.new) r
         × TookPrefix (E.taken err.old) (E.taken err.new) (text_of r)) }
     ensures out_failed { O.faults out.old < O.faults out.new → result.status ≡ 4 }
     ensures err_failed { E.faults err.old < E.faults err.new → result.status ≡ 4 }
@@ -97,6 +99,7 @@ pub fn run<S: Source, O: Sink, E: Sink>(
     ensures out_later { O.faults out.old ≤ O.faults out.new }
     ensures err_later { E.faults err.old ≤ E.faults err.new }
     ensures reads { S.reads source.new ≤ S.reads source.old + 4194305 }
+    ensures taken { TookInput (source_seen S.left S.faults S.reads source.old source.new) }
 {
     output_or_refusal();
     valid_is_not_refused();
@@ -114,13 +117,15 @@ pub fn run<S: Source, O: Sink, E: Sink>(
 }
 
 /// What a run is to write, by its words and its source.
+#[tactic(auto, using(witx_commands::proofs::ReadThrough::buffer_rules))]
 fn prepare<S: Source>(alloc: Global, words: &[Text], source: &mut S) -> Result<Output, Stop>
-    ensures answered { IfOk result (λ o. IsAnswered (input_of words.now S.left S.faults source.old source.new) o.text o.notes o.adapted) }
-    ensures stopped { IfErr result (StopCause (input_of words.now S.left S.faults source.old source.new)) }
+    ensures answered { IfOk result (λ o. IsAnswered (input_of words.now S.left S.faults S.reads source.old source.new) o.text o.notes o.adapted) }
+    ensures stopped { IfErr result (StopCause (input_of words.now S.left S.faults S.reads source.old source.new)) }
     ensures usage { command_of words.now ≡ None → result ≡ Err (Stop.Refused Refusal.Usage) }
     ensures nothing_read { reads_source (command_of words.now) ≡ false → source.new ≡ source.old }
     ensures later { S.faults source.old ≤ S.faults source.new }
-    ensures reads { S.reads source.new ≤ S.reads source.old + READS }
+    ensures reads { S.reads source.new ≤ S.reads source.old + 4194305 }
+    ensures taken { TookInput (source_seen S.left S.faults S.reads source.old source.new) }
 {
     match command_of(words) {
         Some(command) => prepare_command(alloc, command, arguments_of(words), source),
@@ -128,6 +133,7 @@ fn prepare<S: Source>(alloc: Global, words: &[Text], source: &mut S) -> Result<O
     }
 }
 
+/// What a command is to write, by the words behind its own and its source.
 fn prepare_command<S: Source>(
     alloc: Global,
     command: Command,
@@ -135,11 +141,13 @@ fn prepare_command<S: Source>(
     source: &mut S,
 ) -> Result<Output, Stop>
     requires { IsBounded command }
-    ensures answered { IfOk result (λ o. IsAnswered (run_input (Some command) arguments.now S.left S.faults source.old source.new) o.text o.notes o.adapted) }
-    ensures stopped { IfErr result (StopCause (run_input (Some command) arguments.now S.left S.faults source.old source.new)) }
+    ensures answered { IfOk result (λ o.
+        IsAnswered (run_input (Some command) arguments.now S.left S.faults S.reads source.old source.new) o.text o.notes o.adapted) }
+    ensures stopped { IfErr result (StopCause (run_input (Some command) arguments.now S.left S.faults S.reads source.old source.new)) }
     ensures nothing_read { reads_source (Some command) ≡ false → source.new ≡ source.old }
     ensures later { S.faults source.old ≤ S.faults source.new }
-    ensures reads { S.reads source.new ≤ S.reads source.old + READS }
+    ensures reads { S.reads source.new ≤ S.reads source.old + 4194305 }
+    ensures taken { TookInput (source_seen S.left S.faults S.reads source.old source.new) }
 {
     match files_for(alloc, command, source) {
         Ok(mut files) => perform(alloc, command, arguments, &mut files),
@@ -162,9 +170,10 @@ fn files_for<S: Source>(
     ensures finished { OnOk result (IsReading (Some command) → Finished (S.left source.old) (S.left source.new)) }
     ensures nothing_read { reads_source (Some command) ≡ false → source.new ≡ source.old }
     ensures no_fault { OnOk result (S.faults source.new ≡ S.faults source.old) }
-    ensures refused { IfErr result (FilesCause (Some command) (S.left source.old) (S.faults source.old) (S.faults source.new)) }
+    ensures refused { IfErr result (FilesCause (Some command) (source_seen S.left S.faults S.reads source.old source.new)) }
     ensures later { S.faults source.old ≤ S.faults source.new }
-    ensures reads { S.reads source.new ≤ S.reads source.old + READS }
+    ensures reads { S.reads source.new ≤ S.reads source.old + 4194305 }
+    ensures taken { TookInput (source_seen S.left S.faults S.reads source.old source.new) }
 {
     match command {
         Command::Adapt => read_bundle(alloc, source),

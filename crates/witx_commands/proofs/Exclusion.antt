@@ -49,7 +49,8 @@ use Rattle.witx_commands.specs.declared.refusal.Refusal as refusals
 use Rattle.witx_commands.specs.declared.refusal.Stop.{Stop}
 use Rattle.witx_commands.specs.declared.refusal.Stop.TheVariants as stop
 use Rattle.witx_commands.specs.declared.refusal.Refusal.TheVariants as refusal
-use Rattle.witx_commands.specs.Texts.{IsRefused, status_of}
+use Rattle.witx_commands.specs.Streams.{BrokeOff}
+use Rattle.witx_commands.specs.Texts.{IsRefused, bundle_status, status_of}
 use Rattle.witx_commands.specs.Causes.{Cause, IsAdaptedText, IsCause, IsMeantPage, IsOutput, IsPolyfill, IsValidFor, Reads, RunInput, StopCause}
 
 -- a refusal where no call failed is the verdict
@@ -269,14 +270,21 @@ pub no-bundle-answered : (form : Option Command) (left : Option (List ℕ)) (byt
 no-bundle-answered form left bytes files e i told c h r =
     bundle-excluded bytes files e (subst (λ l. Reads l (Ok files)) (reading-bytes form left i ∙ told) r) c h
 
-no-bundle-refused : (i : RunInput) (bytes : List ℕ) (e : BundleError) (r : refusals.Refusal) (status : ℕ) → WorksOnSource i.form → i.left ≡ Some bytes
-    → IsCause e → IsRead bytes (Err e) → (Rose i.before i.now → ⊥) → Cause i r → IsRefused (status_of r) status → IsRefused 6 status
+-- what isn't want of memory is told with status 6
+pub told-as-none : (b : BundleError) (status : ℕ) → IsCause b → IsRefused (bundle_status b) status → IsRefused 6 status
+told-as-none bundle.TooLong status c s = s
+told-as-none (bundle.NotUtf8 at) status c s = s
+told-as-none (bundle.BeforeFirst at) status c s = s
+told-as-none bundle.OutOfMemory status c s = absurd c
+
+no-bundle-refused : (i : RunInput) (bytes : List ℕ) (e : BundleError) (r : refusals.Refusal) (status : ℕ) → WorksOnSource i.form → i.source.left ≡ Some bytes
+    → IsCause e → IsRead bytes (Err e) → (BrokeOff i.source → ⊥) → Cause i r → IsRefused (status_of r) status → IsRefused 6 status
 no-bundle-refused i bytes e refusal.Usage status reads told c h none k s = absurd (let form = k.0 in cc)
 no-bundle-refused i bytes e refusal.Source status reads told c h none k s = absurd (none k.1)
-no-bundle-refused i bytes e (refusal.Bundle b) status reads told c h none k s = s
+no-bundle-refused i bytes e (refusal.Bundle b) status reads told c h none k s = told-as-none b status k.2 s
 no-bundle-refused i bytes e (refusal.Command report) status reads told c h none k s =
-    absurd (no-bundle-answered i.form i.left bytes k.1 e reads told c h k.2)
+    absurd (no-bundle-answered i.form i.source.left bytes k.1 e reads told c h k.2)
 
-pub no-bundle-stopped : (i : RunInput) (bytes : List ℕ) (e : BundleError) (s : Stop) (r : refusals.Refusal) (status : ℕ) → WorksOnSource i.form → i.left ≡ Some bytes
-    → IsCause e → IsRead bytes (Err e) → (Rose i.before i.now → ⊥) → s ≡ stop.Refused r → StopCause i s → IsRefused (status_of r) status → IsRefused 6 status
+pub no-bundle-stopped : (i : RunInput) (bytes : List ℕ) (e : BundleError) (s : Stop) (r : refusals.Refusal) (status : ℕ) → WorksOnSource i.form → i.source.left ≡ Some bytes
+    → IsCause e → IsRead bytes (Err e) → (BrokeOff i.source → ⊥) → s ≡ stop.Refused r → StopCause i s → IsRefused (status_of r) status → IsRefused 6 status
 no-bundle-stopped i bytes e s r status reads told c h none same k t = no-bundle-refused i bytes e r status reads told c h none (subst (StopCause i) same k) t

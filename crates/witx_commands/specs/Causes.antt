@@ -1,6 +1,5 @@
 -- When a run refuses or has its output, and what the bytes of its source say then, where these are told.
 use Rattle.std.specs.Prelude.{◌≡◌, ℕ, ◌^◌, ◌<◌, List, [], ◌∷◌, All, Option, None, Some, Result, Ok, Err}
-use Rattle.witx_base.specs.Causes.{Rose}
 use Rattle.witx_base.specs.Paths.{Path}
 use Rattle.witx_files.specs.Files.{Files}
 use Rattle.witx_bundle.specs.Bundles.{IsRead}
@@ -24,7 +23,7 @@ use Rattle.witx_commands.specs.declared.words.Command.{Command}
 use Rattle.witx_commands.specs.declared.words.Command.TheVariants as command
 use Rattle.witx_commands.specs.declared.input.InputError.{InputError}
 use Rattle.witx_commands.specs.declared.input.InputError.TheVariants as input
-use Rattle.witx_commands.specs.Streams.{Finished}
+use Rattle.witx_commands.specs.Streams.{BrokeOff, FailedWithin, Finished, NoFault, SourceSeen, source_seen}
 use Rattle.witx_commands.specs.Words.{IsReading, arguments_of, bundle_bytes, command_of, paths_of}
 use Rattle.witx_commands.specs.declared.refusal.Stop.{Stop}
 use Rattle.witx_commands.specs.declared.refusal.Stop.TheVariants as stop
@@ -40,63 +39,58 @@ abbrev pub IsCause : BundleError → Type 0
 IsCause bundle.OutOfMemory = ⊥
 IsCause _ = Unit {0}
 
--- why the source wasn't read through
-abbrev pub ReadCause : (before now : ℕ) → InputError → Type 0
-ReadCause before now input.Source = Rose before now
-ReadCause before now (input.Bundle e) = ⊥
-ReadCause before now input.OutOfMemory = now ≡ before
+-- why the source wasn't read through, or only so far
+abbrev pub ReadCause : (most : ℕ) → SourceSeen → InputError → Type 0
+ReadCause most s input.Source = FailedWithin most s
+ReadCause most s (input.Bundle e) = ⊥
+ReadCause most s input.OutOfMemory = NoFault s
 
 -- why no bundle was read
-abbrev pub InputCause : (left : Option (List ℕ)) → (before now : ℕ) → InputError → Type 0
-InputCause left before now input.Source = Rose before now
-InputCause left before now (input.Bundle e) = (now ≡ before) × IsCause e × Reads left (Err e)
-InputCause left before now input.OutOfMemory = now ≡ before
+abbrev pub InputCause : SourceSeen → InputError → Type 0
+InputCause s input.Source = BrokeOff s
+InputCause s (input.Bundle e) = NoFault s × IsCause e × Reads s.left (Err e)
+InputCause s input.OutOfMemory = NoFault s
 
 -- why there are no files for a command: only one that works on its source's bundle has a cause in it
-abbrev pub FilesCause : Option Command → (left : Option (List ℕ)) → (before now : ℕ) → InputError → Type 0
-FilesCause form left before now input.Source = IsReading form × Rose before now
-FilesCause form left before now (input.Bundle e) = IsReading form × (now ≡ before) × IsCause e × Reads (bundle_bytes form left) (Err e)
-FilesCause form left before now input.OutOfMemory = now ≡ before
+abbrev pub FilesCause : Option Command → SourceSeen → InputError → Type 0
+FilesCause form s input.Source = IsReading form × BrokeOff s
+FilesCause form s (input.Bundle e) = IsReading form × NoFault s × IsCause e × Reads (bundle_bytes form s.left) (Err e)
+FilesCause form s input.OutOfMemory = NoFault s
 
 -- the command of a form refuses
 abbrev pub FormRefuses : Option Command → Files → List (List ℕ) → List ℕ → Type 0
 FormRefuses None files arguments report = ⊥
 FormRefuses (Some c) files arguments report = CommandRefuses c files arguments report
 
--- what a run is given: the command of its words, where they have a form, the words behind the first, and what is told of
--- its source: which bytes it had left before and has left after, and its count of faults before and now
+-- what a run is given: the command of its words, where they have a form, the words behind the first, and its source
 pub record RunInput : Type 0 where
   pub form : Option Command
   pub arguments : List (List ℕ)
-  pub left : Option (List ℕ)
-  pub after : Option (List ℕ)
-  pub before : ℕ
-  pub now : ℕ
+  pub source : SourceSeen
 
 -- with a source, by what is told of it
-abbrev pub run_input : {S : Type 0} → Option Command → List (List ℕ) → (S → Option (List ℕ)) → (S → ℕ) → (old new : S) → RunInput
-run_input form arguments left faults old new =
-    record { form = form; arguments = arguments; left = left old; after = left new; before = faults old; now = faults new }
+abbrev pub run_input : {S : Type 0} → Option Command → List (List ℕ) → (S → Option (List ℕ)) → (faults reads : S → ℕ) → (old new : S) → RunInput
+run_input form arguments left faults reads old new = record { form = form; arguments = arguments; source = source_seen left faults reads old new }
 
 -- with words
-abbrev pub input_of : {S : Type 0} → List (List ℕ) → (S → Option (List ℕ)) → (S → ℕ) → (old new : S) → RunInput
-input_of words left faults old new = run_input (command_of words) (arguments_of words) left faults old new
+abbrev pub input_of : {S : Type 0} → List (List ℕ) → (S → Option (List ℕ)) → (faults reads : S → ℕ) → (old new : S) → RunInput
+input_of words left faults reads old new = run_input (command_of words) (arguments_of words) left faults reads old new
 
 -- the bytes of the bundle that it works on
 abbrev pub input_bytes : RunInput → Option (List ℕ)
-input_bytes i = bundle_bytes i.form i.left
+input_bytes i = bundle_bytes i.form i.source.left
 
 -- what is so where a run refuses
 abbrev pub Cause : RunInput → Refusal → Type 0
-Cause i refusal.Usage = (i.form ≡ None) × (i.now ≡ i.before)
-Cause i refusal.Source = IsReading i.form × Rose i.before i.now
-Cause i (refusal.Bundle e) = IsReading i.form × (i.now ≡ i.before) × IsCause e × Reads (input_bytes i) (Err e)
-Cause i (refusal.Command report) = (i.now ≡ i.before) × (files : Files) × Reads (input_bytes i) (Ok files) × FormRefuses i.form files i.arguments report
+Cause i refusal.Usage = (i.form ≡ None) × NoFault i.source
+Cause i refusal.Source = IsReading i.form × BrokeOff i.source
+Cause i (refusal.Bundle e) = IsReading i.form × NoFault i.source × IsCause e × Reads (input_bytes i) (Err e)
+Cause i (refusal.Command report) = NoFault i.source × (files : Files) × Reads (input_bytes i) (Ok files) × FormRefuses i.form files i.arguments report
 
 -- why a run has no output
 abbrev pub StopCause : RunInput → Stop → Type 0
 StopCause i (stop.Refused r) = Cause i r
-StopCause i stop.OutOfMemory = i.now ≡ i.before
+StopCause i stop.OutOfMemory = NoFault i.source
 
 -- this text of the adapted document that the files at these paths mean
 abbrev pub IsAdaptedText : (Adapted → List ℕ) → Files → List Path → List ℕ → Option Adapted → Type 0
@@ -170,8 +164,8 @@ IsValidFor (command.Sample n) files arguments = CanAdapt files (sample_path ∷ 
 -- what is so where a run has its output: the source, if it is read, was read to its end; there is a bundle, and the output is
 -- over its files
 pub record IsAnswered (i : RunInput) (text notes : List ℕ) (adapted : Option Adapted) : Type 0 where
-  pub finished : IsReading i.form → Finished i.left i.after
-  pub no_fault : i.now ≡ i.before
+  pub finished : IsReading i.form → Finished i.source.left i.source.left_after
+  pub no_fault : NoFault i.source
   pub files : Files
   pub bundle : Reads (input_bytes i) (Ok files)
   pub output : IsOutput i.form files i.arguments text notes adapted

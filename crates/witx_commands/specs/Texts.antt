@@ -13,11 +13,12 @@ use Rattle.witx_compat.specs.Polyfills as polyfill
 abbrev pub line : List ℕ → List ℕ
 line text = text ++ codes "\n"
 
+-- why bytes are no bundle; nothing is said of want of memory
 abbrev pub bundle_text : BundleError → List ℕ
-bundle_text bundle.TooLong = codes "bundle has more than 4194304 bytes"
-bundle_text (bundle.NotUtf8 at) = codes "bundle is not UTF-8 at byte " ++ decimal at
-bundle_text (bundle.BeforeFirst at) = codes "text before the first file at byte " ++ decimal at
-bundle_text bundle.OutOfMemory = codes "out of memory"
+bundle_text bundle.TooLong = line (codes "witx: bundle has more than 4194304 bytes")
+bundle_text (bundle.NotUtf8 at) = line (codes "witx: bundle is not UTF-8 at byte " ++ decimal at)
+bundle_text (bundle.BeforeFirst at) = line (codes "witx: text before the first file at byte " ++ decimal at)
+bundle_text bundle.OutOfMemory = []
 
 abbrev pub absent_module : List ℕ → List ℕ
 absent_module name = codes "Module not present: `" ++ name ++ codes "`"
@@ -44,15 +45,19 @@ usage_lines =
 abbrev pub text_of : Refusal → List ℕ
 text_of refusal.Usage = flat_map line usage_lines
 text_of refusal.Source = line (codes "witx: cannot read input")
-text_of (refusal.Bundle e) = line (codes "witx: " ++ bundle_text e)
+text_of (refusal.Bundle e) = bundle_text e
 text_of (refusal.Command report) = line (codes "witx: " ++ report)
+
+abbrev pub bundle_status : BundleError → ℕ
+bundle_status bundle.OutOfMemory = 5
+bundle_status _ = 6
 
 -- the status of a refusal
 abbrev pub status_of : Refusal → ℕ
 status_of (refusal.Command report) = 1
 status_of refusal.Usage = 2
 status_of refusal.Source = 3
-status_of (refusal.Bundle e) = 6
+status_of (refusal.Bundle e) = bundle_status e
 
 -- the status of a run that refuses: that of the refusal, or one of the two where the text isn't written
 abbrev pub IsRefused : ℕ → ℕ → Type 0

@@ -1,3 +1,4 @@
+//! Why files can't be adapted.
 use witx_adapt::RefusedDocument;
 use witx_base::Id;
 use witx_layout::TagTooNarrow;

@@ -19,7 +19,7 @@ mod words;
 pub use adapting::adapt;
 pub use commands::{adapted_or_stop, layouts_of_files, listed, summary_of_files};
 pub use error::AdaptError;
-pub use input::{InputError, READS, read_bundle};
+pub use input::{InputError, read_bundle};
 pub use laws::{
     constants_have_typenames, output_or_refusal, valid_files_are_not_refused, valid_is_not_refused,
 };

@@ -1,3 +1,4 @@
+//! What a command is to write, and how its large value is kept or let go.
 ghost use Rattle.std.specs.Prelude.{◌≡◌, ◌==◌, [], None, if◌then◌else◌};
 
 use crate::status::DONE;
@@ -14,6 +15,7 @@ pub struct Output {
     pub text: Text,
     /// For the second sink; empty, but for what `docs` tells of links that lead nowhere.
     pub notes: Text,
+    /// What is listed or summed up: there for `adapt` and `sample` alone.
     pub adapted: Option<Adapted>,
 }
 
@@ -34,17 +36,18 @@ pub fn kept(status: u8, adapted: Option<Adapted>) -> Option<Adapted>
     if status == DONE { adapted } else { None }
 }
 
-/// Lets the value of an output go.
+/// Lets the value of an output go. No clause says more than that this is safe and ends: nothing is answered
+/// or changed, and what the memory holds afterwards no clause sees.
 pub fn let_go(adapted: Option<Adapted>) {
     drop(adapted);
 }
 
-/// Leaves the value of an output where it is, for a process that ends.
+/// Leaves the value of an output where it is, for a process that ends. It has no clause, as [`let_go`].
 pub fn leave(adapted: Option<Adapted>) {
     forget(adapted);
 }
 
-/// Lets a document go.
+/// Lets a document go. It has no clause, as [`let_go`].
 pub fn let_document_go(document: Document) {
     drop(document);
 }

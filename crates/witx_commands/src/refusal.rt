@@ -1,8 +1,9 @@
+//! Why a run has no output, with its status and what is written of it.
 ghost use Rattle.std.specs.Prelude.{◌≡◌, ◌++◌, IfOk, codes};
 ghost use Rattle.witx_commands.specs.Stops.{StopsWith};
 ghost use Rattle.witx_commands.specs.Texts.{line, status_of, text_of};
 
-use crate::status::{NO_BUNDLE, NO_FORM, REFUSED, UNREAD};
+use crate::status::{NO_BUNDLE, NO_FORM, NO_MEMORY, REFUSED, UNREAD};
 use std::alloc::Global;
 use witx_base::{OutOfMemory, Text};
 use witx_bundle::BundleError;
@@ -14,7 +15,7 @@ pub enum Refusal {
     Usage,
     /// The source failed.
     Source,
-    /// The input is no bundle.
+    /// The input is no bundle, or there was no memory to tell whether it is one.
     Bundle(BundleError),
     /// The command's call refused the files, with this report.
     Command(Text),
@@ -29,11 +30,12 @@ impl Refusal {
             Refusal::Command(_) => REFUSED,
             Refusal::Usage => NO_FORM,
             Refusal::Source => UNREAD,
+            Refusal::Bundle(BundleError::OutOfMemory) => NO_MEMORY,
             Refusal::Bundle(_) => NO_BUNDLE,
         }
     }
 
-    /// What the program writes about it.
+    /// What the program writes about it; there is no text of want of memory.
     pub fn text(&self, alloc: Global) -> Result<Text, OutOfMemory>
         ensures { IfOk result (λ t. t ≡ text_of self.now) }
     {
@@ -56,12 +58,14 @@ usage: witx adapt PATH..
     }
 }
 
+/// A report, as the program writes it.
 fn command_text(alloc: Global, report: &str) -> Result<Text, OutOfMemory>
     ensures { IfOk result (λ t. t ≡ line (codes "witx: " ++ report.now)) }
 {
     Ok(Text::from_string(format!(in alloc; "witx: {report}\n")?))
 }
 
+/// What is written of bytes that are no bundle; there is no text of want of memory.
 fn bundle_text(alloc: Global, error: BundleError) -> Result<Text, OutOfMemory>
     ensures { IfOk result (λ t. t ≡ text_of (Refusal.Bundle error)) }
 {
@@ -73,7 +77,7 @@ fn bundle_text(alloc: Global, error: BundleError) -> Result<Text, OutOfMemory>
         BundleError::BeforeFirst { at } => Ok(Text::from_string(format!(in alloc;
             "witx: text before the first file at byte {at}\n"
         )?)),
-        BundleError::OutOfMemory => Text::new(alloc, "witx: out of memory\n"),
+        BundleError::OutOfMemory => Err(OutOfMemory),
     }
 }
 

@@ -303,3 +303,49 @@ fn all_refused(alloc: Global) -> bool {
 fn other_bytes(rt: HostRuntime) {
     assert!(rt; all_refused(rt.alloc()));
 }
+
+/// More bytes than a bundle may have. Given 65,536 a call, 64 calls give as many as it may have, and the
+/// next one gives one more.
+const MORE_THAN_A_BUNDLE: usize = 5 * 1024 * 1024;
+
+/// A failing call of the source of so many bytes, the status, how many calls failed, and what is told:
+/// once the byte behind the longest bundle is read, no further call is made.
+type Late = (u64, u8, u64, &'static str);
+
+#[rattlefmt::skip]
+static LATE: &[Late] = &[
+    (63, 3, 1, UNREAD),
+    (64, 3, 1, UNREAD),
+    (65, 6, 0, "witx: bundle has more than 4194304 bytes\n"),
+];
+
+fn run_late(alloc: Global, call: u64) -> Result<Gave, OutOfMemory> {
+    let bytes = vec![in alloc; b' '; MORE_THAN_A_BUNDLE]?;
+    let source = source_of(alloc, bytes.as_slice(), 65_536, &[call])?;
+    run_on(
+        alloc,
+        "adapt /a",
+        source,
+        sink_of(alloc, 10, &[])?,
+        sink_of(alloc, 10, &[])?,
+    )
+}
+
+fn fails_late(alloc: Global, row: &Late) -> bool {
+    run_late(alloc, row.0).is_ok_and(|gave| gave.is("adapt /a", row.1, "", row.3)
+        && faults(&gave) == row.2)
+}
+
+fn all_fail_late(alloc: Global) -> bool {
+    for row in LATE {
+        if !fails_late(alloc, row) {
+            return false;
+        }
+    }
+    true
+}
+
+#[test]
+fn source_failing_behind_the_longest_bundle(rt: HostRuntime) {
+    assert!(rt; all_fail_late(rt.alloc()));
+}

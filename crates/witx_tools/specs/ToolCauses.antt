@@ -2,7 +2,6 @@
 -- refuses the first document that can't be adapted, else by the tool's own refusals, a row for each tool.
 use Rattle.std.specs.Prelude.{◌≡◌, ◌⊎◌, ℕ, List, [], ◌∷◌, ◌++◌, map, Option, Some, None, Ok, Err, codes}
 use Rattle.std.specs.List.{flat_map}
-use Rattle.witx_base.specs.Causes.{Rose}
 use Rattle.witx_base.specs.Paths.{Path}
 use Rattle.witx_files.specs.Files.{Files, held}
 use Rattle.witx_files.specs.declared.fault.IoFault.TheVariants.{NotFound}
@@ -19,7 +18,7 @@ use Rattle.witx_commands.specs.Adapting.{IsAdapted, Parses, defined}
 use Rattle.witx_commands.specs.Causes.{CanAdapt, CanMap, IsCause, Reads}
 use Rattle.witx_commands.specs.Mappings.{MeansBoth, mapping_of, module_names}
 use Rattle.witx_commands.specs.Reports.{AdaptingFails, MappingFails}
-use Rattle.witx_commands.specs.Streams.{Finished}
+use Rattle.witx_commands.specs.Streams.{BrokeOff, Finished, NoFault, SourceSeen, source_seen}
 use Rattle.witx_commands.specs.Texts.{line, usage_lines}
 use Rattle.witx_commands.specs.Words.{arguments_of, paths_of}
 use Rattle.witx_commands.specs.declared.refusal.Refusal.{Refusal}
@@ -162,37 +161,32 @@ unfoldable pub IsValidForTool : Tool → Files → List (List ℕ) → Type 0
 IsValidForTool t files arguments =
     HoldsOwn (own_file t arguments) files × CanAdaptAll files (adapted_files t arguments) × IsOwnValid t files arguments
 
--- what a run of a tool is given: the words behind the first, and what is told of its source: which bytes it had left before and
--- has left after, and its count of faults before and now
+-- what a run of a tool is given: the words behind the first, and its source
 pub record ToolInput : Type 0 where
   pub tool : Tool
   pub arguments : List (List ℕ)
-  pub left : Option (List ℕ)
-  pub after : Option (List ℕ)
-  pub before : ℕ
-  pub now : ℕ
+  pub source : SourceSeen
 
 -- with a source, by what is told of it
-abbrev pub tool_input : {S : Type 0} → Tool → List (List ℕ) → (S → Option (List ℕ)) → (S → ℕ) → (old new : S) → ToolInput
-tool_input t arguments left faults old new =
-    record { tool = t; arguments = arguments; left = left old; after = left new; before = faults old; now = faults new }
+abbrev pub tool_input : {S : Type 0} → Tool → List (List ℕ) → (S → Option (List ℕ)) → (faults reads : S → ℕ) → (old new : S) → ToolInput
+tool_input t arguments left faults reads old new = record { tool = t; arguments = arguments; source = source_seen left faults reads old new }
 
 -- what is so where a run of a tool refuses
 abbrev pub ToolCause : ToolInput → Refusal → Type 0
 ToolCause i refusal.Usage = ⊥
-ToolCause i refusal.Source = Rose i.before i.now
-ToolCause i (refusal.Bundle e) = (i.now ≡ i.before) × IsCause e × Reads i.left (Err e)
-ToolCause i (refusal.Command report) = (i.now ≡ i.before) × (files : Files) × Reads i.left (Ok files) × ToolRefuses i.tool files i.arguments report
+ToolCause i refusal.Source = BrokeOff i.source
+ToolCause i (refusal.Bundle e) = NoFault i.source × IsCause e × Reads i.source.left (Err e)
+ToolCause i (refusal.Command report) = NoFault i.source × (files : Files) × Reads i.source.left (Ok files) × ToolRefuses i.tool files i.arguments report
 
 -- why it has no text
 abbrev pub ToolStop : ToolInput → Stop → Type 0
 ToolStop i (stop.Refused r) = ToolCause i r
-ToolStop i stop.OutOfMemory = i.now ≡ i.before
+ToolStop i stop.OutOfMemory = NoFault i.source
 
 -- what is so where it has its text: the source was read to its end, there is a bundle, and the text is over its files
 pub record IsToolAnswered (i : ToolInput) (text : List ℕ) : Type 0 where
-  pub finished : Finished i.left i.after
-  pub no_fault : i.now ≡ i.before
+  pub finished : Finished i.source.left i.source.left_after
+  pub no_fault : NoFault i.source
   pub files : Files
-  pub bundle : Reads i.left (Ok files)
+  pub bundle : Reads i.source.left (Ok files)
   pub output : IsToolOutput i.tool files i.arguments text

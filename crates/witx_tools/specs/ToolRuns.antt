@@ -6,7 +6,7 @@ use Rattle.witx_files.specs.Files.{Files}
 use Rattle.witx_bundle.specs.Bundles.{IsRead}
 use Rattle.witx_bundle.specs.declared.error.BundleError.{BundleError}
 use Rattle.witx_commands.specs.Causes.{IsCause, IsTold}
-use Rattle.witx_commands.specs.Streams.{TookPrefix}
+use Rattle.witx_commands.specs.Streams.{BrokeOff, TookPrefix}
 use Rattle.witx_commands.specs.Texts.{IsRefused, status_of, text_of}
 use Rattle.witx_commands.specs.declared.refusal.Refusal.{Refusal}
 use Rattle.witx_tools.specs.ToolCauses.{IsToolAnswered, IsValidForTool, ToolCause, ToolInput, ToolRefuses}
@@ -36,13 +36,14 @@ pub record IsToolRun (i : ToolInput) (status : ℕ) (out err : SinkSeen) (out_ke
   -- a status with which something is told: its refusal has its cause, and its text is written
   pub told : IsTold status → (r : Refusal) × (status_of r ≡ status) × ToolCause i r × Took err (text_of r) × out_kept
   -- the bytes are no bundle
-  pub no_bundle : (bytes : List ℕ) (e : BundleError) → i.left ≡ Some bytes → IsCause e → IsRead bytes (Err e) → (Rose i.before i.now → ⊥) → IsRefused 6 status
+  pub no_bundle : (bytes : List ℕ) (e : BundleError) → i.source.left ≡ Some bytes → IsCause e → IsRead bytes (Err e) → (BrokeOff i.source → ⊥)
+      → IsRefused 6 status
   -- the tool refuses the files
-  pub refused : (bytes : List ℕ) (files : Files) (report : List ℕ) → i.left ≡ Some bytes → IsRead bytes (Ok files)
-      → ToolRefuses i.tool files i.arguments report → (Rose i.before i.now → ⊥) → IsRefused 1 status
+  pub refused : (bytes : List ℕ) (files : Files) (report : List ℕ) → i.source.left ≡ Some bytes → IsRead bytes (Ok files)
+      → ToolRefuses i.tool files i.arguments report → (BrokeOff i.source → ⊥) → IsRefused 1 status
   -- the files are valid, and no device fails
-  pub complete : (bytes : List ℕ) (files : Files) → i.left ≡ Some bytes → IsRead bytes (Ok files) → IsValidForTool i.tool files i.arguments
-      → (Rose i.before i.now → ⊥) → (Rose out.before out.now → ⊥) → (status ≡ 0) ⊎ (status ≡ 5)
+  pub complete : (bytes : List ℕ) (files : Files) → i.source.left ≡ Some bytes → IsRead bytes (Ok files) → IsValidForTool i.tool files i.arguments
+      → (BrokeOff i.source → ⊥) → (Rose out.before out.now → ⊥) → (status ≡ 0) ⊎ (status ≡ 5)
   -- none of the refusals has its cause, and no device fails
   pub unrefused : ((r : Refusal) → ToolCause i r → ⊥) → (Rose out.before out.now → ⊥) → (status ≡ 0) ⊎ (status ≡ 5)
   -- 4: the one sink for which there is a text holds a prefix of it

@@ -11,7 +11,7 @@ ghost use Rattle.witx_adapt.specs.declared.adapted.Adapted.{Adapted};
 ghost use Rattle.witx_commands.specs.Adapting.{defined};
 ghost use Rattle.witx_commands.specs.Causes.{Cause, IsAnswered, IsCause, IsMeaning, IsTold, IsValidFor, adapted_text, input_of};
 ghost use Rattle.witx_commands.specs.Reports.{CommandRefuses};
-ghost use Rattle.witx_commands.specs.Streams.{TookPrefix};
+ghost use Rattle.witx_commands.specs.Streams.{BrokeOff, TookInput, TookPrefix, source_seen};
 ghost use Rattle.witx_commands.specs.Texts.{IsRefused, status_of, text_of};
 ghost use Rattle.witx_commands.specs.Words.{IsAdapting, IsNoting, IsReading, adapted_paths, arguments_of, bundle_bytes, command_of, reads_source};
 ghost use Rattle.witx_commands.specs.declared.refusal.Refusal.{Refusal};
@@ -50,7 +50,7 @@ pub fn run_all<S: Source, O: Sink, E: Sink>(
     err: &mut E,
 ) -> Ran
     ensures done { IsSome (command_of words.now) → result.status ≡ 0 → (text : List ℕ) × (notes : List ℕ)
-        × IsAnswered (input_of words.now S.left S.faults source.old source.new) text notes result.adapted
+        × IsAnswered (input_of words.now S.left S.faults S.reads source.old source.new) text notes result.adapted
         × Appends (O.taken out.old) (O.taken out.new) text × Appends (E.taken err.old) (E.taken err.new) notes × (notes ≡ [] → err.new ≡ err.old) }
     ensures listing { IfSome result.adapted (λ a. Appends (O.taken out.old) (O.taken out.new) (adapted_text (command_of words.now) a)) }
     ensures document { let form = command_of words.now in
@@ -61,28 +61,30 @@ pub fn run_all<S: Source, O: Sink, E: Sink>(
     ensures adapted { IsSome result.adapted → (result.status ≡ 0) × IsAdapting (command_of words.now) }
     ensures listed { result.status ≡ 0 → IsAdapting (command_of words.now) → IsSome result.adapted }
     ensures told { IsSome (command_of words.now) → IsTold result.status → (r : Refusal) × (status_of r ≡ result.status)
-        × Cause (input_of words.now S.left S.faults source.old source.new) r
+        × Cause (input_of words.now S.left S.faults S.reads source.old source.new) r
         × Appends (E.taken err.old) (E.taken err.new) (text_of r) × (out.new ≡ out.old) }
     ensures no_bundle { (bytes : List ℕ) (e : BundleError) → IsReading (command_of words.now) → S.left source.old ≡ Some bytes → IsCause e → IsRead bytes (Err e)
-        → (Rose (S.faults source.old) (S.faults source.new) → ⊥) → IsRefused 6 result.status }
+        → (BrokeOff (source_seen S.left S.faults S.reads source.old source.new) → ⊥) → IsRefused 6 result.status }
     ensures complete { (bytes : List ℕ) (files : Files) (c : Command) → bundle_bytes (command_of words.now) (S.left source.old) ≡ Some bytes
         → IsRead bytes (Ok files) → command_of words.now ≡ Some c → IsValidFor c files (arguments_of words.now)
-        → (Rose (S.faults source.old) (S.faults source.new) → ⊥) → (Rose (O.faults out.old) (O.faults out.new) → ⊥)
+        → (BrokeOff (source_seen S.left S.faults S.reads source.old source.new) → ⊥) → (Rose (O.faults out.old) (O.faults out.new) → ⊥)
         → (IsNoting (command_of words.now) → Rose (E.faults err.old) (E.faults err.new) → ⊥) → (result.status ≡ 0) ⊎ (result.status ≡ 5) }
     ensures refused { (bytes : List ℕ) (files : Files) (c : Command) (report : List ℕ)
         → bundle_bytes (command_of words.now) (S.left source.old) ≡ Some bytes → IsRead bytes (Ok files) → command_of words.now ≡ Some c
-        → CommandRefuses c files (arguments_of words.now) report → (Rose (S.faults source.old) (S.faults source.new) → ⊥) → IsRefused 1 result.status }
+        → CommandRefuses c files (arguments_of words.now) report
+        → (BrokeOff (source_seen S.left S.faults S.reads source.old source.new) → ⊥) → IsRefused 1 result.status }
     ensures unwritten { IsSome (command_of words.now) → result.status ≡ 4 →
         (Rose (O.faults out.old) (O.faults out.new) × (err.new ≡ err.old) × (text : List ℕ) × (notes : List ℕ) × (adapted : Option Adapted)
-        × IsAnswered (input_of words.now S.left S.faults source.old source.new) text notes adapted
+        × IsAnswered (input_of words.now S.left S.faults S.reads source.old source.new) text notes adapted
         × (TookPrefix (O.taken out.old) (O.taken out.new) text × (text ≡ [] → ⊥)))
         ⊎ (Rose (E.faults err.old) (E.faults err.new) × (text : List ℕ) × (notes : List ℕ) × (adapted : Option Adapted) × (notes ≡ [] → ⊥)
-        × IsAnswered (input_of words.now S.left S.faults source.old source.new) text notes adapted
+        × IsAnswered (input_of words.now S.left S.faults S.reads source.old source.new) text notes adapted
         × Appends (O.taken out.old) (O.taken out.new) text × TookPrefix (E.taken err.old) (E.taken err.new) notes)
         ⊎ (Rose (E.faults err.old) (E.faults err.new) × (out.new ≡ out.old) × (r : Refusal)
-        × Cause (input_of words.now S.left S.faults source.old source.new) r
+        × Cause (input_of words.now S.left S.faults S.reads source.old source.new) r
         × TookPrefix (E.taken err.old) (E.taken err.new) (text_of r)) }
-    ensures tool { (t : Tool) → tool_of words.now ≡ Some t → IsToolRun (tool_input t (arguments_of words.now) S.left S.faults source.old source.new) result.status
+    ensures tool { (t : Tool) → tool_of words.now ≡ Some t
+        → IsToolRun (tool_input t (arguments_of words.now) S.left S.faults S.reads source.old source.new) result.status
         (seen O.taken O.faults out.old out.new) (seen E.taken E.faults err.old err.new) (out.new ≡ out.old) (err.new ≡ err.old) }
     ensures usage { command_of words.now ≡ None → tool_of words.now ≡ None → (result.status ≡ 2) ⊎ (result.status ≡ 4) }
     ensures usage_told { command_of words.now ≡ None → tool_of words.now ≡ None → result.status ≡ 2
@@ -98,6 +100,7 @@ pub fn run_all<S: Source, O: Sink, E: Sink>(
     ensures out_later { O.faults out.old ≤ O.faults out.new }
     ensures err_later { E.faults err.old ≤ E.faults err.new }
     ensures reads { S.reads source.new ≤ S.reads source.old + 4194305 }
+    ensures taken { TookInput (source_seen S.left S.faults S.reads source.old source.new) }
 {
     if has_form(words) {
         return run(alloc, words, source, out, err);
@@ -129,7 +132,7 @@ fn run_tool<S: Source, O: Sink, E: Sink>(
     out: &mut O,
     err: &mut E,
 ) -> u8
-    ensures run { IsToolRun (tool_input tool arguments.now S.left S.faults source.old source.new) result
+    ensures run { IsToolRun (tool_input tool arguments.now S.left S.faults S.reads source.old source.new) result
         (seen O.taken O.faults out.old out.new) (seen E.taken E.faults err.old err.new) (out.new ≡ out.old) (err.new ≡ err.old) }
     ensures source_failed { S.faults source.old < S.faults source.new → IsRefused 3 result }
     ensures out_failed { O.faults out.old < O.faults out.new → result ≡ 4 }
@@ -139,6 +142,7 @@ fn run_tool<S: Source, O: Sink, E: Sink>(
     ensures out_later { O.faults out.old ≤ O.faults out.new }
     ensures err_later { E.faults err.old ≤ E.faults err.new }
     ensures reads { S.reads source.new ≤ S.reads source.old + 4194305 }
+    ensures taken { TookInput (source_seen S.left S.faults S.reads source.old source.new) }
 {
     valid_is_not_refused_by_tools();
     match prepare(alloc, tool, arguments, source) {
@@ -156,10 +160,11 @@ fn prepare<S: Source>(
     arguments: &[Text],
     source: &mut S,
 ) -> Result<Text, Stop>
-    ensures answered { IfOk result (IsToolAnswered (tool_input tool arguments.now S.left S.faults source.old source.new)) }
-    ensures stopped { IfErr result (ToolStop (tool_input tool arguments.now S.left S.faults source.old source.new)) }
+    ensures answered { IfOk result (IsToolAnswered (tool_input tool arguments.now S.left S.faults S.reads source.old source.new)) }
+    ensures stopped { IfErr result (ToolStop (tool_input tool arguments.now S.left S.faults S.reads source.old source.new)) }
     ensures later { S.faults source.old ≤ S.faults source.new }
     ensures reads { S.reads source.new ≤ S.reads source.old + 4194305 }
+    ensures taken { TookInput (source_seen S.left S.faults S.reads source.old source.new) }
 {
     match read_bundle(alloc, source) {
         Ok(mut files) => perform(alloc, tool, arguments, &mut files),

@@ -61,12 +61,13 @@ fn put_modules(
     Ok(())
 }
 
-fn put_module(alloc: Global, text: &mut String, module: &ModulePolyfill) -> Result<(), OutOfMemory>
-    requires { AreMapped module.now }
-    ensures { OnOk result (string_bytes text.new ≡ string_bytes text.old ++ module_lines (module_view module.now)) }
+/// The line of two mapped modules, and those of their functions.
+fn put_module(alloc: Global, text: &mut String, mapped: &ModulePolyfill) -> Result<(), OutOfMemory>
+    requires { AreMapped mapped.now }
+    ensures { OnOk result (string_bytes text.new ≡ string_bytes text.old ++ module_lines (module_view mapped.now)) }
 {
-    put_module_line(text, module.old.name.as_str(), module.new.name.as_str())?;
-    put_functions(alloc, text, module.funcs.as_slice())
+    put_module_line(text, mapped.old.name.as_str(), mapped.new.name.as_str())?;
+    put_functions(alloc, text, mapped.funcs.as_slice())
 }
 
 fn put_module_line(text: &mut String, old: &str, new: &str) -> Result<(), AllocError>

@@ -46,4 +46,4 @@ returns-in-Ok-clause-no_bundle g c = λ bytes e reads told cause bad none.
 
 pub returns-in-Err-Refused-clause-no_bundle : goal.returns-in-Err-Refused-clause-no_bundle
 returns-in-Err-Refused-clause-no_bundle g c = λ bytes e reads told cause bad none.
-    no-bundle-stopped (input_of c.args.words.now g.S.Source.left g.S.Source.faults c.args.source.now c.prepare.new.source) bytes e _ _ _ reads told cause bad none c.in-Err-Refused.field-0-is c.in-Err-Refused.ensures.stopped c.put_refusal.ensures.status
+    no-bundle-stopped (input_of c.args.words.now g.S.Source.left g.S.Source.faults g.S.Source.reads c.args.source.now c.prepare.new.source) bytes e _ _ _ reads told cause bad none c.in-Err-Refused.field-0-is c.in-Err-Refused.ensures.stopped c.put_refusal.ensures.status

@@ -11,9 +11,9 @@ returns-in-Ok-clause-run g c =
 
 pub returns-in-Err-Refused-clause-run : goal.returns-in-Err-Refused-clause-run
 returns-in-Err-Refused-clause-run g c =
-    refusal-run c.valid_is_not_refused_by_tools.ensures (tool_input c.args.tool c.args.arguments.now g.S.Source.left g.S.Source.faults c.args.source.now c.prepare.new.source)
+    refusal-run c.valid_is_not_refused_by_tools.ensures (tool_input c.args.tool c.args.arguments.now g.S.Source.left g.S.Source.faults g.S.Source.reads c.args.source.now c.prepare.new.source)
     _ _ (seen g.E.Sink.taken g.E.Sink.faults c.args.err.now c.put_refusal.new.err) _ _ _
-    (stop-cause (tool_input c.args.tool c.args.arguments.now g.S.Source.left g.S.Source.faults c.args.source.now c.prepare.new.source) _ _ c.in-Err-Refused.field-0-is c.in-Err-Refused.ensures.stopped)
+    (stop-cause (tool_input c.args.tool c.args.arguments.now g.S.Source.left g.S.Source.faults g.S.Source.reads c.args.source.now c.prepare.new.source) _ _ c.in-Err-Refused.field-0-is c.in-Err-Refused.ensures.stopped)
     c.put_refusal.ensures.status c.put_refusal.ensures.told c.put_refusal.ensures.unwritten refl
 
 pub returns-in-Err-OutOfMemory-clause-run : goal.returns-in-Err-OutOfMemory-clause-run
@@ -21,5 +21,5 @@ returns-in-Err-OutOfMemory-clause-run g c = memory-run _ _ _ _ _ _ refl
 
 pub returns-in-Err-Refused-clause-source_failed : goal.returns-in-Err-Refused-clause-source_failed
 returns-in-Err-Refused-clause-source_failed g c =
-    failed-source (tool_input c.args.tool c.args.arguments.now g.S.Source.left g.S.Source.faults c.args.source.now c.prepare.new.source) _ _
-    (stop-cause (tool_input c.args.tool c.args.arguments.now g.S.Source.left g.S.Source.faults c.args.source.now c.prepare.new.source) _ _ c.in-Err-Refused.field-0-is c.in-Err-Refused.ensures.stopped) c.put_refusal.ensures.status
+    failed-source (tool_input c.args.tool c.args.arguments.now g.S.Source.left g.S.Source.faults g.S.Source.reads c.args.source.now c.prepare.new.source) _ _
+    (stop-cause (tool_input c.args.tool c.args.arguments.now g.S.Source.left g.S.Source.faults g.S.Source.reads c.args.source.now c.prepare.new.source) _ _ c.in-Err-Refused.field-0-is c.in-Err-Refused.ensures.stopped) c.put_refusal.ensures.status
