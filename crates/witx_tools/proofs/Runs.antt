@@ -123,8 +123,8 @@ memory-run i status out err out_kept err_kept e = record {
 pub failed-source : (i : ToolInput) (r : Refusal) (status : ℕ) → ToolCause i r → IsRefused (status_of r) status → i.source.before < i.source.now → IsRefused 3 status
 failed-source i refusal.Usage status c s l = absurd c
 failed-source i refusal.Source status c s l = s
-failed-source i (refusal.Bundle b) status c s l = let e = c.0 in absurd (omega (arith, e, l))
-failed-source i (refusal.Command report) status c s l = let e = c.0 in absurd (omega (arith, e, l))
+failed-source i (refusal.Bundle b) status c s l = let e : i.source.now ≡ i.source.before = c.0 in absurd (omega (arith, e, l))
+failed-source i (refusal.Command report) status c s l = let e : i.source.now ≡ i.source.before = c.0 in absurd (omega (arith, e, l))
 
 -- what a tool refuses
 pub tool-stops : (i : ToolInput) (files : Files) (s : Stop) → i.source.now ≡ i.source.before → Reads i.source.left (Ok files) → StopsWith (ToolRefuses i.tool files i.arguments) s → ToolStop i s
