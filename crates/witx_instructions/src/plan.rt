@@ -122,7 +122,8 @@ fn emit<B: Bindgen>(
     ensures height { OnOk result (height_after (machine.emit (step_of instruction.now)) (vec_len stack.old) ≡ Some (vec_len stack.new)) }
     ensures event { OnOk result (B.told bindgen.new ≡ after (B.told bindgen.old) (machine.emit (step_of instruction.now) ∷ [])) }
     ensures front { OnErr result (TellsFront (machine.emit (step_of instruction.now) ∷ []) (B.told bindgen.old) (B.told bindgen.new)) }
-    ensures operands { OnOk result (InOrder (machine.emit (step_of instruction.now) ∷ []) (B.calls bindgen.old) (B.calls bindgen.new) stack.old.items stack.new.items) }
+    ensures operands { OnOk result
+        (InOrder (machine.emit (step_of instruction.now) ∷ []) (B.calls bindgen.old) (B.calls bindgen.new) stack.old.items stack.new.items) }
     ensures front_operands { OnErr result (FrontInOrder (machine.emit (step_of instruction.now) ∷ []) (B.calls bindgen.old) (B.calls bindgen.new) stack.old.items) }
     ensures cause { Counts (is_fault result) (B.faults bindgen.old) (B.faults bindgen.new) }
 {
