@@ -6,3 +6,4 @@ pub mod Items
 pub mod Whole
 pub mod OneFile
 pub mod ReadTexts
+mod Examples
