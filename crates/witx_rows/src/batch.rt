@@ -11,11 +11,11 @@
 //! failed; and what the refusal is, as it begins.
 
 use crate::Stop;
-use crate::devices::{Devices, Settings, run_over};
+use crate::devices::{Devices, Ended, Settings, run_line};
 use std::alloc::{AllocError, Global};
 use std::fmt::Write;
 use std::str::from_utf8;
-use witx_base::{Items, OutOfMemory, Text};
+use witx_base::Items;
 
 /// Runs each input of a batch, and writes its line.
 pub fn answer_all(alloc: Global, batch: &[u8], answers: &mut String) -> Result<(), Stop> {
@@ -82,14 +82,6 @@ fn settings_of(alloc: Global, text: &str) -> Result<(usize, Settings), Stop> {
     }
 }
 
-fn words_of(alloc: Global, text: &str) -> Result<Items<Text>, OutOfMemory> {
-    let mut words = Items::new(alloc);
-    for word in text.split('\t') {
-        words.push(Text::new(alloc, word)?)?;
-    }
-    Ok(words)
-}
-
 /// Runs the words over devices of the settings, and tells what came of it.
 fn answer(
     alloc: Global,
@@ -101,24 +93,26 @@ fn answer(
     if settings.moves == 0 {
         return Err(Stop::NoInput);
     }
-    let words = words_of(alloc, words)?;
-    let mut devices = Devices::new(alloc, settings, bytes)?;
-    let (status, _) = run_over(alloc, words.as_slice(), &mut devices);
-    write!(answers, "{status}")?;
-    Ok(put_devices(answers, &devices)?)
+    let ended = run_line(alloc, Some(words), '\t', settings, bytes)?;
+    put_ended(answers, &ended)?;
+    Ok(())
 }
 
-fn put_devices(answers: &mut String, devices: &Devices) -> Result<(), AllocError> {
-    let kind = kind_of(devices.err.bytes());
+fn put_ended(answers: &mut String, ended: &Ended) -> Result<(), AllocError> {
+    let devices = &ended.devices;
+    write!(answers, "{}", ended.status)?;
     put_taken(answers, devices.out.bytes())?;
     put_taken(answers, devices.err.bytes())?;
-    writeln!(
-        answers,
-        " {} {} {} {kind}",
-        devices.source.faults(),
-        devices.out.faults(),
-        devices.err.faults()
-    )
+    put_faults(answers, devices)?;
+    writeln!(answers, " {}", kind_of(devices.err.bytes()))
+}
+
+/// How many calls of each device failed.
+fn put_faults(answers: &mut String, devices: &Devices) -> Result<(), AllocError> {
+    let read = devices.source.faults();
+    let put = devices.out.faults();
+    let told = devices.err.faults();
+    write!(answers, " {read} {put} {told}")
 }
 
 /// How many bytes these are, and their checksum.

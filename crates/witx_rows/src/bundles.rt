@@ -33,13 +33,10 @@ pub fn bundle_of(
 /// no bundle.
 fn changed(alloc: Global, text: &str, last: &str) -> Result<String, AllocError> {
     let (old, new) = change_of(text).unwrap_or((text, ""));
-    let Some((front, back)) = last.split_once(old) else {
-        return String::from_str(alloc, text);
-    };
-    let mut bundle = String::from_str(alloc, front)?;
-    bundle.push_str(new)?;
-    bundle.push_str(back)?;
-    Ok(bundle)
+    match last.split_once(old) {
+        Some((front, back)) => format!(in alloc; "{front}{new}{back}"),
+        None => String::from_str(alloc, text),
+    }
 }
 
 /// The two texts of a change.
@@ -50,18 +47,23 @@ fn change_of(text: &str) -> Option<(&str, &str)> {
 
 /// A text with what its marks stand for.
 fn written_out(alloc: Global, text: &str) -> Result<String, AllocError> {
-    let mut parts = text.split("[[");
-    let mut out = String::from_str(alloc, parts.next().unwrap_or(""))?;
-    for part in parts {
-        match part.split_once("]]") {
-            Some((mark, rest)) => {
-                put_mark(alloc, &mut out, mark)?;
-                out.push_str(rest)?;
-            }
-            None => write!(out, "[[{part}")?,
-        }
+    let mut out = String::new(alloc);
+    for (number, part) in text.split("[[").enumerate() {
+        put_part(alloc, &mut out, number, part)?;
     }
     Ok(out)
+}
+
+/// Puts a part of a text, which begins with a mark where it isn't the first one.
+fn put_part(alloc: Global, out: &mut String, number: usize, part: &str) -> Result<(), AllocError> {
+    match part.split_once("]]") {
+        Some((mark, rest)) if number > 0 => {
+            put_mark(alloc, out, mark)?;
+            out.push_str(rest)
+        }
+        None if number > 0 => write!(out, "[[{part}"),
+        _ => out.push_str(part),
+    }
 }
 
 /// Puts what a mark stands for; one that is none stands for itself.

@@ -46,41 +46,51 @@ pub struct Devices {
     pub err: MemSink,
 }
 
-impl Devices {
-    /// Devices of these settings, whose source gives these bytes.
-    pub fn new(alloc: Global, settings: Settings, bytes: &[u8]) -> Result<Devices, OutOfMemory>
-        requires { 0 < settings.moves }
-    {
-        let bytes = Bytes::from_vec(Vec::from_slice(alloc, bytes)?);
-        let fails = calls_of(alloc, settings.read)?;
-        Ok(Devices {
-            source: MemSource::new(bytes, settings.moves, fails),
-            out: sink_of(alloc, settings, settings.put)?,
-            err: sink_of(alloc, settings, settings.told)?,
-        })
-    }
+/// How a run ended.
+#[derive(Drop)]
+pub struct Ended {
+    /// The status.
+    pub status: u8,
+    /// Whether the run hands a document back.
+    pub has_document: bool,
+    /// Its devices.
+    pub devices: Devices,
 }
 
-fn sink_of(alloc: Global, settings: Settings, fails: u64) -> Result<MemSink, OutOfMemory>
+/// Runs the words of a line, which has a mark between two, over devices of these settings; no line has no
+/// words, and `''` is an empty word.
+pub fn run_line(
+    alloc: Global,
+    line: Option<&str>,
+    mark: char,
+    settings: Settings,
+    bytes: &[u8],
+) -> Result<Ended, OutOfMemory>
     requires { 0 < settings.moves }
 {
-    MemSink::new(
-        alloc,
-        settings.room,
-        settings.moves,
-        calls_of(alloc, fails)?,
-    )
+    let words = words_of(alloc, line, mark)?;
+    run_words(alloc, words.as_slice(), settings, bytes)
 }
 
-/// The one call that fails.
-fn calls_of(alloc: Global, number: u64) -> Result<Calls, OutOfMemory> {
-    let mut calls = Items::new(alloc);
-    calls.push(number)?;
-    Ok(calls)
+fn run_words(
+    alloc: Global,
+    words: &[Text],
+    settings: Settings,
+    bytes: &[u8],
+) -> Result<Ended, OutOfMemory>
+    requires { 0 < settings.moves }
+{
+    let mut devices = devices_of(alloc, settings, bytes)?;
+    let (status, has_document) = run_over(alloc, words, &mut devices);
+    Ok(Ended {
+        status,
+        has_document,
+        devices,
+    })
 }
 
 /// Runs the words over the devices. Answers the status, and whether the run hands a document back.
-pub fn run_over(alloc: Global, words: &[Text], devices: &mut Devices) -> (u8, bool) {
+fn run_over(alloc: Global, words: &[Text], devices: &mut Devices) -> (u8, bool) {
     let ran = run_all(
         alloc,
         words,
@@ -92,4 +102,59 @@ pub fn run_over(alloc: Global, words: &[Text], devices: &mut Devices) -> (u8, bo
     let has_document = ran.adapted.is_some();
     let_go(ran.adapted);
     (status, has_document)
+}
+
+fn words_of(alloc: Global, line: Option<&str>, mark: char) -> Result<Items<Text>, OutOfMemory> {
+    let mut words = Items::new(alloc);
+    if let Some(line) = line {
+        for word in line.split(mark) {
+            push_word(alloc, &mut words, word)?;
+        }
+    }
+    Ok(words)
+}
+
+fn push_word(alloc: Global, words: &mut Items<Text>, word: &str) -> Result<(), OutOfMemory> {
+    let word = Text::new(alloc, if word == "''" { "" } else { word })?;
+    words.push(word)?;
+    Ok(())
+}
+
+/// Devices of these settings, whose source gives these bytes.
+fn devices_of(alloc: Global, settings: Settings, bytes: &[u8]) -> Result<Devices, OutOfMemory>
+    requires { 0 < settings.moves }
+{
+    let source = source_of(alloc, settings, bytes)?;
+    let (out, err) = sinks_of(alloc, settings)?;
+    Ok(Devices { source, out, err })
+}
+
+fn source_of(alloc: Global, settings: Settings, bytes: &[u8]) -> Result<MemSource, OutOfMemory>
+    requires { 0 < settings.moves }
+{
+    let fails = calls_of(alloc, settings.read)?;
+    let bytes = Bytes::from_vec(Vec::from_slice(alloc, bytes)?);
+    Ok(MemSource::new(bytes, settings.moves, fails))
+}
+
+/// The output, and the sink of refusals.
+fn sinks_of(alloc: Global, settings: Settings) -> Result<(MemSink, MemSink), OutOfMemory>
+    requires { 0 < settings.moves }
+{
+    let out = sink_of(alloc, settings, settings.put)?;
+    Ok((out, sink_of(alloc, settings, settings.told)?))
+}
+
+fn sink_of(alloc: Global, settings: Settings, fails: u64) -> Result<MemSink, OutOfMemory>
+    requires { 0 < settings.moves }
+{
+    let fails = calls_of(alloc, fails)?;
+    MemSink::new(alloc, settings.room, settings.moves, fails)
+}
+
+/// The one call that fails.
+fn calls_of(alloc: Global, number: u64) -> Result<Calls, OutOfMemory> {
+    let mut calls = Items::new(alloc);
+    calls.push(number)?;
+    Ok(calls)
 }

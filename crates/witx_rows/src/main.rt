@@ -62,6 +62,15 @@ fn main(rt: HostRuntime) -> ExitCode {
 
 /// Runs the topics that the words name, and then the batch.
 fn run_words(rt: &HostRuntime, alloc: Global, answers: &mut String) -> Result<(), Stop> {
+    run_topics(rt, alloc, answers)?;
+    let mut batch = Vec::new(alloc);
+    if rt.stdin().read_to_end(&mut batch).is_err() {
+        return Err(Stop::Unread);
+    }
+    answer_all(alloc, batch.as_slice(), answers)
+}
+
+fn run_topics(rt: &HostRuntime, alloc: Global, answers: &mut String) -> Result<(), Stop> {
     let Ok(words) = env::args(rt) else {
         return Err(Stop::Unread);
     };
@@ -73,11 +82,7 @@ fn run_words(rt: &HostRuntime, alloc: Global, answers: &mut String) -> Result<()
             run_topic(rt, alloc, topic.as_str(), is_writing, answers)?;
         }
     }
-    let mut batch = Vec::new(alloc);
-    if rt.stdin().read_to_end(&mut batch).is_err() {
-        return Err(Stop::Unread);
-    }
-    answer_all(alloc, batch.as_slice(), answers)
+    Ok(())
 }
 
 fn run_topic(
@@ -89,10 +94,21 @@ fn run_topic(
 ) -> Result<(), Stop> {
     let cases = file_of(rt, alloc, topic, "cases")?;
     if is_writing {
-        return Ok(put_all(alloc, cases.as_str(), answers)?);
+        return put_all(alloc, cases.as_str(), answers);
     }
+    hold_topic(rt, alloc, topic, cases.as_str(), answers)
+}
+
+/// Holds what cases give against the file beside theirs.
+fn hold_topic(
+    rt: &HostRuntime,
+    alloc: Global,
+    topic: &str,
+    cases: &str,
+    answers: &mut String,
+) -> Result<(), Stop> {
     let gives = file_of(rt, alloc, topic, "gives")?;
-    Ok(hold(alloc, topic, cases.as_str(), gives.as_str(), answers)?)
+    hold(alloc, topic, cases, gives.as_str(), answers)
 }
 
 fn file_of(rt: &HostRuntime, alloc: Global, topic: &str, name: &str) -> Result<String, Stop> {

@@ -12,31 +12,14 @@ use witx_fixtures_run::Case;
 use witx_invoke::{Invoked, Placed, Word, invoke, read_values, value_text};
 use witx_machine::WasmType;
 
-/// Two numbers in and one back; values for it, and lines that are none.
+/// Two numbers in and one back, and values for it.
 const ADD: &str = r#";;;; file /a
 (module $m (@interface func (export "add") (param $x u32) (param $y u64) (result $r u32)))
 ;;;; file /v
 5
 7
 12
-;;;; file /zero
-05
-7
-12
-;;;; file /more
-5
-7
-12
-1
-;;;; file /empty
-;;;; file /n
-(typename $n (flags (@witx repr u8) $a $b $c $d $e $f $g $h $i))
-;;;; file /u
-(typename $a $b)
-;;;; file /cut
-5
-7
-12"#;
+"#;
 
 /// Calls of the devices that fail, and what a run gives then.
 #[rattlefmt::skip]

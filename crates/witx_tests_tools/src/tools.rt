@@ -16,20 +16,10 @@ const LISTS: &str = r#";;;; file /a
 (module $m (@interface func (export "add") (param $x u32) (param $y u64) (result $r u32)))
 ;;;; file /same
 (import "m" "add" (func (param i32) (param $y i64) (result i32)))
-;;;; file /differs
-(import "m" "add" (func (param i32 i32) (result i32)))
 ;;;; file /missing
-(import "m" "sub" (func))
-;;;; file /empty
-;;;; file /l
-(import "m" "add" (memory 1))
-;;;; file /all
-(import "n\"" "add" (func (result f32)))
-(import "m" "add" (func))
-(import "m" "add" (func (param i32 i64) (result i32)))
-(import "m" "sub" (func (param f64)))"#;
+(import "m" "sub" (func))"#;
 
-/// A function without words, its listing, and listings that are none.
+/// A function without words, its listing, and a listing that is cut short.
 const TRACES: &str = r#";;;; file /a
 (module $m (@interface func (export "f")))
 ;;;; file /l
@@ -43,11 +33,6 @@ callee
   return 0
 ;;;; file /x
 module m
-;;;; file /n
-(typename $n (flags (@witx repr u8) $a $b $c $d $e $f $g $h $i))
-;;;; file /u
-(typename $a $b)
-;;;; file /e
 "#;
 
 fn run_all_on(
@@ -75,7 +60,7 @@ fn run_all_on(
 pub type Fails = (&'static [u64], &'static [u64], &'static [u64]);
 
 /// A run over a source that gives 50 bytes a call, and sinks that take 10.
-pub fn run_failing(
+fn run_failing(
     alloc: Global,
     line: &str,
     bundle: &str,
