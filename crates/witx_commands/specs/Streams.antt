@@ -29,7 +29,8 @@ source_seen left faults reads old new = record {
 abbrev pub NoFault : SourceSeen → Type 0
 NoFault s = s.now ≡ s.before
 
--- At most so many bytes were taken from the front of what was left, and each read but the last gave some of them.
+-- At most so many bytes were taken from the front of what was left, in at most one read more than bytes. Of a source that gives one
+-- byte a read this says that each read but the last gave one: none came behind the end, or behind the last of these bytes.
 pub record TookAtMost (most : ℕ) (s : SourceSeen) : Type 0 where
   pub bytes : List ℕ
   pub taken : Consumes s.left s.left_after bytes
