@@ -267,20 +267,20 @@ fn put_named_module(
     parent: usize,
     heading: MdHeading,
     names: NamedLayouts,
-    module: &Module,
+    shown_module: &Module,
 ) -> Result<(), LayoutError>
-    requires { InItems (NamesKnown names) (module_tree module.now).items }
-    ensures nodes { OnOk result (branch.new ≡ sprouted branch.old parent (module_node heading (module_of (module_tree module.now)))) }
-    ensures refusal { Judged (too_large (items_laid_out (module_tree module.now).items)) result }
+    requires { InItems (NamesKnown names) (module_tree shown_module.now).items }
+    ensures nodes { OnOk result (branch.new ≡ sprouted branch.old parent (module_node heading (module_of (module_tree shown_module.now)))) }
+    ensures refusal { Judged (too_large (items_laid_out (module_tree shown_module.now).items)) result }
 {
-    let content = module_section(branch.allocator(), module.name.as_str())?;
+    let content = module_section(branch.allocator(), shown_module.name.as_str())?;
     let node = branch.push(parent, content)?;
     let at = Place {
         node,
         heading: heading.new_level_down(),
-        id: Some(module.name.as_str()),
+        id: Some(shown_module.name.as_str()),
     };
-    put_module(branch, &at, names, module)
+    put_module(branch, &at, names, shown_module)
 }
 
 /// A module as its own node shows it.

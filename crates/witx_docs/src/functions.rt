@@ -93,22 +93,27 @@ pub fn put_module(
     branch: &mut Branch,
     at: &Place,
     names: NamedLayouts,
-    module: &Module,
+    shown_module: &Module,
 ) -> Result<(), LayoutError>
-    requires { InItems (NamesKnown names) (map item_tree module.now.contents.definitions) }
-    ensures nodes { OnOk result (branch.new ≡ sprouted branch.old at.now.node (module_parts at.now.heading (module_tree module.now))) }
-    ensures refusal { Judged (too_large (items_laid_out (map item_tree module.now.contents.definitions))) result }
+    requires { InItems (NamesKnown names) (map item_tree shown_module.now.contents.definitions) }
+    ensures nodes { OnOk result (branch.new ≡ sprouted branch.old at.now.node (module_parts at.now.heading (module_tree shown_module.now))) }
+    ensures refusal { Judged (too_large (items_laid_out (map item_tree shown_module.now.contents.definitions))) result }
 {
     let inner = at.heading.new_level_down();
     let imports = put_group(branch, at.node, at.heading, "Imports")?;
-    put_imports(branch, imports, inner, module.definitions().as_slice())?;
+    put_imports(
+        branch,
+        imports,
+        inner,
+        shown_module.definitions().as_slice(),
+    )?;
     let functions = put_group(branch, at.node, at.heading, "Functions")?;
     put_funcs(
         branch,
         functions,
         inner,
         names,
-        module.definitions().as_slice(),
+        shown_module.definitions().as_slice(),
     )
 }
 
