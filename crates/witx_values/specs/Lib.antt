@@ -1,0 +1,5 @@
+pub mod Language
+pub mod Parts
+pub mod Readings
+pub mod Texts
+pub mod Words

@@ -1,0 +1,19 @@
+//! The value of a derivation: what its tokens stand for, put together production by production.
+//!
+//! It is proved once, for every grammar whose actions meet the contract of `Actions`: the value is what
+//! the derivation stands for. Neither nesting nor length costs the program's stack.
+#![tactic(auto)]
+
+mod actions;
+mod builder;
+mod lists;
+mod reader;
+mod rules;
+mod texts;
+mod words;
+
+pub use actions::Actions;
+pub use lists::{appended, reversed};
+pub use reader::{Reading, read};
+pub use texts::start_of_token;
+pub use words::{Word, kind_spelled, kinds_of};

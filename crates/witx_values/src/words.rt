@@ -1,0 +1,62 @@
+//! The words of a language, and the kinds of tokens.
+
+ghost use Rattle.std.specs.Prelude.{◌≡◌, map, IfOk};
+ghost use Rattle.witx_base.specs.Texts.{same_text};
+ghost use Rattle.witx_values.specs.Language.{kinds_of as kinds_of_tokens};
+ghost use Rattle.witx_values.specs.Words.{kind_spelled as kind_spelled_of, spelling_view};
+
+use crate::actions::Actions;
+use std::alloc::Global;
+use witx_base::OutOfMemory;
+use witx_grammar::Kind;
+
+/// A word: the kind of its tokens, its spelling, and what the language notes beside it.
+#[derive(Clone, Copy)]
+pub struct Word<K, M> {
+    /// The kind of its tokens.
+    pub kind: K,
+    /// Its spelling.
+    pub text: &'static str,
+    /// What the language notes beside it.
+    pub note: M,
+}
+
+/// Whether the word is spelled so.
+#[tactic(auto, unfolding(witx_base::specs::Texts::same_text))]
+fn is_spelled(word: &str, text: &str) -> bool
+    ensures { result ≡ same_text word.now text.now }
+{
+    // Most words are told apart by their length, which costs no call.
+    if word.len() != text.len() {
+        return false;
+    }
+    word == text
+}
+
+/// The kind of tokens that are spelled so, or `other` where no word is.
+pub fn kind_spelled<K: Kind, M>(words: &[Word<K, M>], other: K, text: &str) -> K
+    ensures { result ≡ kind_spelled_of other (map spelling_view words.now) text.now }
+{
+    for word in words {
+        if is_spelled(word.text, text) {
+            return word.kind;
+        }
+    }
+    other
+}
+
+/// The kinds of the tokens, and then that of the end.
+pub fn kinds_of<A: Actions>(
+    alloc: Global,
+    actions: &A,
+    tokens: &[A::Token],
+) -> Result<Vec<A::Kind>, OutOfMemory>
+    ensures { IfOk result (λ v. v.items ≡ kinds_of_tokens A.language (map A.token_of tokens.now)) }
+{
+    let mut kinds = Vec::with_capacity(alloc, tokens.len().saturating_add(1))?;
+    for token in tokens {
+        kinds.push(actions.kind(token))?;
+    }
+    kinds.push(actions.end())?;
+    Ok(kinds)
+}
