@@ -1,67 +1,69 @@
--- What a derivation stands for: each production makes one value of those of what it is written by, which stand first, the first part on top.
--- Values of other kinds than a production is made of, which no derivation has, stay as they are.
+-- What a derivation stands for: each production makes one value of those of what it is written by.
 use Rattle.std.specs.Prelude.{ℕ, List, [], ◌∷◌, ◌++◌}
 use Rattle.witx_lex.specs.Tokens.{Lexed}
 use Rattle.witx_machine.specs.declared.surface.WasmType.{WasmType}
 use Rattle.witx_machine.specs.declared.surface.WasmType.TheVariants as w
+use Rattle.witx_values.specs.Language.{Language}
+use Rattle.witx_values.specs.Parts.{made}
 use Rattle.witx_imports.specs.declared.import.WasmImport.{WasmImport}
+use Rattle.witx_imports.specs.declared.nonterminal.Nonterminal.{Nonterminal}
 use Rattle.witx_imports.specs.declared.production.ProductionName.{ProductionName}
 use Rattle.witx_imports.specs.declared.production.ProductionName.TheVariants as p
-use Rattle.witx_imports.specs.Values.{Val, a_name, a_type, some_types, a_signature, an_import, some_imports}
+use Rattle.witx_imports.specs.declared.token_kind.TokenKind.{TokenKind}
+use Rattle.witx_imports.specs.declared.token_kind.TokenKind.TheVariants.{End}
+use Rattle.witx_imports.specs.declared.value.Sort.{Sort}
+use Rattle.witx_imports.specs.Grammar.{the_names, written}
+use Rattle.witx_imports.specs.Sorts.{Of, wrap, unwrap, sort_of, terminal_sorts, nonterminal_sort, parts_of, made_sort, Meaning}
+use Rattle.witx_imports.specs.TokenKinds.{token_kind}
+use Rattle.witx_imports.specs.Values.{Signature, Val, leaf}
 
--- ---- the first value, if it is of the kind, for what is made of it
-
-abbrev pub take_name : (List ℕ → List Val → List Val) → List Val → List Val
-take_name f (a_name n ∷ vs) = f n vs
-take_name f vs = vs
-
-abbrev pub take_type : (WasmType → List Val → List Val) → List Val → List Val
-take_type f (a_type t ∷ vs) = f t vs
-take_type f vs = vs
-
-abbrev pub take_types : (List WasmType → List Val → List Val) → List Val → List Val
-take_types f (some_types ts ∷ vs) = f ts vs
-take_types f vs = vs
-
-abbrev pub take_signature : (List WasmType → List WasmType → List Val → List Val) → List Val → List Val
-take_signature f (a_signature ps rs ∷ vs) = f ps rs vs
-take_signature f vs = vs
-
-abbrev pub take_import : (WasmImport → List Val → List Val) → List Val → List Val
-take_import f (an_import i ∷ vs) = f i vs
-take_import f vs = vs
-
-abbrev pub take_imports : (List WasmImport → List Val → List Val) → List Val → List Val
-take_imports f (some_imports is ∷ vs) = f is vs
-take_imports f vs = vs
-
+-- the import of these names and words
 abbrev pub import_of : List ℕ → List ℕ → List WasmType → List WasmType → WasmImport
 import_of m f ps rs = record { «module» = m; name = f; params = ps; results = rs }
 
--- ---- production by production
+-- the words of a function
+abbrev pub words : List WasmType → List WasmType → Signature
+words ps rs = record { params = ps; results = rs }
 
-abbrev pub made_of : ProductionName → List Val → List Val
-made_of p.NoImports vs = some_imports [] ∷ vs
-made_of p.MoreImports vs = take_import (λ i. take_imports (λ is vs. some_imports (i ∷ is) ∷ vs)) vs
-made_of p.Import vs = take_name (λ m. take_name (λ f. take_signature (λ ps rs vs. an_import (import_of m f ps rs) ∷ vs))) vs
+-- ---- production by production, of the values of its parts in their order
+
+-- what a production makes
+abbrev pub meaning : (x : ProductionName) → Meaning x
+meaning p.NoImports = []
+meaning p.MoreImports = λ i is. i ∷ is
+meaning p.Import = λ m f s. import_of m f s.params s.results
 -- an identifier says nothing
-made_of p.NamedFunc vs = vs
-made_of p.BareFunc vs = vs
+meaning p.NamedFunc = λ s. s
+meaning p.BareFunc = λ s. s
 -- groups are joined in order
-made_of p.NoParams vs = a_signature [] [] ∷ vs
-made_of p.MoreParams vs = take_types (λ ts. take_signature (λ ps rs vs. a_signature (ts ++ ps) rs ∷ vs)) vs
-made_of p.FirstResults vs = take_types (λ ts. take_signature (λ ps rs vs. a_signature ps (ts ++ rs) ∷ vs)) vs
-made_of p.NamedParam vs = take_type (λ t vs. some_types (t ∷ []) ∷ vs) vs
-made_of p.BareParams vs = vs
-made_of p.NoResults vs = a_signature [] [] ∷ vs
-made_of p.MoreResults vs = take_types (λ ts. take_signature (λ ps rs vs. a_signature ps (ts ++ rs) ∷ vs)) vs
-made_of p.NoTypes vs = some_types [] ∷ vs
-made_of p.MoreTypes vs = take_type (λ t. take_types (λ ts vs. some_types (t ∷ ts) ∷ vs)) vs
-made_of p.I32 vs = a_type w.I32 ∷ vs
-made_of p.I64 vs = a_type w.I64 ∷ vs
-made_of p.F32 vs = a_type w.F32 ∷ vs
-made_of p.F64 vs = a_type w.F64 ∷ vs
+meaning p.NoParams = words [] []
+meaning p.MoreParams = λ ts s. words (ts ++ s.params) s.results
+meaning p.FirstResults = λ ts s. words s.params (ts ++ s.results)
+meaning p.NamedParam = λ t. t ∷ []
+meaning p.BareParams = λ ts. ts
+meaning p.NoResults = words [] []
+meaning p.MoreResults = λ ts s. words s.params (ts ++ s.results)
+meaning p.NoTypes = []
+meaning p.MoreTypes = λ t ts. t ∷ ts
+meaning p.I32 = w.I32
+meaning p.I64 = w.I64
+meaning p.F32 = w.F32
+meaning p.F64 = w.F64
 
--- the same beside the tokens, of which no production takes more than the values
-abbrev pub act : ProductionName → List Lexed → List Val → List Val
-act p ts vs = made_of p vs
+-- in place of the values of its parts, which stand first; no production sees more of the tokens than these
+unfoldable pub act : ProductionName → List Lexed → List Val → List Val
+act p ts vs = made Of wrap unwrap (parts_of p) (made_sort p) (meaning p) vs
+
+-- the language of lists of imports
+abbrev pub the_language : Language TokenKind Nonterminal ProductionName Lexed Sort Val
+the_language = record {
+  names = the_names;
+  written = written;
+  kind = (λ l. token_kind l.token);
+  end = End;
+  leaf = leaf;
+  act = act;
+  sort_of = sort_of;
+  terminal_sorts = terminal_sorts;
+  nonterminal_sort = nonterminal_sort;
+}

@@ -1,8 +1,9 @@
 -- The grammar of lists of imports, production by production: which nonterminal it writes, and by what.
 -- An optional part is two productions, and a repetition is a nonterminal that ends with its closing parenthesis.
 use Rattle.std.specs.Prelude.{List, [], ◌∷◌, map}
-use Rattle.witx_grammar.specs.Grammar.{Rewrite, Wants}
+use Rattle.witx_grammar.specs.Grammar.{Rewrite}
 use Rattle.witx_grammar.specs.declared.table.Symbol.TheVariants.{Terminal as T, Nonterminal as N}
+use Rattle.witx_values.specs.Language.{Written, write, production_of}
 use Rattle.witx_imports.specs.declared.token_kind.TokenKind.{TokenKind}
 use Rattle.witx_imports.specs.declared.token_kind.TokenKind.TheVariants.{Left, Right, Id, Quoted, ImportWord, FuncWord, ParamWord, ResultWord, I32Word, I64Word, F32Word, F64Word, End}
 use Rattle.witx_imports.specs.declared.nonterminal.Nonterminal.{Nonterminal}
@@ -10,15 +11,8 @@ use Rattle.witx_imports.specs.declared.nonterminal.Nonterminal.TheVariants as n
 use Rattle.witx_imports.specs.declared.production.ProductionName.{ProductionName}
 use Rattle.witx_imports.specs.declared.production.ProductionName.TheVariants as p
 
--- a nonterminal, and what is wanted in its place
-pub record Written : Type 0 where
-  pub nonterminal : Nonterminal
-  pub symbols : Wants TokenKind Nonterminal
-
-abbrev write : Nonterminal → Wants TokenKind Nonterminal → Written
-write f w = record { nonterminal = f; symbols = w }
-
-abbrev pub written : ProductionName → Written
+-- which nonterminal each production writes, and by what
+abbrev pub written : ProductionName → Written TokenKind Nonterminal
 -- a text: imports up to its end
 written p.NoImports = write n.Text (T End ∷ [])
 written p.MoreImports = write n.Text (N n.Import ∷ N n.Text ∷ [])
@@ -44,7 +38,7 @@ written p.F32 = write n.Type (T F32Word ∷ [])
 written p.F64 = write n.Type (T F64Word ∷ [])
 
 abbrev pub production : ProductionName → Rewrite TokenKind Nonterminal ProductionName
-production x = record { nonterminal = (written x).nonterminal; name = x; symbols = (written x).symbols }
+production = production_of written
 
 abbrev pub the_names : List ProductionName
 the_names =

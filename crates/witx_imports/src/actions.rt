@@ -1,28 +1,23 @@
-//! What each production stands for.
+//! What each production makes of its parts.
+#![tactic(auto, unfolding(crate::specs::Actions::act))]
 
-ghost use Rattle.std.specs.Prelude.{◌≡◌, [], ◌∷◌, IfOk};
+ghost use Rattle.std.specs.Prelude.{◌≡◌, ◌++◌, reverse, IfOk};
 ghost use Rattle.witx_imports.specs.declared.production.ProductionName.TheVariants as production;
-ghost use Rattle.witx_imports.specs.Stack.{Made, Ready, stack_view};
-ghost use Rattle.witx_imports.specs.Values.{a_signature, a_type};
+ghost use Rattle.witx_imports.specs.Stack.{Made, Ready};
 
 use crate::import::WasmImport;
-use crate::production::ProductionName as P;
-use crate::stack::{appended, joined, push, reversed, take, take_three, take_two};
+use crate::stack::{
+    push, take_import, take_imports, take_name, take_signature, take_type, take_types,
+};
 use crate::value::{Signature, Value};
 use std::alloc::Global;
-use witx_base::{Id, Items, OutOfMemory};
+use witx_base::{Items, OutOfMemory};
 use witx_machine::WasmType;
+use witx_values::{appended, reversed};
 
-/// Puts a type on top.
-fn push_type(stack: &mut Vec<Value>, word: WasmType) -> Result<(), OutOfMemory>
-    ensures { IfOk result (λ _. stack_view stack.new.items ≡ a_type word ∷ stack_view stack.old.items) }
-{
-    push(stack, Value::Type(word))
-}
-
-/// Puts on top that a function has no words.
-fn push_no_words(alloc: Global, stack: &mut Vec<Value>) -> Result<(), OutOfMemory>
-    ensures { IfOk result (λ _. stack_view stack.new.items ≡ a_signature [] [] ∷ stack_view stack.old.items) }
+/// No words.
+pub fn no_words(alloc: Global, stack: &mut Vec<Value>) -> Result<(), OutOfMemory>
+    ensures { IfOk result (λ _. Made production.NoParams stack.old.items stack.new.items) }
 {
     let signature = Signature {
         params: Vec::new(alloc),
@@ -31,20 +26,24 @@ fn push_no_words(alloc: Global, stack: &mut Vec<Value>) -> Result<(), OutOfMemor
     push(stack, Value::Signature(signature))
 }
 
-fn more_imports(stack: &mut Vec<Value>) -> Result<(), OutOfMemory>
+/// An import in front of those behind it.
+pub fn more_imports(stack: &mut Vec<Value>) -> Result<(), OutOfMemory>
     requires { Ready production.MoreImports stack.old.items }
     ensures { IfOk result (λ _. Made production.MoreImports stack.old.items stack.new.items) }
 {
-    let (import, imports): (WasmImport, Vec<WasmImport>) = take_two(stack);
-    let imports = appended(imports, import)?;
+    let import = take_import(stack);
+    let imports = appended(take_imports(stack), import)?;
     push(stack, Value::Imports(imports))
 }
 
-fn import(stack: &mut Vec<Value>) -> Result<(), OutOfMemory>
+/// `(import "m" "f" (func ..))`: its names and words.
+pub fn import(stack: &mut Vec<Value>) -> Result<(), OutOfMemory>
     requires { Ready production.Import stack.old.items }
     ensures { IfOk result (λ _. Made production.Import stack.old.items stack.new.items) }
 {
-    let (module, name, signature): (Id, Id, Signature) = take_three(stack);
+    let module = take_name(stack);
+    let name = take_name(stack);
+    let signature = take_signature(stack);
     let import = WasmImport {
         module,
         name,
@@ -54,67 +53,54 @@ fn import(stack: &mut Vec<Value>) -> Result<(), OutOfMemory>
     push(stack, Value::Import(import))
 }
 
-fn more_params(stack: &mut Vec<Value>) -> Result<(), OutOfMemory>
+/// A group of parameters in front of the others.
+pub fn more_params(stack: &mut Vec<Value>) -> Result<(), OutOfMemory>
     requires { Ready production.MoreParams stack.old.items }
     ensures { IfOk result (λ _. Made production.MoreParams stack.old.items stack.new.items) }
 {
-    let (group, signature): (Vec<WasmType>, Signature) = take_two(stack);
+    let group = take_types(stack);
+    let signature = take_signature(stack);
     let params = joined(signature.params, group)?;
     let results = signature.results;
     push(stack, Value::Signature(Signature { params, results }))
 }
 
-fn more_results(stack: &mut Vec<Value>) -> Result<(), OutOfMemory>
+/// A group of results in front of the others.
+pub fn more_results(stack: &mut Vec<Value>) -> Result<(), OutOfMemory>
     requires { Ready production.MoreResults stack.old.items }
     ensures { IfOk result (λ _. Made production.MoreResults stack.old.items stack.new.items) }
 {
-    let (group, signature): (Vec<WasmType>, Signature) = take_two(stack);
+    let group = take_types(stack);
+    let signature = take_signature(stack);
     let results = joined(signature.results, group)?;
     let params = signature.params;
     push(stack, Value::Signature(Signature { params, results }))
 }
 
-fn named_param(alloc: Global, stack: &mut Vec<Value>) -> Result<(), OutOfMemory>
+/// `(param $n W)`: a group of one type.
+pub fn named_param(alloc: Global, stack: &mut Vec<Value>) -> Result<(), OutOfMemory>
     requires { Ready production.NamedParam stack.old.items }
     ensures { IfOk result (λ _. Made production.NamedParam stack.old.items stack.new.items) }
 {
-    let word: WasmType = take(stack);
-    let group = appended(Vec::new(alloc), word)?;
+    let group = appended(Vec::new(alloc), take_type(stack))?;
     push(stack, Value::Types(group))
 }
 
-fn more_types(stack: &mut Vec<Value>) -> Result<(), OutOfMemory>
+/// A type in front of those behind it.
+pub fn more_types(stack: &mut Vec<Value>) -> Result<(), OutOfMemory>
     requires { Ready production.MoreTypes stack.old.items }
     ensures { IfOk result (λ _. Made production.MoreTypes stack.old.items stack.new.items) }
 {
-    let (word, group): (WasmType, Vec<WasmType>) = take_two(stack);
-    let group = appended(group, word)?;
+    let word = take_type(stack);
+    let group = appended(take_types(stack), word)?;
     push(stack, Value::Types(group))
 }
 
-/// Puts the value of a production in place of its parts.
-pub fn perform(alloc: Global, production: P, stack: &mut Vec<Value>) -> Result<(), OutOfMemory>
-    requires { Ready production stack.old.items }
-    ensures { IfOk result (λ _. Made production stack.old.items stack.new.items) }
+/// The types with those of a group in front, where both are kept with the last type first.
+fn joined(types: Vec<WasmType>, group: Vec<WasmType>) -> Result<Vec<WasmType>, OutOfMemory>
+    ensures { IfOk result (λ made. reverse made.items ≡ reverse group.items ++ reverse types.items) }
 {
-    match production {
-        P::NoImports => push(stack, Value::Imports(Vec::new(alloc))),
-        P::MoreImports => more_imports(stack),
-        P::Import => import(stack),
-        P::NamedFunc => Ok(()),
-        P::BareFunc => Ok(()),
-        P::NoParams => push_no_words(alloc, stack),
-        P::MoreParams => more_params(stack),
-        P::FirstResults => more_results(stack),
-        P::NamedParam => named_param(alloc, stack),
-        P::BareParams => Ok(()),
-        P::NoResults => push_no_words(alloc, stack),
-        P::MoreResults => more_results(stack),
-        P::NoTypes => push(stack, Value::Types(Vec::new(alloc))),
-        P::MoreTypes => more_types(stack),
-        P::I32 => push_type(stack, WasmType::I32),
-        P::I64 => push_type(stack, WasmType::I64),
-        P::F32 => push_type(stack, WasmType::F32),
-        P::F64 => push_type(stack, WasmType::F64),
-    }
+    let mut types = types;
+    types.extend_from_slice(group.as_slice())?;
+    Ok(types)
 }

@@ -1,84 +1,114 @@
-//! The imports that a derivation stands for.
-//!
-//! A derivation is the list of its steps, each production before what it is written by. It is read
-//! from its end: a token puts what it stands for on a stack, and a production takes its parts from
-//! there and puts what it stands for.
+//! The actions of the grammar.
 
-ghost use Rattle.std.specs.Prelude.{◌≡◌, IfOk, [], ◌∷◌, ◌++◌};
-ghost use Rattle.witx_grammar.specs.Grammar.{Derives};
-ghost use Rattle.witx_grammar.specs.declared.table.Symbol.TheVariants.{Nonterminal};
-ghost use Rattle.witx_lex.specs.Views.{lexed_view, tokens_view};
-ghost use Rattle.witx_imports.specs.declared.nonterminal.Nonterminal.TheVariants.{Text};
-ghost use Rattle.witx_imports.specs.Grammar.{the_grammar};
-ghost use Rattle.witx_imports.specs.Reads.{stands_for};
-ghost use Rattle.witx_imports.specs.Stack.{stack_view};
-ghost use Rattle.witx_imports.specs.TokenKinds.{token_kinds};
-ghost use Rattle.witx_imports.specs.Values.{leaf, some_imports, token_at};
+ghost use Rattle.std.specs.Prelude.{IfOk};
+ghost use Rattle.witx_lex.specs.Tokens as tokens;
+ghost use Rattle.witx_lex.specs.Views.{lexed_view};
+ghost use Rattle.witx_imports.specs.declared.value.Sort.{Sort};
+ghost use Rattle.witx_imports.specs.Actions.{the_language};
+ghost use Rattle.witx_imports.specs.Lawful.{lawful};
+ghost use Rattle.witx_imports.specs.Stack.{Made, Ready, value_view};
+ghost use Rattle.witx_imports.specs.Values.{Val};
 
-use crate::actions::perform;
-use crate::import::{WasmImport, WasmImports};
-use crate::production::ProductionName;
-use crate::stack::{push, reversed, take};
+use crate::actions;
+use crate::nonterminal::Nonterminal;
+use crate::production::ProductionName as P;
+use crate::stack::push;
+use crate::token_kind::TokenKind;
 use crate::value::Value;
+use crate::words::kind_of;
 use std::alloc::Global;
-use witx_base::{Id, Items, OutOfMemory};
-use witx_grammar::Step;
+use std::marker::PhantomData;
+use witx_base::{Id, OutOfMemory};
 use witx_lex::{Lexed, Token};
+use witx_machine::WasmType;
+use witx_values::Actions;
 
-/// Puts what a token stands for on the stack.
-fn push_leaf(alloc: Global, lexed: &Lexed, stack: &mut Vec<Value>) -> Result<(), OutOfMemory>
-    ensures { IfOk result (λ _. stack_view stack.new.items ≡ leaf (lexed_view lexed.now) ++ stack_view stack.old.items) }
-{
-    match &lexed.token {
-        Token::Quoted(text) => {
-            let name = Id::new(alloc, text.as_str())?;
-            push(stack, Value::Name(name))
-        }
-        _ => Ok(()),
-    }
+/// The actions of the grammar.
+#[derive(Clone, Copy)]
+pub struct Building<'a> {
+    pub alloc: Global,
+    pub texts: PhantomData<&'a str>,
 }
 
-/// Puts what the token at a place stands for on the stack; behind the last token it is nothing.
-fn push_leaf_at(
-    alloc: Global,
-    tokens: &[Lexed],
-    at: usize,
-    stack: &mut Vec<Value>,
-) -> Result<(), OutOfMemory>
-    ensures { IfOk result (λ _. stack_view stack.new.items ≡ leaf (token_at (tokens_view tokens.now) at) ++ stack_view stack.old.items) }
-{
-    match tokens.get(at) {
-        Some(lexed) => push_leaf(alloc, lexed, stack),
-        None => Ok(()),
-    }
-}
+impl<'a> Actions for Building<'a> {
+    type Token = Lexed<'a>;
 
-/// The imports that a derivation stands for.
-pub fn build(
-    alloc: Global,
-    steps: &[Step<ProductionName>],
-    tokens: &[Lexed],
-) -> Result<WasmImports, OutOfMemory>
-    requires { Derives the_grammar steps.now (Nonterminal Text ∷ []) (token_kinds (tokens_view tokens.now)) }
-    ensures { IfOk result (λ imports. stands_for (tokens_view tokens.now) steps.now ≡ some_imports imports ∷ []) }
-{
-    let mut stack = Vec::new(alloc);
-    let mut number = steps.len();
-    let mut at = tokens.len() + 1;
-    'each: while number > 0 {
-        number -= 1;
-        match steps[number] {
-            Step::Leaf => {
-                at -= 1;
-                push_leaf_at(alloc, tokens, at, &mut stack)?;
-                continue;
+    type Kind = TokenKind;
+
+    type Nonterminal = Nonterminal;
+
+    type Production = P;
+
+    type Value = Value;
+
+    ghost L = { tokens.Lexed };
+
+    ghost S = { Sort };
+
+    ghost V = { Val };
+
+    ghost token_of = { lexed_view };
+
+    ghost value_of = { value_view };
+
+    ghost language = { the_language };
+
+    fn kind(&self, lexed: &Lexed<'a>) -> TokenKind {
+        kind_of(&lexed.token)
+    }
+
+    fn end(&self) -> TokenKind {
+        TokenKind::End
+    }
+
+    fn leaf(&self, lexed: &Lexed<'a>, stack: &mut Vec<Value>) -> Result<(), OutOfMemory> {
+        match &lexed.token {
+            Token::Quoted(text) => {
+                let name = Id::new(self.alloc, text.as_str())?;
+                push(stack, Value::Name(name))
             }
-            Step::Node(production) => {
-                perform(alloc, production, &mut stack)?;
-                continue;
-            }
+            _ => Ok(()),
         }
     }
-    let imports: Vec<WasmImport> = take(&mut stack);
-    Ok(Items::from_vec(reversed(imports)))
+
+    #[tactic(auto, using(crate::proofs::Chosen::anywhere))]
+    fn perform(
+        &self,
+        production: P,
+        _tokens: &[Lexed<'a>],
+        _at: usize,
+        stack: &mut Vec<Value>,
+    ) -> Result<(), OutOfMemory> {
+        perform(self.alloc, production, stack)
+    }
+
+    ghost lawful = { lawful };
+}
+
+/// Puts the value of a production in place of its parts.
+#[tactic(auto, using(crate::proofs::Chosen::productions))]
+fn perform(alloc: Global, production: P, stack: &mut Vec<Value>) -> Result<(), OutOfMemory>
+    requires { Ready production stack.old.items }
+    ensures { IfOk result (λ _. Made production stack.old.items stack.new.items) }
+{
+    match production {
+        P::NoImports => push(stack, Value::Imports(Vec::new(alloc))),
+        P::MoreImports => actions::more_imports(stack),
+        P::Import => actions::import(stack),
+        P::NamedFunc => Ok(()),
+        P::BareFunc => Ok(()),
+        P::NoParams => actions::no_words(alloc, stack),
+        P::MoreParams => actions::more_params(stack),
+        P::FirstResults => actions::more_results(stack),
+        P::NamedParam => actions::named_param(alloc, stack),
+        P::BareParams => Ok(()),
+        P::NoResults => actions::no_words(alloc, stack),
+        P::MoreResults => actions::more_results(stack),
+        P::NoTypes => push(stack, Value::Types(Vec::new(alloc))),
+        P::MoreTypes => actions::more_types(stack),
+        P::I32 => push(stack, Value::Type(WasmType::I32)),
+        P::I64 => push(stack, Value::Type(WasmType::I64)),
+        P::F32 => push(stack, Value::Type(WasmType::F32)),
+        P::F64 => push(stack, Value::Type(WasmType::F64)),
+    }
 }

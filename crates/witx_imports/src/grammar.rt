@@ -13,24 +13,7 @@ use crate::nonterminal::Nonterminal;
 use crate::production::ProductionName;
 use crate::token_kind::TokenKind;
 use witx_grammar::{Production, Rule, Symbol, Table};
-
-/// A nonterminal with its productions: `NAME = ..;` each, tokens by their kinds and nonterminals in `<>`.
-macro_rules! rule {
-    ($nonterminal:ident: $($name:ident = $($first:ident)* $(<$part:ident> $($token:ident)*)*;)*) => {
-        Rule {
-            nonterminal: Nonterminal::$nonterminal,
-            productions: &[$(
-                Production {
-                    name: ProductionName::$name,
-                    symbols: &[
-                        $(Symbol::Terminal(TokenKind::$first),)*
-                        $(Symbol::Nonterminal(Nonterminal::$part), $(Symbol::Terminal(TokenKind::$token),)*)*
-                    ],
-                },
-            )*],
-        }
-    };
-}
+use witx_values::rule;
 
 static RULES: [Rule<'static, TokenKind, Nonterminal, ProductionName>; 8] = [
     rule! { Text:

@@ -13,18 +13,12 @@ use crate::grammar::the_table;
 use crate::nonterminal::Nonterminal;
 use crate::production::ProductionName;
 use crate::token_kind::TokenKind;
-use witx_grammar::{
-    at_most_one_derivation, at_most_one_fault, derivation_or_fault, no_fault_where_derived,
-};
-use witx_lex::{
-    a_fault_is_unique, a_text_has_pieces_or_a_fault, pieces_exclude_a_fault, tokens_are_unique,
-};
+use witx_grammar::{at_most_one_derivation, derivation_or_fault};
 
 /// A text is at most one list of imports.
 pub fn at_most_one_import_list()
     ensures { (text : List ℕ) (d e : List WasmImport) → Reads text d → Reads text e → d ≡ e }
 {
-    tokens_are_unique();
     at_most_one_derivation::<TokenKind, Nonterminal, ProductionName>();
     let _table = the_table();
 }
@@ -32,17 +26,12 @@ pub fn at_most_one_import_list()
 /// A text that is a list of imports has no fault.
 pub fn no_fault_where_imports_are_read()
     ensures { (text : List ℕ) (d : List WasmImport) (place : Place) → Reads text d → IsFaultOf text place → ⊥ }
-{
-    tokens_are_unique();
-    pieces_exclude_a_fault();
-    no_fault_where_derived::<TokenKind, Nonterminal, ProductionName>();
-}
+{}
 
 /// A text is a list of imports or has a fault.
 pub fn an_import_list_or_a_fault()
     ensures { (text : List ℕ) → ((d : List WasmImport) × Reads text d) ⊎ ((place : Place) × IsFaultOf text place) }
 {
-    a_text_has_pieces_or_a_fault();
     derivation_or_fault::<TokenKind, Nonterminal, ProductionName>();
     let _table = the_table();
 }
@@ -50,12 +39,7 @@ pub fn an_import_list_or_a_fault()
 /// A text has at most one fault: one line and one column.
 pub fn at_most_one_import_list_fault()
     ensures { (text : List ℕ) (place other : Place) → IsFaultOf text place → IsFaultOf text other → place ≡ other }
-{
-    a_fault_is_unique();
-    pieces_exclude_a_fault();
-    tokens_are_unique();
-    at_most_one_fault::<TokenKind, Nonterminal, ProductionName>();
-}
+{}
 
 /// The faults of imports are exactly those that one of the imports has, in the order of the imports,
 /// one at most for each: nothing that is offered has its names, or the first that does is another one.

@@ -8,7 +8,6 @@ mod checker;
 mod error;
 mod fault;
 mod grammar;
-mod held;
 mod import;
 mod laws;
 mod nonterminal;

@@ -3,17 +3,18 @@
 ghost use Rattle.std.specs.Prelude.{◌≡◌, IfOk, IfErr};
 ghost use Rattle.witx_lex.specs.Meaning.{HasTokens};
 ghost use Rattle.witx_lex.specs.Views.{tokens_view};
-ghost use Rattle.witx_imports.specs.Reads.{BadPlace, IsFaultOf, Reads, start_of, told_at};
+ghost use Rattle.witx_imports.specs.Reads.{BadPlace, IsFaultOf, Reads, told_at};
 
-use crate::builder::build;
+use crate::builder::Building;
 use crate::error::ImportsError;
 use crate::grammar::the_table;
 use crate::import::WasmImports;
 use crate::nonterminal::Nonterminal;
-use crate::words::token_kinds;
+use crate::stack::imports_in;
 use std::alloc::Global;
-use witx_grammar::{Parsed, parse};
+use std::marker::PhantomData;
 use witx_lex::{LexError, Lexed, lex, line_column};
+use witx_values::{Reading, kinds_of, read, start_of_token};
 
 /// The fault at an offset.
 fn fault_at(text: &str, offset: usize) -> ImportsError
@@ -23,30 +24,28 @@ fn fault_at(text: &str, offset: usize) -> ImportsError
     ImportsError::Bad { line, column }
 }
 
-/// Where the token with the number starts; behind the last token it is the end of the text.
-fn start_of_token(text: &str, tokens: &[Lexed], at: usize) -> usize
-    ensures { result ≡ start_of text.now (tokens_view tokens.now) at }
-{
-    match tokens.get(at) {
-        Some(lexed) => lexed.span.start,
-        None => text.len(),
-    }
-}
-
 /// The imports that the tokens of a text spell, or their fault.
 fn read_tokens(alloc: Global, text: &str, tokens: &[Lexed]) -> Result<WasmImports, ImportsError>
     requires { HasTokens text.now (tokens_view tokens.now) }
     ensures imports { IfOk result (λ imports. Reads text.now imports) }
     ensures fault { IfErr result (λ e. BadPlace e (λ place. IsFaultOf text.now place)) }
 {
-    let kinds = token_kinds(alloc, tokens)?;
+    let actions = Building {
+        alloc,
+        texts: PhantomData,
+    };
+    let kinds = kinds_of(alloc, &actions, tokens)?;
     let table = the_table();
-    match parse(alloc, &table, Nonterminal::Text, kinds.as_slice())? {
-        Parsed::Derivation(steps) => {
-            let imports = build(alloc, steps.as_slice(), tokens)?;
-            Ok(imports)
-        }
-        Parsed::Fault(fault) => Err(fault_at(text, start_of_token(text, tokens, fault.at))),
+    match read(
+        alloc,
+        &actions,
+        &table,
+        Nonterminal::Text,
+        kinds.as_slice(),
+        tokens,
+    )? {
+        Reading::Value(value) => Ok(imports_in(value)),
+        Reading::Fault(fault) => Err(fault_at(text, start_of_token(text, tokens, fault.at))),
     }
 }
 

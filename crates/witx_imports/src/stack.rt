@@ -1,77 +1,100 @@
-//! The stack of values that a list is built on.
+//! The stack of values that a list is built on. Its last value is the top.
 
-ghost use Rattle.std.specs.Prelude.{◌≡◌, [], ◌∷◌, ◌++◌, reverse, IfOk};
-ghost use Rattle.witx_imports.specs.Kinds.{Holds};
-ghost use Rattle.witx_imports.specs.Stack.{stack_view, value_view};
+ghost use Rattle.std.specs.Prelude.{◌≡◌, [], ◌∷◌, reverse, map, IfOk};
+ghost use Rattle.witx_values.specs.Language.{StartWith, stack_of};
+ghost use Rattle.witx_imports.specs.declared.value.Sort.TheVariants as sorts;
+ghost use Rattle.witx_imports.specs.Actions.{words};
+ghost use Rattle.witx_imports.specs.Sorts.{sort_of};
+ghost use Rattle.witx_imports.specs.Stack.{value_view};
+ghost use Rattle.witx_imports.specs.Values.{a_name, a_type, some_types, a_signature, an_import, some_imports};
 
-use crate::held::Held;
-use crate::value::Value;
-use witx_base::OutOfMemory;
+use crate::import::{WasmImport, WasmImports};
+use crate::value::{Signature, Value};
+use witx_base::{Id, Items, OutOfMemory};
 use witx_machine::WasmType;
+use witx_values::reversed;
+
+/// What a value of the variant holds.
+macro_rules! held {
+    ($value:expr, $variant:ident) => {
+        match $value {
+            Value::$variant(held) => held,
+            _ => unreachable!(),
+        }
+    };
+}
+
+/// What the top value, of the variant, holds; it is taken off.
+macro_rules! taken {
+    ($stack:expr, $variant:ident) => {{
+        let Some(top) = $stack.pop() else {
+            unreachable!()
+        };
+        held!(top, $variant)
+    }};
+}
 
 /// Puts a value on top.
 pub fn push(stack: &mut Vec<Value>, value: Value) -> Result<(), OutOfMemory>
-    ensures { IfOk result (λ _. stack_view stack.new.items ≡ value_view value ∷ stack_view stack.old.items) }
+    ensures { IfOk result (λ _. stack_of value_view stack.new.items ≡ value_view value ∷ stack_of value_view stack.old.items) }
 {
     stack.push(value)?;
     Ok(())
 }
 
-/// Takes the top value off.
-pub fn take<A: Held>(stack: &mut Vec<Value>) -> A
-    requires { Holds (A.kind ∷ []) (stack_view stack.old.items) }
-    ensures { stack_view stack.old.items ≡ A.seen result ∷ stack_view stack.new.items }
+/// Takes a name off.
+pub fn take_name(stack: &mut Vec<Value>) -> Id
+    requires { StartWith sort_of (sorts.Name ∷ []) (stack_of value_view stack.old.items) }
+    ensures { stack_of value_view stack.old.items ≡ a_name result ∷ stack_of value_view stack.new.items }
 {
-    let Some(top) = stack.pop() else {
-        unreachable!()
-    };
-    A::of(top)
+    taken!(stack, Name)
 }
 
-/// Takes two values off, the top one first.
-pub fn take_two<A: Held, B: Held>(stack: &mut Vec<Value>) -> (A, B)
-    requires { Holds (A.kind ∷ B.kind ∷ []) (stack_view stack.old.items) }
-    ensures { stack_view stack.old.items ≡ A.seen result.0 ∷ B.seen result.1 ∷ stack_view stack.new.items }
+/// Takes a type off.
+pub fn take_type(stack: &mut Vec<Value>) -> WasmType
+    requires { StartWith sort_of (sorts.Type ∷ []) (stack_of value_view stack.old.items) }
+    ensures { stack_of value_view stack.old.items ≡ a_type result ∷ stack_of value_view stack.new.items }
 {
-    let first = take(stack);
-    let second = take(stack);
-    (first, second)
+    taken!(stack, Type)
 }
 
-/// Takes three values off, the top one first.
-pub fn take_three<A: Held, B: Held, C: Held>(stack: &mut Vec<Value>) -> (A, B, C)
-    requires { Holds (A.kind ∷ B.kind ∷ C.kind ∷ []) (stack_view stack.old.items) }
-    ensures { stack_view stack.old.items
-        ≡ A.seen result.0 ∷ B.seen result.1 ∷ C.seen result.2 ∷ stack_view stack.new.items }
+/// Takes the types of a group off.
+pub fn take_types(stack: &mut Vec<Value>) -> Vec<WasmType>
+    requires { StartWith sort_of (sorts.Types ∷ []) (stack_of value_view stack.old.items) }
+    ensures { stack_of value_view stack.old.items ≡ some_types (reverse result.items) ∷ stack_of value_view stack.new.items }
 {
-    let first = take(stack);
-    let (second, third) = take_two(stack);
-    (first, second, third)
+    taken!(stack, Types)
 }
 
-/// The list with one item more, where it is kept with its last item first.
-pub fn appended<T: Drop>(list: Vec<T>, item: T) -> Result<Vec<T>, OutOfMemory>
-    ensures { IfOk result (λ made. reverse made.items ≡ item ∷ reverse list.items) }
+/// Takes the words of a function off.
+pub fn take_signature(stack: &mut Vec<Value>) -> Signature
+    requires { StartWith sort_of (sorts.Signature ∷ []) (stack_of value_view stack.old.items) }
+    ensures { stack_of value_view stack.old.items
+        ≡ a_signature (words (reverse result.params.items) (reverse result.results.items)) ∷ stack_of value_view stack.new.items }
 {
-    let mut list = list;
-    list.push(item)?;
-    Ok(list)
+    taken!(stack, Signature)
 }
 
-/// The types with those of a group in front, where both are kept with the last type first.
-pub fn joined(types: Vec<WasmType>, group: Vec<WasmType>) -> Result<Vec<WasmType>, OutOfMemory>
-    ensures { IfOk result (λ made. reverse made.items ≡ reverse group.items ++ reverse types.items) }
+/// Takes an import off.
+pub fn take_import(stack: &mut Vec<Value>) -> WasmImport
+    requires { StartWith sort_of (sorts.Import ∷ []) (stack_of value_view stack.old.items) }
+    ensures { stack_of value_view stack.old.items ≡ an_import result ∷ stack_of value_view stack.new.items }
 {
-    let mut types = types;
-    types.extend_from_slice(group.as_slice())?;
-    Ok(types)
+    taken!(stack, Import)
 }
 
-/// The list the other way round.
-pub fn reversed<T: Drop>(list: Vec<T>) -> Vec<T>
-    ensures { result.items ≡ reverse list.items }
+/// Takes a list of imports off.
+pub fn take_imports(stack: &mut Vec<Value>) -> Vec<WasmImport>
+    requires { StartWith sort_of (sorts.Imports ∷ []) (stack_of value_view stack.old.items) }
+    ensures { stack_of value_view stack.old.items ≡ some_imports (reverse result.items) ∷ stack_of value_view stack.new.items }
 {
-    let mut list = list;
-    list.as_mut_slice().reverse();
-    list
+    taken!(stack, Imports)
+}
+
+/// The imports that the value of a text is.
+pub fn imports_in(value: Value) -> WasmImports
+    requires { sort_of (value_view value) ≡ sorts.Imports }
+    ensures { value_view value ≡ some_imports result }
+{
+    Items::from_vec(reversed(held!(value, Imports)))
 }

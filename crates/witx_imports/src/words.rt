@@ -1,26 +1,23 @@
 //! The words of the grammar, each once, and the kinds of tokens.
 
-ghost use Rattle.std.specs.Prelude.{◌≡◌, map, IfOk};
-ghost use Rattle.witx_lex.specs.Views.{token_view, tokens_view};
-ghost use Rattle.witx_imports.specs.TokenKinds.{kind_spelled as kind_spelled_of, spelling_view, the_words, token_kind as kind_of_token, token_kinds as kinds_of_tokens};
+ghost use Rattle.std.specs.Prelude.{◌≡◌, map};
+ghost use Rattle.witx_lex.specs.Views.{token_view};
+ghost use Rattle.witx_imports.specs.TokenKinds.{the_words, token_kind as kind_of_token};
+ghost use Rattle.witx_values.specs.Words.{spelling_view};
 
 use crate::token_kind::TokenKind;
-use std::alloc::Global;
-use witx_base::OutOfMemory;
-use witx_lex::{Lexed, Token};
+use witx_lex::Token;
+use witx_values::kind_spelled;
 
-/// A word, and the kind of its tokens.
-#[derive(Clone, Copy)]
-struct Word {
-    kind: TokenKind,
-    text: &'static str,
-}
+/// A word, with nothing beside it.
+type Word = witx_values::Word<TokenKind, ()>;
 
 macro_rules! word {
     ($kind:ident, $text:literal) => {
         Word {
             kind: TokenKind::$kind,
             text: $text,
+            note: (),
         }
     };
 }
@@ -44,21 +41,8 @@ fn words() -> &'static [Word]
     &WORDS
 }
 
-/// The kind that is spelled so.
-#[tactic(auto, unfolding(witx_base::specs::Texts::same_text))]
-fn kind_spelled(words: &[Word], text: &str) -> TokenKind
-    ensures { result ≡ kind_spelled_of (map spelling_view words.now) text.now }
-{
-    for word in words {
-        if word.text == text {
-            return word.kind;
-        }
-    }
-    TokenKind::Other
-}
-
 /// The kind of a token.
-fn token_kind(token: &Token) -> TokenKind
+pub fn kind_of(token: &Token) -> TokenKind
     ensures { result ≡ kind_of_token (token_view token.now) }
 {
     match token {
@@ -67,19 +51,7 @@ fn token_kind(token: &Token) -> TokenKind
         Token::Id(_name) => TokenKind::Id,
         Token::Quoted(_text) => TokenKind::Quoted,
         Token::Int(_digits) => TokenKind::Other,
-        Token::Word(word) => kind_spelled(words(), word),
+        Token::Word(word) => kind_spelled(words(), TokenKind::Other, word),
         Token::Annot(_word) => TokenKind::Other,
     }
-}
-
-/// The kinds of the tokens, and then that of the end.
-pub fn token_kinds(alloc: Global, tokens: &[Lexed]) -> Result<Vec<TokenKind>, OutOfMemory>
-    ensures { IfOk result (λ v. v.items ≡ kinds_of_tokens (tokens_view tokens.now)) }
-{
-    let mut kinds = Vec::with_capacity(alloc, tokens.len() + 1)?;
-    for lexed in tokens {
-        kinds.push(token_kind(&lexed.token))?;
-    }
-    kinds.push(TokenKind::End)?;
-    Ok(kinds)
 }

@@ -1,7 +1,8 @@
 -- The comments before a token of a list.
 use Rattle.std.proofs.Common.{◌≡◌, ℕ, zero, suc, ◌+◌, List, [], ◌∷◌, drop, refl, ap, ◌∙◌, arith}
 use Rattle.witx_lex.specs.Tokens.{Lexed}
-use Rattle.witx_language.specs.Values.{comments_of, second_comments, token_at}
+use Rattle.witx_language.specs.Values.{comments_of, second_comments}
+use Rattle.witx_values.specs.Texts.{token_at}
 
 pub at_drop : (ts : List Lexed) (at : ℕ) → comments_of (drop at ts) ≡ (token_at ts at).comments
 at_drop [] zero = refl

@@ -1,5 +1,5 @@
 pub mod Apart
 pub mod Before
 pub mod Digits
-pub mod Pushed
 pub mod Wording
+pub mod Lawful

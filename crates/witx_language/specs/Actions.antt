@@ -1,177 +1,134 @@
--- What a derivation stands for: each production makes one value of those of what it is written by, which stand first, the first part on top.
--- Values of other kinds than a production is made of, which no derivation has, stay as they are.
+-- What a derivation stands for: each production makes one value of those of what it is written by.
 use Rattle.std.specs.Prelude.{ℕ, Bool, true, false, List, [], ◌∷◌, Some, None}
 use Rattle.witx_lex.specs.Tokens.{Lexed}
+use Rattle.witx_values.specs.Language.{Language}
+use Rattle.witx_values.specs.Parts.{made}
+use Rattle.witx_language.specs.declared.nonterminal.Nonterminal.{Nonterminal}
 use Rattle.witx_language.specs.declared.production.ProductionName.{ProductionName}
 use Rattle.witx_language.specs.declared.production.ProductionName.TheVariants as p
-use Rattle.witx_language.specs.Values.{EntryTree, param, result_of, noreturn, stored, Val, a_name, a_text, an_integer, a_builtin, a_type, some_types, an_error, a_member, some_members, a_field, some_fields, a_union_field, some_union_fields, a_case, some_cases, an_entry, some_entries, a_decl, some_decls, an_item, some_items, comments_of, second_comments}
-use Rattle.witx_syntax_tree.specs.declared.tree.BuiltinSyntax.{BuiltinSyntax}
+use Rattle.witx_language.specs.declared.sort.Sort.{Sort}
+use Rattle.witx_language.specs.declared.sort.Sort.TheVariants as k
+use Rattle.witx_language.specs.declared.token_kind.TokenKind.{TokenKind}
+use Rattle.witx_language.specs.declared.token_kind.TokenKind.TheVariants.{End}
+use Rattle.witx_language.specs.Grammar.{the_names, written}
+use Rattle.witx_language.specs.Sorts.{Of, sort_of, wrap, unwrap, terminal_sorts, nonterminal_sort, parts_of, made_sort, Meaning}
+use Rattle.witx_language.specs.TokenKinds.{token_kind}
+use Rattle.witx_language.specs.Values.{EntryTree, param, result_of, noreturn, stored, FieldTree, UnionFieldTree, CaseTree, EntriesTree, Val, leaf, comments_of, second_comments}
 use Rattle.witx_syntax_tree.specs.declared.tree.BuiltinSyntax.TheVariants as b
 use Rattle.witx_comments.specs.Comments.{Comments}
-use Rattle.witx_syntax_tree.specs.Trees.{Name, QuotedText, Member, TypeTree, ident, builtin, string, boolean, handle, list_of, pointer_to, const_pointer_to, tuple_of, enum_of, flags_of, record_of, union_of, variant_of, expected, Maybe, absent, present, Types, no_types, one_type, Fields, no_fields, one_field, UnionFields, no_union_fields, one_union_field, Cases, no_cases, one_case, NotedDecl, memory, function, ItemTree, uses, typename, module_of, constant, NotedItem}
+use Rattle.witx_syntax_tree.specs.Trees.{Name, TypeTree, ident, builtin, string, boolean, handle, list_of, pointer_to, const_pointer_to, tuple_of, enum_of, flags_of, record_of, union_of, variant_of, expected, Maybe, absent, present, no_types, one_type, Fields, no_fields, one_field, UnionFields, no_union_fields, one_union_field, Cases, no_cases, one_case, memory, function, uses, typename, module_of, constant}
 
--- ---- the first value, if it is of the kind, for what is made of it
+-- the field in front of the others
+abbrev pub more_fields : FieldTree → Fields → Fields
+more_fields f fs = one_field f.comments f.name f.type_ fs
 
-abbrev pub take_name : (Name → List Val → List Val) → List Val → List Val
-take_name f (a_name n ∷ vs) = f n vs
-take_name f vs = vs
+-- so with a type of a union
+abbrev pub more_union_fields : UnionFieldTree → UnionFields → UnionFields
+more_union_fields f fs = one_union_field f.comments f.type_ fs
 
-abbrev pub take_text : (QuotedText → List Val → List Val) → List Val → List Val
-take_text f (a_text q ∷ vs) = f q vs
-take_text f vs = vs
+-- and with a case
+abbrev pub more_cases : CaseTree → Cases → Cases
+more_cases c cs = one_case c.comments c.name c.ty cs
 
-abbrev pub take_integer : (ℕ → List Val → List Val) → List Val → List Val
-take_integer f (an_integer i ∷ vs) = f i vs
-take_integer f vs = vs
-
-abbrev pub take_builtin : (BuiltinSyntax → List Val → List Val) → List Val → List Val
-take_builtin f (a_builtin b ∷ vs) = f b vs
-take_builtin f vs = vs
-
-abbrev pub take_type : (TypeTree → List Val → List Val) → List Val → List Val
-take_type f (a_type t ∷ vs) = f t vs
-take_type f vs = vs
-
-abbrev pub take_types : (Types → List Val → List Val) → List Val → List Val
-take_types f (some_types ts ∷ vs) = f ts vs
-take_types f vs = vs
-
-abbrev pub take_error : (Maybe → List Val → List Val) → List Val → List Val
-take_error f (an_error e ∷ vs) = f e vs
-take_error f vs = vs
-
-abbrev pub take_member : (Member → List Val → List Val) → List Val → List Val
-take_member f (a_member m ∷ vs) = f m vs
-take_member f vs = vs
-
-abbrev pub take_members : (List Member → List Val → List Val) → List Val → List Val
-take_members f (some_members ms ∷ vs) = f ms vs
-take_members f vs = vs
-
-abbrev pub take_field : (Comments → Name → TypeTree → List Val → List Val) → List Val → List Val
-take_field f (a_field cs n t ∷ vs) = f cs n t vs
-take_field f vs = vs
-
-abbrev pub take_fields : (Fields → List Val → List Val) → List Val → List Val
-take_fields f (some_fields fs ∷ vs) = f fs vs
-take_fields f vs = vs
-
-abbrev pub take_union_field : (Comments → TypeTree → List Val → List Val) → List Val → List Val
-take_union_field f (a_union_field cs t ∷ vs) = f cs t vs
-take_union_field f vs = vs
-
-abbrev pub take_union_fields : (UnionFields → List Val → List Val) → List Val → List Val
-take_union_fields f (some_union_fields fs ∷ vs) = f fs vs
-take_union_fields f vs = vs
-
-abbrev pub take_case : (Comments → Name → Maybe → List Val → List Val) → List Val → List Val
-take_case f (a_case cs n t ∷ vs) = f cs n t vs
-take_case f vs = vs
-
-abbrev pub take_cases : (Cases → List Val → List Val) → List Val → List Val
-take_cases f (some_cases cs ∷ vs) = f cs vs
-take_cases f vs = vs
-
-abbrev pub take_entry : (EntryTree → List Val → List Val) → List Val → List Val
-take_entry f (an_entry e ∷ vs) = f e vs
-take_entry f vs = vs
-
-abbrev pub take_entries : (Fields → Fields → Bool → Bool → List Val → List Val) → List Val → List Val
-take_entries f (some_entries ps rs b s ∷ vs) = f ps rs b s vs
-take_entries f vs = vs
-
-abbrev pub take_decl : (NotedDecl → List Val → List Val) → List Val → List Val
-take_decl f (a_decl d ∷ vs) = f d vs
-take_decl f vs = vs
-
-abbrev pub take_decls : (List NotedDecl → List Val → List Val) → List Val → List Val
-take_decls f (some_decls ds ∷ vs) = f ds vs
-take_decls f vs = vs
-
-abbrev pub take_item : (ItemTree → List Val → List Val) → List Val → List Val
-take_item f (an_item i ∷ vs) = f i vs
-take_item f vs = vs
-
-abbrev pub take_items : (List NotedItem → List Val → List Val) → List Val → List Val
-take_items f (some_items is ∷ vs) = f is vs
-take_items f vs = vs
+-- the entry in front of the others of its function
+abbrev pub more_entries : EntryTree → EntriesTree → EntriesTree
+more_entries (param cs n t) es = record { params = one_field cs n t es.params; results = es.results; noreturn = es.noreturn; stored = es.stored }
+more_entries (result_of cs n t) es = record { params = es.params; results = one_field cs n t es.results; noreturn = es.noreturn; stored = es.stored }
+more_entries noreturn es = record { params = es.params; results = es.results; noreturn = true; stored = es.stored }
+more_entries stored es = record { params = es.params; results = es.results; noreturn = es.noreturn; stored = true }
 
 -- the entry in front of the others of its function
 abbrev pub with_entry : EntryTree → Fields → Fields → Bool → Bool → Val
-with_entry (param cs n t) ps rs b s = some_entries (one_field cs n t ps) rs b s
-with_entry (result_of cs n t) ps rs b s = some_entries ps (one_field cs n t rs) b s
-with_entry noreturn ps rs b s = some_entries ps rs true s
-with_entry stored ps rs b s = some_entries ps rs b true
+with_entry e ps rs b s = wrap k.Entries (more_entries e (record { params = ps; results = rs; noreturn = b; stored = s }))
 
--- ---- production by production, where the tokens from its first one on are ts
+-- ---- production by production, of the values of its parts in their order, where the tokens from its first one on are ts
 
+-- what a production makes
+abbrev pub meaning : (x : ProductionName) → List Lexed → Meaning x
+meaning p.NoItems ts = []
+meaning p.MoreItems ts = λ i is. record { comments = comments_of ts; item = i } ∷ is
+meaning p.Use ts = λ q. uses q.text
+meaning p.Typename ts = λ n t. typename n t
+meaning p.Module ts = λ n ds. module_of n ds
+meaning p.Const ts = λ t n i. constant (second_comments ts) t n i
+meaning p.Char ts = b.Char
+meaning p.U8 ts = b.U8 false
+meaning p.U16 ts = b.U16
+meaning p.U32 ts = b.U32 false
+meaning p.U64 ts = b.U64
+meaning p.S8 ts = b.S8
+meaning p.S16 ts = b.S16
+meaning p.S32 ts = b.S32
+meaning p.S64 ts = b.S64
+meaning p.F32 ts = b.F32
+meaning p.F64 ts = b.F64
+meaning p.Pointer ts = λ t. pointer_to t
+meaning p.ConstPointer ts = λ t. const_pointer_to t
+meaning p.Usize ts = builtin (b.U32 true)
+meaning p.Char8 ts = builtin (b.U8 true)
+meaning p.PlainType ts = λ t. t
+meaning p.Ident ts = λ n. ident n
+meaning p.String ts = string
+meaning p.Bool ts = boolean
+meaning p.TaggedEnum ts = λ tag m ms. enum_of (Some tag) (m ∷ ms)
+meaning p.Enum ts = λ m ms. enum_of None (m ∷ ms)
+meaning p.TaggedFlags ts = λ tag ms. flags_of (Some tag) ms
+meaning p.Flags ts = λ ms. flags_of None ms
+meaning p.Record ts = λ f fs. record_of (more_fields f fs)
+meaning p.Tuple ts = λ us. tuple_of us
+meaning p.List ts = λ t. list_of t
+meaning p.Handle ts = handle
+meaning p.Expected ts = λ e. expected absent e
+meaning p.ExpectedType ts = λ t e. expected (present t) e
+meaning p.TaggedUnion ts = λ t fs. union_of (present t) fs
+meaning p.EmptyUnion ts = union_of absent no_union_fields
+meaning p.Union ts = λ f fs. union_of absent (more_union_fields f fs)
+meaning p.TaggedVariant ts = λ t cs. variant_of (present t) cs
+meaning p.Variant ts = λ cs. variant_of absent cs
+meaning p.BuiltinType ts = λ w. builtin w
+meaning p.Name ts = λ n. record { comments = comments_of ts; name = n }
+meaning p.NoNames ts = []
+meaning p.MoreNames ts = λ m ms. m ∷ ms
+meaning p.NoTypes ts = no_types
+meaning p.MoreTypes ts = λ t us. one_type t us
+meaning p.UnionField ts = λ t. record { comments = comments_of ts; type_ = t }
+meaning p.FirstUnionField ts = λ t. record { comments = comments_of ts; type_ = t }
+meaning p.NoUnionFields ts = no_union_fields
+meaning p.MoreUnionFields ts = λ f fs. more_union_fields f fs
+meaning p.Field ts = λ n t. record { comments = comments_of ts; name = n; type_ = t }
+meaning p.NoFields ts = no_fields
+meaning p.MoreFields ts = λ f fs. more_fields f fs
+meaning p.BareError ts = absent
+meaning p.Error ts = λ t. present t
+meaning p.BareCase ts = λ n. record { comments = comments_of ts; name = n; ty = absent }
+meaning p.Case ts = λ n t. record { comments = comments_of ts; name = n; ty = present t }
+meaning p.NoCases ts = no_cases
+meaning p.MoreCases ts = λ c cs. more_cases c cs
+meaning p.Import ts = λ q. record { comments = comments_of ts; decl = memory q }
+meaning p.Func ts = λ q es. record { comments = comments_of ts; decl = function q es.params es.results es.noreturn es.stored }
+meaning p.NoDecls ts = []
+meaning p.MoreDecls ts = λ d ds. d ∷ ds
+meaning p.Param ts = λ n t. param (comments_of ts) n t
+meaning p.Result ts = λ n t. result_of (comments_of ts) n t
+meaning p.Noreturn ts = noreturn
+meaning p.Stored ts = stored
+meaning p.NoEntries ts = record { params = no_fields; results = no_fields; noreturn = false; stored = false }
+meaning p.MoreEntries ts = λ e es. more_entries e es
+
+-- in place of the values of its parts, which stand first
 abbrev pub act : ProductionName → List Lexed → List Val → List Val
-act p.NoItems ts vs = some_items [] ∷ vs
-act p.MoreItems ts vs = take_item (λ i. take_items (λ is vs. some_items (record { comments = comments_of ts; item = i } ∷ is) ∷ vs)) vs
-act p.Use ts vs = take_text (λ q vs. an_item (uses q.text) ∷ vs) vs
-act p.Typename ts vs = take_name (λ n. take_type (λ t vs. an_item (typename n t) ∷ vs)) vs
-act p.Module ts vs = take_name (λ n. take_decls (λ ds vs. an_item (module_of n ds) ∷ vs)) vs
-act p.Const ts vs = take_name (λ t. take_name (λ n. take_integer (λ i vs. an_item (constant (second_comments ts) t n i) ∷ vs))) vs
-act p.Char ts vs = a_builtin b.Char ∷ vs
-act p.U8 ts vs = a_builtin (b.U8 false) ∷ vs
-act p.U16 ts vs = a_builtin b.U16 ∷ vs
-act p.U32 ts vs = a_builtin (b.U32 false) ∷ vs
-act p.U64 ts vs = a_builtin b.U64 ∷ vs
-act p.S8 ts vs = a_builtin b.S8 ∷ vs
-act p.S16 ts vs = a_builtin b.S16 ∷ vs
-act p.S32 ts vs = a_builtin b.S32 ∷ vs
-act p.S64 ts vs = a_builtin b.S64 ∷ vs
-act p.F32 ts vs = a_builtin b.F32 ∷ vs
-act p.F64 ts vs = a_builtin b.F64 ∷ vs
-act p.Pointer ts vs = take_type (λ t vs. a_type (pointer_to t) ∷ vs) vs
-act p.ConstPointer ts vs = take_type (λ t vs. a_type (const_pointer_to t) ∷ vs) vs
-act p.Usize ts vs = a_type (builtin (b.U32 true)) ∷ vs
-act p.Char8 ts vs = a_type (builtin (b.U8 true)) ∷ vs
-act p.PlainType ts vs = vs
-act p.Ident ts vs = take_name (λ n vs. a_type (ident n) ∷ vs) vs
-act p.String ts vs = a_type string ∷ vs
-act p.Bool ts vs = a_type boolean ∷ vs
-act p.TaggedEnum ts vs = take_builtin (λ b. take_member (λ m. take_members (λ ms vs. a_type (enum_of (Some b) (m ∷ ms)) ∷ vs))) vs
-act p.Enum ts vs = take_member (λ m. take_members (λ ms vs. a_type (enum_of None (m ∷ ms)) ∷ vs)) vs
-act p.TaggedFlags ts vs = take_builtin (λ b. take_members (λ ms vs. a_type (flags_of (Some b) ms) ∷ vs)) vs
-act p.Flags ts vs = take_members (λ ms vs. a_type (flags_of None ms) ∷ vs) vs
-act p.Record ts vs = take_field (λ cs n t. take_fields (λ fs vs. a_type (record_of (one_field cs n t fs)) ∷ vs)) vs
-act p.Tuple ts vs = take_types (λ us vs. a_type (tuple_of us) ∷ vs) vs
-act p.List ts vs = take_type (λ t vs. a_type (list_of t) ∷ vs) vs
-act p.Handle ts vs = a_type handle ∷ vs
-act p.Expected ts vs = take_error (λ e vs. a_type (expected absent e) ∷ vs) vs
-act p.ExpectedType ts vs = take_type (λ t. take_error (λ e vs. a_type (expected (present t) e) ∷ vs)) vs
-act p.TaggedUnion ts vs = take_type (λ t. take_union_fields (λ fs vs. a_type (union_of (present t) fs) ∷ vs)) vs
-act p.EmptyUnion ts vs = a_type (union_of absent no_union_fields) ∷ vs
-act p.Union ts vs = take_union_field (λ cs t. take_union_fields (λ fs vs. a_type (union_of absent (one_union_field cs t fs)) ∷ vs)) vs
-act p.TaggedVariant ts vs = take_type (λ t. take_cases (λ cs vs. a_type (variant_of (present t) cs) ∷ vs)) vs
-act p.Variant ts vs = take_cases (λ cs vs. a_type (variant_of absent cs) ∷ vs) vs
-act p.BuiltinType ts vs = take_builtin (λ b vs. a_type (builtin b) ∷ vs) vs
-act p.Name ts vs = take_name (λ n vs. a_member (record { comments = comments_of ts; name = n }) ∷ vs) vs
-act p.NoNames ts vs = some_members [] ∷ vs
-act p.MoreNames ts vs = take_member (λ m. take_members (λ ms vs. some_members (m ∷ ms) ∷ vs)) vs
-act p.NoTypes ts vs = some_types no_types ∷ vs
-act p.MoreTypes ts vs = take_type (λ t. take_types (λ us vs. some_types (one_type t us) ∷ vs)) vs
-act p.UnionField ts vs = take_type (λ t vs. a_union_field (comments_of ts) t ∷ vs) vs
-act p.FirstUnionField ts vs = take_type (λ t vs. a_union_field (comments_of ts) t ∷ vs) vs
-act p.NoUnionFields ts vs = some_union_fields no_union_fields ∷ vs
-act p.MoreUnionFields ts vs = take_union_field (λ cs t. take_union_fields (λ fs vs. some_union_fields (one_union_field cs t fs) ∷ vs)) vs
-act p.Field ts vs = take_name (λ n. take_type (λ t vs. a_field (comments_of ts) n t ∷ vs)) vs
-act p.NoFields ts vs = some_fields no_fields ∷ vs
-act p.MoreFields ts vs = take_field (λ cs n t. take_fields (λ fs vs. some_fields (one_field cs n t fs) ∷ vs)) vs
-act p.BareError ts vs = an_error absent ∷ vs
-act p.Error ts vs = take_type (λ t vs. an_error (present t) ∷ vs) vs
-act p.BareCase ts vs = take_name (λ n vs. a_case (comments_of ts) n absent ∷ vs) vs
-act p.Case ts vs = take_name (λ n. take_type (λ t vs. a_case (comments_of ts) n (present t) ∷ vs)) vs
-act p.NoCases ts vs = some_cases no_cases ∷ vs
-act p.MoreCases ts vs = take_case (λ ds n t. take_cases (λ cs vs. some_cases (one_case ds n t cs) ∷ vs)) vs
-act p.Import ts vs = take_text (λ q vs. a_decl (record { comments = comments_of ts; decl = memory q }) ∷ vs) vs
-act p.Func ts vs = take_text (λ q. take_entries (λ ps rs b s vs. a_decl (record { comments = comments_of ts; decl = function q ps rs b s }) ∷ vs)) vs
-act p.NoDecls ts vs = some_decls [] ∷ vs
-act p.MoreDecls ts vs = take_decl (λ d. take_decls (λ ds vs. some_decls (d ∷ ds) ∷ vs)) vs
-act p.Param ts vs = take_name (λ n. take_type (λ t vs. an_entry (param (comments_of ts) n t) ∷ vs)) vs
-act p.Result ts vs = take_name (λ n. take_type (λ t vs. an_entry (result_of (comments_of ts) n t) ∷ vs)) vs
-act p.Noreturn ts vs = an_entry noreturn ∷ vs
-act p.Stored ts vs = an_entry stored ∷ vs
-act p.NoEntries ts vs = some_entries no_fields no_fields false false ∷ vs
-act p.MoreEntries ts vs = take_entry (λ e. take_entries (λ ps rs b s vs. with_entry e ps rs b s ∷ vs)) vs
+act p ts vs = made Of wrap unwrap (parts_of p) (made_sort p) (meaning p ts) vs
+
+-- the interface language
+abbrev pub the_language : Language TokenKind Nonterminal ProductionName Lexed Sort Val
+the_language = record {
+  names = the_names;
+  written = written;
+  kind = (λ l. token_kind l.token);
+  end = End;
+  leaf = leaf;
+  act = act;
+  sort_of = sort_of;
+  terminal_sorts = terminal_sorts;
+  nonterminal_sort = nonterminal_sort;
+}

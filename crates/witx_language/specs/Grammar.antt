@@ -1,8 +1,9 @@
 -- The grammar of the interface language, production by production: which nonterminal it writes, and by what.
 -- An optional part is two productions, and a repetition is a nonterminal that ends with its closing parenthesis.
 use Rattle.std.specs.Prelude.{List, [], ◌∷◌, map}
-use Rattle.witx_grammar.specs.Grammar.{Rewrite, Wants}
+use Rattle.witx_grammar.specs.Grammar.{Rewrite}
 use Rattle.witx_grammar.specs.declared.table.Symbol.TheVariants.{Terminal as T, Nonterminal as N}
+use Rattle.witx_values.specs.Language.{Written, write, production_of}
 use Rattle.witx_language.specs.declared.token_kind.TokenKind.{TokenKind}
 use Rattle.witx_language.specs.declared.token_kind.TokenKind.TheVariants.{Left, Right, Id, Quoted, Integer, End, AtWitx, AtInterface, UseWord, TypenameWord, ModuleWord, ConstWord, CharWord, U8Word, U16Word, U32Word, U64Word, S8Word, S16Word, S32Word, S64Word, F32Word, F64Word, StringWord, BoolWord, EnumWord, FlagsWord, RecordWord, FieldWord, TupleWord, ListWord, HandleWord, ExpectedWord, ErrorWord, UnionWord, VariantWord, CaseWord, TagWord, ReprWord, PointerWord, ConstPointerWord, UsizeWord, Char8Word, ImportWord, MemoryWord, FuncWord, ExportWord, ParamWord, ResultWord, NoreturnWord, StoredWord}
 use Rattle.witx_language.specs.declared.nonterminal.Nonterminal.{Nonterminal}
@@ -10,15 +11,8 @@ use Rattle.witx_language.specs.declared.nonterminal.Nonterminal.TheVariants as n
 use Rattle.witx_language.specs.declared.production.ProductionName.{ProductionName}
 use Rattle.witx_language.specs.declared.production.ProductionName.TheVariants as p
 
--- a nonterminal, and what is wanted in its place
-pub record Written : Type 0 where
-  pub nonterminal : Nonterminal
-  pub symbols : Wants TokenKind Nonterminal
-
-abbrev write : Nonterminal → Wants TokenKind Nonterminal → Written
-write f w = record { nonterminal = f; symbols = w }
-
-abbrev pub written : ProductionName → Written
+-- which nonterminal each production writes, and by what
+abbrev pub written : ProductionName → Written TokenKind Nonterminal
 written p.NoItems = write n.Text (T End ∷ [])
 written p.MoreItems = write n.Text (N n.Item ∷ N n.Text ∷ [])
 written p.Use = write n.Item (T Left ∷ T UseWord ∷ T Quoted ∷ T Right ∷ [])
@@ -90,7 +84,7 @@ written p.NoEntries = write n.Entries (T Right ∷ [])
 written p.MoreEntries = write n.Entries (N n.Entry ∷ N n.Entries ∷ [])
 
 abbrev pub production : ProductionName → Rewrite TokenKind Nonterminal ProductionName
-production x = record { nonterminal = (written x).nonterminal; name = x; symbols = (written x).symbols }
+production = production_of written
 
 abbrev pub the_names : List ProductionName
 the_names =

@@ -1,16 +1,16 @@
 -- The message of a syntax fault, from the kinds of tokens that can stand at its place and the one that does.
 use Rattle.std.specs.Prelude.{ℕ, ◌&&◌, ◌||◌, if◌then◌else◌, List, [], ◌∷◌, ◌++◌, map, codes, Option, Some, None, unwrap_or}
+use Rattle.std.specs.Borrow.{Bor}
 use Rattle.std.specs.List.{list_all, list_any}
 use Rattle.witx_lex.specs.declared.error.LexKind.{LexKind}
 use Rattle.witx_lex.specs.declared.error.LexKind.TheVariants.{UnexpectedCharacter, UnterminatedComment, UnterminatedString, BadEscape, BadCharacter, NotUtf8, EmptyId, TooDeep}
 use Rattle.witx_language.specs.declared.token_kind.TokenKind.{TokenKind}
 use Rattle.witx_language.specs.declared.token_kind.TokenKind.TheVariants.{Left, Right, Id, Quoted, Integer, BigInteger, End}
-use Rattle.witx_language.specs.declared.words.Word as code
-use Rattle.witx_language.specs.TokenKinds.{Spelling, spelled, is_kind, the_words, the_annotations}
+use Rattle.witx_values.specs.declared.words.Word.{Word}
+use Rattle.witx_values.specs.Words.{Spelling}
+use Rattle.witx_language.specs.TokenKinds.{is_kind, the_words, the_annotations}
 
-abbrev pub spelling_view : code.Word → Spelling
-spelling_view w = spelled w.kind w.text.now
-
+-- what a message says of a text
 abbrev pub quoted_in_message : List ℕ → List ℕ
 quoted_in_message t = codes "expected `" ++ (t ++ codes "`")
 
@@ -19,13 +19,16 @@ pub record Expected : Type 0 where
   pub kind : TokenKind
   pub message : List ℕ
 
-abbrev pub expected_view : code.Word → Expected
-expected_view w = record { kind = w.kind; message = w.expected.now }
+-- a word of the code, whose note is its message
+abbrev pub expected_view : Word TokenKind (Bor (List ℕ)) → Expected
+expected_view w = record { kind = w.kind; message = w.note.now }
 
-abbrev pub expected_word : Spelling → Expected
+-- the message of a word
+abbrev pub expected_word : Spelling TokenKind → Expected
 expected_word s = record { kind = s.kind; message = quoted_in_message s.text }
 
-abbrev pub expected_annotation : Spelling → Expected
+-- that of an annotation
+abbrev pub expected_annotation : Spelling TokenKind → Expected
 expected_annotation s = record { kind = s.kind; message = quoted_in_message (codes "@" ++ s.text) }
 
 abbrev pub unexpected : List ℕ

@@ -1,25 +1,18 @@
 -- Kinds of tokens: each word and each annotation of the grammar is of one, tied to its spelling here and nowhere else.
 use Rattle.std.specs.Prelude.{ℕ, Bool, if◌then◌else◌, List, [], ◌∷◌, ◌++◌, map, codes}
-use Rattle.witx_base.specs.Texts.{same_text}
 use Rattle.witx_lex.specs.Tokens.{Token, left, right, id, word, annot, int, quoted, Lexed}
 use Rattle.witx_language.specs.contracts.token_kind.TokenKindPartialEq.TheImpl as kinds
 use Rattle.witx_language.specs.declared.token_kind.TokenKind.{TokenKind}
 use Rattle.witx_language.specs.declared.token_kind.TokenKind.TheVariants.{Left, Right, Id, Quoted, Integer, BigInteger, Other, End, AtWitx, AtInterface, UseWord, TypenameWord, ModuleWord, ConstWord, CharWord, U8Word, U16Word, U32Word, U64Word, S8Word, S16Word, S32Word, S64Word, F32Word, F64Word, StringWord, BoolWord, EnumWord, FlagsWord, RecordWord, FieldWord, TupleWord, ListWord, HandleWord, ExpectedWord, ErrorWord, UnionWord, VariantWord, CaseWord, TagWord, ReprWord, PointerWord, ConstPointerWord, UsizeWord, Char8Word, ImportWord, MemoryWord, FuncWord, ExportWord, ParamWord, ResultWord, NoreturnWord, StoredWord}
 use Rattle.witx_language.specs.Integers.{is_small}
+use Rattle.witx_values.specs.Words.{Spelling, spelled, kind_spelled}
 
 -- whether two kinds are one
 abbrev pub is_kind : TokenKind → TokenKind → Bool
 is_kind = kinds.ghosts.eq
 
--- a kind of tokens, and how they are spelled
-pub record Spelling : Type 0 where
-  pub kind : TokenKind
-  pub text : List ℕ
-
-abbrev pub spelled : TokenKind → List ℕ → Spelling
-spelled k t = record { kind = k; text = t }
-
-abbrev pub the_words : List Spelling
+-- the words, those that stand often first
+abbrev pub the_words : List (Spelling TokenKind)
 the_words =
     spelled ParamWord (codes "param") ∷ spelled ResultWord (codes "result") ∷ spelled FuncWord (codes "func")
     ∷ spelled ExportWord (codes "export") ∷ spelled FieldWord (codes "field") ∷ spelled TypenameWord (codes "typename") ∷ spelled CaseWord (codes "case")
@@ -38,26 +31,22 @@ the_words =
     ∷ spelled MemoryWord (codes "memory") ∷ spelled ConstWord (codes "const") ∷ []
 
 -- annotations, without their @
-abbrev pub the_annotations : List Spelling
+abbrev pub the_annotations : List (Spelling TokenKind)
 the_annotations = spelled AtWitx (codes "witx") ∷ spelled AtInterface (codes "interface") ∷ []
 
 -- all kinds: those of words and of annotations, and the others
 abbrev pub all_kinds : List TokenKind
 all_kinds = map (λ s. s.kind) (the_words ++ the_annotations) ++ (Left ∷ Right ∷ Id ∷ Quoted ∷ Integer ∷ BigInteger ∷ Other ∷ End ∷ [])
 
--- the kind that is spelled so
-abbrev pub kind_spelled : List Spelling → List ℕ → TokenKind
-kind_spelled [] t = Other
-kind_spelled (s ∷ ss) t = if same_text s.text t then s.kind else kind_spelled ss t
-
+-- the kind of a token
 abbrev pub token_kind : Token → TokenKind
 token_kind left = Left
 token_kind right = Right
 token_kind (id t) = Id
 token_kind (quoted t) = Quoted
 token_kind (int t) = if is_small t then Integer else BigInteger
-token_kind (word t) = kind_spelled the_words t
-token_kind (annot t) = kind_spelled the_annotations t
+token_kind (word t) = kind_spelled Other the_words t
+token_kind (annot t) = kind_spelled Other the_annotations t
 
 -- the kinds of the tokens of a text, and then, once, that of its end
 abbrev pub token_kinds : List Lexed → List TokenKind

@@ -1,5 +1,5 @@
 -- What tokens and nonterminals stand for while a text is read.
-use Rattle.std.specs.Prelude.{ℕ, Bool, List, [], ◌∷◌, if◌then◌else◌, slice_index_or}
+use Rattle.std.specs.Prelude.{ℕ, Bool, List, [], ◌∷◌, if◌then◌else◌}
 use Rattle.witx_lex.specs.Tokens.{Token, left, right, id, word, annot, int, quoted, Lexed}
 use Rattle.witx_syntax_tree.specs.declared.tree.BuiltinSyntax.{BuiltinSyntax}
 use Rattle.witx_language.specs.Integers.{is_small, int_value}
@@ -13,6 +13,31 @@ pub data EntryTree : Type 0 where
   noreturn : EntryTree
   stored : EntryTree
 
+-- a field with its comments
+pub record FieldTree : Type 0 where
+  pub comments : Comments
+  pub name : Name
+  pub type_ : TypeTree
+
+-- a type of a union with its comments
+pub record UnionFieldTree : Type 0 where
+  pub comments : Comments
+  pub type_ : TypeTree
+
+-- a case with its comments
+pub record CaseTree : Type 0 where
+  pub comments : Comments
+  pub name : Name
+  pub ty : Maybe
+
+-- the entries of a function, by kind
+pub record EntriesTree : Type 0 where
+  pub params : Fields
+  pub results : Fields
+  pub noreturn : Bool
+  pub stored : Bool
+
+-- what a token or a nonterminal stands for
 pub data Val : Type 0 where
   a_name : Name → Val
   a_text : QuotedText → Val
@@ -35,13 +60,6 @@ pub data Val : Type 0 where
   some_decls : List NotedDecl → Val
   an_item : ItemTree → Val
   some_items : List NotedItem → Val
-
-abbrev pub no_lexed : Lexed
-no_lexed = record { token = right; start = 0; end = 0; comments = [] }
-
--- the token at a place
-abbrev pub token_at : List Lexed → ℕ → Lexed
-token_at ts at = slice_index_or ts at no_lexed
 
 -- the comments before the first of the tokens
 abbrev pub comments_of : List Lexed → Comments

@@ -1,32 +1,15 @@
 //! The comments of items.
 
-ghost use Rattle.std.specs.Prelude.{◌≡◌, ◌∷◌, drop, reverse, map, IfOk};
+ghost use Rattle.std.specs.Prelude.{◌≡◌, drop, map, IfOk};
 ghost use Rattle.witx_lex.specs.Views.{tokens_view};
-ghost use Rattle.witx_language.specs.Values.{comments_of, second_comments, token_at};
+ghost use Rattle.witx_language.specs.Values.{comments_of, second_comments};
+ghost use Rattle.witx_values.specs.Texts.{token_at};
 ghost use Rattle.witx_comments.specs.Comments.{comments_view};
 
 use std::alloc::Global;
 use witx_base::{Duplicate, OutOfMemory};
 use witx_lex::Lexed;
 use witx_syntax_tree::{CommentSyntax, Comments};
-
-/// The list with one item more, where it is kept with its last item first.
-pub fn appended<T: Drop>(list: Vec<T>, item: T) -> Result<Vec<T>, OutOfMemory>
-    ensures { IfOk result (λ made. reverse made.items ≡ item ∷ reverse list.items) }
-{
-    let mut list = list;
-    list.push(item)?;
-    Ok(list)
-}
-
-/// The list the other way round.
-pub fn reversed<T: Drop>(list: Vec<T>) -> Vec<T>
-    ensures { result.items ≡ reverse list.items }
-{
-    let mut list = list;
-    list.as_mut_slice().reverse();
-    list
-}
 
 /// The same comments.
 #[tactic(auto, using(witx_comments::proofs::Copied::copied_texts))]

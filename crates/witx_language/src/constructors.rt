@@ -5,13 +5,13 @@ ghost use Rattle.std.specs.Prelude.{◌≡◌, reverse, map};
 ghost use Rattle.witx_syntax_tree.specs.Trees as tree;
 ghost use Rattle.witx_syntax_tree.specs.Views.{boxed_view, case_view, cases_view, field_view, fields_view, member_view, name_view, optional_view, type_view, types_view, union_fields_view};
 
-use crate::comments::reversed;
 use witx_base::Items;
 use witx_lex::Span;
 use witx_syntax_tree::{
     BuiltinSyntax, CaseSyntax, Documented, EnumSyntax, ExpectedSyntax, FieldSyntax, FlagsSyntax,
     HandleSyntax, IdSyntax, RecordSyntax, TupleSyntax, TypedefSyntax, UnionSyntax, VariantSyntax,
 };
+use witx_values::reversed;
 
 /// An identifier, and where it stands.
 #[inline]

@@ -2,14 +2,16 @@
 
 ghost use Rattle.std.specs.Prelude.{◌≡◌, slice_index_or};
 ghost use Rattle.witx_language.specs.declared.token_kind.TokenKind.TheVariants.{End};
-ghost use Rattle.witx_language.specs.FaultPlaces.{fault_view, start_of, told_at};
+ghost use Rattle.witx_language.specs.FaultPlaces.{fault_view, told_at};
 ghost use Rattle.witx_language.specs.Messages.{message_of as message_of_kinds};
 ghost use Rattle.witx_lex.specs.Views.{tokens_view};
+ghost use Rattle.witx_values.specs.Texts.{start_of};
 
 use crate::error::ParseFault;
 use crate::messages::message_of;
 use crate::token_kind::TokenKind;
 use witx_lex::{Lexed, line_column};
+use witx_values::start_of_token;
 
 /// The fault with a message at an offset.
 pub fn fault_at(text: &str, message: &'static str, offset: usize) -> ParseFault
@@ -20,16 +22,6 @@ pub fn fault_at(text: &str, message: &'static str, offset: usize) -> ParseFault
         message,
         line,
         column,
-    }
-}
-
-/// Where the token with the number starts; behind the last token it is the end of the text.
-fn start_of_token(text: &str, tokens: &[Lexed], at: usize) -> usize
-    ensures { result ≡ start_of text.now (tokens_view tokens.now) at }
-{
-    match tokens.get(at) {
-        Some(lexed) => lexed.span.start,
-        None => text.len(),
     }
 }
 

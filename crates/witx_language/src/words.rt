@@ -1,27 +1,21 @@
 //! The words and annotations of the language, each once: the kind of its tokens, its spelling, and
 //! the message where it alone can stand.
 
-ghost use Rattle.std.specs.Prelude.{◌≡◌, if◌then◌else◌, map, option_map, IfOk};
-ghost use Rattle.witx_base.specs.Texts.{same_text};
-ghost use Rattle.witx_lex.specs.Views.{token_view, tokens_view};
+ghost use Rattle.std.specs.Prelude.{◌≡◌, if◌then◌else◌, map, option_map};
+ghost use Rattle.witx_lex.specs.Views.{token_view};
 ghost use Rattle.witx_language.specs.declared.token_kind.TokenKind.TheVariants.{Integer, BigInteger};
 ghost use Rattle.witx_language.specs.Integers.{is_small};
-ghost use Rattle.witx_language.specs.Messages.{spelling_view, expected_view, expected_message, expected_word, expected_annotation, message_in};
-ghost use Rattle.witx_language.specs.TokenKinds.{kind_spelled as kind_spelled_of, the_words, the_annotations, token_kind as kind_of_token, token_kinds as kinds_of_tokens};
+ghost use Rattle.witx_language.specs.Messages.{expected_view, expected_message, expected_word, expected_annotation, message_in};
+ghost use Rattle.witx_language.specs.TokenKinds.{the_words, the_annotations, token_kind as kind_of_token};
+ghost use Rattle.witx_values.specs.Words.{spelling_view};
 
 use crate::integer::integer;
 use crate::token_kind::TokenKind;
-use std::alloc::Global;
-use witx_base::OutOfMemory;
-use witx_lex::{Lexed, Token};
+use witx_lex::Token;
+use witx_values::kind_spelled;
 
-/// A word, or an annotation without its `@`.
-#[derive(Clone, Copy)]
-struct Word {
-    kind: TokenKind,
-    text: &'static str,
-    expected: &'static str,
-}
+/// A word, or an annotation without its `@`. Its note is the message where it alone can stand.
+type Word = witx_values::Word<TokenKind, &'static str>;
 
 /// A word, with what stands before it in a text.
 macro_rules! word {
@@ -29,7 +23,7 @@ macro_rules! word {
         Word {
             kind: TokenKind::$kind,
             text: $text,
-            expected: concat!("expected `", $mark, $text, "`"),
+            note: concat!("expected `", $mark, $text, "`"),
         }
     };
 }
@@ -102,37 +96,13 @@ fn annotations() -> &'static [Word]
     &ANNOTATIONS
 }
 
-/// Whether the word is spelled so.
-#[tactic(auto, unfolding(witx_base::specs::Texts::same_text))]
-fn is_spelled(word: &str, text: &str) -> bool
-    ensures { result ≡ same_text word.now text.now }
-{
-    // Most words are told apart by their length, which costs no call.
-    if word.len() != text.len() {
-        return false;
-    }
-    word == text
-}
-
-/// The kind that is spelled so.
-fn kind_spelled(words: &[Word], text: &str) -> TokenKind
-    ensures { result ≡ kind_spelled_of (map spelling_view words.now) text.now }
-{
-    for word in words {
-        if is_spelled(word.text, text) {
-            return word.kind;
-        }
-    }
-    TokenKind::Other
-}
-
 /// The message where tokens of the kind alone can stand, if it is one of these.
 fn message_among(words: &'static [Word], kind: TokenKind) -> Option<&'static str>
     ensures { option_map (λ message. message.now) result ≡ message_in (map expected_view words.now) kind }
 {
     for word in words {
         if word.kind == kind {
-            return Some(word.expected);
+            return Some(word.note);
         }
     }
     None
@@ -178,7 +148,7 @@ fn kind_of_integer(digits: &str) -> TokenKind
 }
 
 /// The kind of a token.
-fn token_kind(token: &Token) -> TokenKind
+pub fn kind_of(token: &Token) -> TokenKind
     ensures { result ≡ kind_of_token (token_view token.now) }
 {
     match token {
@@ -187,19 +157,7 @@ fn token_kind(token: &Token) -> TokenKind
         Token::Id(_name) => TokenKind::Id,
         Token::Quoted(_text) => TokenKind::Quoted,
         Token::Int(digits) => kind_of_integer(digits),
-        Token::Word(word) => kind_spelled(words(), word),
-        Token::Annot(word) => kind_spelled(annotations(), word),
+        Token::Word(word) => kind_spelled(words(), TokenKind::Other, word),
+        Token::Annot(word) => kind_spelled(annotations(), TokenKind::Other, word),
     }
-}
-
-/// The kinds of the tokens, and then that of the end.
-pub fn token_kinds(alloc: Global, tokens: &[Lexed]) -> Result<Vec<TokenKind>, OutOfMemory>
-    ensures { IfOk result (λ v. v.items ≡ kinds_of_tokens (tokens_view tokens.now)) }
-{
-    let mut kinds = Vec::with_capacity(alloc, tokens.len() + 1)?;
-    for lexed in tokens {
-        kinds.push(token_kind(&lexed.token))?;
-    }
-    kinds.push(TokenKind::End)?;
-    Ok(kinds)
 }

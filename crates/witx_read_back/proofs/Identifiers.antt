@@ -81,7 +81,7 @@ token_claims (l ∷ ts) h = (
 pub read_names : (text : List ℕ) (d : Document) → Reads text d → AllNames named_well IsUtf8 d
 read_names text d r =
     let claims : Claims r.tokens = subst (λ (ts : List Lexed). Claims ts) (sym r.lexed.2) (pieces_claim 0 0 [] r.lexed.0 text [] r.lexed.1) in
-    document_names named_well IsUtf8 r.tokens r.document.steps d (token_claims r.tokens claims) r.document.derives r.document.meaning
+    document_names named_well IsUtf8 r.tokens r.parsed.steps d (token_claims r.tokens claims) r.parsed.derives r.parsed.meaning
 
 -- ---- records have fields
 

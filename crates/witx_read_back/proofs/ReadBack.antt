@@ -123,7 +123,7 @@ pub reads_printed : (ds : List DefinitionTree) → CanBeRead ds → ReadsAsPrint
 reads_printed ds c =
     let lexed = has_tokens ds c in
     let read = document_reads lexed.0 (in_order ds) c.writable lexed.2 in
-    (read.0, record { tokens = lexed.0; lexed = lexed.1; document = read.1 }, read.2)
+    (read.0, record { tokens = lexed.0; lexed = lexed.1; parsed = read.1 }, read.2)
 
 -- it has the verdict that it means declarations, and these define the printed definitions but for documentation
 pub record ReadsBack (reading : Reading) (ds : List DefinitionTree) : Type 0 where

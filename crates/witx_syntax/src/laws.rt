@@ -6,20 +6,14 @@ ghost use Rattle.witx_language.specs.FaultPlaces.{Told};
 ghost use Rattle.witx_syntax.specs.Reads.{IsFaultOf, Reads};
 ghost use Rattle.witx_syntax_tree.specs.Trees.{Document};
 
-use witx_grammar::{
-    at_most_one_derivation, at_most_one_fault, derivation_or_fault, no_fault_where_derived,
-};
+use witx_grammar::{at_most_one_derivation, derivation_or_fault};
 use witx_language::{Nonterminal, ProductionName, TokenKind, the_table};
-use witx_lex::{
-    a_fault_is_unique, a_text_has_pieces_or_a_fault, pieces_exclude_a_fault, tokens_are_slices,
-    tokens_are_unique,
-};
+use witx_lex::tokens_are_slices;
 
 /// A text is at most one document.
 pub fn at_most_one_document()
     ensures { (text : List ℕ) (d e : Document) → Reads text d → Reads text e → d ≡ e }
 {
-    tokens_are_unique();
     at_most_one_derivation::<TokenKind, Nonterminal, ProductionName>();
     let _table = the_table();
 }
@@ -27,17 +21,12 @@ pub fn at_most_one_document()
 /// A text that is a document has no fault.
 pub fn no_fault_where_read()
     ensures { (text : List ℕ) (d : Document) (f : Told) → Reads text d → IsFaultOf text f → ⊥ }
-{
-    tokens_are_unique();
-    pieces_exclude_a_fault();
-    no_fault_where_derived::<TokenKind, Nonterminal, ProductionName>();
-}
+{}
 
 /// A text is a document or has a fault.
 pub fn a_document_or_a_fault()
     ensures { (text : List ℕ) → ((d : Document) × Reads text d) ⊎ ((f : Told) × IsFaultOf text f) }
 {
-    a_text_has_pieces_or_a_fault();
     derivation_or_fault::<TokenKind, Nonterminal, ProductionName>();
     let _table = the_table();
 }
@@ -45,12 +34,7 @@ pub fn a_document_or_a_fault()
 /// A text has at most one fault: one message, at one line and column.
 pub fn at_most_one_parse_fault()
     ensures { (text : List ℕ) (f g : Told) → IsFaultOf text f → IsFaultOf text g → f ≡ g }
-{
-    a_fault_is_unique();
-    pieces_exclude_a_fault();
-    tokens_are_unique();
-    at_most_one_fault::<TokenKind, Nonterminal, ProductionName>();
-}
+{}
 
 /// Each identifier of a document is the bytes of the text at its place, behind their `$`.
 pub fn identifiers_stand_in_the_text()

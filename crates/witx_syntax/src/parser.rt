@@ -6,14 +6,13 @@ ghost use Rattle.witx_lex.specs.Views.{tokens_view};
 ghost use Rattle.witx_syntax.specs.Reads.{IfParse, IsParseFault, Reads};
 ghost use Rattle.witx_syntax_tree.specs.Views.{document_view};
 
-use crate::builder::build;
+use crate::builder::{Building, items_in};
 use std::alloc::Global;
-use witx_grammar::{Parsed, parse};
-use witx_language::{
-    Nonterminal, SyntaxError, fault_at, lexical_message, the_table, token_fault, token_kinds,
-};
+use std::marker::PhantomData;
+use witx_language::{Nonterminal, SyntaxError, fault_at, lexical_message, the_table, token_fault};
 use witx_lex::{LexError, Lexed, lex};
 use witx_syntax_tree::TopLevelDocument;
+use witx_values::{Reading, kinds_of, read};
 
 /// The document of the tokens of a text, or their fault.
 fn parse_tokens<'a>(
@@ -25,14 +24,24 @@ fn parse_tokens<'a>(
     ensures document { IfOk result (λ d. Reads text.now (document_view d)) }
     ensures fault { IfErr result (λ e. IfParse e (λ f. IsParseFault text.now f)) }
 {
-    let kinds = token_kinds(alloc, tokens)?;
+    let actions = Building {
+        alloc,
+        texts: PhantomData,
+    };
+    let kinds = kinds_of(alloc, &actions, tokens)?;
     let table = the_table();
-    match parse(alloc, &table, Nonterminal::Text, kinds.as_slice())? {
-        Parsed::Derivation(steps) => {
-            let items = build(alloc, steps.as_slice(), tokens)?;
-            Ok(TopLevelDocument { items })
-        }
-        Parsed::Fault(fault) => {
+    match read(
+        alloc,
+        &actions,
+        &table,
+        Nonterminal::Text,
+        kinds.as_slice(),
+        tokens,
+    )? {
+        Reading::Value(value) => Ok(TopLevelDocument {
+            items: items_in(value),
+        }),
+        Reading::Fault(fault) => {
             let fault = token_fault(
                 text,
                 tokens,

@@ -1,12 +1,30 @@
 //! What forms stand for while a tree is built. The last item of a list stands first.
 
-use witx_base::Text;
+use witx_base::{OutOfMemory, Text};
 use witx_language::{Entries, Entry};
 use witx_lex::Span;
 use witx_syntax_tree::{
     BuiltinSyntax, CaseSyntax, Documented, FieldSyntax, IdSyntax, ModuleDeclSyntax, TopLevelSyntax,
     TypedefSyntax,
 };
+
+/// A member with its comments.
+pub type Member<'a> = Documented<'a, IdSyntax<'a>>;
+
+/// A field with its comments.
+pub type Field<'a> = Documented<'a, FieldSyntax<'a>>;
+
+/// A type of a union with its comments.
+pub type UnionField<'a> = Documented<'a, TypedefSyntax<'a>>;
+
+/// A case with its comments.
+pub type Case<'a> = Documented<'a, CaseSyntax<'a>>;
+
+/// A declaration of a module with its comments.
+pub type Decl<'a> = Documented<'a, ModuleDeclSyntax<'a>>;
+
+/// A top-level form with its comments.
+pub type Item<'a> = Documented<'a, TopLevelSyntax<'a>>;
 
 /// An identifier.
 #[derive(Drop)]
@@ -43,18 +61,24 @@ pub enum Value<'a> {
     Type(TypedefSyntax<'a>),
     Types(Vec<TypedefSyntax<'a>>),
     Error(Option<Box<TypedefSyntax<'a>>>),
-    Member(Documented<'a, IdSyntax<'a>>),
-    Members(Vec<Documented<'a, IdSyntax<'a>>>),
-    Field(Documented<'a, FieldSyntax<'a>>),
-    Fields(Vec<Documented<'a, FieldSyntax<'a>>>),
-    UnionField(Documented<'a, TypedefSyntax<'a>>),
-    UnionFields(Vec<Documented<'a, TypedefSyntax<'a>>>),
-    Case(Documented<'a, CaseSyntax<'a>>),
-    Cases(Vec<Documented<'a, CaseSyntax<'a>>>),
+    Member(Member<'a>),
+    Members(Vec<Member<'a>>),
+    Field(Field<'a>),
+    Fields(Vec<Field<'a>>),
+    UnionField(UnionField<'a>),
+    UnionFields(Vec<UnionField<'a>>),
+    Case(Case<'a>),
+    Cases(Vec<Case<'a>>),
     Entry(Entry<'a>),
     Entries(Entries<'a>),
-    Decl(Documented<'a, ModuleDeclSyntax<'a>>),
-    Decls(Vec<Documented<'a, ModuleDeclSyntax<'a>>>),
+    Decl(Decl<'a>),
+    Decls(Vec<Decl<'a>>),
     Item(TopLevelSyntax<'a>),
-    Items(Vec<Documented<'a, TopLevelSyntax<'a>>>),
+    Items(Vec<Item<'a>>),
 }
+
+/// Values that a tree is built of; the last is the top.
+pub type Stack<'a> = Vec<Value<'a>>;
+
+/// What an action answers: nothing but that memory may be wanted.
+pub type Done = Result<(), OutOfMemory>;

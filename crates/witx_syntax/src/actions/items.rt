@@ -1,53 +1,55 @@
 //! The values of top-level forms and of declarations of modules.
+#![tactic(auto, unfolding(crate::specs::Stack::performed))]
 
-ghost use Rattle.std.specs.Prelude.{[], drop, IfOk};
+ghost use Rattle.std.specs.Prelude.{drop, IfOk};
 ghost use Rattle.witx_lex.specs.Views.{tokens_view};
 ghost use Rattle.witx_language.specs.declared.production.ProductionName.TheVariants as production;
-ghost use Rattle.witx_syntax.specs.Stack.{Made, Ready};
+ghost use Rattle.witx_syntax.specs.Stack.{Made, MadeAlone, Ready};
 
 use crate::stack::{push, take, take_three, take_two};
-use crate::value::{Named, Number, Quoted, Value};
+use crate::value::{Decl, Done, Item, Named, Number, Quoted, Stack, Value};
 use std::alloc::Global;
-use witx_base::{Items, OutOfMemory};
+use witx_base::Items;
 use witx_language::constructors::field;
-use witx_language::{Entries, Entry, add_entry, appended, comments_at, comments_behind, reversed};
+use witx_language::{Entries, Entry, add_entry, comments_at, comments_behind};
 use witx_lex::Lexed;
 use witx_syntax_tree::{
     ConstSyntax, DeclSyntax, Documented, ImportTypeSyntax, InterfaceFuncSyntax, ModuleDeclSyntax,
     ModuleImportSyntax, ModuleSyntax, TopLevelSyntax, TypedefSyntax, TypenameSyntax,
 };
+use witx_values::{appended, reversed};
+
+/// No top-level forms.
+pub fn no_items<'a>(alloc: Global, stack: &mut Stack<'a>) -> Done
+    ensures { IfOk result (λ _. MadeAlone production.NoItems stack.old.items stack.new.items) }
+{
+    push(stack, Value::Items(Vec::new(alloc)))
+}
 
 /// A top-level form, with its comments, in front of those behind it.
-pub fn more_items<'a>(
-    alloc: Global,
-    tokens: &[Lexed<'a>],
-    at: usize,
-    stack: &mut Vec<Value<'a>>,
-) -> Result<(), OutOfMemory>
+pub fn more_items<'a>(alloc: Global, tokens: &[Lexed<'a>], at: usize, stack: &mut Stack<'a>) -> Done
     requires { Ready production.MoreItems stack.old.items }
     ensures { IfOk result (λ _. Made production.MoreItems (drop at (tokens_view tokens.now)) stack.old.items stack.new.items) }
 {
     let comments = comments_at(alloc, tokens, at)?;
-    let (item, items): (TopLevelSyntax<'a>, Vec<Documented<'a, TopLevelSyntax<'a>>>) = take_two(
-        stack,
-    );
+    let (item, items): (TopLevelSyntax<'a>, Vec<Item<'a>>) = take_two(stack);
     let items = appended(items, Documented { comments, item })?;
     push(stack, Value::Items(items))
 }
 
 /// `(use "path")`: the path.
-pub fn use_of<'a>(stack: &mut Vec<Value<'a>>) -> Result<(), OutOfMemory>
+pub fn use_of<'a>(stack: &mut Stack<'a>) -> Done
     requires { Ready production.Use stack.old.items }
-    ensures { IfOk result (λ _. Made production.Use [] stack.old.items stack.new.items) }
+    ensures { IfOk result (λ _. MadeAlone production.Use stack.old.items stack.new.items) }
 {
     let Quoted { text, span: _ } = take(stack);
     push(stack, Value::Item(TopLevelSyntax::Use(text)))
 }
 
 /// `(typename $name TYPE)`.
-pub fn typename<'a>(stack: &mut Vec<Value<'a>>) -> Result<(), OutOfMemory>
+pub fn typename<'a>(stack: &mut Stack<'a>) -> Done
     requires { Ready production.Typename stack.old.items }
-    ensures { IfOk result (λ _. Made production.Typename [] stack.old.items stack.new.items) }
+    ensures { IfOk result (λ _. MadeAlone production.Typename stack.old.items stack.new.items) }
 {
     let (name, def): (Named<'a>, TypedefSyntax<'a>) = take_two(stack);
     let typename = TypenameSyntax {
@@ -61,11 +63,11 @@ pub fn typename<'a>(stack: &mut Vec<Value<'a>>) -> Result<(), OutOfMemory>
 }
 
 /// `(module $name DECL..)`: its declarations, in the order of the text.
-pub fn module<'a>(stack: &mut Vec<Value<'a>>) -> Result<(), OutOfMemory>
+pub fn module<'a>(stack: &mut Stack<'a>) -> Done
     requires { Ready production.Module stack.old.items }
-    ensures { IfOk result (λ _. Made production.Module [] stack.old.items stack.new.items) }
+    ensures { IfOk result (λ _. MadeAlone production.Module stack.old.items stack.new.items) }
 {
-    let (name, decls): (Named<'a>, Vec<Documented<'a, ModuleDeclSyntax<'a>>>) = take_two(stack);
+    let (name, decls): (Named<'a>, Vec<Decl<'a>>) = take_two(stack);
     let module = ModuleSyntax {
         name: name.id,
         decls: Items::from_vec(reversed(decls)),
@@ -77,12 +79,7 @@ pub fn module<'a>(stack: &mut Vec<Value<'a>>) -> Result<(), OutOfMemory>
 }
 
 /// `(@witx const $type $name NUMBER)`, with the comments behind its parenthesis.
-pub fn constant<'a>(
-    alloc: Global,
-    tokens: &[Lexed<'a>],
-    at: usize,
-    stack: &mut Vec<Value<'a>>,
-) -> Result<(), OutOfMemory>
+pub fn constant<'a>(alloc: Global, tokens: &[Lexed<'a>], at: usize, stack: &mut Stack<'a>) -> Done
     requires { Ready production.Const stack.old.items }
     ensures { IfOk result (λ _. Made production.Const (drop at (tokens_view tokens.now)) stack.old.items stack.new.items) }
 {
@@ -100,12 +97,7 @@ pub fn constant<'a>(
 }
 
 /// `(import "name" (memory))`, with its comments.
-pub fn import<'a>(
-    alloc: Global,
-    tokens: &[Lexed<'a>],
-    at: usize,
-    stack: &mut Vec<Value<'a>>,
-) -> Result<(), OutOfMemory>
+pub fn import<'a>(alloc: Global, tokens: &[Lexed<'a>], at: usize, stack: &mut Stack<'a>) -> Done
     requires { Ready production.Import stack.old.items }
     ensures { IfOk result (λ _. Made production.Import (drop at (tokens_view tokens.now)) stack.old.items stack.new.items) }
 {
@@ -120,12 +112,7 @@ pub fn import<'a>(
 }
 
 /// `(@interface func (export "name") ENTRY..)`, with its comments: parameters and results in two lists.
-pub fn func<'a>(
-    alloc: Global,
-    tokens: &[Lexed<'a>],
-    at: usize,
-    stack: &mut Vec<Value<'a>>,
-) -> Result<(), OutOfMemory>
+pub fn func<'a>(alloc: Global, tokens: &[Lexed<'a>], at: usize, stack: &mut Stack<'a>) -> Done
     requires { Ready production.Func stack.old.items }
     ensures { IfOk result (λ _. Made production.Func (drop at (tokens_view tokens.now)) stack.old.items stack.new.items) }
 {
@@ -143,12 +130,7 @@ pub fn func<'a>(
 }
 
 /// `(param $name TYPE)`, with its comments.
-pub fn param<'a>(
-    alloc: Global,
-    tokens: &[Lexed<'a>],
-    at: usize,
-    stack: &mut Vec<Value<'a>>,
-) -> Result<(), OutOfMemory>
+pub fn param<'a>(alloc: Global, tokens: &[Lexed<'a>], at: usize, stack: &mut Stack<'a>) -> Done
     requires { Ready production.Param stack.old.items }
     ensures { IfOk result (λ _. Made production.Param (drop at (tokens_view tokens.now)) stack.old.items stack.new.items) }
 {
@@ -162,12 +144,7 @@ pub fn param<'a>(
 }
 
 /// `(result $name TYPE)`, with its comments.
-pub fn result_of<'a>(
-    alloc: Global,
-    tokens: &[Lexed<'a>],
-    at: usize,
-    stack: &mut Vec<Value<'a>>,
-) -> Result<(), OutOfMemory>
+pub fn result_of<'a>(alloc: Global, tokens: &[Lexed<'a>], at: usize, stack: &mut Stack<'a>) -> Done
     requires { Ready production.Result stack.old.items }
     ensures { IfOk result (λ _. Made production.Result (drop at (tokens_view tokens.now)) stack.old.items stack.new.items) }
 {
@@ -181,25 +158,38 @@ pub fn result_of<'a>(
 }
 
 /// `(@witx noreturn)`.
-pub fn noreturn<'a>(stack: &mut Vec<Value<'a>>) -> Result<(), OutOfMemory>
-    ensures { IfOk result (λ _. Made production.Noreturn [] stack.old.items stack.new.items) }
+pub fn noreturn<'a>(stack: &mut Stack<'a>) -> Done
+    ensures { IfOk result (λ _. MadeAlone production.Noreturn stack.old.items stack.new.items) }
 {
     push(stack, Value::Entry(Entry::NoReturn))
 }
 
 /// `(@witx stored)`.
-pub fn stored<'a>(stack: &mut Vec<Value<'a>>) -> Result<(), OutOfMemory>
-    ensures { IfOk result (λ _. Made production.Stored [] stack.old.items stack.new.items) }
+pub fn stored<'a>(stack: &mut Stack<'a>) -> Done
+    ensures { IfOk result (λ _. MadeAlone production.Stored stack.old.items stack.new.items) }
 {
     push(stack, Value::Entry(Entry::Stored))
 }
 
 /// An entry of a function, added to those behind it.
-pub fn more_entries<'a>(stack: &mut Vec<Value<'a>>) -> Result<(), OutOfMemory>
+pub fn more_entries<'a>(stack: &mut Stack<'a>) -> Done
     requires { Ready production.MoreEntries stack.old.items }
-    ensures { IfOk result (λ _. Made production.MoreEntries [] stack.old.items stack.new.items) }
+    ensures { IfOk result (λ _. MadeAlone production.MoreEntries stack.old.items stack.new.items) }
 {
     let (first, mut entries): (Entry<'a>, Entries<'a>) = take_two(stack);
     add_entry(&mut entries, first)?;
+    push(stack, Value::Entries(entries))
+}
+
+/// A function has no entries.
+pub fn no_entries<'a>(alloc: Global, stack: &mut Stack<'a>) -> Done
+    ensures { IfOk result (λ _. MadeAlone production.NoEntries stack.old.items stack.new.items) }
+{
+    let entries = Entries {
+        params: Vec::new(alloc),
+        results: Vec::new(alloc),
+        noreturn: false,
+        stored: false,
+    };
     push(stack, Value::Entries(entries))
 }

@@ -1,25 +1,21 @@
 //! The values of parts of types.
+#![tactic(auto, unfolding(crate::specs::Stack::performed))]
 
-ghost use Rattle.std.specs.Prelude.{[], drop, IfOk};
+ghost use Rattle.std.specs.Prelude.{drop, IfOk};
 ghost use Rattle.witx_lex.specs.Views.{tokens_view};
 ghost use Rattle.witx_language.specs.declared.production.ProductionName.TheVariants as production;
-ghost use Rattle.witx_syntax.specs.Stack.{Made, Ready};
+ghost use Rattle.witx_syntax.specs.Stack.{Made, MadeAlone, Ready};
 
 use crate::stack::{push, take, take_two};
-use crate::value::{Named, Value};
+use crate::value::{Case, Decl, Done, Field, Member, Named, Stack, UnionField, Value};
 use std::alloc::Global;
-use witx_base::OutOfMemory;
 use witx_language::{comments_at, constructors};
 use witx_lex::Lexed;
 use witx_syntax_tree::{Documented, TypedefSyntax};
+use witx_values::appended;
 
 /// The name of a member, with its comments.
-pub fn name<'a>(
-    alloc: Global,
-    tokens: &[Lexed<'a>],
-    at: usize,
-    stack: &mut Vec<Value<'a>>,
-) -> Result<(), OutOfMemory>
+pub fn name<'a>(alloc: Global, tokens: &[Lexed<'a>], at: usize, stack: &mut Stack<'a>) -> Done
     requires { Ready production.Name stack.old.items }
     ensures { IfOk result (λ _. Made production.Name (drop at (tokens_view tokens.now)) stack.old.items stack.new.items) }
 {
@@ -29,27 +25,17 @@ pub fn name<'a>(
 }
 
 /// A type of a union, with its comments.
-pub fn union_field<'a>(
-    alloc: Global,
-    tokens: &[Lexed<'a>],
-    at: usize,
-    stack: &mut Vec<Value<'a>>,
-) -> Result<(), OutOfMemory>
+pub fn union_type<'a>(alloc: Global, tokens: &[Lexed<'a>], at: usize, stack: &mut Stack<'a>) -> Done
     requires { Ready production.UnionField stack.old.items }
     ensures { IfOk result (λ _. Made production.UnionField (drop at (tokens_view tokens.now)) stack.old.items stack.new.items) }
 {
     let comments = comments_at(alloc, tokens, at)?;
-    let item = take(stack);
+    let item: TypedefSyntax<'a> = take(stack);
     push(stack, Value::UnionField(Documented { comments, item }))
 }
 
 /// `(field $name TYPE)`, with its comments.
-pub fn field<'a>(
-    alloc: Global,
-    tokens: &[Lexed<'a>],
-    at: usize,
-    stack: &mut Vec<Value<'a>>,
-) -> Result<(), OutOfMemory>
+pub fn field<'a>(alloc: Global, tokens: &[Lexed<'a>], at: usize, stack: &mut Stack<'a>) -> Done
     requires { Ready production.Field stack.old.items }
     ensures { IfOk result (λ _. Made production.Field (drop at (tokens_view tokens.now)) stack.old.items stack.new.items) }
 {
@@ -60,28 +46,23 @@ pub fn field<'a>(
 }
 
 /// `(error TYPE)`: the type.
-pub fn error<'a>(alloc: Global, stack: &mut Vec<Value<'a>>) -> Result<(), OutOfMemory>
+pub fn error<'a>(alloc: Global, stack: &mut Stack<'a>) -> Done
     requires { Ready production.Error stack.old.items }
-    ensures { IfOk result (λ _. Made production.Error [] stack.old.items stack.new.items) }
+    ensures { IfOk result (λ _. MadeAlone production.Error stack.old.items stack.new.items) }
 {
     let error = take(stack);
     push(stack, Value::Error(Some(Box::new(alloc, error)?)))
 }
 
 /// `(error)`: no type.
-pub fn bare_error<'a>(stack: &mut Vec<Value<'a>>) -> Result<(), OutOfMemory>
-    ensures { IfOk result (λ _. Made production.BareError [] stack.old.items stack.new.items) }
+pub fn bare_error<'a>(stack: &mut Stack<'a>) -> Done
+    ensures { IfOk result (λ _. MadeAlone production.BareError stack.old.items stack.new.items) }
 {
     push(stack, Value::Error(None))
 }
 
 /// `(case $name)`, with its comments.
-pub fn bare_case<'a>(
-    alloc: Global,
-    tokens: &[Lexed<'a>],
-    at: usize,
-    stack: &mut Vec<Value<'a>>,
-) -> Result<(), OutOfMemory>
+pub fn bare_case<'a>(alloc: Global, tokens: &[Lexed<'a>], at: usize, stack: &mut Stack<'a>) -> Done
     requires { Ready production.BareCase stack.old.items }
     ensures { IfOk result (λ _. Made production.BareCase (drop at (tokens_view tokens.now)) stack.old.items stack.new.items) }
 {
@@ -92,12 +73,7 @@ pub fn bare_case<'a>(
 }
 
 /// `(case $name TYPE)`, with its comments.
-pub fn case<'a>(
-    alloc: Global,
-    tokens: &[Lexed<'a>],
-    at: usize,
-    stack: &mut Vec<Value<'a>>,
-) -> Result<(), OutOfMemory>
+pub fn case<'a>(alloc: Global, tokens: &[Lexed<'a>], at: usize, stack: &mut Stack<'a>) -> Done
     requires { Ready production.Case stack.old.items }
     ensures { IfOk result (λ _. Made production.Case (drop at (tokens_view tokens.now)) stack.old.items stack.new.items) }
 {
@@ -105,4 +81,106 @@ pub fn case<'a>(
     let (name, type_): (Named<'a>, TypedefSyntax<'a>) = take_two(stack);
     let item = constructors::case(name.id, Some(type_));
     push(stack, Value::Case(Documented { comments, item }))
+}
+
+/// No members.
+pub fn no_names<'a>(alloc: Global, stack: &mut Stack<'a>) -> Done
+    ensures { IfOk result (λ _. MadeAlone production.NoNames stack.old.items stack.new.items) }
+{
+    push(stack, Value::Members(Vec::new(alloc)))
+}
+
+/// A member in front of those behind it.
+pub fn more_names<'a>(stack: &mut Stack<'a>) -> Done
+    requires { Ready production.MoreNames stack.old.items }
+    ensures { IfOk result (λ _. MadeAlone production.MoreNames stack.old.items stack.new.items) }
+{
+    let (first, list): (Member<'a>, Vec<Member<'a>>) = take_two(stack);
+    let list = appended(list, first)?;
+    push(stack, Value::Members(list))
+}
+
+/// No types.
+pub fn no_types<'a>(alloc: Global, stack: &mut Stack<'a>) -> Done
+    ensures { IfOk result (λ _. MadeAlone production.NoTypes stack.old.items stack.new.items) }
+{
+    push(stack, Value::Types(Vec::new(alloc)))
+}
+
+/// A type in front of those behind it.
+pub fn more_types<'a>(stack: &mut Stack<'a>) -> Done
+    requires { Ready production.MoreTypes stack.old.items }
+    ensures { IfOk result (λ _. MadeAlone production.MoreTypes stack.old.items stack.new.items) }
+{
+    let (first, list): (TypedefSyntax<'a>, Vec<TypedefSyntax<'a>>) = take_two(stack);
+    let list = appended(list, first)?;
+    push(stack, Value::Types(list))
+}
+
+/// No types of a union.
+pub fn no_union_fields<'a>(alloc: Global, stack: &mut Stack<'a>) -> Done
+    ensures { IfOk result (λ _. MadeAlone production.NoUnionFields stack.old.items stack.new.items) }
+{
+    push(stack, Value::UnionFields(Vec::new(alloc)))
+}
+
+/// A type of a union in front of those behind it.
+pub fn more_union_fields<'a>(stack: &mut Stack<'a>) -> Done
+    requires { Ready production.MoreUnionFields stack.old.items }
+    ensures { IfOk result (λ _. MadeAlone production.MoreUnionFields stack.old.items stack.new.items) }
+{
+    let (first, list): (UnionField<'a>, Vec<UnionField<'a>>) = take_two(stack);
+    let list = appended(list, first)?;
+    push(stack, Value::UnionFields(list))
+}
+
+/// No fields.
+pub fn no_fields<'a>(alloc: Global, stack: &mut Stack<'a>) -> Done
+    ensures { IfOk result (λ _. MadeAlone production.NoFields stack.old.items stack.new.items) }
+{
+    push(stack, Value::Fields(Vec::new(alloc)))
+}
+
+/// A field in front of those behind it.
+pub fn more_fields<'a>(stack: &mut Stack<'a>) -> Done
+    requires { Ready production.MoreFields stack.old.items }
+    ensures { IfOk result (λ _. MadeAlone production.MoreFields stack.old.items stack.new.items) }
+{
+    let (first, list): (Field<'a>, Vec<Field<'a>>) = take_two(stack);
+    let list = appended(list, first)?;
+    push(stack, Value::Fields(list))
+}
+
+/// No cases.
+pub fn no_cases<'a>(alloc: Global, stack: &mut Stack<'a>) -> Done
+    ensures { IfOk result (λ _. MadeAlone production.NoCases stack.old.items stack.new.items) }
+{
+    push(stack, Value::Cases(Vec::new(alloc)))
+}
+
+/// A case in front of those behind it.
+pub fn more_cases<'a>(stack: &mut Stack<'a>) -> Done
+    requires { Ready production.MoreCases stack.old.items }
+    ensures { IfOk result (λ _. MadeAlone production.MoreCases stack.old.items stack.new.items) }
+{
+    let (first, list): (Case<'a>, Vec<Case<'a>>) = take_two(stack);
+    let list = appended(list, first)?;
+    push(stack, Value::Cases(list))
+}
+
+/// No declarations.
+pub fn no_decls<'a>(alloc: Global, stack: &mut Stack<'a>) -> Done
+    ensures { IfOk result (λ _. MadeAlone production.NoDecls stack.old.items stack.new.items) }
+{
+    push(stack, Value::Decls(Vec::new(alloc)))
+}
+
+/// A declaration in front of those behind it.
+pub fn more_decls<'a>(stack: &mut Stack<'a>) -> Done
+    requires { Ready production.MoreDecls stack.old.items }
+    ensures { IfOk result (λ _. MadeAlone production.MoreDecls stack.old.items stack.new.items) }
+{
+    let (first, list): (Decl<'a>, Vec<Decl<'a>>) = take_two(stack);
+    let list = appended(list, first)?;
+    push(stack, Value::Decls(list))
 }

@@ -1,102 +1,87 @@
 //! The values of types.
+#![tactic(auto, unfolding(crate::specs::Stack::performed))]
 
-ghost use Rattle.std.specs.Prelude.{[], IfOk};
+ghost use Rattle.std.specs.Prelude.{IfOk};
 ghost use Rattle.witx_language.specs.declared.production.ProductionName.TheVariants as production;
-ghost use Rattle.witx_syntax.specs.Stack.{Made, Ready};
+ghost use Rattle.witx_syntax.specs.Stack.{MadeAlone, Ready};
 
 use crate::stack::{push, take, take_three, take_two};
-use crate::value::{BuiltinWord, Named, Value};
+use crate::value::{BuiltinWord, Done, Field, Member, Named, Stack, UnionField, Value};
 use std::alloc::Global;
-use witx_base::OutOfMemory;
+use witx_language::constructors;
 use witx_language::constructors::{enumeration, flags, union_of, variant};
-use witx_language::{appended, constructors};
-use witx_syntax_tree::{Documented, FieldSyntax, IdSyntax, TypedefSyntax};
-
-type Member<'a> = Documented<'a, IdSyntax<'a>>;
-
-type Field<'a> = Documented<'a, FieldSyntax<'a>>;
-
-type UnionField<'a> = Documented<'a, TypedefSyntax<'a>>;
+use witx_values::appended;
 
 /// `(@witx pointer TYPE)`.
-pub fn pointer<'a>(alloc: Global, stack: &mut Vec<Value<'a>>) -> Result<(), OutOfMemory>
+pub fn pointer<'a>(alloc: Global, stack: &mut Stack<'a>) -> Done
     requires { Ready production.Pointer stack.old.items }
-    ensures { IfOk result (λ _. Made production.Pointer [] stack.old.items stack.new.items) }
+    ensures { IfOk result (λ _. MadeAlone production.Pointer stack.old.items stack.new.items) }
 {
-    let target = take(stack);
-    push(
-        stack,
-        Value::Type(constructors::pointer(Box::new(alloc, target)?)),
-    )
+    let target = Box::new(alloc, take(stack))?;
+    push(stack, Value::Type(constructors::pointer(target)))
 }
 
 /// `(@witx const_pointer TYPE)`.
-pub fn const_pointer<'a>(alloc: Global, stack: &mut Vec<Value<'a>>) -> Result<(), OutOfMemory>
+pub fn const_pointer<'a>(alloc: Global, stack: &mut Stack<'a>) -> Done
     requires { Ready production.ConstPointer stack.old.items }
-    ensures { IfOk result (λ _. Made production.ConstPointer [] stack.old.items stack.new.items) }
+    ensures { IfOk result (λ _. MadeAlone production.ConstPointer stack.old.items stack.new.items) }
 {
-    let target = take(stack);
-    push(
-        stack,
-        Value::Type(constructors::const_pointer(Box::new(alloc, target)?)),
-    )
+    let target = Box::new(alloc, take(stack))?;
+    push(stack, Value::Type(constructors::const_pointer(target)))
 }
 
 /// `(list TYPE)`.
-pub fn list<'a>(alloc: Global, stack: &mut Vec<Value<'a>>) -> Result<(), OutOfMemory>
+pub fn list<'a>(alloc: Global, stack: &mut Stack<'a>) -> Done
     requires { Ready production.List stack.old.items }
-    ensures { IfOk result (λ _. Made production.List [] stack.old.items stack.new.items) }
+    ensures { IfOk result (λ _. MadeAlone production.List stack.old.items stack.new.items) }
 {
-    let element = take(stack);
-    push(
-        stack,
-        Value::Type(constructors::list(Box::new(alloc, element)?)),
-    )
+    let element = Box::new(alloc, take(stack))?;
+    push(stack, Value::Type(constructors::list(element)))
 }
 
 /// `string`.
-pub fn string<'a>(stack: &mut Vec<Value<'a>>) -> Result<(), OutOfMemory>
-    ensures { IfOk result (λ _. Made production.String [] stack.old.items stack.new.items) }
+pub fn string<'a>(stack: &mut Stack<'a>) -> Done
+    ensures { IfOk result (λ _. MadeAlone production.String stack.old.items stack.new.items) }
 {
     push(stack, Value::Type(constructors::string()))
 }
 
 /// `bool`.
-pub fn boolean<'a>(stack: &mut Vec<Value<'a>>) -> Result<(), OutOfMemory>
-    ensures { IfOk result (λ _. Made production.Bool [] stack.old.items stack.new.items) }
+pub fn boolean<'a>(stack: &mut Stack<'a>) -> Done
+    ensures { IfOk result (λ _. MadeAlone production.Bool stack.old.items stack.new.items) }
 {
     push(stack, Value::Type(constructors::boolean()))
 }
 
 /// `(handle)`.
-pub fn handle<'a>(stack: &mut Vec<Value<'a>>) -> Result<(), OutOfMemory>
-    ensures { IfOk result (λ _. Made production.Handle [] stack.old.items stack.new.items) }
+pub fn handle<'a>(stack: &mut Stack<'a>) -> Done
+    ensures { IfOk result (λ _. MadeAlone production.Handle stack.old.items stack.new.items) }
 {
     push(stack, Value::Type(constructors::handle()))
 }
 
 /// `$name`: the type of that name.
-pub fn ident<'a>(stack: &mut Vec<Value<'a>>) -> Result<(), OutOfMemory>
+pub fn ident<'a>(stack: &mut Stack<'a>) -> Done
     requires { Ready production.Ident stack.old.items }
-    ensures { IfOk result (λ _. Made production.Ident [] stack.old.items stack.new.items) }
+    ensures { IfOk result (λ _. MadeAlone production.Ident stack.old.items stack.new.items) }
 {
     let Named { id } = take(stack);
     push(stack, Value::Type(constructors::ident(id)))
 }
 
 /// A builtin word as a type.
-pub fn builtin_type<'a>(stack: &mut Vec<Value<'a>>) -> Result<(), OutOfMemory>
+pub fn builtin_type<'a>(stack: &mut Stack<'a>) -> Done
     requires { Ready production.BuiltinType stack.old.items }
-    ensures { IfOk result (λ _. Made production.BuiltinType [] stack.old.items stack.new.items) }
+    ensures { IfOk result (λ _. MadeAlone production.BuiltinType stack.old.items stack.new.items) }
 {
     let BuiltinWord { builtin } = take(stack);
     push(stack, Value::Type(constructors::builtin(builtin)))
 }
 
 /// `(enum (@witx tag WORD) $name..)`: at least one name.
-pub fn tagged_enum<'a>(stack: &mut Vec<Value<'a>>) -> Result<(), OutOfMemory>
+pub fn tagged_enum<'a>(stack: &mut Stack<'a>) -> Done
     requires { Ready production.TaggedEnum stack.old.items }
-    ensures { IfOk result (λ _. Made production.TaggedEnum [] stack.old.items stack.new.items) }
+    ensures { IfOk result (λ _. MadeAlone production.TaggedEnum stack.old.items stack.new.items) }
 {
     let (word, first, members): (BuiltinWord, Member<'a>, Vec<Member<'a>>) = take_three(stack);
     let members = appended(members, first)?;
@@ -104,9 +89,9 @@ pub fn tagged_enum<'a>(stack: &mut Vec<Value<'a>>) -> Result<(), OutOfMemory>
 }
 
 /// `(enum $name..)`, without a tag.
-pub fn plain_enum<'a>(stack: &mut Vec<Value<'a>>) -> Result<(), OutOfMemory>
+pub fn plain_enum<'a>(stack: &mut Stack<'a>) -> Done
     requires { Ready production.Enum stack.old.items }
-    ensures { IfOk result (λ _. Made production.Enum [] stack.old.items stack.new.items) }
+    ensures { IfOk result (λ _. MadeAlone production.Enum stack.old.items stack.new.items) }
 {
     let (first, members): (Member<'a>, Vec<Member<'a>>) = take_two(stack);
     let members = appended(members, first)?;
@@ -114,27 +99,27 @@ pub fn plain_enum<'a>(stack: &mut Vec<Value<'a>>) -> Result<(), OutOfMemory>
 }
 
 /// `(flags (@witx repr WORD) $name..)`.
-pub fn tagged_flags<'a>(stack: &mut Vec<Value<'a>>) -> Result<(), OutOfMemory>
+pub fn tagged_flags<'a>(stack: &mut Stack<'a>) -> Done
     requires { Ready production.TaggedFlags stack.old.items }
-    ensures { IfOk result (λ _. Made production.TaggedFlags [] stack.old.items stack.new.items) }
+    ensures { IfOk result (λ _. MadeAlone production.TaggedFlags stack.old.items stack.new.items) }
 {
     let (word, names): (BuiltinWord, Vec<Member<'a>>) = take_two(stack);
     push(stack, Value::Type(flags(Some(word.builtin), names)))
 }
 
 /// `(flags $name..)`, without a representation.
-pub fn plain_flags<'a>(stack: &mut Vec<Value<'a>>) -> Result<(), OutOfMemory>
+pub fn plain_flags<'a>(stack: &mut Stack<'a>) -> Done
     requires { Ready production.Flags stack.old.items }
-    ensures { IfOk result (λ _. Made production.Flags [] stack.old.items stack.new.items) }
+    ensures { IfOk result (λ _. MadeAlone production.Flags stack.old.items stack.new.items) }
 {
     let names = take(stack);
     push(stack, Value::Type(flags(None, names)))
 }
 
 /// `(record FIELD..)`: at least one field.
-pub fn record<'a>(stack: &mut Vec<Value<'a>>) -> Result<(), OutOfMemory>
+pub fn record<'a>(stack: &mut Stack<'a>) -> Done
     requires { Ready production.Record stack.old.items }
-    ensures { IfOk result (λ _. Made production.Record [] stack.old.items stack.new.items) }
+    ensures { IfOk result (λ _. MadeAlone production.Record stack.old.items stack.new.items) }
 {
     let (first, fields): (Field<'a>, Vec<Field<'a>>) = take_two(stack);
     let fields = appended(fields, first)?;
@@ -142,27 +127,27 @@ pub fn record<'a>(stack: &mut Vec<Value<'a>>) -> Result<(), OutOfMemory>
 }
 
 /// `(tuple TYPE..)`.
-pub fn tuple<'a>(stack: &mut Vec<Value<'a>>) -> Result<(), OutOfMemory>
+pub fn tuple<'a>(stack: &mut Stack<'a>) -> Done
     requires { Ready production.Tuple stack.old.items }
-    ensures { IfOk result (λ _. Made production.Tuple [] stack.old.items stack.new.items) }
+    ensures { IfOk result (λ _. MadeAlone production.Tuple stack.old.items stack.new.items) }
 {
     let types = take(stack);
     push(stack, Value::Type(constructors::tuple(types)))
 }
 
 /// `(expected ERROR)`, without an ok type.
-pub fn expected<'a>(stack: &mut Vec<Value<'a>>) -> Result<(), OutOfMemory>
+pub fn expected<'a>(stack: &mut Stack<'a>) -> Done
     requires { Ready production.Expected stack.old.items }
-    ensures { IfOk result (λ _. Made production.Expected [] stack.old.items stack.new.items) }
+    ensures { IfOk result (λ _. MadeAlone production.Expected stack.old.items stack.new.items) }
 {
     let err = take(stack);
     push(stack, Value::Type(constructors::expected(None, err)))
 }
 
 /// `(expected TYPE ERROR)`.
-pub fn expected_type<'a>(alloc: Global, stack: &mut Vec<Value<'a>>) -> Result<(), OutOfMemory>
+pub fn expected_type<'a>(alloc: Global, stack: &mut Stack<'a>) -> Done
     requires { Ready production.ExpectedType stack.old.items }
-    ensures { IfOk result (λ _. Made production.ExpectedType [] stack.old.items stack.new.items) }
+    ensures { IfOk result (λ _. MadeAlone production.ExpectedType stack.old.items stack.new.items) }
 {
     let (ok, err) = take_two(stack);
     let ok = Some(Box::new(alloc, ok)?);
@@ -170,9 +155,9 @@ pub fn expected_type<'a>(alloc: Global, stack: &mut Vec<Value<'a>>) -> Result<()
 }
 
 /// `(union (@witx tag $type) TYPE..)`.
-pub fn tagged_union<'a>(alloc: Global, stack: &mut Vec<Value<'a>>) -> Result<(), OutOfMemory>
+pub fn tagged_union<'a>(alloc: Global, stack: &mut Stack<'a>) -> Done
     requires { Ready production.TaggedUnion stack.old.items }
-    ensures { IfOk result (λ _. Made production.TaggedUnion [] stack.old.items stack.new.items) }
+    ensures { IfOk result (λ _. MadeAlone production.TaggedUnion stack.old.items stack.new.items) }
 {
     let (tag, fields) = take_two(stack);
     let tag = Some(Box::new(alloc, tag)?);
@@ -180,16 +165,16 @@ pub fn tagged_union<'a>(alloc: Global, stack: &mut Vec<Value<'a>>) -> Result<(),
 }
 
 /// `(union)`: no types.
-pub fn empty_union<'a>(alloc: Global, stack: &mut Vec<Value<'a>>) -> Result<(), OutOfMemory>
-    ensures { IfOk result (λ _. Made production.EmptyUnion [] stack.old.items stack.new.items) }
+pub fn empty_union<'a>(alloc: Global, stack: &mut Stack<'a>) -> Done
+    ensures { IfOk result (λ _. MadeAlone production.EmptyUnion stack.old.items stack.new.items) }
 {
     push(stack, Value::Type(union_of(None, Vec::new(alloc))))
 }
 
 /// `(union TYPE..)`, without a tag: at least one type.
-pub fn plain_union<'a>(stack: &mut Vec<Value<'a>>) -> Result<(), OutOfMemory>
+pub fn plain_union<'a>(stack: &mut Stack<'a>) -> Done
     requires { Ready production.Union stack.old.items }
-    ensures { IfOk result (λ _. Made production.Union [] stack.old.items stack.new.items) }
+    ensures { IfOk result (λ _. MadeAlone production.Union stack.old.items stack.new.items) }
 {
     let (first, fields): (UnionField<'a>, Vec<UnionField<'a>>) = take_two(stack);
     let fields = appended(fields, first)?;
@@ -197,9 +182,9 @@ pub fn plain_union<'a>(stack: &mut Vec<Value<'a>>) -> Result<(), OutOfMemory>
 }
 
 /// `(variant (@witx tag $type) CASE..)`.
-pub fn tagged_variant<'a>(alloc: Global, stack: &mut Vec<Value<'a>>) -> Result<(), OutOfMemory>
+pub fn tagged_variant<'a>(alloc: Global, stack: &mut Stack<'a>) -> Done
     requires { Ready production.TaggedVariant stack.old.items }
-    ensures { IfOk result (λ _. Made production.TaggedVariant [] stack.old.items stack.new.items) }
+    ensures { IfOk result (λ _. MadeAlone production.TaggedVariant stack.old.items stack.new.items) }
 {
     let (tag, cases) = take_two(stack);
     let tag = Some(Box::new(alloc, tag)?);
@@ -207,9 +192,9 @@ pub fn tagged_variant<'a>(alloc: Global, stack: &mut Vec<Value<'a>>) -> Result<(
 }
 
 /// `(variant CASE..)`, without a tag.
-pub fn plain_variant<'a>(stack: &mut Vec<Value<'a>>) -> Result<(), OutOfMemory>
+pub fn plain_variant<'a>(stack: &mut Stack<'a>) -> Done
     requires { Ready production.Variant stack.old.items }
-    ensures { IfOk result (λ _. Made production.Variant [] stack.old.items stack.new.items) }
+    ensures { IfOk result (λ _. MadeAlone production.Variant stack.old.items stack.new.items) }
 {
     let cases = take(stack);
     push(stack, Value::Type(variant(None, cases)))

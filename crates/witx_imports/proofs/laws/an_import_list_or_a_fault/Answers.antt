@@ -1,35 +1,19 @@
-use Rattle.std.proofs.Common.{ℕ, List, refl, inl, inr, subst}
-use Rattle.std.specs.Prelude.{◌⊎◌}
-use Rattle.witx_grammar.specs.Faults.{HasDerivation, HasFault}
-use Rattle.witx_lex.specs.Meaning.{tokens_of}
-use Rattle.witx_lex.specs.Pieces.{Piece, ArePieces}
-use Rattle.witx_imports.specs.declared.import.WasmImport.{WasmImport}
+use Rattle.std.proofs.Common.{inl, inr, subst}
+use Rattle.witx_grammar.specs.Grammar.{grammar}
+use Rattle.witx_values.specs.Texts.{HasValue}
+use Rattle.witx_values.proofs.Laws.{value_or_fault}
 use Rattle.witx_imports.specs.declared.nonterminal.Nonterminal.TheVariants.{Text}
-use Rattle.witx_imports.specs.Grammar.{the_grammar}
-use Rattle.witx_imports.specs.Reads.{IsFaultOf, Place, Reads, told_at, start_of}
-use Rattle.witx_imports.specs.TokenKinds.{token_kinds}
-use Rattle.witx_imports.proofs.Lists.{Grammar}
-use Rattle.witx_imports.proofs.Sound.{reads_as}
+use Rattle.witx_imports.specs.Actions.{the_language}
+use Rattle.witx_imports.specs.Lawful.{lawful}
+use Rattle.witx_imports.specs.Reads.{telling}
+use Rattle.witx_imports.specs.Values.{Val}
+use Rattle.witx_imports.proofs.Lists.{imports_in}
 use Rattle.witx_imports.proofs.laws.an_import_list_or_a_fault.Goals as goal
-
-abbrev Answer : List ℕ → Type 0
-Answer text = ((d : List WasmImport) × Reads text d) ⊎ ((place : Place) × IsFaultOf text place)
-
-of_pieces : (text : List ℕ) (ps : List Piece) → ArePieces ps text → HasDerivation the_grammar Text (token_kinds (tokens_of ps)) ⊎ HasFault the_grammar Text (token_kinds (tokens_of ps)) → Answer text
-of_pieces text ps h (inl d) =
-    let one = reads_as (tokens_of ps) d.0 d.1 in
-    inl (one.0, record { tokens = tokens_of ps; lexed = (ps, h, refl); listed = record { steps = d.0; derives = d.1; meaning = one.1 } })
-of_pieces text ps h (inr f) =
-    inr (
-      told_at text (start_of text (tokens_of ps) f.0),
-      inr (record { tokens = tokens_of ps; lexed = (ps, h, refl); at = f.0; expected = f.1; has_fault = f.2; told = refl }),
-    )
 
 pub returns : goal.returns
 returns c text =
-    elim (c.a_text_has_pieces_or_a_fault.ensures text) [
-      | inl h ↦ of_pieces text h.0 h.1
-          (subst (λ (g : Grammar). HasDerivation g Text (token_kinds (tokens_of h.0)) ⊎ HasFault g Text (token_kinds (tokens_of h.0))) c.the_table-table.ensures.grammar
-          (c.derivation_or_fault.ensures c.the_table-table.result Text (token_kinds (tokens_of h.0)) c.the_table-table.ensures.predictive))
-      | inr f ↦ inr (told_at text f.1, inl (record { fault = record { kind = f.0; at = f.1 }; has_fault = f.2; told = refl }))
+    let table = c.the_table-table.result in
+    elim (value_or_fault the_language Text telling lawful (grammar table) c.the_table-table.ensures.grammar (λ ts. c.derivation_or_fault.ensures table Text ts c.the_table-table.ensures.predictive) text) [
+      | inl h ↦ let is = imports_in h.0 h.2 in inl (is.0, subst (λ (v : Val). HasValue the_language Text text v) is.1 h.1)
+      | inr f ↦ inr f
     ]
