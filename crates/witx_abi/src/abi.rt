@@ -1,17 +1,20 @@
-ghost use Rattle.std.specs.Prelude.{◌≡◌, None, IfOk, OnOk, OnErr, IsSome};
+//! Signatures, and the events of both sides of a call, handed to any generator.
+
+ghost use Rattle.std.specs.Prelude.{◌≡◌, [], None, IfOk, OnOk, OnErr, IsSome};
 ghost use Rattle.witx_machine.specs.Functions.{Function};
 ghost use Rattle.witx_machine.specs.Signature.{signature_params, signature_results, without_signature};
 ghost use Rattle.witx_machine.specs.Lowerable.{unlowerable};
 ghost use Rattle.witx_machine.specs.Traces.{caller_events, callee_events};
 ghost use Rattle.witx_instructions.specs.Views.{called};
+ghost use Rattle.witx_instructions.specs.Handed.{OperandsInOrder, FrontInOrder};
 ghost use Rattle.witx_instructions.specs.Told.{after, TellsFront, is_bindgen_fault, Counts, unlowerable_place, signature_place};
 
 use crate::signature::signature;
 use std::alloc::Global;
 use witx_ast::InterfaceFunc;
-use witx_base::{Id, Items, OutOfMemory};
+use witx_base::Id;
 use witx_instructions::{
-    AbiError, Bindgen, SignatureError, WasmTypes, play, return_pointers, words_back,
+    AbiError, Bindgen, SignatureError, WasmTypes, new_plan, play, return_pointers, words_back,
 };
 use witx_lowering::{lowerable, plan_callee, plan_caller, words_in};
 
@@ -30,8 +33,9 @@ pub trait AbiFunc {
 
     /// Hands the generator the events of the side that calls.
     ///
-    /// Refused as `Unlowerable` exactly where [`lowerable`](crate::lowerable) refuses, before any event.
-    /// After another refusal the events so far are a front of the whole.
+    /// Each instruction is handed the operands that earlier ones left, in order. Refused as `Unlowerable` exactly
+    /// where [`lowerable`](crate::lowerable) refuses, before any event. After another refusal the events so far
+    /// are a front of the whole.
     fn call_wasm<B: Bindgen>(
         &self,
         alloc: Global,
@@ -40,11 +44,13 @@ pub trait AbiFunc {
     ) -> Result<(), AbiError>
         ensures events { OnOk result (B.told bindgen.new ≡ after (B.told bindgen.old) (caller_events «module».now (function self.now))) }
         ensures front { OnErr result (TellsFront (caller_events «module».now (function self.now)) (B.told bindgen.old) (B.told bindgen.new)) }
+        ensures operands { OnOk result (OperandsInOrder (caller_events «module».now (function self.now)) (B.calls bindgen.old) (B.calls bindgen.new)) }
+        ensures front_operands { OnErr result (FrontInOrder (caller_events «module».now (function self.now)) (B.calls bindgen.old) (B.calls bindgen.new) []) }
         ensures unlowerable { unlowerable_place result ≡ unlowerable (function self.now) }
         ensures untouched { IsSome (unlowerable (function self.now)) → bindgen.new ≡ bindgen.old }
         ensures cause { Counts (is_bindgen_fault result) (B.faults bindgen.old) (B.faults bindgen.new) };
 
-    /// Hands the generator the events of the side that is called; refusals as those of `call_wasm`.
+    /// Hands the generator the events of the side that is called; operands and refusals as those of `call_wasm`.
     fn call_interface<B: Bindgen>(
         &self,
         alloc: Global,
@@ -53,6 +59,8 @@ pub trait AbiFunc {
     ) -> Result<(), AbiError>
         ensures events { OnOk result (B.told bindgen.new ≡ after (B.told bindgen.old) (callee_events «module».now (function self.now))) }
         ensures front { OnErr result (TellsFront (callee_events «module».now (function self.now)) (B.told bindgen.old) (B.told bindgen.new)) }
+        ensures operands { OnOk result (OperandsInOrder (callee_events «module».now (function self.now)) (B.calls bindgen.old) (B.calls bindgen.new)) }
+        ensures front_operands { OnErr result (FrontInOrder (callee_events «module».now (function self.now)) (B.calls bindgen.old) (B.calls bindgen.new) []) }
         ensures unlowerable { unlowerable_place result ≡ unlowerable (function self.now) }
         ensures untouched { IsSome (unlowerable (function self.now)) → bindgen.new ≡ bindgen.old }
         ensures cause { Counts (is_bindgen_fault result) (B.faults bindgen.old) (B.faults bindgen.new) };
@@ -65,6 +73,7 @@ impl AbiFunc for InterfaceFunc {
         signature(alloc, self)
     }
 
+    #[tactic(auto, using(witx_instructions::proofs::Handing::hand_rules))]
     fn call_wasm<B: Bindgen>(
         &self,
         alloc: Global,
@@ -77,6 +86,7 @@ impl AbiFunc for InterfaceFunc {
         }
     }
 
+    #[tactic(auto, using(witx_instructions::proofs::Handing::hand_rules))]
     fn call_interface<B: Bindgen>(
         &self,
         alloc: Global,
@@ -91,7 +101,7 @@ impl AbiFunc for InterfaceFunc {
 }
 
 // The side that calls, of a function that can be lowered.
-#[tactic(auto, using(witx_instructions::proofs::Plans::play_rules))]
+#[tactic(auto, using(witx_instructions::proofs::Plans::play_rules, witx_instructions::proofs::Handing::hand_rules))]
 fn play_caller<B: Bindgen>(
     alloc: Global,
     func: &InterfaceFunc,
@@ -101,22 +111,18 @@ fn play_caller<B: Bindgen>(
     requires { unlowerable (called func.now) ≡ None }
     ensures events { OnOk result (B.told bindgen.new ≡ after (B.told bindgen.old) (caller_events module_name.now (called func.now))) }
     ensures front { OnErr result (TellsFront (caller_events module_name.now (called func.now)) (B.told bindgen.old) (B.told bindgen.new)) }
+    ensures operands { OnOk result (OperandsInOrder (caller_events module_name.now (called func.now)) (B.calls bindgen.old) (B.calls bindgen.new)) }
+    ensures front_operands { OnErr result (FrontInOrder (caller_events module_name.now (called func.now)) (B.calls bindgen.old) (B.calls bindgen.new) []) }
     ensures place { unlowerable_place result ≡ None }
     ensures cause { Counts (is_bindgen_fault result) (B.faults bindgen.old) (B.faults bindgen.new) }
 {
-    let params = match words_in(alloc, func) {
-        Ok(words) => words,
-        Err(OutOfMemory) => return Err(AbiError::OutOfMemory),
-    };
-    let results = match words_back(alloc, func) {
-        Ok(words) => words,
-        Err(OutOfMemory) => return Err(AbiError::OutOfMemory),
-    };
+    let params = words_in(alloc, func)?;
+    let results = words_back(alloc, func)?;
     play_call(alloc, func, module_name, &params, &results, bindgen)
 }
 
 // The same with the words of the call.
-#[tactic(auto, using(witx_instructions::proofs::Plans::play_rules))]
+#[tactic(auto, using(witx_instructions::proofs::Plans::play_rules, witx_instructions::proofs::Handing::hand_rules))]
 fn play_call<'a, B: Bindgen>(
     alloc: Global,
     func: &'a InterfaceFunc,
@@ -130,22 +136,19 @@ fn play_call<'a, B: Bindgen>(
     requires results { results.now ≡ signature_results (called func.now) }
     ensures events { OnOk result (B.told bindgen.new ≡ after (B.told bindgen.old) (caller_events module_name.now (called func.now))) }
     ensures front { OnErr result (TellsFront (caller_events module_name.now (called func.now)) (B.told bindgen.old) (B.told bindgen.new)) }
+    ensures operands { OnOk result (OperandsInOrder (caller_events module_name.now (called func.now)) (B.calls bindgen.old) (B.calls bindgen.new)) }
+    ensures front_operands { OnErr result (FrontInOrder (caller_events module_name.now (called func.now)) (B.calls bindgen.old) (B.calls bindgen.new) []) }
     ensures place { unlowerable_place result ≡ None }
     ensures cause { Counts (is_bindgen_fault result) (B.faults bindgen.old) (B.faults bindgen.new) }
 {
-    let pointers = match return_pointers(alloc, func.abi, &func.results) {
-        Ok(pointers) => pointers,
-        Err(OutOfMemory) => return Err(AbiError::OutOfMemory),
-    };
-    let mut plan = Items::new(alloc);
-    match plan_caller(&mut plan, module_name, func, &pointers, params, results) {
-        Ok(()) => play(alloc, &plan, bindgen),
-        Err(OutOfMemory) => Err(AbiError::OutOfMemory),
-    }
+    let pointers = return_pointers(alloc, func.abi, &func.results)?;
+    let mut plan = new_plan(alloc)?;
+    plan_caller(&mut plan, module_name, func, &pointers, params, results)?;
+    play(alloc, &plan, bindgen)
 }
 
 // The side that is called, of a function that can be lowered.
-#[tactic(auto, using(witx_instructions::proofs::Plans::play_rules))]
+#[tactic(auto, using(witx_instructions::proofs::Plans::play_rules, witx_instructions::proofs::Handing::hand_rules))]
 fn play_callee<'a, B: Bindgen>(
     alloc: Global,
     func: &'a InterfaceFunc,
@@ -155,16 +158,13 @@ fn play_callee<'a, B: Bindgen>(
     requires { unlowerable (called func.now) ≡ None }
     ensures events { OnOk result (B.told bindgen.new ≡ after (B.told bindgen.old) (callee_events module_name.now (called func.now))) }
     ensures front { OnErr result (TellsFront (callee_events module_name.now (called func.now)) (B.told bindgen.old) (B.told bindgen.new)) }
+    ensures operands { OnOk result (OperandsInOrder (callee_events module_name.now (called func.now)) (B.calls bindgen.old) (B.calls bindgen.new)) }
+    ensures front_operands { OnErr result (FrontInOrder (callee_events module_name.now (called func.now)) (B.calls bindgen.old) (B.calls bindgen.new) []) }
     ensures place { unlowerable_place result ≡ None }
     ensures cause { Counts (is_bindgen_fault result) (B.faults bindgen.old) (B.faults bindgen.new) }
 {
-    let pointers = match return_pointers(alloc, func.abi, &func.results) {
-        Ok(pointers) => pointers,
-        Err(OutOfMemory) => return Err(AbiError::OutOfMemory),
-    };
-    let mut plan = Items::new(alloc);
-    match plan_callee(&mut plan, module_name, func, &pointers) {
-        Ok(()) => play(alloc, &plan, bindgen),
-        Err(OutOfMemory) => Err(AbiError::OutOfMemory),
-    }
+    let pointers = return_pointers(alloc, func.abi, &func.results)?;
+    let mut plan = new_plan(alloc)?;
+    plan_callee(&mut plan, module_name, func, &pointers)?;
+    play(alloc, &plan, bindgen)
 }

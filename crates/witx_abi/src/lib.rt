@@ -8,11 +8,10 @@ mod signature;
 
 pub use abi::AbiFunc;
 pub use recorded::{callee_trace, caller_trace};
-pub use witx_ast::TypeRefs;
 pub use witx_instructions::{
-    AbiError, Bindgen, BindgenError, Event, Events, FailingBindgen, Instruction, Pointers,
-    SignatureError, Step, Trace, WasmTypes, err_type, functions_are_read_as_their_trees, is_tuple,
-    ok_type, push_param_words, result_cases, return_pointers, tuple_members, words_back,
+    AbiError, Bindgen, BindgenError, Event, Events, FailingBindgen, Instruction, SignatureError,
+    Step, Trace, WasmTypes, err_type, functions_are_read_as_their_trees, is_tuple, ok_type,
+    result_cases, return_pointers, tuple_members, words_back,
 };
 pub use witx_lowering::{lowerable, words_in};
 pub use witx_machine::{Place, WasmType};

@@ -1,3 +1,5 @@
+//! The traces of both sides of a call.
+
 ghost use Rattle.std.specs.Prelude.{◌≡◌, IfOk, None, map};
 ghost use Rattle.witx_machine.specs.Lowerable.{unlowerable};
 ghost use Rattle.witx_machine.specs.Signature.{signature_params, signature_results};

@@ -1,3 +1,5 @@
+//! The signature of a function, or its first result that has no word.
+
 ghost use Rattle.std.specs.Prelude.{◌≡◌, IfOk, is_none, position};
 ghost use Rattle.witx_ast.specs.Plain.{plain};
 ghost use Rattle.witx_ast.specs.Views.{tree_of};

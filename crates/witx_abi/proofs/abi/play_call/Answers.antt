@@ -8,4 +8,4 @@ pub play-requires : goal.play-requires
 play-requires g c =
     let m = c.args.module_name.now in
     let f = called c.args.func.now in
-    caller-ready m f _ c.requires.lowerable (c.in-Ok-plan_caller.ensures ∙ ap (λ p. planned_events p ++ caller_events m f) c.new-plan.ensures)
+    caller-ready m f _ c.requires.lowerable (c.in_ok-plan_caller.ensures ∙ ap (λ p. planned_events p ++ caller_events m f) c.in_ok-plan.ensures)

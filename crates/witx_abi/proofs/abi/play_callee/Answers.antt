@@ -8,4 +8,4 @@ pub play-requires : goal.play-requires
 play-requires g c =
     let m = c.args.module_name.now in
     let f = called c.args.func.now in
-    callee-ready m f _ c.requires (c.in-Ok-plan_callee.ensures ∙ ap (λ p. planned_events p ++ callee_events m f) c.new-plan.ensures)
+    callee-ready m f _ c.requires (c.in_ok-plan_callee.ensures ∙ ap (λ p. planned_events p ++ callee_events m f) c.in_ok-plan.ensures)
