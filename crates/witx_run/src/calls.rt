@@ -45,7 +45,7 @@ pub(crate) fn reply_to<D: Domain>(
     call: CallRow<'_, TypeRef>,
 ) -> Result<Option<Vec<D::Value>>, OutOfMemory>
     ensures noted { IfOk result (λ noted. Replies (D.domain domain.now) D.value_of D.word_of D.memory_of
-        «module».now (called func.now) (reply_of D.value_of reply.entry) call.entry.module.now call.entry.name.now
+        «module».now (called func.now) (reply_of D.value_of reply.entry) call.entry.owner.now call.entry.name.now
         (map tree_of call.entry.params.now) (map tree_of call.entry.results.now) machine.old machine.new noted) }
     ensures answer { machine.new.answer ≡ machine.old.answer }
     ensures blocks { machine.new.blocks ≡ machine.old.blocks }
@@ -145,7 +145,7 @@ pub(crate) fn take_words<D: Domain>(
     call: CallRow<'_, WasmType>,
 ) -> Result<Option<Vec<D::Word>>, OutOfMemory>
     ensures words { IfOk result (λ words. HandsOn (D.domain domain.now) D.value_of D.word_of D.memory_of «module».now (called func.now)
-        call.entry.module.now call.entry.name.now call.entry.params.now call.entry.results.now machine.old machine.new words) }
+        call.entry.owner.now call.entry.name.now call.entry.params.now call.entry.results.now machine.old machine.new words) }
     ensures answer { machine.new.answer ≡ machine.old.answer }
     ensures blocks { machine.new.blocks ≡ machine.old.blocks }
 {

@@ -19,7 +19,7 @@ use witx_machine::WasmType;
 /// A call as a trace has it: of which function, with which types of values or words.
 #[derive(Drop)]
 pub(crate) struct CallRow<'a, T> {
-    pub(crate) module: &'a Id,
+    pub(crate) owner: &'a Id,
     pub(crate) name: &'a Id,
     pub(crate) params: &'a Items<T>,
     pub(crate) results: &'a Items<T>,
@@ -29,9 +29,9 @@ pub(crate) struct CallRow<'a, T> {
 #[tactic(auto, using(crate::proofs::NameLemmas::name_rules))]
 pub(crate) fn names_function(module: &Id, func: &InterfaceFunc, call: &CallRow<'_, TypeRef>) -> bool
     ensures { result ≡ names_function «module».now (called func.now)
-        call.now.module.now call.now.name.now (map tree_of call.now.params.now) (map tree_of call.now.results.now) }
+        call.now.owner.now call.now.name.now (map tree_of call.now.params.now) (map tree_of call.now.results.now) }
 {
-    is_name(call.module, module) && has_signature(func, call)
+    is_name(call.owner, module) && has_signature(func, call)
 }
 
 fn is_name(a: &Id, b: &Id) -> bool
@@ -89,9 +89,9 @@ pub(crate) fn names_words(
     call: &CallRow<'_, WasmType>,
 ) -> Result<bool, OutOfMemory>
     ensures { IfOk result (λ names. names ≡ names_words «module».now (called func.now)
-        call.now.module.now call.now.name.now call.now.params.now call.now.results.now) }
+        call.now.owner.now call.now.name.now call.now.params.now call.now.results.now) }
 {
-    if is_name(call.module, module) && is_name(call.name, &func.name) {
+    if is_name(call.owner, module) && is_name(call.name, &func.name) {
         has_word_types(alloc, func, call)
     } else {
         Ok(false)

@@ -41,7 +41,7 @@ pub struct Progress<V, W, M> {
 }
 
 /// Where a run halts.
-#[derive(Clone, Copy)]
+#[derive(Clone, Copy, PartialEq, Eq)]
 pub enum Stop<'a> {
     /// At the event of this number, which has no rule.
     Stuck(usize),
@@ -72,7 +72,7 @@ pub enum Stop<'a> {
 }
 
 /// What one turn makes of a run.
-#[derive(Clone, Copy)]
+#[derive(Clone, Copy, PartialEq, Eq)]
 pub enum Turn<'a> {
     /// It goes on.
     Advances,

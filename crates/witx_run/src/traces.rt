@@ -249,7 +249,7 @@ fn callee_halted<D: Domain>(
             results,
         } => {
             let call = CallRow {
-                module: of,
+                owner: of,
                 name,
                 params,
                 results,
@@ -275,7 +275,7 @@ fn call_interface<D: Domain>(
     ensures { IfOk result (λ end. CalleeComes (D.domain domain.now) D.value_of D.word_of D.memory_of
         «module».now (reply_of D.value_of reply.entry) None script.now
         (λ x es. whole_at (D.domain domain.now) D.value_of D.word_of D.memory_of x es progress
-        (call_interface call.entry.module.now call.entry.name.now (map tree_of call.entry.params.now) (map tree_of call.entry.results.now))) end) }
+        (call_interface call.entry.owner.now call.entry.name.now (map tree_of call.entry.params.now) (map tree_of call.entry.results.now))) end) }
 {
     let Ok(answer) = reply_to(
         alloc,
@@ -432,7 +432,7 @@ fn caller_halted<D: Domain>(
             results,
         } => {
             let call = CallRow {
-                module: of,
+                owner: of,
                 name,
                 params,
                 results,
@@ -459,7 +459,7 @@ fn call_wasm<D: Domain>(
     ensures { IfOk result (λ run. CallerComes (D.domain domain.now) D.value_of D.word_of D.memory_of
         «module».now (map event_of callee.now) (reply_of D.value_of reply.entry) None script.now
         (λ x es. whole_at (D.domain domain.now) D.value_of D.word_of D.memory_of x es progress
-        (call_wasm call.entry.module.now call.entry.name.now call.entry.params.now call.entry.results.now)) run) }
+        (call_wasm call.entry.owner.now call.entry.name.now call.entry.params.now call.entry.results.now)) run) }
 {
     let Ok(taken) = take_words(
         alloc,

@@ -9,12 +9,12 @@ use Rattle.witx_run.proofs.traces.call_interface.Goals as goal
 pub returns-in-Some : goal.returns-in-Some
 returns-in-Some g c =
     interface-some (g.D.Domain.domain c.args.domain.now) g.D.Domain.value_of g.D.Domain.word_of g.D.Domain.memory_of c.args.module.now (reply_of g.D.Domain.value_of c.args.reply) c.args.script.now c.args.progress c.reply_to.new.machine
-    c.args.call.module.now c.args.call.name.now (map tree_of c.args.call.params.now) (map tree_of c.args.call.results.now) c.in-Some.noted c.finish_callee.result
-    (subst (Replies (g.D.Domain.domain c.args.domain.now) g.D.Domain.value_of g.D.Domain.word_of g.D.Domain.memory_of c.args.module.now (called c.args.script.now.func.now) (reply_of g.D.Domain.value_of c.args.reply) c.args.call.module.now c.args.call.name.now (map tree_of c.args.call.params.now) (map tree_of c.args.call.results.now) c.args.progress.machine c.reply_to.new.machine) c.in-Some.is c.in-Ok.ensures.noted)
+    c.args.call.owner.now c.args.call.name.now (map tree_of c.args.call.params.now) (map tree_of c.args.call.results.now) c.in-Some.noted c.finish_callee.result
+    (subst (Replies (g.D.Domain.domain c.args.domain.now) g.D.Domain.value_of g.D.Domain.word_of g.D.Domain.memory_of c.args.module.now (called c.args.script.now.func.now) (reply_of g.D.Domain.value_of c.args.reply) c.args.call.owner.now c.args.call.name.now (map tree_of c.args.call.params.now) (map tree_of c.args.call.results.now) c.args.progress.machine c.reply_to.new.machine) c.in-Some.is c.in-Ok.ensures.noted)
     c.finish_callee.ensures
 
 pub returns-in-None : goal.returns-in-None
 returns-in-None g c =
     interface-none (g.D.Domain.domain c.args.domain.now) g.D.Domain.value_of g.D.Domain.word_of g.D.Domain.memory_of c.args.module.now (reply_of g.D.Domain.value_of c.args.reply) c.args.script.now c.args.progress c.reply_to.new.machine
-    c.args.call.module.now c.args.call.name.now (map tree_of c.args.call.params.now) (map tree_of c.args.call.results.now)
-    (subst (Replies (g.D.Domain.domain c.args.domain.now) g.D.Domain.value_of g.D.Domain.word_of g.D.Domain.memory_of c.args.module.now (called c.args.script.now.func.now) (reply_of g.D.Domain.value_of c.args.reply) c.args.call.module.now c.args.call.name.now (map tree_of c.args.call.params.now) (map tree_of c.args.call.results.now) c.args.progress.machine c.reply_to.new.machine) c.in-None.is c.in-Ok.ensures.noted)
+    c.args.call.owner.now c.args.call.name.now (map tree_of c.args.call.params.now) (map tree_of c.args.call.results.now)
+    (subst (Replies (g.D.Domain.domain c.args.domain.now) g.D.Domain.value_of g.D.Domain.word_of g.D.Domain.memory_of c.args.module.now (called c.args.script.now.func.now) (reply_of g.D.Domain.value_of c.args.reply) c.args.call.owner.now c.args.call.name.now (map tree_of c.args.call.params.now) (map tree_of c.args.call.results.now) c.args.progress.machine c.reply_to.new.machine) c.in-None.is c.in-Ok.ensures.noted)
