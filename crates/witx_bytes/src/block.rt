@@ -1,3 +1,5 @@
+//! A block of a memory of bytes: 256 places in a row, each a byte or none.
+
 ghost use Rattle.std.specs.Prelude.{◌≡◌, ◌≢◌, ◌<◌, ◌≤◌, ◌+◌, ◌-◌, ℕ, None, Some, IfOk, length, drop};
 ghost use Rattle.witx_bytes.specs.Bytes.{place, all_held, none_held, Filled};
 ghost use Rattle.witx_bytes.specs.Images.{little};

@@ -1,3 +1,5 @@
+//! Whether each part of a type fits its tag, targets of lists and pointers aside.
+
 ghost use Rattle.std.specs.Prelude.{◌≡◌, ◌≤◌, nat_le, ◌^◌, ◌&&◌};
 ghost use Rattle.witx_ast.specs.Plain.{plain, arm_count, field_count};
 ghost use Rattle.witx_ast.specs.Views.{tree_of, datatype_tree, record_tree, variant_tree, members_plain, cases_plain};

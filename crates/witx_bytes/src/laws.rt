@@ -1,3 +1,5 @@
+//! The laws of images, of reading and writing, and of runs over bytes.
+
 ghost use Rattle.std.specs.Prelude.{◌≡◌, ◌+◌, ◌<◌, ◌≤◌, ◌⊎◌, ℕ, length, Some, ◌↔◌};
 ghost use Rattle.witx_ast.specs.Plain.{Plain};
 ghost use Rattle.witx_ast.specs.Values.{Value, IsValue};

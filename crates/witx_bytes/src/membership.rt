@@ -1,3 +1,5 @@
+//! Whether a value is one of a type.
+
 ghost use Rattle.std.specs.Prelude.{◌≡◌, ◌^◌, Some, nat_lt, option_map};
 ghost use Rattle.witx_ast.specs.Plain.{Plain, plain, builtin, handle, list_of, pointer_to, const_pointer_to, record_of, variant_of, all_bare};
 ghost use Rattle.witx_ast.specs.Views.{tree_of, datatype_tree, record_tree, variant_tree, members_plain, cases_plain};
@@ -152,7 +154,7 @@ fn has_payload(case: &Case, value: &Value) -> bool
 
 /// Whether no case has a payload.
 #[tactic(auto, using(crate::proofs::Belonging::loop_rules))]
-pub(crate) fn are_bare(cases: &[Case]) -> bool
+pub fn are_bare(cases: &[Case]) -> bool
     ensures { result ≡ all_bare (cases_plain cases.now) }
 {
     for case in cases {

@@ -1,3 +1,5 @@
+//! A memory of bytes: a finite map from address to byte.
+
 ghost use Rattle.std.specs.Prelude.{◌≡◌, ◌≢◌, ◌+◌, ◌-◌, ◌/◌, ◌%◌, ◌^◌, ◌<◌, ◌≤◌, ℕ, [], Some, None, Ok, Err, OnOk, OnErr, IfOk, ◌↔◌, ◌⊎◌, true, false, is_some};
 ghost use Rattle.witx_bytes.specs.Bytes.{IsByteMemory, held, placed, all_held as are_held_at, none_held as none_are_held, holds as holds_range, HasBlock, HasBlocks, block_of, Filled, RunAt};
 ghost use Rattle.witx_bytes.specs.Images.{little};

@@ -1,3 +1,5 @@
+//! Numbers as bytes and back, and the bits of flags.
+
 ghost use Rattle.std.specs.Prelude.{◌≡◌, ◌+◌, ◌^◌, ◌<◌, ◌≤◌, ℕ, true, is_some, pos, length};
 ghost use Rattle.witx_ast.specs.ValueTests.{in_range as is_in_range, is_below as below, is_within as within};
 ghost use Rattle.witx_layout.specs.Numbers.{builtin_size};

@@ -1,3 +1,5 @@
+//! The value that bytes spell.
+
 ghost use Rattle.std.specs.Prelude.{◌≡◌, ◌+◌, ◌^◌, ◌<◌, ◌≤◌, ℕ, true, Err, IfOk, Some, length, option_map};
 ghost use Rattle.witx_ast.specs.Plain.{plain, record_of, variant_of};
 ghost use Rattle.witx_ast.specs.Tags.{fits};
@@ -19,13 +21,12 @@ use crate::read_error::ReadError;
 use crate::scalars::{
     read_builtin, read_const_pointer, read_handle, read_list, read_number, read_pointer,
 };
-use crate::value::{Bools, Value, Values};
+use crate::value::{Bools, Value, Values, boxed};
 use std::alloc::Global;
 use std::boxed::Box;
 use witx_ast::{
     Case, Datatype, IntRepr, RecordDatatype, RecordKind, RecordMember, TypeRef, Variant,
 };
-use witx_base::OutOfMemory;
 use witx_layout::Layout;
 
 /// The value that the bytes from an address on spell. There is at most one.
@@ -228,12 +229,6 @@ fn read_boxed(
     let value = read_type(alloc, memory, at, ty)?;
     let boxed = boxed(alloc, value)?;
     Ok(Some(boxed))
-}
-
-fn boxed(alloc: Global, value: Value) -> Result<Box<Value>, OutOfMemory>
-    ensures { IfOk result (λ made. made.value ≡ value) }
-{
-    Ok(Box::new(alloc, value)?)
 }
 
 /// The number of the case that a tag names, where there are so many.

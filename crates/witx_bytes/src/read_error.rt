@@ -1,3 +1,5 @@
+//! Why no value is read.
+
 ghost use Rattle.std.specs.Prelude.{◌≡◌};
 
 use witx_base::OutOfMemory;

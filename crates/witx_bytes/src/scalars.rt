@@ -1,3 +1,5 @@
+//! The value that the bytes of a scalar spell.
+
 ghost use Rattle.std.specs.Prelude.{◌≡◌, ◌+◌, ◌^◌, ◌<◌, ◌≤◌, ℕ, None, IfSome, length};
 ghost use Rattle.witx_ast.specs.Plain.{builtin, handle, pointer_to, const_pointer_to, list_of, plain};
 ghost use Rattle.witx_ast.specs.Views.{tree_of};

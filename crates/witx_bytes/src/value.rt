@@ -1,6 +1,11 @@
+//! Values of the interface.
+
+ghost use Rattle.std.specs.Prelude.{◌≡◌, IfOk};
+
+use std::alloc::Global;
 use std::boxed::Box;
 use witx_ast::BuiltinType;
-use witx_base::Items;
+use witx_base::{Items, OutOfMemory};
 
 /// A value of a type. Equal where all parts are.
 #[cycle(values)]
@@ -38,3 +43,10 @@ pub type Bools = Items<bool>;
 
 /// Values, in order.
 pub type Values = Items<Value>;
+
+/// The value behind a pointer of its own, as a case has its payload.
+pub fn boxed(alloc: Global, value: Value) -> Result<Box<Value>, OutOfMemory>
+    ensures { IfOk result (λ made. made.value ≡ value) }
+{
+    Ok(Box::new(alloc, value)?)
+}

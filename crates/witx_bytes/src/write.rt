@@ -1,3 +1,5 @@
+//! A value's image, written into a memory of bytes.
+
 ghost use Rattle.std.specs.Prelude.{◌≡◌, ◌+◌, ◌^◌, ◌<◌, ◌≤◌, ℕ, true, List, map};
 ghost use Rattle.witx_ast.specs.Plain.{plain, Plain, list_of, pointer_to, const_pointer_to, handle, builtin, record_of, variant_of};
 ghost use Rattle.witx_ast.specs.Views.{tree_of, datatype_tree, record_tree, variant_tree, members_plain, cases_plain};
