@@ -1,4 +1,5 @@
 pub mod Texts
+pub mod Copied
 pub mod CopyLemmas
 pub mod PlacementLemmas
 pub mod AnswerLemmas

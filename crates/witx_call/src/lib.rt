@@ -4,6 +4,7 @@
 
 mod answering;
 mod call_seen;
+mod copies;
 mod giving;
 mod line;
 mod placement;
@@ -13,6 +14,7 @@ mod word;
 
 pub use answering::outcome_seen;
 pub use call_seen::{Invoked, Placed, PlacedRanges, Words};
+pub use copies::{copied_ranges_are_equal, copied_words_are_equal};
 pub use line::behind_line;
 pub use placement::Placement;
 pub use range::Range;

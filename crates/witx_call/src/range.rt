@@ -1,3 +1,5 @@
+//! A range of bytes that was given for a type.
+
 ghost use Rattle.std.specs.Prelude.{◌≡◌};
 ghost use Rattle.witx_ast.specs.Plain.{plain};
 ghost use Rattle.witx_ast.specs.Views.{named_tree};
