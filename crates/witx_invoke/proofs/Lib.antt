@@ -25,4 +25,5 @@ pub mod PutLemmas
 pub mod ExceptLemmas
 pub mod InvokeLemmas
 pub mod FlagLemmas
+pub mod FlagNumbers
 pub mod LoadLemmas

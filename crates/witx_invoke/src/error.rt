@@ -1,3 +1,5 @@
+//! Why lines give no values, and why a call isn't run.
+
 ghost use Rattle.std.specs.Prelude.{◌≡◌};
 
 use witx_base::OutOfMemory;

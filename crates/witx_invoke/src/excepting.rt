@@ -83,7 +83,7 @@ fn has_zero_word(value: &Value) -> bool
 
 /// Whether no flag is set.
 #[tactic(auto, using(crate::proofs::ExceptLemmas::flag_rules))]
-fn is_none_set(flags: &[bool]) -> bool
+pub(crate) fn is_none_set(flags: &[bool]) -> bool
     ensures { result ≡ nat_eq (bits_of_flags flags.now) 0 }
 {
     for flag in flags {

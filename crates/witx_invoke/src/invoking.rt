@@ -63,18 +63,18 @@ pub fn invoke(
 /// The same of two traces of a function of a module.
 fn invoke_traces(
     alloc: Global,
-    module: &Id,
+    owner: &Id,
     func: &InterfaceFunc,
     caller: &Events,
     callee: &Events,
     args: &[Value],
     reply: Option<&Value>,
 ) -> Result<Invoked, InvokeError>
-    requires { CanRun «module».now (called func.now) (map event_of caller.now) (map event_of callee.now) (map seen args.now) (reply_of seen reply) }
+    requires { CanRun owner.now (called func.now) (map event_of caller.now) (map event_of callee.now) (map seen args.now) (reply_of seen reply) }
     ensures answer { IfOk result
-        (IsAnswer «module».now (called func.now) (map event_of caller.now) (map event_of callee.now) (map seen args.now) (reply_of seen reply.entry)) }
+        (IsAnswer owner.now (called func.now) (map event_of caller.now) (map event_of callee.now) (map seen args.now) (reply_of seen reply.entry)) }
     ensures refused { IfErr result
-        (Refuses «module».now (called func.now) (map event_of caller.now) (map event_of callee.now) (map seen args.now) (reply_of seen reply.entry)) }
+        (Refuses owner.now (called func.now) (map event_of caller.now) (map event_of callee.now) (map seen args.now) (reply_of seen reply.entry)) }
 {
     if is_excepted(func.abi, reply) {
         return Err(InvokeError::ZeroError);
@@ -82,7 +82,7 @@ fn invoke_traces(
     if are_too_many(caller.len(), callee.len()) {
         return Err(InvokeError::NoRoom);
     }
-    let run = run_stated(alloc, module, func, caller, callee, args, reply)?;
+    let run = run_stated(alloc, owner, func, caller, callee, args, reply)?;
     answer(alloc, run)
 }
 
@@ -96,7 +96,7 @@ fn are_too_many(caller: usize, callee: usize) -> bool
 /// Runs the two traces, from a memory that is empty.
 fn run_stated(
     alloc: Global,
-    module: &Id,
+    owner: &Id,
     func: &InterfaceFunc,
     caller: &Events,
     callee: &Events,
@@ -104,11 +104,11 @@ fn run_stated(
     reply: Option<&Value>,
 ) -> Result<Run<Value, Word, Placement>, OutOfMemory>
     ensures { IfOk result (λ run. run_of seen word_of room_of run
-        ≡ stated_run «module».now (called func.now) (map event_of caller.now) (map event_of callee.now) (map seen args.now) (reply_of seen reply.entry)) }
+        ≡ stated_run owner.now (called func.now) (map event_of caller.now) (map event_of callee.now) (map seen args.now) (reply_of seen reply.entry)) }
 {
     let domain = ByteDomain { alloc };
     let memory = Placement::new(alloc);
     run_traces(
-        alloc, &domain, module, func, caller, callee, args, reply, memory,
+        alloc, &domain, owner, func, caller, callee, args, reply, memory,
     )
 }

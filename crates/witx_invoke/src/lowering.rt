@@ -1,7 +1,7 @@
-//! The one word of a value, by a conversion. Where that word is no number of the program's, as that of more
-//! than 64 flags, it is refused as want of memory.
+//! The one word of a value, by a conversion. Where that word is no number of the program's, as that of flags
+//! of which one from 64 on is set, it is refused as want of memory.
 
-ghost use Rattle.std.specs.Prelude.{◌≡◌, IfOk, Some, option_map};
+ghost use Rattle.std.specs.Prelude.{◌≡◌, ◌≤◌, ◌^◌, IfOk, MatchOption, Some, option_map};
 ghost use Rattle.witx_ast.specs.ValueTests.{in_range as is_in_range};
 ghost use Rattle.witx_ast.specs.Views.{named_tree};
 ghost use Rattle.witx_machine.specs.Cells.{cells};
@@ -11,6 +11,7 @@ ghost use Rattle.witx_invoke.specs.Representing.{flags_in_word};
 ghost use Rattle.witx_call.specs.WordViews.{word_of};
 
 use crate::builtins::word_bits;
+use crate::excepting::is_none_set;
 use crate::kinds::{flags_repr, repr_word_type};
 use crate::word_parts::i32_word;
 use witx_ast::{BuiltinType, IntRepr, NamedType};
@@ -194,11 +195,27 @@ fn flags_word(repr: IntRepr, value: &Value) -> Result<Option<Word>, OutOfMemory>
 fn flags_number(repr: IntRepr, flags: &[bool]) -> Result<Option<Word>, OutOfMemory>
     ensures { IfOk result (λ word. option_map word_of word ≡ Some (record { type = type_of_word repr; bits = bits_of_flags flags.now })) }
 {
-    if flags.len() > 64 {
-        return Err(OutOfMemory);
+    match bits_of(flags) {
+        Some(bits) => Ok(Some(Word {
+            ty: repr_word_type(repr),
+            bits,
+        })),
+        None => Err(OutOfMemory),
     }
-    Ok(Some(Word {
-        ty: repr_word_type(repr),
-        bits: flag_bits(flags),
-    }))
+}
+
+/// The number of any flags; none exactly where one from 64 on is set.
+#[tactic(auto, using(crate::proofs::FlagNumbers::number_rules))]
+fn bits_of(flags: &[bool]) -> Option<u64>
+    ensures { MatchOption result (2 ^ 64 ≤ bits_of_flags flags.now) (λ bits. bits ≡ bits_of_flags flags.now) }
+{
+    if flags.len() <= 64 {
+        return Some(flag_bits(flags));
+    }
+    let (low, high) = flags.split_at(64);
+    if is_none_set(high) {
+        Some(flag_bits(low))
+    } else {
+        None
+    }
 }

@@ -2,18 +2,16 @@
 
 ghost use Rattle.std.specs.Prelude.{◌≡◌, IfOk, Some, option_map};
 ghost use Rattle.witx_ast.specs.Views.{tree_of};
-ghost use Rattle.witx_machine.specs.Functions.{name_of};
 ghost use Rattle.witx_machine.specs.Cells.{cells, picked as picked_case};
 ghost use Rattle.witx_bytes.specs.Seen.{seen, seen_in};
-ghost use Rattle.witx_run.specs.Views.{name_tree, picked_of, type_tree};
+ghost use Rattle.witx_run.specs.Views.{picked_of, type_tree};
 ghost use Rattle.witx_invoke.specs.Picking.{case_picked};
 
 use std::boxed::Box;
-use std::rc::Rc;
-use witx_ast::{NamedType, TypeRef};
+use witx_ast::TypeRef;
 use witx_base::OutOfMemory;
 use witx_bytes::{Value, is_value};
-use witx_run::Picked;
+use witx_run::{Picked, name_of};
 
 /// Which case a result has, whose cases carry these types; none where what it carries isn't of the
 /// case's type.
@@ -93,20 +91,9 @@ fn pick_value(
         drop(value);
         return Ok(None);
     }
-    let name = type_name(ty)?;
+    let name = name_of(ty)?;
     Ok(Some(Picked {
         error,
         payload: Some((Box::into_inner(value), name)),
     }))
-}
-
-/// The named type, where the type is a name.
-#[tactic(auto, using(crate::proofs::PickLemmas::pick_rules))]
-pub(crate) fn type_name(ty: &TypeRef) -> Result<Option<Rc<NamedType>>, OutOfMemory>
-    ensures { IfOk result (λ named. name_tree named ≡ name_of (tree_of ty.now)) }
-{
-    match ty {
-        TypeRef::Name(named) => Ok(Some(Rc::clone(named)?)),
-        TypeRef::Value(_) => Ok(None),
-    }
 }

@@ -3,7 +3,7 @@
 //! A number is as many digits as stand there, so that `05` is read as 5: whether the text is that of
 //! the value is seen afterwards, when the value's text is compared with it.
 
-ghost use Rattle.std.specs.Prelude.{◌≡◌, ℕ, List, true, IfOk, Some, None, option_and_then};
+ghost use Rattle.std.specs.Prelude.{◌≡◌, ℕ, List, true, Some, None, option_and_then};
 ghost use Rattle.witx_ast.specs.Plain.{plain, builtin, handle, list_of, pointer_to, const_pointer_to, record_of, all_bare};
 ghost use Rattle.witx_ast.specs.Views.{tree_of, datatype_tree, record_tree, variant_tree, members_plain, cases_plain};
 ghost use Rattle.witx_ast.specs.declared.types.IntRepr.{IntRepr};
@@ -15,12 +15,10 @@ ghost use Rattle.witx_invoke.specs.Reading.{Payloads, after, case_behind, cases_
 use crate::flags::read_flags;
 use crate::heads::{after, item_start, read_index, read_signed, read_word};
 use std::alloc::Global;
-use std::boxed::Box;
 use witx_ast::{
     BuiltinType, Case, Datatype, RecordDatatype, RecordKind, RecordMember, TypeRef, Variant,
 };
-use witx_base::OutOfMemory;
-use witx_bytes::{ReadError, Value, Values};
+use witx_bytes::{ReadError, Value, Values, are_bare, boxed};
 
 /// The value at the head, and what follows it.
 #[cycle(reading)]
@@ -244,25 +242,6 @@ fn read_payload<'a>(
         Some(ty) => read_type(alloc, ty, text),
         None => Err(ReadError::NoValue),
     }
-}
-
-fn boxed(alloc: Global, value: Value) -> Result<Box<Value>, OutOfMemory>
-    ensures { IfOk result (λ made. made.value ≡ value) }
-{
-    Ok(Box::new(alloc, value)?)
-}
-
-/// Whether no case has a payload.
-#[tactic(auto, using(witx_bytes::proofs::Belonging::loop_rules))]
-fn are_bare(cases: &[Case]) -> bool
-    ensures { result ≡ all_bare (cases_plain cases.now) }
-{
-    for case in cases {
-        if case.tref.is_some() {
-            return false;
-        }
-    }
-    true
 }
 
 #[tactic(auto, using(crate::proofs::ReadParts::scalar_rules))]
