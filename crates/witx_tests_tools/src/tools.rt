@@ -60,12 +60,7 @@ fn run_all_on(
 pub type Fails = (&'static [u64], &'static [u64], &'static [u64]);
 
 /// A run over a source that gives 50 bytes a call, and sinks that take 10.
-fn run_failing(
-    alloc: Global,
-    line: &str,
-    bundle: &str,
-    fails: Fails,
-) -> Result<Gave, OutOfMemory> {
+fn run_failing(alloc: Global, line: &str, bundle: &str, fails: Fails) -> Result<Gave, OutOfMemory> {
     let out = sink_of(alloc, 10, fails.1)?;
     let err = sink_of(alloc, 10, fails.2)?;
     let source = source_of(alloc, bundle.as_bytes(), 50, fails.0)?;
