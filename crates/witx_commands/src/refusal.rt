@@ -82,7 +82,7 @@ fn bundle_text(alloc: Global, error: BundleError) -> Result<Text, OutOfMemory>
 }
 
 /// Why a run has no output.
-#[derive(Drop)]
+#[derive(PartialEq, Eq, Drop)]
 pub enum Stop {
     Refused(Refusal),
     OutOfMemory,

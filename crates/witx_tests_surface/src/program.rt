@@ -3,8 +3,9 @@
 use crate::bounds::{equal, error, is};
 use std::alloc::Global;
 use witx::{
-    AdaptError, Adapted, AdaptedFuncs, Bundle, BundleError, InputError, Ran, WitxError, adapt,
-    has_form, listing, parse, parse_witx_with, put_text, read_bundle, run, sample_bundle, summary,
+    AdaptError, Adapted, AdaptedFuncs, Bundle, BundleError, InputError, Ran, Stop, WitxError,
+    adapt, has_form, listing, parse, parse_witx_with, put_text, read_bundle, run, sample_bundle,
+    summary,
 };
 use witx_ast::Document;
 use witx_base::{Failed, MemSink, MemSource, OutOfMemory, Text, WitxPath};
@@ -47,4 +48,5 @@ pub fn program() {
     is::<fn(Global, &mut MemSource) -> Result<MockFs, InputError>>(read_bundle::<MemSource>);
     is::<fn(&mut MemSink, &str) -> Result<(), Failed>>(put_text::<MemSink>);
     equal::<InputError>();
+    equal::<Stop>();
 }
