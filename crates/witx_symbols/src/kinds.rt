@@ -143,10 +143,10 @@ fn is_flags(word: WasmType, datatype: &Datatype) -> bool
 }
 
 #[tactic(auto, using(crate::proofs::KindLemmas::kind_rules))]
-fn is_flags_record(word: WasmType, record: &RecordDatatype) -> bool
-    ensures { result ≡ is_flags_type word (plain (record_tree record.now)) }
+fn is_flags_record(word: WasmType, members: &RecordDatatype) -> bool
+    ensures { result ≡ is_flags_type word (plain (record_tree members.now)) }
 {
-    match record.kind {
+    match members.kind {
         RecordKind::Bitflags(repr) => same_type(word, WasmType::from(repr)),
         RecordKind::Tuple | RecordKind::Other => false,
     }
