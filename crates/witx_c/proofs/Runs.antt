@@ -75,6 +75,12 @@ five-three status f e = cc
 three-zero : (status : ℕ) → status ≡ 3 → status ≡ 0 → ⊥
 three-zero status e z = cc
 
+three-one : (status : ℕ) → status ≡ 3 → status ≡ 1 → ⊥
+three-one status e o = cc
+
+three-six : (status : ℕ) → status ≡ 3 → status ≡ 6 → ⊥
+three-six status e s = cc
+
 three-two : (status : ℕ) → status ≡ 3 → status ≡ 2 → ⊥
 three-two status e t = cc
 
@@ -86,24 +92,24 @@ told-three : (status : ℕ) → status ≡ 3 → IsTold status
 told-three status e = (λ z. three-zero status e z, λ f. three-four status e f, λ f. five-three status f e)
 
 bundle-three : (b : BundleError) → status_of (refusal.Bundle b) ≡ 3 → ⊥
-bundle-three bundle.TooLong e = cc
-bundle-three (bundle.NotUtf8 at) e = cc
-bundle-three (bundle.BeforeFirst at) e = cc
-bundle-three bundle.OutOfMemory e = cc
+bundle-three bundle.TooLong e = three-six 6 e refl
+bundle-three (bundle.NotUtf8 at) e = three-six 6 e refl
+bundle-three (bundle.BeforeFirst at) e = three-six 6 e refl
+bundle-three bundle.OutOfMemory e = five-three 5 refl e
 
 -- and only where the reading broke off
 cause-three : (words : List (List ℕ)) (source : SourceSeen) (r : Refusal) → (BrokeOff source → ⊥) → status_of r ≡ 3 → Cause (run_over words source) r → ⊥
-cause-three words source refusal.Usage none e c = absurd (cc)
+cause-three words source refusal.Usage none e c = three-two 2 e refl
 cause-three words source refusal.Source none e c = none c.1
 cause-three words source (refusal.Bundle b) none e c = bundle-three b e
-cause-three words source (refusal.Command report) none e c = absurd (cc)
+cause-three words source (refusal.Command report) none e c = three-one 1 e refl
 
 tool-cause-three : (t : Tool) (words : List (List ℕ)) (source : SourceSeen) (r : Refusal) → (BrokeOff source → ⊥) → status_of r ≡ 3
     → ToolCause (tool_over t words source) r → ⊥
-tool-cause-three t words source refusal.Usage none e c = absurd (cc)
+tool-cause-three t words source refusal.Usage none e c = c
 tool-cause-three t words source refusal.Source none e c = none c
 tool-cause-three t words source (refusal.Bundle b) none e c = bundle-three b e
-tool-cause-three t words source (refusal.Command report) none e c = absurd (cc)
+tool-cause-three t words source (refusal.Command report) none e c = three-one 1 e refl
 
 five-four : (status : ℕ) → status ≡ 5 → status ≡ 4 → ⊥
 five-four status f z = cc
@@ -117,6 +123,9 @@ taken-apart : (words : List (List ℕ)) (input out : List ℕ) (adapted : Option
     → (a : Adapted) × IsListed words input out a
 taken-apart words input out None is l d f y t = let no : false ≡ true = is in absurd (cc)
 taken-apart words input out (Some a) is l d f y t = (a, record { listing = l; document = d; functions = f; layouts = y; faithful = t })
+
+some-is : (form : Option Command) (c : Command) → form ≡ Some c → IsSome form
+some-is form c f = rw f refl
 
 usage-or : (status : ℕ) (P Q : Type 0) → (status ≡ 4 → ⊥) → (status ≡ 2 → P × Q) → (status ≡ 2) ⊎ (status ≡ 4) → ((status ≡ 2) × P × Q) ⊎ (status ≡ 5)
 usage-or status P Q not4 h (inl e) = let pq = h e in inl (e, pq.0, pq.1)
@@ -165,7 +174,7 @@ module _ (words : List (List ℕ)) (input : List ℕ) (status : ℕ) where
 
     -- the source never failed
     pick-three : (form : Option Command) → command_of words ≡ form → (tool : Option Tool) → tool_of words ≡ tool → status ≡ 3 → ⊥
-    pick-three (Some c) f tool t e = command-three (subst (λ o. IsSome o) (sym f) refl) e
+    pick-three (Some c) f tool t e = command-three (some-is (command_of words) c f) e
     pick-three None f (Some tool) t e = tool-three tool t e
     pick-three None f None t e = usage-three (h.usage f t) e
 
