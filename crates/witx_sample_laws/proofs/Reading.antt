@@ -243,4 +243,4 @@ pub sample_reads : (n : ℕ) → n ≤ 2 ^ 64 → (is : List NotedItem) × Reads
 sample_reads n l =
     let lexed = body_tokens n l in
     let read = sample_document n lexed.0 lexed.2 in
-    (read.0, record { tokens = lexed.0; lexed = lexed.1; document = read.1 }, read.2)
+    (read.0, record { tokens = lexed.0; lexed = lexed.1; parsed = read.1 }, read.2)
