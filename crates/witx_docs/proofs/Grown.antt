@@ -25,8 +25,6 @@ parents-followed n p (node c below next) g =
     let h = parents-followed ((n + 1) + node_count below) p next g in
     rw (h, e) (ap (λ ps. Some p ∷ ps) (sym (append_assoc (parents_from (n + 1) n below) (parents_from ((n + 1) + node_count below) p next) (parents_from (n + ((node_count below + node_count next) + 1)) p g))))
 
-unfolding sprouted
-
 followed-end : (f : Forest) → followed_by f no_nodes ≡ f
 followed-end no_nodes = refl
 followed-end (node c below next) = ap (λ n. node c below n) (followed-end next)
