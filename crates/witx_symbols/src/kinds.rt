@@ -182,10 +182,10 @@ fn is_datatype_by_address(datatype: &Datatype) -> bool
 }
 
 #[tactic(auto, using(crate::proofs::KindLemmas::kind_rules))]
-fn is_record_by_address(record: &RecordDatatype) -> bool
-    ensures { result ≡ by_address (plain (record_tree record.now)) }
+fn is_record_by_address(members: &RecordDatatype) -> bool
+    ensures { result ≡ by_address (plain (record_tree members.now)) }
 {
-    match record.kind {
+    match members.kind {
         RecordKind::Bitflags(_) => false,
         RecordKind::Tuple | RecordKind::Other => true,
     }
