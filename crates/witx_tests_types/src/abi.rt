@@ -1,12 +1,18 @@
-//! Signatures and events of functions, calls of the generator that fail, and functions that can't be
-//! lowered.
+//! Signatures and events of functions, calls of the generator that fail, the order of operands, and functions
+//! that can't be lowered.
+
+ghost use Rattle.std.specs.Prelude.{◌≡◌, [], None, OnOk, is_some, vec_len};
+ghost use Rattle.witx_machine.specs.Events.{finish};
+ghost use Rattle.witx_instructions.specs.Handed.{ended};
+ghost use Rattle.witx_instructions.specs.Told.{Counts, is_fault, told_after};
 
 use std::alloc::Global;
+use std::rc::Rc;
 use witx_abi::{
-    AbiError, AbiFunc, Event, Events, FailingBindgen, Place, SignatureError, Step, Trace, WasmType,
-    lowerable,
+    AbiError, AbiFunc, Bindgen, BindgenError, Event, Events, FailingBindgen, Instruction, Place,
+    SignatureError, Step, Trace, WasmType, lowerable,
 };
-use witx_ast::{Abi, InterfaceFunc};
+use witx_ast::{Abi, InterfaceFunc, NamedType};
 use witx_base::{Duplicate, Id, Items, OutOfMemory, Text};
 use witx_fixtures::calls_of;
 use witx_fixtures_run::func_of;
@@ -86,11 +92,11 @@ const GIVES_TWO: &str = r#"
 const CALLS: &[(&str, usize, usize)] = &[(READS, 15, 15), (GIVES_TWO, 18, 15)];
 
 /// The events of the caller, or those of the callee.
-fn play(
+fn play<B: Bindgen>(
     alloc: Global,
     func: &InterfaceFunc,
     is_caller: bool,
-    bindgen: &mut FailingBindgen,
+    bindgen: &mut B,
 ) -> Result<(), AbiError> {
     let module = module(alloc)?;
     if is_caller {
@@ -165,6 +171,141 @@ fn all_fail(alloc: Global) -> bool {
 #[test]
 fn a_failed_call_stops_the_events(rt: HostRuntime) {
     assert!(rt; all_fail(rt.alloc()));
+}
+
+/// WASI's function that opens a file: a handle, flags of three widths and a text in.
+const OPENS: &str = r#"
+(typename $errno (enum $success $badf))
+(typename $fd (handle))
+(typename $lookupflags (flags (@witx repr u32) $follow))
+(typename $oflags (flags (@witx repr u16) $creat))
+(typename $rights (flags (@witx repr u64) $read))
+(typename $fdflags (flags (@witx repr u16) $append))
+(module $m
+    (@interface func (export "path_open")
+        (param $fd $fd) (param $dirflags $lookupflags) (param $path string) (param $oflags $oflags)
+        (param $base $rights) (param $inheriting $rights) (param $fdflags $fdflags)
+        (result $r (expected $fd (error $errno)))))"#;
+
+/// Texts, with the operands that each call of a generator is handed where each result gets the next number:
+/// of the caller's calls, and of the callee's. A call ends with `;`.
+const ORDERS: &[(&str, &str, &str)] = &[
+    (
+        READS,
+        "; 0;;; 1 2 3;;; 5; 6;;; 7; 8; 4; 9;",
+        ";; 0 1; 2;;;; 4 5;;;; 6; 7; 3; 8;",
+    ),
+    (
+        GIVES_TWO,
+        ";;;; 0 1;;; 3;; 5; 4 6; 7;;; 8; 9; 2; 10;",
+        ";;; 1;; 3 4;; 2 5;;;; 6; 7; 0; 8;",
+    ),
+    (
+        OPENS,
+        "; 0;; 2;; 4;; 7;; 9;; 11;; 13;;; 1 3 5 6 8 10 12 14 15;;; 17; 18;;; 19; 20; 16; 21;",
+        "; 0;; 2;;; 4 5;; 7;; 9;; 11;; 13; 1 3 6 8 10 12 14;;;; 16 17;;;; 18; 19; 15; 20;",
+    ),
+];
+
+/// A generator whose operands are numbers: each result gets the next one.
+#[derive(Drop)]
+struct Numbered {
+    /// The number of the next result.
+    next: u32,
+    /// The operands of each call, in order.
+    handed: String,
+}
+
+impl Numbered {
+    fn put(&mut self, operands: &[u32]) -> Result<(), OutOfMemory> {
+        for operand in operands {
+            let number = *operand;
+            write!(self.handed, " {number}")?;
+        }
+        self.handed.push_str(";")?;
+        Ok(())
+    }
+}
+
+/// Pushes so many numbers, from this one on.
+fn push_numbers(results: &mut Vec<u32>, first: u32, count: usize) -> Result<(), OutOfMemory>
+    requires { results.old.items ≡ [] }
+    ensures { OnOk result (vec_len results.new ≡ count) }
+{
+    for i in 0..count {
+        results.push(first.wrapping_add(i as u32))?;
+    }
+    Ok(())
+}
+
+impl Bindgen for Numbered {
+    type Operand = u32;
+
+    ghost told = { λ _. None };
+
+    ghost calls = { λ _. None };
+
+    ghost faults = { λ _. 0 };
+
+    fn emit(
+        &mut self,
+        inst: &Instruction<'_>,
+        operands: &mut Vec<u32>,
+        results: &mut Vec<u32>,
+    ) -> Result<(), BindgenError> {
+        self.put(operands.as_slice())?;
+        push_numbers(results, self.next, inst.results_len())?;
+        self.next = self.next.wrapping_add(inst.results_len() as u32);
+        Ok(())
+    }
+
+    fn allocate_space(&mut self, _slot: usize, _ty: &Rc<NamedType>) -> Result<(), BindgenError> {
+        Ok(self.put(&[])?)
+    }
+
+    fn push_block(&mut self) -> Result<(), BindgenError> {
+        Ok(self.put(&[])?)
+    }
+
+    fn finish_block(&mut self, operand: Option<u32>) -> Result<(), BindgenError>
+        ensures event { None ≡ told_after result (finish (is_some operand)) None }
+        ensures call { None ≡ told_after result (ended operand) None }
+        ensures cause { Counts (is_fault result) 0 0 }
+    {
+        match operand {
+            Some(operand) => Ok(self.put(&[operand])?),
+            None => Ok(self.put(&[])?),
+        }
+    }
+}
+
+/// Whether the calls are handed these operands.
+fn hands(alloc: Global, func: &InterfaceFunc, is_caller: bool, order: &str) -> bool {
+    let mut numbered = Numbered {
+        next: 0,
+        handed: String::new(alloc),
+    };
+    let answer = play(alloc, func, is_caller, &mut numbered);
+    answer.is_ok() && numbered.handed.as_str() == order
+}
+
+fn text_hands(alloc: Global, text: &str, caller: &str, callee: &str) -> bool {
+    func_of(alloc, text).is_some_and(|func| hands(alloc, &func, true, caller)
+        && hands(alloc, &func, false, callee))
+}
+
+fn all_hand(alloc: Global) -> bool {
+    for (text, caller, callee) in ORDERS {
+        if !text_hands(alloc, text, caller, callee) {
+            return false;
+        }
+    }
+    true
+}
+
+#[test]
+fn operands_are_handed_in_order(rt: HostRuntime) {
+    assert!(rt; all_hand(rt.alloc()));
 }
 
 /// A pair is no parameter.
