@@ -6,5 +6,5 @@ use Rattle.witx_verify.proofs.verifying.first_doubt.Given as goal
 
 abbrev pub invariant-loop-world : goal.invariant-loop-world
 invariant-loop-world l =
-    first_doubt (worlds_read l.worlds) l.module (called l.func) (map event_of l.caller) (map event_of l.callee)
-    ≡ first_doubt (worlds_read (drop l.world-index l.worlds)) l.module (called l.func) (map event_of l.caller) (map event_of l.callee)
+    first_doubt (worlds_read l.worlds) l.module_name (called l.func) (map event_of l.caller) (map event_of l.callee)
+    ≡ first_doubt (worlds_read (drop l.world-index l.worlds)) l.module_name (called l.func) (map event_of l.caller) (map event_of l.callee)
