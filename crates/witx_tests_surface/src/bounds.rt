@@ -1,12 +1,9 @@
-//! What a row of the tables asks of a call, or of a type.
+//! What a row of the tables asks of a type.
 
 use std::error::Error;
 use std::fmt::{Debug, Display};
 use std::hash::Hash;
 use witx_base::Duplicate;
-
-/// The call has this type: its parameters and its answer.
-pub fn is<F: Copy>(_call: F) {}
 
 /// `Display`.
 pub fn displayed<T: Display>() {}

@@ -1,8 +1,7 @@
-//! The public surface, crate by crate: each call with its parameters and its answer, and what each type
-//! derives.
+//! The public surface, crate by crate: each type and call by its name, and what each type derives.
 //!
-//! Nothing here runs. Each function is a table whose rows name a call at the type that it is to have, or a
-//! type under the bounds that it is to meet, so that the crate is proved only where all rows hold.
+//! Nothing here runs. An import names what is there, and each function is a table whose rows put a type
+//! under the bounds that it is to meet, so that the crate is proved only where all rows hold.
 #![tactic(auto)]
 
 mod bounds;

@@ -1,6 +1,6 @@
 //! The surface of the crates that read one text: `witx_base`, `witx_lex`, `witx_syntax`, `witx_files`.
 
-use crate::bounds::{copied, equal, error, hashed, is, ordered, plain};
+use crate::bounds::{copied, equal, error, hashed, ordered, plain};
 use std::alloc::Global;
 use witx_base::{
     Bytes, Calls, Failed, Id, Items, MemSink, MemSource, NameMap, OutOfMemory, Sink, Source, Text,
@@ -21,17 +21,6 @@ use witx_syntax::{
 
 /// Texts, names, paths, and the devices in memory.
 pub fn base() {
-    is::<fn(Global, &str) -> Result<Text, OutOfMemory>>(Text::new);
-    is::<fn(&Text) -> &str>(Text::as_str);
-    is::<fn(&Text) -> usize>(Text::len);
-    is::<fn(Global, &str) -> Result<Id, OutOfMemory>>(Id::new);
-    is::<fn(&Id) -> &str>(Id::as_str);
-    is::<fn(&Id, &str) -> bool>(Id::is);
-    is::<fn(Global, &str) -> Result<WitxPath, OutOfMemory>>(WitxPath::new);
-    is::<fn(&WitxPath) -> &str>(WitxPath::as_str);
-    is::<fn(&WitxPath) -> Result<Option<WitxPath>, OutOfMemory>>(WitxPath::parent);
-    is::<fn(&WitxPath) -> Option<&str>>(WitxPath::file_name);
-    is::<fn(&WitxPath, &WitxPath) -> Result<WitxPath, OutOfMemory>>(WitxPath::join);
     ordered::<Text>();
     ordered::<WitxPath>();
     hashed::<Id>();
@@ -41,24 +30,6 @@ pub fn base() {
     equal::<Failed>();
 }
 
-/// Any list and any map of names; the source and the sink in memory.
-pub fn collections() {
-    is::<fn(Global) -> Items<u8>>(Items::<u8>::new);
-    is::<fn(&mut Items<u8>, u8) -> Result<(), OutOfMemory>>(Items::<u8>::push);
-    is::<fn(&Items<u8>) -> usize>(Items::<u8>::len);
-    is::<fn(&Items<u8>, usize) -> Option<&u8>>(Items::<u8>::get);
-    is::<fn(Global) -> NameMap<Id>>(NameMap::<Id>::new);
-    is::<for<'a> fn(&'a NameMap<Id>, &Id) -> Option<&'a Id>>(NameMap::<Id>::get);
-    is::<fn(&mut NameMap<Id>, Id, Id) -> Result<(), OutOfMemory>>(NameMap::<Id>::insert);
-    is::<fn(Bytes, usize, Calls) -> MemSource>(MemSource::new);
-    is::<fn(&MemSource) -> u64>(MemSource::faults);
-    is::<fn(&mut MemSource, &mut [u8]) -> Result<usize, Failed>>(<MemSource as Source>::read);
-    is::<fn(Global, usize, usize, Calls) -> Result<MemSink, OutOfMemory>>(MemSink::new);
-    is::<fn(&MemSink) -> &[u8]>(MemSink::bytes);
-    is::<fn(&MemSink) -> u64>(MemSink::faults);
-    is::<fn(&mut MemSink, &[u8]) -> Result<usize, Failed>>(<MemSink as Sink>::write);
-}
-
 /// The token of a quoted text owns the text.
 pub fn quoted(text: Text) -> Token<'static> {
     Token::Quoted(text)
@@ -66,8 +37,6 @@ pub fn quoted(text: Text) -> Token<'static> {
 
 /// Tokens, faults of texts, and places.
 pub fn tokens() {
-    is::<for<'a> fn(Global, &'a str) -> Result<Tokens<'a>, LexError>>(lex);
-    is::<fn(&str, usize) -> (usize, usize)>(line_column);
     equal::<Span>();
     equal::<Token<'static>>();
     equal::<Lexed<'static>>();
@@ -80,7 +49,6 @@ pub fn tokens() {
 
 /// Syntax trees, and the parser.
 pub fn syntax() {
-    is::<for<'a> fn(Global, &'a str) -> Result<TopLevelDocument<'a>, SyntaxError>>(parse_document);
     plain::<IdSyntax<'static>>();
     plain::<BuiltinSyntax>();
     plain::<HandleSyntax>();
@@ -129,20 +97,6 @@ pub fn syntax_lists() {
 
 /// Files in memory, places in them, and what a reader of files answers.
 pub fn files() {
-    is::<fn(Global) -> MockFs>(MockFs::new);
-    is::<fn(&mut MockFs, WitxPath, Text) -> Result<(), OutOfMemory>>(MockFs::insert);
-    is::<fn(&mut MockFs, Global, &WitxPath) -> Result<Text, IoError>>(<MockFs as WitxIo>::fgets);
-    is::<fn(&mut MockFs, Global, &WitxPath, usize) -> Result<Text, IoError>>(
-        <MockFs as WitxIo>::fget_line,
-    );
-    is::<fn(&mut MockFs, Global, &WitxPath) -> Result<WitxPath, IoError>>(
-        <MockFs as WitxIo>::canonicalize,
-    );
-    is::<fn(MockFs, Aliases, Calls) -> FailingFs>(FailingFs::new);
-    is::<fn(&FailingFs) -> u64>(FailingFs::faults);
-    is::<fn(&Location, Global, &mut MockFs) -> Result<Text, OutOfMemory>>(
-        Location::highlight_source_with::<MockFs>,
-    );
     copied::<Location>();
     copied::<Aliases>();
     equal::<IoError>();

@@ -211,13 +211,13 @@ const ORDERS: &[(&str, &str, &str)] = &[
 #[derive(Drop)]
 struct Numbered {
     /// The number of the next result.
-    next: u32,
+    next: usize,
     /// The operands of each call, in order.
     handed: String,
 }
 
 impl Numbered {
-    fn put(&mut self, operands: &[u32]) -> Result<(), OutOfMemory> {
+    fn put(&mut self, operands: &[usize]) -> Result<(), OutOfMemory> {
         for operand in operands {
             let number = *operand;
             write!(self.handed, " {number}")?;
@@ -228,18 +228,18 @@ impl Numbered {
 }
 
 /// Pushes so many numbers, from this one on.
-fn push_numbers(results: &mut Vec<u32>, first: u32, count: usize) -> Result<(), OutOfMemory>
+fn push_numbers(results: &mut Vec<usize>, first: usize, count: usize) -> Result<(), OutOfMemory>
     requires { results.old.items ≡ [] }
     ensures { OnOk result (vec_len results.new ≡ count) }
 {
     for i in 0..count {
-        results.push(first.wrapping_add(i as u32))?;
+        results.push(first.wrapping_add(i))?;
     }
     Ok(())
 }
 
 impl Bindgen for Numbered {
-    type Operand = u32;
+    type Operand = usize;
 
     ghost told = { λ _. None };
 
@@ -250,12 +250,12 @@ impl Bindgen for Numbered {
     fn emit(
         &mut self,
         inst: &Instruction<'_>,
-        operands: &mut Vec<u32>,
-        results: &mut Vec<u32>,
+        operands: &mut Vec<usize>,
+        results: &mut Vec<usize>,
     ) -> Result<(), BindgenError> {
         self.put(operands.as_slice())?;
         push_numbers(results, self.next, inst.results_len())?;
-        self.next = self.next.wrapping_add(inst.results_len() as u32);
+        self.next = self.next.wrapping_add(inst.results_len());
         Ok(())
     }
 
@@ -267,7 +267,7 @@ impl Bindgen for Numbered {
         Ok(self.put(&[])?)
     }
 
-    fn finish_block(&mut self, operand: Option<u32>) -> Result<(), BindgenError>
+    fn finish_block(&mut self, operand: Option<usize>) -> Result<(), BindgenError>
         ensures event { None ≡ told_after result (finish (is_some operand)) None }
         ensures call { None ≡ told_after result (ended operand) None }
         ensures cause { Counts (is_fault result) 0 0 }
