@@ -1,3 +1,4 @@
+//! Copies of values where memory may be refused.
 ghost use Rattle.std.specs.Prelude.{◌≡◌, IfOk};
 ghost use Rattle.witx_base.specs.Copies.{IsCopyOfOption};
 

@@ -1,3 +1,4 @@
+//! Lists that own their items, whose contracts speak of plain lists.
 ghost use Rattle.std.specs.Prelude.{◌≡◌, ◌==◌, ◌∷◌, ◌++◌, [], length, take, is_ok, if◌then◌else◌, option_map, slice_get};
 ghost use Rattle.std.specs.List.{AllZip};
 ghost use Rattle.std.specs.Slice.Iter.{iter_rest};
@@ -127,6 +128,7 @@ impl<T: Duplicate + Drop> Duplicate for Items<T> {
 
     fn copy(&self) -> Result<Items<T>, OutOfMemory> {
         let mut copies = Items::new(self.allocator());
+        copies.reserve(self.len())?;
         for item in self.items.as_slice() {
             copies.push(item.copy()?)?;
         }

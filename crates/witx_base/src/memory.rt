@@ -1,3 +1,4 @@
+//! The two answers of any call that takes memory or asks a device: want of memory, and a failure.
 use std::alloc::{AllocError, AllocFailed};
 
 /// Memory was wanted and refused: the one answer that any call which takes memory may give.

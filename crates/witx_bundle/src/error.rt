@@ -1,3 +1,4 @@
+//! Why bytes are no bundle.
 ghost use Rattle.std.specs.Prelude.{◌≡◌};
 
 use std::alloc::AllocError;

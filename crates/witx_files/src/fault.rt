@@ -1,3 +1,4 @@
+//! Why a reader of files gives no answer, and at which path.
 ghost use Rattle.std.specs.Prelude.{◌≡◌};
 
 use std::alloc::AllocError;
