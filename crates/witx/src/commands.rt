@@ -1,4 +1,5 @@
 //! The output of each command over the files of a bundle.
+
 ghost use Rattle.std.specs.Prelude.{◌≡◌, [], IfErr, IfOk, None, Some, map};
 ghost use Rattle.witx_ast.specs.Definitions.{definition_tree};
 ghost use Rattle.witx_render.specs.DocumentTexts.{document_text};

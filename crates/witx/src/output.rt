@@ -1,4 +1,5 @@
 //! The writing of texts on sinks.
+
 ghost use Rattle.std.specs.Prelude.{◌≡◌, ◌<◌, ◌≤◌, ◌-◌, ◌⊎◌, [], OnOk, OnErr, length, drop};
 ghost use Rattle.std.specs.Io.KnownBytes.{Appends};
 ghost use Rattle.witx_base.specs.Causes.{Rose};

@@ -1,4 +1,5 @@
 //! `run`: the commands over a source and two sinks. Its clauses are the headline.
+
 ghost use Rattle.std.specs.Prelude.{◌≡◌, ◌<◌, ◌≤◌, ◌+◌, ◌⊎◌, ℕ, List, [], Option, All, None, Some, Ok, Err, IfErr, IfOk, IfSome, OnOk, IsSome, map, false, ◌==◌, if◌then◌else◌};
 ghost use Rattle.std.specs.Io.KnownBytes.{Appends};
 ghost use Rattle.witx_base.specs.Causes.{Rose};

@@ -1,4 +1,5 @@
 //! The writing of what is told of a refusal.
+
 ghost use Rattle.std.specs.Prelude.{◌≡◌, ◌<◌, ◌≤◌};
 ghost use Rattle.std.specs.Io.KnownBytes.{Appends};
 ghost use Rattle.witx_base.specs.Causes.{Rose};

@@ -1,4 +1,5 @@
 //! A copy of a type, of what it is made of, or of an item of a module equals its original.
+
 ghost use Rattle.std.specs.Prelude.{IsTrue};
 
 use crate::definition::Constant;

@@ -1,4 +1,5 @@
 //! Laws of the definitions, each the contract of a function; three of these compare their arguments, the others do nothing.
+
 ghost use Rattle.std.specs.Prelude.{◌≡◌, ◌↔◌, ◌&&◌, ◌++◌, [], List, None, map, IsTrue};
 ghost use Rattle.std.specs.Bool.{Decides};
 ghost use Rattle.std.specs.Hash as fed;

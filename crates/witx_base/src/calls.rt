@@ -1,4 +1,5 @@
 //! Which calls of a device in memory fail, and how many have.
+
 ghost use Rattle.std.specs.Prelude.{◌≡◌, ◌≤◌, is_err, OnErr};
 ghost use Rattle.witx_base.specs.Causes.{one_more, Rose};
 ghost use Rattle.witx_base.specs.Calls.{counted, fails_next, no_calls};

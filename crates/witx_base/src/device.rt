@@ -1,4 +1,5 @@
 //! The two ends of a program: a source of bytes and a sink for them, with what they count.
+
 ghost use Rattle.std.specs.Prelude.{◌≡◌, ◌<◌, ◌≤◌, ℕ, List, Option, length, take, IfOk, OnOk, OnErr};
 ghost use Rattle.std.specs.Io.KnownBytes.{Appends, Consumes, IsAtEnd, Keeps};
 ghost use Rattle.witx_base.specs.Causes.{one_more, Rose};

@@ -1,4 +1,5 @@
 //! Copies of values where memory may be refused.
+
 ghost use Rattle.std.specs.Prelude.{◌≡◌, IfOk};
 ghost use Rattle.witx_base.specs.Copies.{IsCopyOfOption};
 

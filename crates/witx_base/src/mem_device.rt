@@ -1,4 +1,5 @@
 //! Sources and sinks in memory, of which chosen calls fail.
+
 ghost use Rattle.std.specs.Prelude.{◌≡◌, ◌<◌, ◌≤◌, ◌+◌, ◌++◌, [], Some, length, take, drop, is_err, IfOk};
 ghost use Rattle.witx_base.specs.Calls.{fails_next, no_calls};
 ghost use Rattle.witx_base.specs.MemDevices.{accepted, after_read, after_write, fails_write, given};

@@ -1,4 +1,5 @@
 //! Owned texts, whose contracts speak of their bytes.
+
 ghost use Rattle.std.specs.Prelude.{◌≡◌, ◌==◌, IfOk, length, Some, refl, string_bytes};
 ghost use Rattle.std.specs.Ordering.{nat_cmp};
 ghost use Rattle.std.specs.Cmp.{partial_equiv_from_equiv};

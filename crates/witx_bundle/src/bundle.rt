@@ -1,4 +1,5 @@
 //! One text of many files: how it is cut, and why it can't be.
+
 ghost use Rattle.std.specs.Prelude.{◌≡◌, ◌≤◌, ◌^◌, [], IfOk, length};
 ghost use Rattle.witx_base.specs.Paths.{Path};
 ghost use Rattle.witx_bundle.specs.Bundles.{IsRead, is_blank, lines_of, stray, told_at, with_line};

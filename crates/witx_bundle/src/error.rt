@@ -1,4 +1,5 @@
 //! Why bytes are no bundle.
+
 ghost use Rattle.std.specs.Prelude.{◌≡◌};
 
 use std::alloc::AllocError;

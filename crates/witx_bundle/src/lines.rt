@@ -1,4 +1,5 @@
 //! The lines of a bundle: headers, and the text before the next one.
+
 ghost use Rattle.std.specs.Prelude.{◌≡◌, [], ◌∷◌, ◌++◌, IfOk, MatchOption, option_copied, Some, None, if◌then◌else◌, string_bytes, drop};
 ghost use Rattle.witx_bundle.specs.Bundles.{is_header, lines_of, path_after, text_before, without_return};
 

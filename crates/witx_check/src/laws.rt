@@ -1,4 +1,5 @@
 //! The laws that let a reader go from what a validator keeps to the positions of declarations.
+
 ghost use Rattle.std.specs.Prelude.{◌≡◌, ◌∷◌};
 ghost use Rattle.witx_scope.specs.Senses.{kept_sense};
 ghost use Rattle.witx_scope.specs.Positions.{denotes};

@@ -1,4 +1,5 @@
 //! `adapt`: the document that files mean with its layouts and traces, or the refusal that comes first.
+
 ghost use Rattle.std.specs.Prelude.{◌≡◌, All, Contains, IfErr, IfOk, List, None, Ok, OnOk, Some, map};
 ghost use Rattle.witx_base.specs.Causes.{Rose};
 ghost use Rattle.witx_base.specs.Paths.{file_name};

@@ -1,4 +1,5 @@
 //! What commands make of the files of a bundle: adapted documents with their listing or summary, and layouts.
+
 ghost use Rattle.std.specs.Prelude.{◌≡◌, ◌^◌, ◌<◌, [], All, IfErr, IfOk, None, Ok, OnOk, Some, map};
 ghost use Rattle.witx_ast.specs.Definitions.{definition_tree};
 ghost use Rattle.witx_ast.specs.Ordered.{IsOrdered};

@@ -1,4 +1,5 @@
 //! The source, read to its end or to one byte more than a bundle may have, and the files of its bundle.
+
 ghost use Rattle.std.specs.Prelude.{◌≡◌, ◌<◌, ◌≤◌, ◌+◌, [], Ok, Err, IfOk, OnOk, IfErr, length};
 ghost use Rattle.witx_base.specs.Causes.{one_more};
 ghost use Rattle.witx_commands.specs.Streams.{Finished, IsInput, TakesMore, TookAtMost, TookInput, source_seen};

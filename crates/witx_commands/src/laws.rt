@@ -1,5 +1,6 @@
 //! What the bytes of a bundle and the words decide, and what told files do, as functions that do
 //! nothing: each contract is a theorem.
+
 ghost use Rattle.witx_commands.specs.ConstantTypes.{ConstantsHaveTypenames};
 ghost use Rattle.witx_commands.specs.Laws.{OutputOrRefusal, ValidFilesAreNotRefused, ValidIsNotRefused};
 

@@ -1,4 +1,5 @@
 //! What a command is to write, and how its large value is kept or let go.
+
 ghost use Rattle.std.specs.Prelude.{◌≡◌, ◌==◌, [], None, if◌then◌else◌};
 
 use crate::status::DONE;

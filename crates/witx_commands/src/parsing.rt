@@ -1,4 +1,5 @@
 //! The document that files mean, or the end of a run over files that mean none.
+
 ghost use Rattle.std.specs.Prelude.{◌≡◌, Contains, Err, IfErr, IfOk, None, Ok, OnOk, map};
 ghost use Rattle.witx_base.specs.Paths.{file_name};
 ghost use Rattle.witx_ast.specs.Closed.{IsClosed};

@@ -1,4 +1,5 @@
 //! Why a run has no output, with its status and what is written of it.
+
 ghost use Rattle.std.specs.Prelude.{◌≡◌, ◌++◌, IfOk, codes};
 ghost use Rattle.witx_commands.specs.Stops.{StopsWith};
 ghost use Rattle.witx_commands.specs.Texts.{line, status_of, text_of};

@@ -1,4 +1,5 @@
 //! The report of files that can't be adapted, byte for byte.
+
 ghost use Rattle.std.specs.Prelude.{◌≡◌, ◌++◌, IfOk, OnOk, map, slice_get, string_bytes};
 ghost use Rattle.witx_ast.specs.Definitions.{definition_tree};
 ghost use Rattle.witx_ast.specs.Functions.{func_tree, param_field};

@@ -1,4 +1,5 @@
 //! The words of a command line: their command, and what stands behind its word.
+
 ghost use Rattle.std.specs.Prelude.{◌≡◌, IfOk, IfSome, is_some, slice_index, take, true, false};
 ghost use Rattle.std.specs.Int.{IsInRange};
 ghost use Rattle.witx_commands.specs.Words.{IsBounded, arguments_of, command_called, command_of, paths_of, polyfill_of, sample_called, sample_of};

@@ -1,4 +1,5 @@
 //! A copy of a mapping, or of what it is made of, equals its original.
+
 ghost use Rattle.std.specs.Prelude.{IsTrue};
 ghost use Rattle.witx_ast.specs.EqualCopies.{EqualCopies};
 

@@ -1,4 +1,5 @@
 //! The parameters, or the results, of two functions: those that are mapped, and those that are not.
+
 ghost use Rattle.std.specs.Prelude.{◌≡◌, List, IfOk, OnOk, map, option_map, ◌++◌, ◌∷◌, []};
 ghost use Rattle.std.specs.Option.{option_to_list};
 ghost use Rattle.witx_ast.specs.Functions.{param_field};

@@ -1,4 +1,5 @@
 //! The conversions of mapped functions, each once.
+
 ghost use Rattle.std.specs.Prelude.{◌≡◌, IfOk, OnOk, map, []};
 ghost use Rattle.std.specs.List.{flat_map};
 ghost use Rattle.witx_compat.specs.Once.{each_once, function_conversions, module_conversions};

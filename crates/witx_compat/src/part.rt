@@ -1,5 +1,6 @@
 //! Parameters, whose values go from the old function to the new one, and results, whose values come
 //! back. What gives values is the source, what receives them the target.
+
 ghost use Rattle.std.specs.Prelude.{◌≡◌, IfOk};
 ghost use Rattle.witx_ast.specs.Functions.{param_field};
 ghost use Rattle.witx_compat.specs.Halves.{pair_of, target_of, unknown_source, unknown_target};

@@ -1,4 +1,5 @@
 //! Where the last case of each name stands.
+
 ghost use Rattle.std.specs.Prelude.{◌≡◌, ℕ, List, IfOk, IfSome, ◌<◌, length};
 ghost use Rattle.witx_ast.specs.Views.{cases_plain};
 ghost use Rattle.witx_base.specs.Found.{found};

@@ -1,4 +1,5 @@
 //! The first parameter of each name, so that a name is found without a walk through all.
+
 ghost use Rattle.std.specs.Prelude.{◌≡◌, ℕ, List, IfOk, OnOk, map, is_some, None};
 ghost use Rattle.witx_ast.specs.Functions.{param_field};
 ghost use Rattle.witx_ast.specs.Same.{same_bytes};

@@ -1,6 +1,7 @@
 //! What a hasher is fed of a type: the type as it is written, part by part, and of a name its text. The
 //! hash of a type itself ends at its kind, so that all results that are written out would meet in one
 //! place, and a set would compare each with each.
+
 ghost use Rattle.std.specs.Prelude.{◌≡◌, map, option_map};
 ghost use Rattle.std.specs.List.{fold};
 ghost use Rattle.witx_ast.specs.Tree.{fields_of, arms_of};

@@ -1,4 +1,5 @@
 //! The constants of a document, by the names of their types.
+
 ghost use Rattle.std.specs.Prelude.{◌≡◌, ◌∷◌, ◌++◌, [], ℕ, List, IfOk, OnOk, map};
 ghost use Rattle.witx_ast.specs.Definitions.{definition_tree};
 ghost use Rattle.witx_markdown.specs.Constants.{constants_in};

@@ -1,4 +1,5 @@
 //! The lines of a polyfill's conversions.
+
 ghost use Rattle.std.specs.Prelude.{◌≡◌, ◌++◌, ◌&&◌, IfOk, OnOk, map, not, string_bytes};
 ghost use Rattle.std.specs.List.{filter};
 ghost use Rattle.witx_ast.specs.Views.{tree_of};

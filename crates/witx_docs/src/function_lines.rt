@@ -1,4 +1,5 @@
 //! The lines of mapped parameters, results and functions.
+
 ghost use Rattle.std.specs.Prelude.{◌≡◌, ◌==◌, ◌&&◌, ◌++◌, IfOk, OnOk, codes, length, map, string_bytes};
 ghost use Rattle.std.specs.List.{flat_map, list_all};
 ghost use Rattle.witx_ast.specs.Functions.{func_tree};

@@ -1,4 +1,5 @@
 //! What a function and a module add below a node.
+
 ghost use Rattle.std.specs.Prelude.{◌≡◌, ◌++◌, IfOk, OnOk, Some, codes, map, option_map};
 ghost use Rattle.witx_ast.specs.Functions.{func_tree, param_field};
 ghost use Rattle.witx_ast.specs.Items.{item_tree};

@@ -1,4 +1,5 @@
 //! Nodes that are added below a node of a tree.
+
 ghost use Rattle.std.specs.Prelude.{◌≡◌, ◌⊎◌, ◌<◌, [], ℕ, List, Option, Some, None, IfErr, IfOk, OnErr, OnOk, length, option_map};
 ghost use Rattle.witx_markdown.specs.declared.heading.MdHeading.{MdHeading};
 ghost use Rattle.witx_docs.specs.declared.error.DocsError.{DocsError};

@@ -1,4 +1,5 @@
 //! What is shown of each type of an interface.
+
 ghost use Rattle.std.specs.Prelude.{◌≡◌, IfOk};
 ghost use Rattle.witx_ast.specs.Views.{datatype_tree};
 ghost use Rattle.witx_docs.specs.Parts.{type_shown};

@@ -1,4 +1,5 @@
 //! The page of a document.
+
 ghost use Rattle.std.specs.Prelude.{◌≡◌, ◌⊎◌, ◌++◌, IfErr, IfOk, OnOk, Some, None, map, string_bytes};
 ghost use Rattle.std.specs.Map.{keys_of};
 ghost use Rattle.witx_ast.specs.Definitions.{definition_tree};

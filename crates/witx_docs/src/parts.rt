@@ -1,4 +1,5 @@
 //! What a type adds below a node.
+
 ghost use Rattle.std.specs.Prelude.{◌≡◌, ◌∷◌, ◌++◌, [], IfOk, OnOk, Some, None, codes, map, option_map};
 ghost use Rattle.std.specs.Prelude.{false};
 ghost use Rattle.std.specs.Fmt.{decimal};

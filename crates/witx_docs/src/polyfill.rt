@@ -1,4 +1,5 @@
 //! The Markdown of a polyfill, of its modules, functions, parameters and conversions.
+
 ghost use Rattle.std.specs.Prelude.{◌≡◌, ◌++◌, Ok, IfOk, IfErr, OnOk, map, string_bytes};
 ghost use Rattle.witx_compat.specs.Views.{conversion_view, mapped_view, function_view, module_view};
 ghost use Rattle.witx_docs.specs.PolyfillTexts.{conversion_text, function_text, lines, mapped_text, module_heading, module_text, polyfill_text, true_conversions};

@@ -1,4 +1,5 @@
 //! What is set of a node's content.
+
 ghost use Rattle.std.specs.Prelude.{◌≡◌};
 ghost use Rattle.witx_markdown.specs.Contents.{with_type, with_title, with_signature};
 

@@ -1,4 +1,5 @@
 //! Text that is written behind other text.
+
 ghost use Rattle.std.specs.Prelude.{◌≡◌, ◌++◌, ℕ, List, IfOk, IfErr, OnOk, string_bytes};
 ghost use Rattle.witx_docs.specs.declared.error.DocsError.{DocsError};
 ghost use Rattle.witx_docs.specs.Pieces.{line_start};

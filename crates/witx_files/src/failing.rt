@@ -1,4 +1,5 @@
 //! Files in memory with aliases, of which chosen calls fail.
+
 ghost use Rattle.std.specs.Prelude.{◌≡◌, Some};
 ghost use Rattle.witx_base.specs.Calls.{fails_next, no_calls};
 ghost use Rattle.witx_files.specs.Answers.{IsText, IsLine, IsCanonical};

@@ -1,4 +1,5 @@
 //! Why a reader of files gives no answer, and at which path.
+
 ghost use Rattle.std.specs.Prelude.{◌≡◌};
 
 use std::alloc::AllocError;

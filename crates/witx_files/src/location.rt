@@ -1,4 +1,5 @@
 //! A place in a file, and how a report shows it.
+
 ghost use Rattle.std.specs.Prelude.{◌≡◌, ◌++◌, ◌^◌, ◌-◌, string_bytes, IfOk};
 ghost use Rattle.witx_files.specs.LocatedTexts.{IsLocatedText, heading, numbered_line, caret};
 

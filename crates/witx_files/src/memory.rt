@@ -1,4 +1,5 @@
 //! Files in memory.
+
 ghost use Rattle.std.specs.Prelude.{◌≡◌, [], Some, None, OnErr, OnOk, if◌then◌else◌};
 ghost use Rattle.witx_base.specs.Paths.{Path};
 ghost use Rattle.witx_files.specs.Answers.{IsLineOf};

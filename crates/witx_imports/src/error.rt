@@ -1,4 +1,5 @@
 //! Why a text is no list of imports.
+
 ghost use Rattle.std.specs.Prelude.{◌≡◌};
 ghost use Rattle.witx_imports.specs.declared.error.ImportsError.TheVariants.{OutOfMemory};
 

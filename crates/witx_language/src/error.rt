@@ -1,4 +1,5 @@
 //! Why a text is no document: its fault, as it is told.
+
 ghost use Rattle.std.specs.Prelude.{◌≡◌};
 ghost use Rattle.witx_language.specs.declared.error.SyntaxError.TheVariants.{OutOfMemory};
 

@@ -1,4 +1,5 @@
 //! The classes of characters, as tests of bytes.
+
 ghost use Rattle.std.specs.Prelude.{◌≡◌, ◌≤◌, slice_index};
 ghost use Rattle.std.specs.Char.{is_digit};
 ghost use Rattle.witx_lex.specs.Characters as spec;

@@ -1,4 +1,5 @@
 //! Comments.
+
 ghost use Rattle.std.specs.Prelude.{◌≡◌, ℕ, ◌≤◌, length, slice_index};
 ghost use Rattle.std.specs.List.{prefix_len};
 ghost use Rattle.witx_lex.specs.Characters as spec;

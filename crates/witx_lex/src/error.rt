@@ -1,4 +1,5 @@
 //! The lexical faults of a text.
+
 ghost use Rattle.std.specs.Prelude.{◌≡◌};
 ghost use Rattle.witx_lex.specs.declared.error.LexError.TheVariants.{OutOfMemory};
 

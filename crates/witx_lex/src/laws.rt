@@ -1,5 +1,6 @@
 //! What holds of every text, whatever reads it. Each law is the contract of a function that does
 //! nothing: call it to have the law.
+
 ghost use Rattle.std.specs.Prelude.{◌≡◌, ◌⊎◌, ◌+◌, ◌∷◌, ◌++◌, ℕ, List, Some, All, length, take, drop};
 ghost use Rattle.witx_lex.specs.declared.error.LexKind.{LexKind};
 ghost use Rattle.witx_lex.specs.BlockScan.{block_len};

@@ -1,4 +1,5 @@
 //! From a text to its tokens.
+
 ghost use Rattle.std.specs.Prelude.{◌≡◌, ◌≤◌, IfOk, IfErr};
 ghost use Rattle.witx_lex.specs.Faults.{HasFault, IfBad};
 ghost use Rattle.witx_lex.specs.Meaning as meaning;

@@ -1,4 +1,5 @@
 //! A place in a text that moves on, so that lines and columns are counted once.
+
 ghost use Rattle.std.specs.Prelude.{◌≡◌, ◌≤◌, length};
 ghost use Rattle.witx_lex.specs.Places.{line_at, column_at};
 

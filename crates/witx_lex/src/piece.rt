@@ -1,4 +1,5 @@
 //! One piece of a text: a blank, a comment or a token.
+
 ghost use Rattle.std.specs.Prelude.{◌<◌, ◌≡◌, ◌≤◌, length};
 ghost use Rattle.witx_lex.specs.Pieces.{most_open};
 ghost use Rattle.witx_lex.specs.Reads.{ReadsPiece, IsBad};

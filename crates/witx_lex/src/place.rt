@@ -1,4 +1,5 @@
 //! Lines and columns.
+
 ghost use Rattle.std.specs.Prelude.{◌≡◌};
 ghost use Rattle.witx_lex.specs.Places.{line_at, column_at};
 

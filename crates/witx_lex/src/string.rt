@@ -1,4 +1,5 @@
 //! Strings.
+
 ghost use Rattle.std.specs.Prelude.{◌≡◌, ℕ, ◌≤◌, slice_index};
 ghost use Rattle.witx_lex.specs.Pieces.{most_open};
 ghost use Rattle.witx_lex.specs.Reads.{ReadsPiece};

@@ -1,4 +1,5 @@
 //! The types of a document's constants.
+
 ghost use Rattle.std.specs.Prelude.{◌≡◌, map, option_map};
 ghost use Rattle.witx_ast.specs.Definitions.{definition_tree};
 ghost use Rattle.witx_markdown.specs.Constants.{unknown_type};

@@ -1,4 +1,5 @@
 //! The text of a node.
+
 ghost use Rattle.std.specs.Prelude.{◌≡◌, ◌++◌, map, OnOk, string_bytes};
 ghost use Rattle.witx_ast.specs.TypeNames.{comma_joined, separator};
 ghost use Rattle.witx_markdown.specs.Contents.{anchor, anchor_if, name_text, docs_text, type_if, section_text, named_line, named_text, func_line, func_text, signature_text, input_text, outputs_text, tuple_outputs, content_text as text_of_content};

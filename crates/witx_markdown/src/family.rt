@@ -1,4 +1,5 @@
 //! Who stands above whom, from the parents of a tree's nodes.
+
 ghost use Rattle.std.specs.Prelude.{◌≡◌, ◌<◌, ◌≤◌, IfOk, length};
 ghost use Rattle.witx_markdown.specs.Trees.{AreParents, ancestors_of};
 

@@ -1,4 +1,5 @@
 //! The layouts of types, the names in which are known.
+
 ghost use Rattle.std.specs.Prelude.{◌≡◌, ◌≤◌, ◌<◌, ◌^◌, MatchResult, IfOk, OnOk, map};
 ghost use Rattle.witx_ast.specs.Tree.{fields_of, arms_of};
 ghost use Rattle.witx_ast.specs.Plain.{plain};

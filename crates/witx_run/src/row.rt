@@ -1,4 +1,5 @@
 //! The rows of the machine's table: what each step of a trace is.
+
 ghost use Rattle.std.specs.Prelude.{◌≡◌, false, true, option_map};
 ghost use Rattle.witx_ast.specs.declared.types.BuiltinType.TheVariants.{U8, U32};
 ghost use Rattle.witx_ast.specs.Views.{tree_of};

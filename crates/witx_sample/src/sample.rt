@@ -1,4 +1,5 @@
 //! Bundles of any size, made by a rule.
+
 ghost use Rattle.std.specs.Prelude.{◌≡◌, ◌↔◌, ◌≤◌, ◌++◌, ℕ, true, IfOk, Ok, OnOk, string_bytes};
 ghost use Rattle.witx_bundle.specs.Bundles.{IsRead};
 ghost use Rattle.witx_sample.specs.Samples.{each, func_head, func_line, func_params, func_result, is_size, list_case, module_text, record_case, record_line, sample_text, type_lines, types_text, variant_head, variant_line};

@@ -1,4 +1,5 @@
 //! What the summaries of a sample's document are.
+
 ghost use Rattle.std.specs.Prelude.{◌≡◌, ◌<◌, IfOk};
 ghost use Rattle.std.specs.List.{sum_by};
 ghost use Rattle.witx_sample.specs.Summaries.{event_count, size_in_bytes, summary_text};

@@ -1,4 +1,5 @@
 //! The old function's words in the order in which the new function gets them.
+
 ghost use Rattle.std.specs.Prelude.{◌≡◌, ◌++◌, ◌-◌, ◌≤◌, List, IfOk, OnOk, length, map};
 ghost use Rattle.witx_ast.specs.Functions.{param_field};
 ghost use Rattle.witx_ast.specs.Tree.{Field};

@@ -1,4 +1,5 @@
 //! The words of each parameter of a function, by the parameter's name.
+
 ghost use Rattle.std.specs.Prelude.{◌≡◌, ◌+◌, ◌≤◌, ℕ, List, IfOk, OnOk, None, Some, cond, is_some, length, map, option_map};
 ghost use Rattle.witx_ast.specs.Functions.{param_field};
 ghost use Rattle.witx_ast.specs.Plain.{plain};

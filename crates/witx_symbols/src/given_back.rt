@@ -1,4 +1,5 @@
 //! Whether what the caller gives back is the reply.
+
 ghost use Rattle.std.specs.Prelude.{◌≡◌, ◌∷◌, [], option_to_list};
 ghost use Rattle.witx_machine.specs.Run.{values_in};
 ghost use Rattle.witx_symbols.specs.Verdicts.{are_values};

@@ -1,4 +1,5 @@
 //! Whether words are those of one value.
+
 ghost use Rattle.std.specs.Prelude.{◌≡◌, ◌∷◌, [], length, option_map};
 ghost use Rattle.witx_ast.specs.Plain.{plain};
 ghost use Rattle.witx_ast.specs.Views.{tree_of};

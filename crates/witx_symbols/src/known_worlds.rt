@@ -1,4 +1,5 @@
 //! One world of a function: that of a known case, and that in which nothing is known.
+
 ghost use Rattle.std.specs.Prelude.{◌≡◌, ◌∷◌, ◌++◌, [], IfOk, nat_le, true};
 ghost use Rattle.witx_instructions.specs.Views.{payload_tree};
 ghost use Rattle.witx_symbols.specs.Symbolic.{unknown_world, world_if, payload_from};

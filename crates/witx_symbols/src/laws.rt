@@ -1,4 +1,5 @@
 //! What the verdict tells, as functions without work.
+
 ghost use Rattle.std.specs.Prelude.{ℕ, List, IsTrue, ◌≡◌};
 ghost use Rattle.witx_ast.specs.Functions.{FunctionTree};
 ghost use Rattle.witx_ast.specs.Tags.{function_fits};

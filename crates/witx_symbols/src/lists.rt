@@ -1,4 +1,5 @@
 //! Lists that are taken apart and put together by value.
+
 ghost use Rattle.std.specs.Prelude.{◌≡◌, ◌++◌, ◌∷◌, [], MatchOption};
 
 use witx_base::Items;

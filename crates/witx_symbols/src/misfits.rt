@@ -1,4 +1,5 @@
 //! Which part of a function doesn't fit its tags.
+
 ghost use Rattle.std.specs.Prelude.{◌≡◌, not, position};
 ghost use Rattle.witx_ast.specs.Plain.{plain};
 ghost use Rattle.witx_ast.specs.Tags.{fits};

@@ -1,4 +1,5 @@
 //! The call of a function with given values, over a memory of bytes.
+
 ghost use Rattle.std.specs.Prelude.{◌≡◌, ◌<◌, ◌≤◌, ◌+◌, ◌/◌, ◌%◌, ◌^◌, ◌++◌, ◌∷◌, [], All, IfErr, IfOk, None, OnOk, Some, codes, map, option_map, position, string_bytes};
 ghost use Rattle.std.specs.Fmt.{decimal};
 ghost use Rattle.std.specs.List.{flat_map};

@@ -1,5 +1,6 @@
 //! What the words and the bytes of a bundle decide, as functions that do nothing: each contract is a
 //! theorem.
+
 ghost use Rattle.witx_tools.specs.ToolLaws.{CommandsAreNoTools, ShimsTellTwoRefusals, ValidIsNotRefusedByTools};
 
 use witx::valid_is_not_refused;

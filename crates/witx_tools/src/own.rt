@@ -1,4 +1,5 @@
 //! What tools work on: the file of their own, and adapted documents.
+
 ghost use Rattle.std.specs.Prelude.{◌≡◌, IfErr, IfOk, None, OnOk, Ok, Some};
 ghost use Rattle.witx_files.specs.Files.{held};
 ghost use Rattle.witx_files.specs.declared.fault.IoFault.{IoFault};

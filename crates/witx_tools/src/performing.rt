@@ -1,4 +1,5 @@
 //! What each tool tells.
+
 ghost use Rattle.std.specs.Prelude.{IfErr, IfOk};
 ghost use Rattle.witx_commands.specs.Stops.{StopsWith};
 ghost use Rattle.witx_tools.specs.ToolCauses.{IsToolOutput, ToolRefuses};

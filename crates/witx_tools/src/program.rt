@@ -1,4 +1,5 @@
 //! The program's top call: commands, tools, and words of no form.
+
 ghost use Rattle.std.specs.Prelude.{◌≡◌, ◌<◌, ◌≤◌, ◌+◌, ◌⊎◌, ℕ, List, [], Option, All, None, Some, Ok, Err, IfErr, IfOk, IfSome, IsSome, map, false};
 ghost use Rattle.std.specs.Io.KnownBytes.{Appends};
 ghost use Rattle.witx_base.specs.Causes.{Rose};

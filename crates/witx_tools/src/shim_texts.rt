@@ -1,4 +1,5 @@
 //! The shims of the functions of mapped modules.
+
 ghost use Rattle.std.specs.Prelude.{◌≡◌, ◌++◌, All, IfErr, IfOk, OnOk, Option, Some, codes, map, string_bytes};
 ghost use Rattle.std.specs.List.{flat_map};
 ghost use Rattle.witx_compat.specs.Views.{function_view, module_view};

@@ -1,4 +1,5 @@
 //! The tools, and the forms of their words.
+
 ghost use Rattle.std.specs.Prelude.{◌≡◌};
 ghost use Rattle.witx_tools.specs.ToolWords.{first_word, invoke_of, shim_of, tool_called, tool_of, with_own_file};
 

@@ -1,4 +1,5 @@
 //! Whether the words of a call pass the arguments.
+
 ghost use Rattle.std.specs.Prelude.{◌≡◌};
 ghost use Rattle.witx_instructions.specs.Views.{param_types, pointer_types};
 ghost use Rattle.witx_symbols.specs.Verdicts.{passes, pointers_are};

@@ -1,4 +1,5 @@
 //! The doubt that a run leaves.
+
 ghost use Rattle.std.specs.Prelude.{◌≡◌, IfOk};
 ghost use Rattle.witx_machine.specs.Machine.{went};
 ghost use Rattle.witx_machine.specs.Signature.{return_pointers};

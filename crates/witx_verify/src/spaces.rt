@@ -1,4 +1,5 @@
 //! Whether an address was made for a type.
+
 ghost use Rattle.std.specs.Prelude.{◌≡◌};
 ghost use Rattle.witx_ast.specs.Same.{same_tree};
 ghost use Rattle.witx_ast.specs.Views.{named_tree};

@@ -1,4 +1,5 @@
 //! The verdict on two traces.
+
 ghost use Rattle.std.specs.Prelude.{◌≡◌, IfOk, None, map};
 ghost use Rattle.witx_machine.specs.Faithful.{Faithful};
 ghost use Rattle.witx_machine.specs.Lowerable.{unlowerable};

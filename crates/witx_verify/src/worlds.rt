@@ -1,4 +1,5 @@
 //! The worlds of a function: what its reply can be.
+
 ghost use Rattle.std.specs.Prelude.{◌≡◌, ◌∷◌, ◌++◌, [], IfOk, Some, nat_le};
 ghost use Rattle.witx_ast.specs.Views.{tree_of};
 ghost use Rattle.witx_instructions.specs.Views.{called, variant_arms};
