@@ -1,6 +1,6 @@
 //! Maps from names, whose contracts speak of their entries in the names' order.
 
-ghost use Rattle.std.specs.Prelude.{◌≡◌, ◌==◌, ◌&&◌, [], length, option_map, IsTrue, OnOk, OnErr, cond, None, Some};
+ghost use Rattle.std.specs.Prelude.{◌≡◌, ◌==◌, ◌&&◌, [], length, option_map, is_none, IfOk, IsTrue, OnOk, OnErr, cond, if◌then◌else◌, None, Some};
 ghost use Rattle.std.specs.Ordering.{is_eq, nat_cmp};
 ghost use Rattle.std.specs.Cmp.{and_equiv, and_per, on_equiv, on_per, partial_equiv_from_equiv};
 ghost use Rattle.std.specs.Cmp.Lexicographic.{lists_equiv, lists_per, nat_list_eq_equiv, pointwise, slice_cmp};
@@ -19,7 +19,7 @@ use crate::memory::OutOfMemory;
 use crate::name::Id;
 use std::alloc::Global;
 use std::collections::BTreeMap;
-use std::collections::btree_map::{Iter, Keys, Values};
+use std::collections::btree_map::{Entry, Iter, Keys, Values};
 use std::hash::{Hash, Hasher};
 use std::marker::Model;
 
@@ -130,6 +130,22 @@ impl<V: Drop> NameMap<V> {
     {
         self.map.insert(key, value)?;
         Ok(())
+    }
+
+    /// Puts a value at a name that the map lacks, and tells whether it lacked it. At another name, and
+    /// where there is no memory, the map stays. The name is searched once.
+    pub fn insert_new(&mut self, key: Id, value: V) -> Result<bool, OutOfMemory>
+        ensures told { IfOk result (λ lacked. lacked ≡ is_none (found self.old key)) }
+        ensures entries { OnOk result (self.new ≡ (if is_none (found self.old key) then insert_entry (slice_cmp nat_cmp) self.old key value else self.old)) }
+        ensures unchanged { OnErr result (self.new ≡ self.old) }
+    {
+        match self.map.entry(key)? {
+            Entry::Vacant(vacant) => {
+                vacant.insert(value);
+                Ok(true)
+            }
+            Entry::Occupied(_) => Ok(false),
+        }
     }
 }
 
