@@ -1,5 +1,5 @@
 -- The definitions on small texts, computed.
-use Rattle.std.proofs.Common.{◌≡◌, ℕ, Bool, true, false, not, ◌||◌, ◌&&◌, ◌==◌, List, [], ◌∷◌, Some, None, refl, zero, suc}
+use Rattle.std.proofs.Common.{◌≡◌, ℕ, Bool, true, false, not, ◌||◌, ◌&&◌, ◌==◌, List, [], ◌∷◌, Some, None, refl}
 use Rattle.std.specs.Prelude.{nat_le, codes, if◌then◌else◌}
 use Rattle.std.specs.List.{list_all, flat_map, list_any}
 use Rattle.std.specs.Char.{encode_utf8}
@@ -11,12 +11,9 @@ use Rattle.witx_lex.specs.Tokens.{left, right, id, word, annot, int}
 use Rattle.witx_lex.specs.Meaning.{run_token, tokens_of}
 use Rattle.witx_lex.specs.Places.{line_at, column_at}
 use Rattle.witx_lex.proofs.Blocks.{no_end}
+use Rattle.witx_lex.proofs.Tables.{below}
 
 -- ---- the classes, as the table lists them
-
-abbrev below : ℕ → List ℕ
-below zero = []
-below (suc n) = n ∷ below n
 
 abbrev signs : List ℕ
 signs = codes "!#$%&'*+-./:<=>?@\\^_`|~"

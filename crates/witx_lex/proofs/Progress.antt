@@ -2,15 +2,16 @@
 use Rattle.std.proofs.Common.{◌≡◌, ◌≢◌, ℕ, suc, ◌+◌, ◌<◌, ◌≤◌, true, ◌==◌, List, [], ◌∷◌, ◌++◌, length, get_or, drop, IsUtf8, refl, sym, ap, ◌∙◌, subst, inl, inr, arith, append_assoc, eqb-true}
 use Rattle.std.proofs.lemmas.Bool.{and_parts}
 use Rattle.std.proofs.lemmas.Bool.Decides.{nat_tests}
-use Rattle.std.proofs.lemmas.List.{append-nil, length-append, drop-drop, drop_all, get_or_at, get_or_append_left}
+use Rattle.std.proofs.lemmas.List.{append-nil, length-append, length-drop, get_or-drop, drop-drop, drop_all, get_or_at, get_or_append_left}
 use Rattle.std.proofs.lemmas.Str.{IsUtf8-drop, IsCharBoundary-start, IsCharBoundary-end, IsCharBoundary-before_ascii, IsCharBoundary-after_ascii, IsCharBoundary-from_rest}
 use Rattle.std.specs.List.{list_all, flat_map}
 use Rattle.std.specs.Prelude.{IsTrue, ◌⊎◌}
 use Rattle.std.specs.Str.{IsCharBoundary}
 use Rattle.witx_lex.specs.Tokens.{Token, Lexed}
-use Rattle.witx_lex.specs.Characters.{begins, is_name}
+use Rattle.witx_lex.specs.Characters.{begins, is_blank, is_name}
 use Rattle.witx_lex.specs.Pieces.{Piece, blank, line, block, opening, closing, run, quoted, spelling, part_spelling, open_after, open_after_all, Stands, Stand, ArePieces}
 use Rattle.witx_lex.specs.Meaning.{nothing, comment, token, seen, tokens_from, tokens_of}
+use Rattle.witx_lex.proofs.Found.{stands_blank}
 
 pub record Sofar (text : List ℕ) (at depth : ℕ) (comments : List (List ℕ)) (tokens : List Lexed) : Type 0 where
   pub boundary : IsCharBoundary text at
@@ -124,12 +125,19 @@ open_comment n closing u e = absurd cc
 open_comment n (run r) u e = refl
 open_comment n (quoted ps) u e = refl
 
-pub Sofar_nothing : (text : List ℕ) (at depth len new_at : ℕ) (comments : List (List ℕ)) (tokens : List Lexed) (p : Piece) → IsUtf8 text
+Sofar_nothing : (text : List ℕ) (at depth len new_at : ℕ) (comments : List (List ℕ)) (tokens : List Lexed) (p : Piece) → IsUtf8 text
     → Sofar text at depth comments tokens → Stands depth p (drop at text) (drop len (drop at text)) → len ≡ length (spelling p) → new_at ≡ at + len → seen p ≡ nothing
     → Sofar text new_at depth comments tokens
 Sofar_nothing text at depth len new_at comments tokens p utf8 s h len-is new_at-is e =
     subst (λ (d : ℕ). Sofar text new_at d comments tokens) (open_nothing depth p e)
     (Sofar_more text at depth len new_at comments comments tokens tokens p utf8 s h len-is new_at-is (λ qs. rw e refl))
+
+pub Sofar_blank : (text : List ℕ) (at depth : ℕ) (comments : List (List ℕ)) (tokens : List Lexed) → IsUtf8 text → at < length text → IsTrue (is_blank (get_or text at 0))
+    → Sofar text at depth comments tokens → Sofar text (at + 1) depth comments tokens
+Sofar_blank text at depth comments tokens utf8 within h s =
+    let first : get_or (drop at text) 0 0 ≡ get_or text at 0 = get_or-drop at text 0 0 ∙ ap (λ (k : ℕ). get_or text k 0) (omega arith) in
+    let stands = stands_blank depth (drop at text) (omega (arith, length-drop at text)) (ap is_blank first ∙ h) s.fits in
+    Sofar_nothing text at depth 1 (at + 1) comments tokens (blank (get_or (drop at text) 0 0)) utf8 s stands refl refl refl
 
 pub Sofar_comment : (text : List ℕ) (at depth len new_at : ℕ) (comments new_comments : List (List ℕ)) (tokens : List Lexed) (p : Piece) (t : List ℕ) → IsUtf8 text
     → Sofar text at depth comments tokens → Stands depth p (drop at text) (drop len (drop at text)) → len ≡ length (spelling p) → new_at ≡ at + len → seen p ≡ comment t

@@ -8,11 +8,10 @@ use Rattle.witx_lex.specs.declared.piece.Seen.TheVariants as variant
 use Rattle.witx_lex.specs.declared.piece.Read as code_read
 use Rattle.witx_lex.specs.Pieces.{Piece, spelling, Stands}
 use Rattle.witx_lex.specs.Faults.{IsFaultAt, IfBad}
-use Rattle.witx_lex.specs.Meaning.{Seen, nothing, comment, token, seen}
+use Rattle.witx_lex.specs.Meaning.{Seen, comment, token, seen}
 use Rattle.witx_lex.specs.Views.{token_view}
 
 abbrev pub seen_view : code.Seen → Seen
-seen_view variant.Nothing = nothing
 seen_view (variant.Comment s) = comment s.now
 seen_view (variant.Token t) = token (token_view t)
 

@@ -25,20 +25,23 @@ pub fn is_blank(byte: u8) -> bool
     byte == b' ' || byte == b'\t' || byte == b'\n' || byte == b'\r'
 }
 
+/// The name characters, each at its own place; a comma stands at every other place.
+static NAME_CHARACTERS: [u8; 256] = *b"\
+    ,,,,,,,,,,,,,,,,,,,,,,,,,,,,,,,,\
+    ,!,#$%&',,*+,-./0123456789:,<=>?\
+    @ABCDEFGHIJKLMNOPQRSTUVWXYZ,\\,^_\
+    `abcdefghijklmnopqrstuvwxyz,|,~,\
+    ,,,,,,,,,,,,,,,,,,,,,,,,,,,,,,,,\
+    ,,,,,,,,,,,,,,,,,,,,,,,,,,,,,,,,\
+    ,,,,,,,,,,,,,,,,,,,,,,,,,,,,,,,,\
+    ,,,,,,,,,,,,,,,,,,,,,,,,,,,,,,,,";
+
 /// Whether the byte is a letter, a digit or one of the signs that names may hold.
+#[inline]
 pub fn is_name(byte: u8) -> bool
     ensures { result ≡ spec.is_name byte }
 {
-    (32 < byte && byte < 127)
-        && !(byte == b'"'
-            || byte == b'('
-            || byte == b')'
-            || byte == b','
-            || byte == b';'
-            || byte == b'['
-            || byte == b']'
-            || byte == b'{'
-            || byte == b'}')
+    NAME_CHARACTERS[byte as usize] != b','
 }
 
 /// Whether the byte may stand in a line comment: it is no line feed.

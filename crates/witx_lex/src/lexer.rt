@@ -6,6 +6,7 @@ ghost use Rattle.witx_lex.specs.Meaning as meaning;
 ghost use Rattle.witx_lex.specs.Pieces.{Piece, most_open, open_after};
 ghost use Rattle.witx_lex.specs.Views.{token_view, tokens_view};
 
+use crate::characters::{byte_at, is_blank};
 use crate::error::{LexError, LexFault};
 use crate::piece::{Seen, read_piece};
 use crate::token::{Comments, Lexed, Span, Token, Tokens};
@@ -23,12 +24,15 @@ pub fn lex<'a>(alloc: Global, text: &'a str) -> Result<Tokens<'a>, LexError>
     let mut depth: usize = 0;
     let mut at: usize = 0;
     while at < text.len() {
+        if is_blank(byte_at(text, at)) {
+            at += 1;
+            continue;
+        }
         match read_piece(alloc, &text[at..], depth) {
             Ok(read) => {
                 let end = at + read.len;
                 let seen = read.seen;
                 match seen {
-                    Seen::Nothing => (),
                     Seen::Comment(comment) => comments.push(comment)?,
                     Seen::Token(token) => {
                         depth = open_after(depth, &token);

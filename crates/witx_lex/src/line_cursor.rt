@@ -1,6 +1,6 @@
 //! A place in a text that moves on, so that lines and columns are counted once.
 
-ghost use Rattle.std.specs.Prelude.{◌≡◌, ◌≤◌, length};
+ghost use Rattle.std.specs.Prelude.{◌≡◌, ◌+◌, ◌-◌, ◌≤◌, length};
 ghost use Rattle.witx_lex.specs.Places.{line_at, column_at};
 
 /// A text and a place in it, from which the lines and the columns of later places are counted. So
@@ -60,15 +60,43 @@ fn onward(bytes: &[u8], at: usize, end: usize, line: usize, column: usize) -> (u
     ensures line { result.0 ≡ line_at bytes.now end }
     ensures column { result.1 ≡ column_at bytes.now end }
 {
-    let mut lines = line;
-    let mut columns = column;
+    let feeds = feeds_between(bytes, at, end);
+    if feeds == 0 {
+        let columns = column + (end - at);
+        (line, columns)
+    } else {
+        let lines = line + feeds;
+        (lines, column_of(bytes, end))
+    }
+}
+
+/// How many line feeds stand from `at` up to `end`.
+fn feeds_between(bytes: &[u8], at: usize, end: usize) -> usize
+    requires before { at ≤ end }
+    requires within { end ≤ length bytes.now }
+    ensures lines { line_at bytes.now end ≡ line_at bytes.now at + result }
+    ensures column { result ≡ 0 → column_at bytes.now end ≡ column_at bytes.now at + (end - at) }
+{
+    let mut feeds = 0;
     for index in at..end {
         if bytes[index] == b'\n' {
-            lines += 1;
-            columns = 1;
-        } else {
-            columns += 1;
+            feeds += 1;
         }
     }
-    (lines, columns)
+    feeds
+}
+
+/// The column of the byte at `end`, counted from there back to the last line feed.
+fn column_of(bytes: &[u8], end: usize) -> usize
+    requires { end ≤ length bytes.now }
+    ensures { result ≡ column_at bytes.now end }
+{
+    let mut start = end;
+    while 0 < start {
+        if bytes[start - 1] == b'\n' {
+            return end - start + 1;
+        }
+        start -= 1;
+    }
+    end + 1
 }

@@ -1,10 +1,11 @@
-//! One piece of a text: a blank, a comment or a token.
+//! One piece of a text that is no blank: a comment or a token.
 
-ghost use Rattle.std.specs.Prelude.{◌<◌, ◌≡◌, ◌≤◌, length};
+ghost use Rattle.std.specs.Prelude.{◌<◌, ◌≡◌, ◌≤◌, false, length, slice_index};
+ghost use Rattle.witx_lex.specs.Characters.{is_blank};
 ghost use Rattle.witx_lex.specs.Pieces.{most_open};
 ghost use Rattle.witx_lex.specs.Reads.{ReadsPiece, IsBad};
 
-use crate::characters::{byte_at, is_blank, is_name};
+use crate::characters::{byte_at, is_name};
 use crate::comment::{read_block, read_line};
 use crate::error::{LexError, LexFault, LexKind};
 use crate::run::read_run;
@@ -23,7 +24,6 @@ pub fn most_open_parentheses()
 /// What a piece is to a reader of tokens.
 #[derive(Drop)]
 pub enum Seen<'a> {
-    Nothing,
     Comment(&'a str),
     Token(Token<'a>),
 }
@@ -42,20 +42,16 @@ pub fn fault<'a>(kind: LexKind, at: usize) -> Result<Read<'a>, LexError>
     Err(LexError::Bad(LexFault { kind, at }))
 }
 
-/// The piece at the front of a text, where so many parentheses are open.
+/// The piece at the front of a text that begins with no blank, where so many parentheses are open.
 pub fn read_piece<'a>(alloc: Global, text: &'a str, depth: usize) -> Result<Read<'a>, LexError>
     requires some { 0 < length text.now }
+    requires solid { is_blank (slice_index text.now 0) ≡ false }
     requires deep { depth ≤ most_open }
     ensures { ReadsPiece depth text.now result }
 {
     let first = byte_at(text, 0);
     let second = byte_at(text, 1);
-    if is_blank(first) {
-        Ok(Read {
-            seen: Seen::Nothing,
-            len: 1,
-        })
-    } else if first == b';' {
+    if first == b';' {
         if second == b';' {
             Ok(read_line(text))
         } else {

@@ -1,22 +1,21 @@
 use Rattle.std.proofs.Common.{rules}
 use Rattle.std.proofs.lemmas.Grind.{common_steps}
 use Rattle.std.proofs.Common.{◌+◌, ℕ, List, drop, refl, sym, arith, ap, subst, ◌∙◌}
+use Rattle.witx_lex.specs.Characters.{is_blank}
 use Rattle.witx_lex.specs.Pieces.{Stands}
 use Rattle.std.proofs.lemmas.List.{map-append}
 use Rattle.witx_lex.specs.Views.{token_view, lexed_view, texts_view, tokens_view}
 use Rattle.witx_lex.specs.Reads.{seen_view}
-use Rattle.witx_lex.proofs.Progress.{Sofar, Sofar_start, Sofar_nothing, Sofar_comment, Sofar_token, Sofar_done}
+use Rattle.witx_lex.proofs.Progress.{Sofar, Sofar_start, Sofar_blank, Sofar_comment, Sofar_token, Sofar_done}
 use Rattle.witx_lex.proofs.lexer.lex.Goals as goal
 
 pub loop-at-init : goal.loop-at-init
 loop-at-init c = rw (c.new-tokens.ensures, c.new-comments.ensures) (Sofar_start c.args.text.now c.utf8.text)
 
-pub loop-at-preserved-in-Nothing : goal.loop-at-preserved-in-Nothing
-loop-at-preserved-in-Nothing c = let h = c.in-Ok.ensures in
-    let text = c.args.text.now in
-    let r = c.range_from.ensures.value in
-    Sofar_nothing text c.loop-at.at c.loop-at.depth c.in-Ok.read.len (c.loop-at.at + c.in-Ok.read.len) (texts_view c.loop-at.comments) (tokens_view c.loop-at.tokens) h.piece c.utf8.text c.loop-at.invariant
-    (subst (λ (t : List ℕ). Stands c.loop-at.depth h.piece t (drop c.in-Ok.read.len t)) r h.stands) h.len refl (sym h.sees ∙ ap seen_view c.in-Nothing.is)
+pub loop-at-preserved-then-is_blank : goal.loop-at-preserved-then-is_blank
+loop-at-preserved-then-is_blank c =
+    Sofar_blank c.args.text.now c.loop-at.at c.loop-at.depth (texts_view c.loop-at.comments) (tokens_view c.loop-at.tokens) c.utf8.text (omega (arith, c.loop-at-test.true))
+    (ap is_blank (sym c.byte_at.ensures) ∙ sym c.is_blank.ensures ∙ c.if-is_blank.true) c.loop-at.invariant
 
 pub loop-at-preserved-in_ok-push-in-Comment : goal.loop-at-preserved-in_ok-push-in-Comment
 loop-at-preserved-in_ok-push-in-Comment c = let h = c.in-Ok.ensures in
