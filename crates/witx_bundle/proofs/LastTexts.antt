@@ -45,6 +45,10 @@ file-step rest line more f g total a h e q =
     ap (λ before. option_or (held (reverse (given (lines_of more))) q) before) (h q)
     ∙ (sym (line-behind line (lines_of more) f q) ∙ (ap (λ ls. last_or f (given ls) q) (sym a) ∙ e q))
 
+pub file-skip : (more behind : List ℕ) (g total : Path → Option (List ℕ)) → given (lines_of behind) ≡ given (lines_of more)
+    → ((q : Path) → last_or g (given (lines_of more)) q ≡ total q) → (q : Path) → last_or g (given (lines_of behind)) q ≡ total q
+file-skip more behind g total e h q = ap (λ (es : Files). last_or g es q) e ∙ h q
+
 pub file-last : (rest : List ℕ) (f g total : Path → Option (List ℕ)) → lines_of rest ≡ rest ∷ [] → ((q : Path) → g q ≡ with_line rest [] f q)
     → ((q : Path) → last_or f (given (lines_of rest)) q ≡ total q) → (q : Path) → g q ≡ total q
 file-last rest f g total a h e q = h q ∙ (sym (line-behind rest [] f q) ∙ (ap (λ ls. last_or f (given ls) q) (sym a) ∙ e q))

@@ -1,4 +1,5 @@
 pub mod Examples
+pub mod Fronts
 pub mod Headers
 pub mod LastTexts
 pub mod LineSteps

@@ -1,6 +1,6 @@
 -- Line by line the text before the first header is made.
-use Rattle.std.proofs.Common.{◌≡◌, ℕ, ◌<◌, List, [], ◌∷◌, ◌++◌, Bool, true, false, refl, sym, ap, ◌∙◌, length, append_assoc, append-nil, Bor, lit<, arith, ◌==◌, get_or, if◌then◌else◌}
-use Rattle.std.specs.Prelude.{take_while, not, ◌||◌, Option, Some, None, MatchOption}
+use Rattle.std.proofs.Common.{◌≡◌, ℕ, ◌<◌, List, [], ◌∷◌, ◌++◌, Bool, true, false, refl, sym, ap, ◌∙◌, length, append_assoc, Bor, lit<, arith, ◌==◌, get_or, if◌then◌else◌}
+use Rattle.std.specs.Prelude.{take_while, not, ◌||◌, Option, Some, None, IfSome, MatchOption}
 use Rattle.std.specs.List.{All, list_any, join_with_byte}
 use Rattle.std.proofs.lemmas.Bool.{ne_eqb}
 use Rattle.std.proofs.lemmas.List.Elements.{All-from_get_or}
@@ -22,11 +22,12 @@ cut-line bs (Some x) h =
     let cut = split_parts 10 bs (Some x) h (lit< tt) in
     ap lines_of cut.0 ∙ slice_split_at (λ b. b == 10) x.0.now 10 x.1.now (free x.0.now cut.1) refl
 
+pub cut-spelled : (bs : List ℕ) (r : Option (Bor (List ℕ) × Bor (List ℕ))) → IsSplitOnceResult 10 bs r → IfSome r (λ x. bs ≡ x.0.now ++ 10 ∷ x.1.now)
+cut-spelled bs None h = tt
+cut-spelled bs (Some x) h = (split_parts 10 bs (Some x) h (lit< tt)).0
+
 some-line : (text : List ℕ) → 0 < length (lines_of text)
 some-line text = omega (arith, length-slice_split (λ b. b == 10) text)
-
-pub fewer-lines : (rest line more : List ℕ) → lines_of rest ≡ line ∷ lines_of more → length (lines_of more) < length (lines_of rest)
-fewer-lines rest line more e = omega (arith, ap length e)
 
 path-some : (rest : List ℕ) (lines : List (List ℕ)) → 0 < length lines → path_of (without_return rest) ≡ path_after rest lines
 path-some rest [] l = absurd (omega arith)
@@ -46,7 +47,7 @@ goes_on line = not (is_header line)
 ended-next : (x : List ℕ) (more : List (List ℕ)) → is_header x ≡ false → ended_lines (take_while goes_on (x ∷ more)) ≡ x ++ 10 ∷ ended_lines (take_while goes_on more)
 ended-next x more h = rw (take_while-cons goes_on x more, h) refl
 
-at-header : (x : List ℕ) (more : List (List ℕ)) → is_header x ≡ true → text_before (x ∷ more) ≡ []
+pub at-header : (x : List ℕ) (more : List (List ℕ)) → is_header x ≡ true → text_before (x ∷ more) ≡ []
 at-header x more h = rw h refl
 
 at-last : (x : List ℕ) → is_header x ≡ false → text_before (x ∷ []) ≡ x
@@ -74,11 +75,6 @@ text-step front rest line more total e h g =
     ∙ (append_assoc front line (10 ∷ text_before (lines_of more))
     ∙ (ap (λ z. front ++ z) (sym (at-some line (lines_of more) (some-line more) h) ∙ ap text_before (sym e)) ∙ g))
 
-pub text-stop : (front rest line more total : List ℕ) → lines_of rest ≡ line ∷ lines_of more → is_header line ≡ true → front ++ text_before (lines_of rest) ≡ total
-    → front ≡ total
-text-stop front rest line more total e h g =
-    sym (append-nil front) ∙ (ap (λ z. front ++ z) (sym (at-header line (lines_of more) h) ∙ ap text_before (sym e)) ∙ g)
-
 last-text : (t : Bool) (x : List ℕ) → is_header x ≡ t → (if t then [] else x) ≡ text_before (x ∷ [])
 last-text true x h = sym (at-header x [] h)
 last-text false x h = sym (at-last x h)
@@ -87,5 +83,3 @@ pub text-end : (front rest made total : List ℕ) → lines_of rest ≡ rest ∷
     → front ++ text_before (lines_of rest) ≡ total → made ≡ total
 text-end front rest made total e m g =
     m ∙ (ap (λ z. front ++ z) (last-text (is_header rest) rest refl ∙ ap text_before (sym e)) ∙ g)
-
-pub ruleset text_rules = (text-step, text-stop, text-end, fewer-lines)

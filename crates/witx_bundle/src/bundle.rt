@@ -2,11 +2,11 @@
 
 ghost use Rattle.std.specs.Prelude.{◌≡◌, ◌≤◌, ◌^◌, [], IfOk, length};
 ghost use Rattle.witx_base.specs.Paths.{Path};
-ghost use Rattle.witx_bundle.specs.Bundles.{IsRead, is_blank, lines_of, stray, told_at, with_line};
+ghost use Rattle.witx_bundle.specs.Bundles.{IsRead, is_blank, lines_of, stray, text_before, told_at, with_line};
 ghost use Rattle.witx_files.specs.Files.{held};
 
 use crate::error::BundleError;
-use crate::lines::{cut_line, header_rest, path_before, text_before};
+use crate::lines::{cut_line, header_rest, path_before, split_front};
 use std::alloc::Global;
 use std::str;
 use witx_base::{OutOfMemory, Text, WitxPath};
@@ -50,24 +50,18 @@ fn files_of(alloc: Global, text: &str) -> Result<MockFs, BundleError>
     requires { length text.now ≤ LONGEST_BUNDLE }
     ensures { IsRead text.now result }
 {
-    match stray(alloc, text)? {
+    match stray(text) {
         Some(at) => Err(BundleError::BeforeFirst { at }),
         None => Ok(files_behind(alloc, text)?),
     }
 }
 
 /// The place of the first byte before the first header that is no blank.
-fn stray(alloc: Global, text: &str) -> Result<Option<usize>, OutOfMemory>
-    ensures { IfOk result (λ at. at ≡ stray (lines_of text.now)) }
+fn stray(text: &str) -> Option<usize>
+    ensures { result ≡ stray (lines_of text.now) }
 {
-    let front = text_before(alloc, text)?;
-    Ok(
-        front
-            .as_str()
-            .as_bytes()
-            .iter()
-            .position(|byte| !is_blank(*byte)),
-    )
+    let (front, _) = split_front(text);
+    front.as_bytes().iter().position(|byte| !is_blank(*byte))
 }
 
 fn is_blank(byte: u8) -> bool
@@ -84,22 +78,30 @@ fn files_behind(alloc: Global, text: &str) -> Result<MockFs, OutOfMemory>
     let mut files = MockFs::new(alloc);
     let mut rest = text;
     while let Some((line, more)) = cut_line(rest) {
-        put_file(alloc, &mut files, line, more)?;
-        rest = more;
+        let (front, behind) = split_front(more);
+        put_file(alloc, &mut files, line, more, front)?;
+        rest = behind;
     }
     put_last(alloc, &mut files, rest)?;
     Ok(files)
 }
 
 /// Puts the file of this line among the files, if the line is a header; `more` stands behind its line
-/// feed.
-fn put_file(alloc: Global, files: &mut MockFs, line: &str, more: &str) -> Result<(), OutOfMemory>
+/// feed, and `front` up to the next header.
+fn put_file(
+    alloc: Global,
+    files: &mut MockFs,
+    line: &str,
+    more: &str,
+    front: &str,
+) -> Result<(), OutOfMemory>
+    requires { front.now ≡ text_before (lines_of more.now) }
     ensures { IfOk result (λ _. (q : Path) → held files.new q ≡ with_line line.now (lines_of more.now) (held files.old) q) }
 {
     match header_rest(line) {
         Some(rest) => {
             let path = path_before(alloc, rest, more)?;
-            let text = text_before(alloc, more)?;
+            let text = Text::new(alloc, front)?;
             files.insert(path, text)
         }
         None => Ok(()),

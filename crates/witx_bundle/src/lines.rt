@@ -1,14 +1,16 @@
 //! The lines of a bundle: headers, and the text before the next one.
 
-ghost use Rattle.std.specs.Prelude.{◌≡◌, [], ◌∷◌, ◌++◌, IfOk, MatchOption, option_copied, Some, None, if◌then◌else◌, string_bytes, drop};
-ghost use Rattle.witx_bundle.specs.Bundles.{is_header, lines_of, path_after, text_before, without_return};
+ghost use Rattle.std.specs.Prelude.{◌≡◌, ◌≤◌, [], ◌∷◌, ◌++◌, IfOk, IfSome, MatchOption, option_copied, Some, None, if◌then◌else◌, length, drop};
+ghost use Rattle.witx_bundle.specs.Bundles.{given, is_header, lines_of, path_after, text_before, without_return};
+ghost use Rattle.witx_bundle.specs.Fronts.{EndsFront};
 
 use std::alloc::Global;
-use witx_base::{OutOfMemory, Text, WitxPath};
+use witx_base::{OutOfMemory, WitxPath};
 
 /// The first line of a text and what stands behind its line feed; nothing where the text is one line.
 pub fn cut_line(text: &str) -> Option<(&str, &str)>
-    ensures { MatchOption result (lines_of text.now ≡ text.now ∷ []) (λ x. lines_of text.now ≡ x.0.now ∷ lines_of x.1.now) }
+    ensures lines { MatchOption result (lines_of text.now ≡ text.now ∷ []) (λ x. lines_of text.now ≡ x.0.now ∷ lines_of x.1.now) }
+    ensures spelled { IfSome result (λ x. text.now ≡ x.0.now ++ 10 ∷ x.1.now) }
 {
     text.split_once('\n')
 }
@@ -47,39 +49,30 @@ fn without_return(line: &str) -> &str
     }
 }
 
-/// The text of the lines before the first header.
-#[tactic(auto, using(crate::proofs::LineSteps::text_rules))]
-pub fn text_before(alloc: Global, text: &str) -> Result<Text, OutOfMemory>
-    ensures { IfOk result (λ t. t ≡ text_before (lines_of text.now)) }
+/// How many bytes stand before the first header.
+#[tactic(auto, using(crate::proofs::Fronts::front_rules))]
+fn front_len(text: &str) -> usize
+    ensures { EndsFront text.now result }
 {
-    let mut front = String::new(alloc);
     let mut rest = text;
     while let Some((line, more)) = cut_line(rest) {
         if is_header(line) {
-            return Ok(Text::from_string(front));
+            return text.len() - rest.len();
         }
-        push_line(&mut front, line)?;
         rest = more;
     }
-    push_last(&mut front, rest)?;
-    Ok(Text::from_string(front))
-}
-
-/// Appends a line with its line feed.
-fn push_line(text: &mut String, line: &str) -> Result<(), OutOfMemory>
-    ensures { IfOk result (λ _. string_bytes text.new ≡ (string_bytes text.old ++ line.now) ++ 10 ∷ []) }
-{
-    text.push_str(line)?;
-    text.push_str("\n")?;
-    Ok(())
-}
-
-/// Appends the last line, which no line feed ends, unless it is a header.
-fn push_last(text: &mut String, line: &str) -> Result<(), OutOfMemory>
-    ensures { IfOk result (λ _. string_bytes text.new ≡ string_bytes text.old ++ (if is_header line.now then [] else line.now)) }
-{
-    if !is_header(line) {
-        text.push_str(line)?;
+    if is_header(rest) {
+        text.len() - rest.len()
+    } else {
+        text.len()
     }
-    Ok(())
+}
+
+/// The text before the first header, and what stands from there on.
+pub fn split_front(text: &str) -> (&str, &str)
+    ensures front { result.0.now ≡ text_before (lines_of text.now) }
+    ensures behind { given (lines_of result.1.now) ≡ given (lines_of text.now) }
+    ensures within { length result.1.now ≤ length text.now }
+{
+    text.split_at(front_len(text))
 }

@@ -13,4 +13,4 @@ invariant-loop-line l =
     × ((q : Path) → last_or (λ p. held l.files p) (given (lines_of l.rest)) q ≡ told_at (lines_of l.text) q)
 
 abbrev pub decreases-loop-line : goal.decreases-loop-line
-decreases-loop-line l = length (lines_of l.rest)
+decreases-loop-line l = length l.rest
