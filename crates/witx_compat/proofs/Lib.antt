@@ -9,4 +9,5 @@ pub mod Gathering
 pub mod Feeding
 pub mod OnceLaws
 pub mod Copied
+pub mod Depths
 pub mod PolyfillCopies

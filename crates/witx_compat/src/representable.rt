@@ -81,9 +81,12 @@ impl Representable for TypeRef {
     #[cycle(compat)]
     #[tactic(auto, using(crate::proofs::Steps::compat_rules))]
     fn representable(&self, by: &Self) -> RepEquality {
-        match self {
-            TypeRef::Name(named) => named.tref.representable(by),
-            TypeRef::Value(datatype) => datatype.representable(by.type_()),
+        let mut tref = self;
+        loop {
+            match tref {
+                TypeRef::Name(named) => tref = &named.tref,
+                TypeRef::Value(datatype) => return datatype.representable(by.type_()),
+            }
         }
     }
 }

@@ -1,10 +1,12 @@
-use Rattle.std.proofs.Common.{rules, arith, option_map, ◌∙◌, ap, sym}
+use Rattle.std.proofs.Common.{◌≤◌, rules, arith, option_map, ◌∙◌, ap, sym}
 use Rattle.std.proofs.lemmas.Grind.{common_steps}
 use Rattle.witx_ast.specs.Plain.{plain}
 use Rattle.witx_ast.specs.Views.{tree_of, cases_plain}
 use Rattle.witx_compat.specs.Represents.{case_by, payload_by, last_case}
 use Rattle.witx_compat.specs.Answers.{worse}
 use Rattle.witx_compat.proofs.Steps.{counterpart, next-case, refused-case, other-count, member-same, member-other, compat_rules}
+use Rattle.witx_ast.proofs.types.TypeRef.TheLaws.{the_size}
+use Rattle.witx_compat.proofs.Depths.{behind-name}
 use Rattle.witx_compat.proofs.representable.+compat.Goals as goal
 
 pub case_answer-returns-then-j-i : goal.case_answer-returns-then-j-i
@@ -105,11 +107,13 @@ RecordDatatypeRepresentable::representable-returns-then-members_same-clause-alik
 pub RecordDatatypeRepresentable::representable-returns-then-members_same-clause-exact : goal.RecordDatatypeRepresentable::representable-returns-then-members_same-clause-exact
 RecordDatatypeRepresentable::representable-returns-then-members_same-clause-exact t c = search (rules, compat_rules)
 
-pub TypeRefRepresentable::representable-returns-in-Name-clause-alike : goal.TypeRefRepresentable::representable-returns-in-Name-clause-alike
-TypeRefRepresentable::representable-returns-in-Name-clause-alike t c = search (rules, compat_rules)
-
-pub TypeRefRepresentable::representable-returns-in-Name-clause-exact : goal.TypeRefRepresentable::representable-returns-in-Name-clause-exact
-TypeRefRepresentable::representable-returns-in-Name-clause-exact t c = search (rules, compat_rules)
+pub TypeRefRepresentable::representable-loop-tref-preserved : goal.TypeRefRepresentable::representable-loop-tref-preserved
+TypeRefRepresentable::representable-loop-tref-preserved t c = record {
+  behind = search (rules, compat_rules);
+  shallower =
+    let d : the_size c.deref.result.now.tref ≤ the_size c.loop-tref.tref.now = rw (c.deref.ensures, c.in-Name.is) (behind-name c.in-Name.named) in
+    omega (arith, d, c.loop-tref.invariant.shallower);
+}
 
 pub TypeRefRepresentable::representable-returns-in-Value-clause-alike : goal.TypeRefRepresentable::representable-returns-in-Value-clause-alike
 TypeRefRepresentable::representable-returns-in-Value-clause-alike t c = search (rules, compat_rules)

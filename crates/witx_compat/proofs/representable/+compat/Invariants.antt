@@ -1,8 +1,16 @@
-use Rattle.std.proofs.Common.{◌≡◌, drop}
-use Rattle.witx_ast.specs.Views.{cases_plain, members_plain}
+use Rattle.std.proofs.Common.{◌≡◌, ◌≤◌, drop}
+use Rattle.witx_ast.specs.Plain.{plain}
+use Rattle.witx_ast.specs.Views.{cases_plain, members_plain, tree_of}
+use Rattle.witx_ast.proofs.types.TypeRef.TheLaws.{the_size}
 use Rattle.witx_compat.specs.Answers.{worse}
 use Rattle.witx_compat.specs.Represents.{fields_same, cases_by}
 use Rattle.witx_compat.proofs.representable.+compat.Given as goal
+
+abbrev pub invariant-TypeRefRepresentable::representable-loop-tref : goal.invariant-TypeRefRepresentable::representable-loop-tref
+invariant-TypeRefRepresentable::representable-loop-tref l = record {
+  behind : plain (tree_of l.tref) ≡ plain (tree_of l.initial.tref);
+  shallower : the_size l.tref ≤ the_size l.initial.tref;
+}
 
 abbrev pub invariant-members_same-loop-i : goal.invariant-members_same-loop-i
 invariant-members_same-loop-i l = record {
