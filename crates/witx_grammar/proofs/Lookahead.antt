@@ -1,6 +1,7 @@
 -- Where the tokens begin with the lookahead of a list of symbols, symbol by symbol.
-use Rattle.std.proofs.Common.{◌≡◌, ℕ, ◌+◌, ◌<◌, ◌≤◌, Bool, true, false, ◌&&◌, List, ◌∷◌, length, get_or, drop, refl, ap, ◌∙◌}
+use Rattle.std.proofs.Common.{◌≡◌, ℕ, zero, suc, ◌+◌, ◌<◌, ◌≤◌, Bool, true, false, cond, ◌&&◌, List, [], ◌∷◌, ◌++◌, length, get_or, take, drop, Option, Some, None, refl, sym, ap, ◌∙◌, arith}
 use Rattle.std.specs.Prelude.{not}
+use Rattle.std.specs.Option.{is_some}
 use Rattle.std.proofs.lemmas.List.{drop_more, drop_all}
 use Rattle.witx_grammar.specs.declared.table.Symbol.{Symbol}
 use Rattle.witx_grammar.specs.declared.table.Symbol.TheVariants.{Terminal, Nonterminal}
@@ -51,3 +52,57 @@ module _ {T N : Type 0} (e : T → T → Bool) (w : Wants T N) (ts : List T) (i 
   pub at_same : (d : Symbol T N) (t c : T) → i < length w → get_or w i d ≡ Terminal t → i < length ts → e t (get_or ts i c) ≡ true
       → left_fits ≡ begins e (lookahead (drop (i + 1) w)) (drop (i + 1) ts)
   at_same d t c inside is more same = compared d t c inside is more ∙ test_passes (e t (get_or ts i c)) (begins e (lookahead (drop (i + 1) w)) (drop (i + 1) ts)) same
+
+-- ---- how many tokens a lookahead takes
+
+pub counted_at_nonterminal : {T N : Type 0} (w : Wants T N) (i : ℕ) (d : Symbol T N) (f : N) → i < length w → get_or w i d ≡ Nonterminal f → length (lookahead (drop i w)) ≡ 0
+counted_at_nonterminal {T} {N} w i d f inside is = ap (λ (v : Wants T N). length (lookahead v)) (drop_more w i d inside ∙ ap (λ (y : Symbol T N). y ∷ drop (i + 1) w) is)
+
+pub counted_at_terminal : {T N : Type 0} (w : Wants T N) (i : ℕ) (d : Symbol T N) (t : T) (n : ℕ) → i < length w → get_or w i d ≡ Terminal t
+    → i + length (lookahead (drop i w)) ≡ n → (i + 1) + length (lookahead (drop (i + 1) w)) ≡ n
+counted_at_terminal {T} {N} w i d t n inside is e =
+    let h : length (lookahead (drop i w)) ≡ length (t ∷ lookahead (drop (i + 1) w)) =
+    ap (λ (v : Wants T N). length (lookahead v)) (drop_more w i d inside ∙ ap (λ (y : Symbol T N). y ∷ drop (i + 1) w) is) in omega (arith, h, e)
+
+-- a lookahead is no longer than its symbols
+pub lookahead_within : {T N : Type 0} (w : Wants T N) → length (lookahead w) ≤ length w
+lookahead_within [] = omega arith
+lookahead_within (Terminal t ∷ w) = let h = lookahead_within w in omega (arith, h)
+lookahead_within (Nonterminal f ∷ w) = omega arith
+
+pub counted_at_end : {T N : Type 0} (w : Wants T N) (i : ℕ) → length w ≤ i → i + length (lookahead (drop i w)) ≡ length (lookahead w) → length (lookahead w) ≡ length w
+counted_at_end w i past e = let h = lookahead_within w in omega (arith, h, e, past)
+
+pub is_found : (b : Bool) (n i : ℕ) → b ≡ true → n ≡ i → Some i ≡ cond b (Some n) None
+is_found true n i e same = ap (λ (k : ℕ). Some k) (sym same)
+is_found false n i e same = cc
+
+pub is_lost : (b : Bool) (n : ℕ) → b ≡ false → None ≡ cond b (Some n) None
+is_lost true n e = cc
+is_lost false n e = refl
+
+pub found_is : (b : Bool) (n i : ℕ) → Some i ≡ cond b (Some n) None → (b ≡ true) × (i ≡ n)
+found_is true n i e = (refl, cc)
+found_is false n i e = absurd cc
+
+pub lost_is : (b : Bool) (n : ℕ) → None ≡ cond b (Some n) None → b ≡ false
+lost_is true n e = absurd cc
+lost_is false n e = refl
+
+pub none_is : (b : Bool) (n : ℕ) (r : Option ℕ) → r ≡ cond b (Some n) None → false ≡ is_some r → b ≡ false
+none_is b n None e h = lost_is b n e
+none_is b n (Some i) e h = absurd cc
+
+-- What the first tokens rule out, they rule out with whatever comes behind them.
+and_false : (a x y : Bool) → (x ≡ false → y ≡ false) → (a && x) ≡ false → (a && y) ≡ false
+and_false true x y f h = f h
+and_false false x y f h = refl
+
+pub ruled_out : {T N : Type 0} (e : T → T → Bool) (k : ℕ) (w : Wants T N) (next ts : List T) → k ≤ length next
+    → begins e (lookahead (take k w)) next ≡ false → begins e (lookahead w) (next ++ ts) ≡ false
+ruled_out e zero w next ts low h = absurd cc
+ruled_out e (suc k) [] next ts low h = absurd cc
+ruled_out e (suc k) (Nonterminal f ∷ w) next ts low h = absurd cc
+ruled_out e (suc k) (Terminal s ∷ w) [] ts low h = absurd (omega (arith, low))
+ruled_out e (suc k) (Terminal s ∷ w) (t ∷ next) ts low h =
+    let less : k ≤ length next = omega (arith, low) in and_false (e s t) _ _ (ruled_out e k w next ts less) h

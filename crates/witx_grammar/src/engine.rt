@@ -1,32 +1,17 @@
 //! The derivation of a list of tokens.
 
-ghost use Rattle.std.specs.Prelude.{◌≡◌, List, [], ◌∷◌, ◌++◌, reverse, map, option_map, IfOk, MatchOption};
+ghost use Rattle.std.specs.Prelude.{◌≡◌, List, [], ◌∷◌, ◌++◌, ◌≤◌, ◌+◌, length, drop, reverse, replicate, map, IfOk, MatchOption};
 ghost use Rattle.std.specs.List.{flat_map};
 ghost use Rattle.witx_grammar.specs.Grammar.{Derives, grammar, rewrite_view, rewrites_of, rule_view};
-ghost use Rattle.witx_grammar.specs.Prediction.{HasOneRuleEach, IsPredictive, begins, choose as choose_of, lookahead};
+ghost use Rattle.witx_grammar.specs.Prediction.{HasOneRuleEach, IsPredictive};
 ghost use Rattle.witx_grammar.specs.declared.table.Symbol.TheVariants.{Nonterminal};
 ghost use Rattle.witx_grammar.specs.declared.table.Step.{Step};
+ghost use Rattle.witx_grammar.specs.declared.table.Step.TheVariants.{Leaf};
 
+use crate::choice::{choose, nothing_known};
 use crate::kind::Kind;
 use crate::table::{Production, Rule, Step, Symbol, Table};
 use std::alloc::{AllocError, Global};
-
-/// Whether the tokens begin with the lookahead of the symbols.
-fn fits<T: Kind, N: Kind>(symbols: &[Symbol<T, N>], tokens: &[T]) -> bool
-    ensures { result ≡ begins T.eq (lookahead symbols.now) tokens.now }
-{
-    for (i, symbol) in symbols.iter().enumerate() {
-        match symbol {
-            Symbol::Nonterminal(_nonterminal) => return true,
-            Symbol::Terminal(kind) => {
-                if i >= tokens.len() || *kind != tokens[i] {
-                    return false;
-                }
-            }
-        }
-    }
-    true
-}
 
 /// The productions of a nonterminal.
 pub fn productions_of<'a, T: Kind, N: Kind, P: Kind>(
@@ -44,37 +29,39 @@ pub fn productions_of<'a, T: Kind, N: Kind, P: Kind>(
     &[]
 }
 
-/// The first production of the nonterminal that fits.
-fn choose<'a, T: Kind, N: Kind, P: Kind>(
-    table: &Table<'a, T, N, P>,
-    nonterminal: N,
-    tokens: &[T],
-) -> Option<&'a Production<'a, T, N, P>>
-    requires { HasOneRuleEach N.eq table.now.rules.now }
-    ensures { option_map (λ p. rewrite_view nonterminal p.now) result ≡ choose_of T.eq N.eq (grammar table.now) nonterminal tokens.now }
-{
-    let productions = productions_of(table.rules, nonterminal);
-    for production in productions {
-        if fits(production.symbols, tokens) {
-            return Some(production);
-        }
-    }
-    None
-}
-
-/// Puts the symbols on the stack, the first of them on top.
-fn push_all<T: Kind, N: Kind>(
+/// Puts the symbols from the one numbered `first` on onto the stack, that one on top.
+fn push_from<T: Kind, N: Kind>(
     stack: &mut Vec<Symbol<T, N>>,
     symbols: &[Symbol<T, N>],
+    first: usize,
 ) -> Result<(), AllocError>
-    ensures { IfOk result (λ _. reverse stack.new.items ≡ symbols.now ++ reverse stack.old.items) }
+    requires { first ≤ length symbols.now }
+    ensures { IfOk result (λ _. reverse stack.new.items ≡ drop first symbols.now ++ reverse stack.old.items) }
 {
     let mut left = symbols.len();
-    'each: while left > 0 {
+    'each: while left > first {
         left -= 1;
         stack.push(symbols[left])?;
     }
     Ok(())
+}
+
+/// Reads so many tokens, a step each. The answer is the place behind them.
+fn read_tokens<T: Kind, P: Kind>(
+    tokens: &[T],
+    at: usize,
+    count: usize,
+    steps: &mut Vec<Step<P>>,
+) -> Result<usize, AllocError>
+    requires { at + count ≤ length tokens.now }
+    ensures place { IfOk result (λ place. place ≡ at + count) }
+    ensures steps { IfOk result (λ _. steps.new.items ≡ steps.old.items ++ replicate count Leaf) }
+{
+    for _token in 0..count {
+        steps.push(Step::Leaf)?;
+    }
+    let _tokens = tokens.len();
+    Ok(at + count)
 }
 
 /// The derivation of the tokens from the nonterminal, or `None` where there is none.
@@ -92,9 +79,10 @@ pub fn derive<T: Kind, N: Kind, P: Kind>(
         ((ms : List (Step P)) → Derives (grammar table.now) ms (Nonterminal start ∷ []) tokens.now → ⊥)
         (λ ms. Derives (grammar table.now) ms.items (Nonterminal start ∷ []) tokens.now)) }
 {
+    let mut known = nothing_known(alloc, table)?;
     let mut stack = Vec::new(alloc);
     stack.push(Symbol::Nonterminal(start))?;
-    let mut steps = Vec::new(alloc);
+    let mut steps = Vec::with_capacity(alloc, tokens.len().saturating_mul(2))?;
     let mut at = 0;
     'each: while let Some(symbol) = stack.pop() {
         match symbol {
@@ -106,12 +94,13 @@ pub fn derive<T: Kind, N: Kind, P: Kind>(
                 at += 1;
             }
             Symbol::Nonterminal(wanted) => {
-                let production = match choose(table, wanted, &tokens[at..]) {
-                    Some(production) => production,
-                    None => return Ok(None),
+                let Some((production, front)) = choose(table, &mut known, wanted, &tokens[at..])
+                else {
+                    return Ok(None);
                 };
-                push_all(&mut stack, production.symbols)?;
+                push_from(&mut stack, production.symbols, front)?;
                 steps.push(Step::Node(production.name))?;
+                at = read_tokens(tokens, at, front, &mut steps)?;
             }
         }
     }

@@ -22,10 +22,11 @@ pub enum Parsed<T, P> {
 
 /// The derivation of the tokens from the nonterminal, or the fault exactly where there is none.
 ///
-/// A derivation takes time linear in its length: one `Step` a token and one a nonterminal, for which
-/// the heads of the rules are looked at, and then the productions of one. A fault takes, at each token
-/// before it, time in the number of productions and in the length of the lists of what is still wanted,
-/// which can grow with nesting.
+/// A derivation takes time linear in its length: one `Step` a token and one a nonterminal. From which
+/// production on one is looked for is kept for each nonterminal and the next two kinds, as far as there
+/// is room; where nothing is kept, the heads of the rules are looked at, and then the productions of one.
+/// A fault takes, at each token before it, time in the number of productions and in the length of the
+/// lists of what is still wanted, which can grow with nesting.
 pub fn parse<T: Kind, N: Kind, P: Kind>(
     alloc: Global,
     table: &Table<T, N, P>,

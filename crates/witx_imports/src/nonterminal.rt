@@ -26,5 +26,9 @@ pub enum Nonterminal {
 }
 
 impl Kind for Nonterminal {
+    fn number(&self) -> u8 {
+        *self as u8
+    }
+
     ghost exact = { enum_exact the_type tt };
 }

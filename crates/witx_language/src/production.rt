@@ -80,5 +80,9 @@ pub enum ProductionName {
 }
 
 impl Kind for ProductionName {
+    fn number(&self) -> u8 {
+        *self as u8
+    }
+
     ghost exact = { enum_exact the_type tt };
 }

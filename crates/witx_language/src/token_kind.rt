@@ -74,5 +74,9 @@ pub enum TokenKind {
 }
 
 impl Kind for TokenKind {
+    fn number(&self) -> u8 {
+        *self as u8
+    }
+
     ghost exact = { enum_exact the_type tt };
 }

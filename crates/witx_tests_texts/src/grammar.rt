@@ -21,6 +21,10 @@ enum TokenKind {
 }
 
 impl Kind for TokenKind {
+    fn number(&self) -> u8 {
+        *self as u8
+    }
+
     ghost exact = { enum_exact token_kinds tt };
 }
 
@@ -32,6 +36,10 @@ enum Phrase {
 }
 
 impl Kind for Phrase {
+    fn number(&self) -> u8 {
+        *self as u8
+    }
+
     ghost exact = { enum_exact phrases tt };
 }
 
@@ -47,6 +55,10 @@ enum Form {
 }
 
 impl Kind for Form {
+    fn number(&self) -> u8 {
+        *self as u8
+    }
+
     ghost exact = { enum_exact forms tt };
 }
 

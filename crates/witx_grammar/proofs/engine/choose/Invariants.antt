@@ -1,9 +1,0 @@
-use Rattle.std.proofs.Common.{◌≡◌, map, drop}
-use Rattle.witx_grammar.specs.Grammar.{rewrite_view}
-use Rattle.witx_grammar.specs.Prediction.{candidate, pick}
-use Rattle.witx_grammar.proofs.engine.choose.Given as goal
-
-abbrev pub invariant-loop-production : goal.invariant-loop-production
-invariant-loop-production g l =
-    pick g.T.PartialEq.eq (map candidate (map (rewrite_view l.fn.nonterminal) (drop l.production-index l.productions))) l.tokens
-    ≡ pick g.T.PartialEq.eq (map candidate (map (rewrite_view l.fn.nonterminal) l.productions)) l.tokens

@@ -1,6 +1,0 @@
-use Rattle.std.proofs.Common.{◌≡◌, drop}
-use Rattle.witx_grammar.specs.Prediction.{begins, lookahead}
-use Rattle.witx_grammar.proofs.engine.fits.Given as goal
-
-abbrev pub invariant-loop-i : goal.invariant-loop-i
-invariant-loop-i g l = begins g.T.PartialEq.eq (lookahead (drop l.i l.symbols)) (drop l.i l.tokens) ≡ begins g.T.PartialEq.eq (lookahead l.symbols) l.tokens
