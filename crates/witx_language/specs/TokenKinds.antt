@@ -11,7 +11,7 @@ use Rattle.witx_values.specs.Words.{Spelling, spelled, kind_spelled}
 abbrev pub is_kind : TokenKind → TokenKind → Bool
 is_kind = kinds.ghosts.eq
 
--- the words, those that stand often first
+-- the words
 abbrev pub the_words : List (Spelling TokenKind)
 the_words =
     spelled ParamWord (codes "param") ∷ spelled ResultWord (codes "result") ∷ spelled FuncWord (codes "func")

@@ -3,16 +3,16 @@
 
 ghost use Rattle.std.specs.Prelude.{◌≡◌, if◌then◌else◌, map, option_map};
 ghost use Rattle.witx_lex.specs.Views.{token_view};
-ghost use Rattle.witx_language.specs.declared.token_kind.TokenKind.TheVariants.{Integer, BigInteger};
+ghost use Rattle.witx_language.specs.declared.token_kind.TokenKind.TheVariants.{Integer, BigInteger, Other};
 ghost use Rattle.witx_language.specs.Integers.{is_small};
 ghost use Rattle.witx_language.specs.Messages.{expected_view, expected_message, expected_word, expected_annotation, message_in};
 ghost use Rattle.witx_language.specs.TokenKinds.{the_words, the_annotations, token_kind as kind_of_token};
-ghost use Rattle.witx_values.specs.Words.{spelling_view};
+ghost use Rattle.witx_values.specs.Words.{kind_spelled as kind_spelled_of, spelling_view};
 
 use crate::integer::integer;
 use crate::token_kind::TokenKind;
 use witx_lex::Token;
-use witx_values::kind_spelled;
+use witx_values::{kind_numbered, kind_spelled};
 
 /// A word, or an annotation without its `@`. Its note is the message where it alone can stand.
 type Word = witx_values::Word<TokenKind, &'static str>;
@@ -28,7 +28,7 @@ macro_rules! word {
     };
 }
 
-// The order has no meaning: words that stand often are first, since they are found sooner.
+// The order has no meaning beside that of `NUMBERS`.
 static WORDS: [Word; 43] = [
     word!(ParamWord, "", "param"),
     word!(ResultWord, "", "result"),
@@ -78,6 +78,17 @@ static WORDS: [Word; 43] = [
 static ANNOTATIONS: [Word; 2] = [
     word!(AtWitx, "@", "witx"),
     word!(AtInterface, "@", "interface"),
+];
+
+/// The number of the word with each sum of `kind_numbered`, or 255.
+static NUMBERS: [u8; 128] = [
+    36, 255, 255, 255, 255, 255, 37, 255, 255, 0, 255, 11, 35, 255, 255, 255, 255, 255, 14, 255,
+    21, 26, 255, 255, 6, 255, 255, 16, 20, 255, 255, 255, 2, 255, 255, 255, 255, 24, 40, 255, 8,
+    28, 255, 255, 5, 255, 255, 255, 255, 255, 10, 255, 255, 4, 1, 38, 255, 25, 39, 12, 255, 7, 255,
+    255, 255, 255, 9, 17, 255, 42, 255, 255, 255, 255, 41, 18, 255, 255, 255, 34, 255, 255, 255,
+    255, 22, 255, 255, 255, 30, 255, 255, 255, 255, 255, 255, 255, 255, 31, 255, 13, 255, 255, 3,
+    255, 255, 255, 27, 15, 255, 32, 255, 23, 255, 255, 255, 19, 255, 255, 29, 33, 255, 255, 255,
+    255, 255, 255, 255, 255,
 ];
 
 /// The words.
@@ -147,6 +158,13 @@ fn kind_of_integer(digits: &str) -> TokenKind
     }
 }
 
+/// The kind of a word.
+fn kind_of_word(text: &str) -> TokenKind
+    ensures { result ≡ kind_spelled_of Other the_words text.now }
+{
+    kind_numbered(words(), &NUMBERS, TokenKind::Other, text)
+}
+
 /// The kind of a token.
 pub fn kind_of(token: &Token) -> TokenKind
     ensures { result ≡ kind_of_token (token_view token.now) }
@@ -157,7 +175,7 @@ pub fn kind_of(token: &Token) -> TokenKind
         Token::Id(_name) => TokenKind::Id,
         Token::Quoted(_text) => TokenKind::Quoted,
         Token::Int(digits) => kind_of_integer(digits),
-        Token::Word(word) => kind_spelled(words(), TokenKind::Other, word),
+        Token::Word(word) => kind_of_word(word),
         Token::Annot(word) => kind_spelled(annotations(), TokenKind::Other, word),
     }
 }

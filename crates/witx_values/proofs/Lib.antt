@@ -6,3 +6,4 @@ pub mod Keeping
 pub mod Readings
 pub mod Laws
 pub mod Mute
+pub mod Numbered

@@ -1,6 +1,7 @@
 -- The words of a language: each is of one kind of tokens, tied to its spelling.
-use Rattle.std.specs.Prelude.{ℕ, if◌then◌else◌, List, [], ◌∷◌}
+use Rattle.std.specs.Prelude.{ℕ, if◌then◌else◌, List, [], ◌∷◌, IsTrue}
 use Rattle.witx_base.specs.Texts.{same_text}
+use Rattle.witx_grammar.specs.Prediction.{are_distinct}
 use Rattle.witx_values.specs.declared.words.Word as code
 
 -- a kind of tokens, and how they are spelled
@@ -20,3 +21,7 @@ spelling_view w = spelled w.kind w.text.now
 abbrev pub kind_spelled : {K : Type 0} → K → List (Spelling K) → List ℕ → K
 kind_spelled other [] t = other
 kind_spelled other (s ∷ ss) t = if same_text s.text t then s.kind else kind_spelled other ss t
+
+-- no two words are spelled alike
+abbrev pub AreApart : {K : Type 0} → List (Spelling K) → Type 0
+AreApart ss = IsTrue (are_distinct (λ s t. same_text s.text t.text) ss)

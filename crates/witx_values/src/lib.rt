@@ -16,4 +16,4 @@ pub use actions::Actions;
 pub use lists::{appended, reversed};
 pub use reader::{Reading, read};
 pub use texts::start_of_token;
-pub use words::{Word, kind_spelled, kinds_of};
+pub use words::{Word, kind_numbered, kind_spelled, kinds_of};

@@ -1,9 +1,9 @@
 //! The words of a language, and the kinds of tokens.
 
-ghost use Rattle.std.specs.Prelude.{◌≡◌, map, IfOk};
+ghost use Rattle.std.specs.Prelude.{◌≡◌, ◌<◌, map, IfOk};
 ghost use Rattle.witx_base.specs.Texts.{same_text};
 ghost use Rattle.witx_values.specs.Language.{kinds_of as kinds_of_tokens};
-ghost use Rattle.witx_values.specs.Words.{kind_spelled as kind_spelled_of, spelling_view};
+ghost use Rattle.witx_values.specs.Words.{AreApart, kind_spelled as kind_spelled_of, spelling_view};
 
 use crate::actions::Actions;
 use std::alloc::Global;
@@ -43,6 +43,38 @@ pub fn kind_spelled<K: Kind, M>(words: &[Word<K, M>], other: K, text: &str) -> K
         }
     }
     other
+}
+
+/// What the first and the last byte and the length of a text give.
+fn sum_of(text: &str) -> usize
+    ensures { result < 128 }
+{
+    let bytes = text.as_bytes();
+    let ends = match (bytes.first(), bytes.last()) {
+        (Some(first), Some(last)) => usize::from(*first) * 16 + usize::from(*last) * 20,
+        _ => 0,
+    };
+    (ends + bytes.len() % 128) % 128
+}
+
+/// The kind of tokens that are spelled so, or `other` where no word is.
+///
+/// `numbers` says for each sum, 16 times the first byte and 20 times the last one and the length, which
+/// word may have it. That word is looked at first, so that one with its own number is found at once.
+pub fn kind_numbered<K: Kind, M>(
+    words: &[Word<K, M>],
+    numbers: &[u8; 128],
+    other: K,
+    text: &str,
+) -> K
+    requires { AreApart (map spelling_view words.now) }
+    ensures { result ≡ kind_spelled_of other (map spelling_view words.now) text.now }
+{
+    let number = usize::from(numbers[sum_of(text)]);
+    if number < words.len() && is_spelled(words[number].text, text) {
+        return words[number].kind;
+    }
+    kind_spelled(words, other, text)
 }
 
 /// The kinds of the tokens, and then that of the end.
