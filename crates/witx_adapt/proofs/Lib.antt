@@ -4,3 +4,4 @@ pub mod Fitting
 pub mod Lowering
 pub mod Gathering
 pub mod Answered
+pub mod Digits

@@ -1,15 +1,15 @@
 //! The line of each event of a listing.
 
 ghost use Rattle.std.specs.Prelude.{◌≡◌, ◌++◌, OnOk, string_bytes, map, codes, option_map};
-ghost use Rattle.witx_ast.specs.Views.{tree_of, named_tree};
+ghost use Rattle.witx_ast.specs.Views.{tree_of, datatype_tree, named_tree};
 ghost use Rattle.witx_instructions.specs.Views.{event_of, kept_step};
 ghost use Rattle.witx_adapt.specs.Lines.{event_line, event_lines, event_text, number_field, payload_field, step_fields, step_name, two_names, type_field, finish_text};
 
 use crate::names::{put_quoted, put_signature};
+use crate::numbers::put_decimal;
 use std::alloc::{AllocError, Global};
-use std::fmt::Write;
 use witx_abi::{Event, Step};
-use witx_ast::{NamedType, TypeRef};
+use witx_ast::{Datatype, NamedType, TypeRef};
 use witx_base::OutOfMemory;
 
 /// Appends a line for each event.
@@ -28,7 +28,7 @@ fn put_event_line(alloc: Global, text: &mut String, event: &Event) -> Result<(),
 {
     text.push_str("  ")?;
     put_event(alloc, text, event)?;
-    text.push_str("\n")?;
+    text.push('\n')?;
     Ok(())
 }
 
@@ -63,8 +63,9 @@ fn put_finish(text: &mut String, value: bool) -> Result<(), AllocError>
 fn put_space(text: &mut String, slot: usize, ty: &NamedType) -> Result<(), OutOfMemory>
     ensures { OnOk result (string_bytes text.new ≡ string_bytes text.old ++ (codes "space" ++ number_field slot ++ type_field (named_tree ty.now))) }
 {
-    let name = ty.name.as_str();
-    Ok(write!(text, "space {slot} {name}")?)
+    text.push_str("space")?;
+    put_number(text, slot)?;
+    put_name(text, ty)
 }
 
 fn put_step(alloc: Global, text: &mut String, step: &Step) -> Result<(), OutOfMemory>
@@ -103,7 +104,7 @@ fn put_fields(alloc: Global, text: &mut String, step: &Step) -> Result<(), OutOf
             results,
         } => {
             put_names(text, module.as_str(), name.as_str())?;
-            text.push_str(" ")?;
+            text.push(' ')?;
             Ok(put_signature(text, params.as_slice(), results.as_slice())?)
         }
         Step::CallInterface { module, name, .. } => put_names(text, module.as_str(), name.as_str()),
@@ -118,14 +119,15 @@ fn put_fields(alloc: Global, text: &mut String, step: &Step) -> Result<(), OutOf
 fn put_number(text: &mut String, n: usize) -> Result<(), OutOfMemory>
     ensures { OnOk result (string_bytes text.new ≡ string_bytes text.old ++ number_field n) }
 {
-    Ok(write!(text, " {n}")?)
+    text.push(' ')?;
+    Ok(put_decimal(text, n)?)
 }
 
 /// A word behind a space.
 fn put_word(text: &mut String, word: &str) -> Result<(), AllocError>
     ensures { OnOk result (string_bytes text.new ≡ string_bytes text.old ++ (codes " " ++ word.now)) }
 {
-    text.push_str(" ")?;
+    text.push(' ')?;
     text.push_str(word)
 }
 
@@ -142,7 +144,24 @@ fn put_type(alloc: Global, text: &mut String, ty: &TypeRef) -> Result<(), OutOfM
 {
     match ty {
         TypeRef::Name(named) => put_name(text, named),
-        TypeRef::Value(_) => put_shown(alloc, text, ty),
+        TypeRef::Value(datatype) => put_unnamed(alloc, text, ty, datatype),
+    }
+}
+
+/// A type without a name of its own: a builtin by its word.
+#[tactic(auto, using(witx_ast::proofs::Trees::tree_rules))]
+fn put_unnamed(
+    alloc: Global,
+    text: &mut String,
+    ty: &TypeRef,
+    datatype: &Datatype,
+) -> Result<(), OutOfMemory>
+    requires { tree_of ty.now ≡ datatype_tree datatype.now }
+    ensures { OnOk result (string_bytes text.new ≡ string_bytes text.old ++ type_field (tree_of ty.now)) }
+{
+    match datatype {
+        Datatype::Builtin(builtin) => Ok(put_word(text, builtin.type_name())?),
+        _ => put_shown(alloc, text, ty),
     }
 }
 
@@ -158,9 +177,9 @@ fn put_shown(alloc: Global, text: &mut String, ty: &TypeRef) -> Result<(), OutOf
 fn put_names(text: &mut String, module: &str, name: &str) -> Result<(), OutOfMemory>
     ensures { OnOk result (string_bytes text.new ≡ string_bytes text.old ++ two_names «module».now name.now) }
 {
-    text.push_str(" ")?;
+    text.push(' ')?;
     put_quoted(text, module)?;
-    text.push_str(" ")?;
+    text.push(' ')?;
     Ok(put_quoted(text, name)?)
 }
 
@@ -174,8 +193,7 @@ fn put_payload(
 {
     match ty {
         Some(ty) => {
-            text.push_str(" ")?;
-            text.push_str(word)?;
+            put_word(text, word)?;
             put_type(alloc, text, ty)
         }
         None => Ok(()),

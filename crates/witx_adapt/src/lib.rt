@@ -7,6 +7,7 @@ mod error;
 mod event_lines;
 mod listings;
 mod names;
+mod numbers;
 
 pub use adapted::{Adapted, AdaptedFunc, AdaptedFuncs};
 pub use adapting::adapt_document;

@@ -4,12 +4,14 @@ ghost use Rattle.std.specs.Prelude.{◌≡◌, ◌++◌, IfOk, OnOk, drop, map, 
 ghost use Rattle.witx_ast.specs.Items.{item_tree};
 ghost use Rattle.witx_ast.specs.Definitions.{definition_tree, module_tree};
 ghost use Rattle.witx_instructions.specs.Views.{event_of};
+ghost use Rattle.witx_layout.specs.LayoutsText.{typename_line};
 ghost use Rattle.witx_adapt.specs.Entries.{lowered};
 ghost use Rattle.witx_adapt.specs.Listings.{constant_line, definition_lines, func_count, func_line, func_lines, import_line, item_lines, listing_text, module_line, next_func_lines, side_lines, stored_mark, typename_lines};
 
 use crate::adapted::{Adapted, AdaptedFunc};
 use crate::event_lines::put_events;
 use crate::names::{put_quoted, put_signature};
+use crate::numbers::put_decimal;
 use std::alloc::{AllocError, Global};
 use std::fmt::Write;
 use witx_abi::{Event, WasmType};
@@ -78,9 +80,20 @@ fn put_typename<'a>(
     if layouts.is_empty() {
         return Ok(layouts);
     }
-    let SizeAlign { size, align } = layouts[0];
-    write!(text, "typename {name} size {size} align {align}\n")?;
+    put_typename_line(text, name, layouts[0])?;
     Ok(&layouts[1..])
+}
+
+fn put_typename_line(text: &mut String, name: &str, layout: SizeAlign) -> Result<(), AllocError>
+    ensures { OnOk result (string_bytes text.new ≡ string_bytes text.old ++ typename_line name.now layout.size layout.align) }
+{
+    text.push_str("typename ")?;
+    text.push_str(name)?;
+    text.push_str(" size ")?;
+    put_decimal(text, layout.size)?;
+    text.push_str(" align ")?;
+    put_decimal(text, layout.align)?;
+    text.push('\n')
 }
 
 fn put_constant(text: &mut String, constant: &Constant) -> Result<(), AllocError>
@@ -110,7 +123,9 @@ fn put_module<'a>(
 fn put_module_line(text: &mut String, name: &str) -> Result<(), AllocError>
     ensures { OnOk result (string_bytes text.new ≡ string_bytes text.old ++ module_line name.now) }
 {
-    write!(text, "module {name}\n")
+    text.push_str("module ")?;
+    text.push_str(name)?;
+    text.push('\n')
 }
 
 #[tactic(auto, using(crate::proofs::ListingSteps::item_rules))]
@@ -195,10 +210,10 @@ pub fn put_func_line(
 {
     text.push_str("func ")?;
     put_quoted(text, func.name.as_str())?;
-    text.push_str(" ")?;
+    text.push(' ')?;
     put_signature(text, params, results)?;
     text.push_str(stored_mark(func.abi))?;
-    text.push_str("\n")
+    text.push('\n')
 }
 
 /// What marks a function that stores its whole result.
@@ -220,6 +235,6 @@ fn put_side(
     ensures { OnOk result (string_bytes text.new ≡ string_bytes text.old ++ side_lines side.now (map event_of events.now)) }
 {
     text.push_str(side)?;
-    text.push_str("\n")?;
+    text.push('\n')?;
     put_events(alloc, text, events)
 }

@@ -13,9 +13,9 @@ use witx_abi::WasmType;
 pub fn put_quoted(text: &mut String, name: &str) -> Result<(), AllocError>
     ensures { OnOk result (string_bytes text.new ≡ string_bytes text.old ++ quoted name.now) }
 {
-    text.push_str("\"")?;
+    text.push('"')?;
     put_escaped(text, name)?;
-    text.push_str("\"")
+    text.push('"')
 }
 
 fn put_escaped(text: &mut String, name: &str) -> Result<(), AllocError>
@@ -31,7 +31,7 @@ fn put_character(text: &mut String, c: char) -> Result<(), AllocError>
     ensures { OnOk result (string_bytes text.new ≡ string_bytes text.old ++ escaped c) }
 {
     if c == '"' || c == '\\' {
-        text.push_str("\\")?;
+        text.push('\\')?;
         return text.push(c);
     }
     if c < ' ' || c == '\u{7f}' {
@@ -43,7 +43,7 @@ fn put_character(text: &mut String, c: char) -> Result<(), AllocError>
 fn put_control(text: &mut String, byte: u8) -> Result<(), AllocError>
     ensures { OnOk result (string_bytes text.new ≡ string_bytes text.old ++ 92 ∷ digit (byte / 16) ∷ digit (byte % 16) ∷ []) }
 {
-    text.push_str("\\")?;
+    text.push('\\')?;
     text.push(hex_digit(byte / 16))?;
     text.push(hex_digit(byte % 16))
 }
@@ -76,9 +76,9 @@ pub fn put_signature(
 fn put_group(text: &mut String, types: &[WasmType]) -> Result<(), AllocError>
     ensures { OnOk result (string_bytes text.new ≡ string_bytes text.old ++ (codes "(" ++ wasm_words types.now ++ codes ")")) }
 {
-    text.push_str("(")?;
+    text.push('(')?;
     put_words(text, types)?;
-    text.push_str(")")
+    text.push(')')
 }
 
 fn put_words(text: &mut String, types: &[WasmType]) -> Result<(), AllocError>
@@ -104,7 +104,7 @@ fn put_more_words(text: &mut String, types: &[WasmType]) -> Result<(), AllocErro
 fn put_spaced(text: &mut String, ty: WasmType) -> Result<(), AllocError>
     ensures { OnOk result (string_bytes text.new ≡ string_bytes text.old ++ spaced ty) }
 {
-    text.push_str(" ")?;
+    text.push(' ')?;
     text.push_str(wasm_word(ty))
 }
 
