@@ -1,0 +1,4 @@
+use Rattle.witx_wasm.proofs.numbers.+unsigned.Given as goal
+
+abbrev pub decreases-unsigned : goal.decreases-unsigned
+decreases-unsigned l = l.bits

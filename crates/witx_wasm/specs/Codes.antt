@@ -1,0 +1,22 @@
+-- The bytes that stand for types, and the types that bytes stand for.
+use Rattle.std.specs.Prelude.{ℕ, Bool, true, false, Option, Some, None, ◌==◌, if◌then◌else◌}
+use Rattle.witx_wasm.specs.declared.module.ReferenceType.{ReferenceType}
+use Rattle.witx_wasm.specs.declared.module.ReferenceType.TheVariants.{Func, Extern}
+use Rattle.witx_wasm.specs.declared.module.ValueType.{ValueType}
+use Rattle.witx_wasm.specs.declared.module.ValueType.TheVariants.{I32, I64, F32, F64, Reference}
+
+abbrev pub reference_code : ReferenceType → ℕ
+reference_code Func = 0x70
+reference_code Extern = 0x6F
+
+abbrev pub value_code : ValueType → ℕ
+value_code I32 = 0x7F
+value_code I64 = 0x7E
+value_code F32 = 0x7D
+value_code F64 = 0x7C
+value_code (Reference r) = reference_code r
+
+-- whether a global may be changed
+abbrev pub mutability_code : Bool → ℕ
+mutability_code false = 0
+mutability_code true = 1
