@@ -1,5 +1,5 @@
 -- The computed faults of imports are those that hold of the two lists.
-use Rattle.std.proofs.Common.{◌≡◌, ℕ, zero, suc, ◌+◌, ◌<◌, Bool, true, false, cond, ◌&&◌, eqb, List, [], ◌∷◌, Option, Some, None, refl, sym, ap, ◌∙◌, subst, inl, inr, arith}
+use Rattle.std.proofs.Common.{◌≡◌, ℕ, zero, suc, ◌+◌, ◌<◌, Bool, true, false, cond, eqb, List, [], ◌∷◌, Option, Some, None, refl, sym, ap, ◌∙◌, subst, inl, inr, arith}
 use Rattle.std.specs.Bool.{Decides}
 use Rattle.std.specs.Cmp.Lexicographic.{pointwise}
 use Rattle.std.specs.List.{AllPairs, enumerate_from, filter_map, find}
@@ -11,6 +11,7 @@ use Rattle.std.proofs.lemmas.Slice.Eq.{slice_eq-Decides}
 use Rattle.witx_base.specs.Texts.{same_text}
 use Rattle.witx_grammar.specs.Grammar.{In}
 use Rattle.witx_grammar.specs.Kinds.{enum_exact}
+use Rattle.witx_values.proofs.Truths.{not_both, both_true}
 use Rattle.witx_machine.specs.contracts.surface.WasmType.{the_type}
 use Rattle.witx_machine.specs.contracts.surface.WasmTypePartialEq.TheImpl as words
 use Rattle.witx_machine.specs.declared.surface.WasmType.{WasmType}
@@ -20,13 +21,6 @@ use Rattle.witx_imports.specs.declared.import.WasmImport.{WasmImport}
 use Rattle.witx_imports.specs.Actions.{import_of}
 use Rattle.witx_imports.specs.Exact.{import_number, HasNames, IsFirstNamed, IsFaultOfImport, IsFaultAmong}
 use Rattle.witx_imports.specs.Faults.{same_words, has_names, has_words, fault_by, fault_of, import_faults}
-
-not_both : true ≡ false → ⊥
-not_both e = cc
-
-both_true : (a b : Bool) → a ≡ true → b ≡ true → (a && b) ≡ true
-both_true true b e f = f
-both_true false b e f = absurd (not_both (sym e))
 
 no_some : {A : Type 0} (x : A) → None ≡ Some x → ⊥
 no_some x e = cc

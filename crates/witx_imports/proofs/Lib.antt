@@ -1,5 +1,4 @@
-pub mod Lists
+pub mod Placed
 mod Examples
-pub mod Chosen
 pub mod Checked
 pub mod Exact

@@ -4,7 +4,7 @@ use Rattle.witx_lex.specs.Tokens.{Lexed}
 use Rattle.witx_machine.specs.declared.surface.WasmType.{WasmType}
 use Rattle.witx_machine.specs.declared.surface.WasmType.TheVariants as w
 use Rattle.witx_values.specs.Language.{Language}
-use Rattle.witx_values.specs.Parts.{made}
+use Rattle.witx_values.specs.Parts.{Meaning, in_place}
 use Rattle.witx_imports.specs.declared.import.WasmImport.{WasmImport}
 use Rattle.witx_imports.specs.declared.nonterminal.Nonterminal.{Nonterminal}
 use Rattle.witx_imports.specs.declared.production.ProductionName.{ProductionName}
@@ -13,7 +13,7 @@ use Rattle.witx_imports.specs.declared.token_kind.TokenKind.{TokenKind}
 use Rattle.witx_imports.specs.declared.token_kind.TokenKind.TheVariants.{End}
 use Rattle.witx_imports.specs.declared.value.Sort.{Sort}
 use Rattle.witx_imports.specs.Grammar.{the_names, written}
-use Rattle.witx_imports.specs.Sorts.{Of, wrap, unwrap, sort_of, terminal_sorts, nonterminal_sort, parts_of, made_sort, Meaning}
+use Rattle.witx_imports.specs.Sorts.{sorting, sort_of, terminal_sorts, nonterminal_sort}
 use Rattle.witx_imports.specs.TokenKinds.{token_kind}
 use Rattle.witx_imports.specs.Values.{Signature, Val, leaf}
 
@@ -28,7 +28,7 @@ words ps rs = record { params = ps; results = rs }
 -- ---- production by production, of the values of its parts in their order
 
 -- what a production makes
-abbrev pub meaning : (x : ProductionName) → Meaning x
+abbrev pub meaning : (x : ProductionName) → Meaning sorting (written x)
 meaning p.NoImports = []
 meaning p.MoreImports = λ i is. i ∷ is
 meaning p.Import = λ m f s. import_of m f s.params s.results
@@ -51,8 +51,8 @@ meaning p.F32 = w.F32
 meaning p.F64 = w.F64
 
 -- in place of the values of its parts, which stand first; no production sees more of the tokens than these
-unfoldable pub act : ProductionName → List Lexed → List Val → List Val
-act p ts vs = made Of wrap unwrap (parts_of p) (made_sort p) (meaning p) vs
+abbrev pub act : ProductionName → List Lexed → List Val → List Val
+act p ts vs = in_place sorting (written p) (meaning p) vs
 
 -- the language of lists of imports
 abbrev pub the_language : Language TokenKind Nonterminal ProductionName Lexed Sort Val

@@ -37,13 +37,10 @@ written p.I64 = write n.Type (T I64Word ∷ [])
 written p.F32 = write n.Type (T F32Word ∷ [])
 written p.F64 = write n.Type (T F64Word ∷ [])
 
-abbrev pub production : ProductionName → Rewrite TokenKind Nonterminal ProductionName
-production = production_of written
-
 abbrev pub the_names : List ProductionName
 the_names =
     p.NoImports ∷ p.MoreImports ∷ p.Import ∷ p.NamedFunc ∷ p.BareFunc ∷ p.NoParams ∷ p.MoreParams ∷ p.FirstResults ∷ p.NamedParam ∷ p.BareParams
     ∷ p.NoResults ∷ p.MoreResults ∷ p.NoTypes ∷ p.MoreTypes ∷ p.I32 ∷ p.I64 ∷ p.F32 ∷ p.F64 ∷ []
 
 abbrev pub the_grammar : List (Rewrite TokenKind Nonterminal ProductionName)
-the_grammar = map production the_names
+the_grammar = map (production_of written) the_names

@@ -1,23 +1,15 @@
 -- The imports that a text lists, or its fault with line and column.
 -- A text reads as imports where its tokens derive from the grammar and the derivation stands for them.
 use Rattle.std.specs.Prelude.{ℕ, List}
-use Rattle.witx_grammar.specs.declared.table.Step.{Step}
-use Rattle.witx_lex.specs.Tokens.{Lexed}
 use Rattle.witx_lex.specs.Places.{line_at, column_at}
-use Rattle.witx_values.specs.Language as general
 use Rattle.witx_values.specs.Texts.{Telling, HasValue, IsTextFault}
 use Rattle.witx_imports.specs.declared.error.ImportsError.{ImportsError}
 use Rattle.witx_imports.specs.declared.error.ImportsError.TheVariants.{Bad, OutOfMemory}
 use Rattle.witx_imports.specs.declared.import.WasmImport.{WasmImport}
 use Rattle.witx_imports.specs.declared.nonterminal.Nonterminal.TheVariants.{Text}
-use Rattle.witx_imports.specs.declared.production.ProductionName.{ProductionName}
 use Rattle.witx_imports.specs.declared.token_kind.TokenKind.{TokenKind}
 use Rattle.witx_imports.specs.Actions.{the_language}
-use Rattle.witx_imports.specs.Values.{Val, some_imports}
-
--- what the steps of a derivation of the tokens stand for
-abbrev pub stands_for : List Lexed → List (Step ProductionName) → List Val
-stands_for = general.stands_for the_language
+use Rattle.witx_imports.specs.Values.{some_imports}
 
 -- the text lists these imports
 abbrev pub Reads : List ℕ → List WasmImport → Type 0

@@ -1,17 +1,14 @@
 -- Sorts of values: what tokens and nonterminals stand for, and so what a production is made of.
 use Rattle.std.specs.Prelude.{ℕ, List, [], ◌∷◌, Option, Some, None}
 use Rattle.witx_machine.specs.declared.surface.WasmType.{WasmType}
-use Rattle.witx_values.specs.Language.{wants_sorts}
-use Rattle.witx_values.specs.Parts.{Makes}
+use Rattle.witx_values.specs.Parts.{Sorting}
 use Rattle.witx_imports.specs.declared.import.WasmImport.{WasmImport}
 use Rattle.witx_imports.specs.declared.nonterminal.Nonterminal.{Nonterminal as FormName}
 use Rattle.witx_imports.specs.declared.nonterminal.Nonterminal.TheVariants as n
-use Rattle.witx_imports.specs.declared.production.ProductionName.{ProductionName}
 use Rattle.witx_imports.specs.declared.token_kind.TokenKind.{TokenKind}
 use Rattle.witx_imports.specs.declared.token_kind.TokenKind.TheVariants.{Quoted}
 use Rattle.witx_imports.specs.declared.value.Sort.{Sort}
 use Rattle.witx_imports.specs.declared.value.Sort.TheVariants as s
-use Rattle.witx_imports.specs.Grammar.{written}
 use Rattle.witx_imports.specs.Values.{Signature, Val, a_name, a_type, some_types, a_signature, an_import, some_imports}
 
 -- what the values of a sort are
@@ -67,14 +64,13 @@ nonterminal_sort n.Results = s.Signature
 nonterminal_sort n.Types = s.Types
 nonterminal_sort n.Type = s.Type
 
--- the sorts of the values that a production is made of
-abbrev pub parts_of : ProductionName → List Sort
-parts_of p = wants_sorts terminal_sorts nonterminal_sort (written p).symbols
-
--- the sort of the value that it makes
-abbrev pub made_sort : ProductionName → Sort
-made_sort p = nonterminal_sort (written p).nonterminal
-
--- what a production means: a function from values of its parts to the value that it makes
-abbrev pub Meaning : ProductionName → Type 0
-Meaning p = Makes Of (parts_of p) (made_sort p)
+-- the sorts of the language
+abbrev pub sorting : Sorting TokenKind FormName Sort Val
+sorting = record {
+  Of = Of;
+  wrap = wrap;
+  unwrap = unwrap;
+  sort_of = sort_of;
+  terminal_sorts = terminal_sorts;
+  nonterminal_sort = nonterminal_sort;
+}

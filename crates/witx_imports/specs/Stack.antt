@@ -4,9 +4,9 @@ use Rattle.witx_imports.specs.declared.value.Signature as code
 use Rattle.witx_imports.specs.declared.value.Value.{Value}
 use Rattle.witx_imports.specs.declared.value.Value.TheVariants as value
 use Rattle.witx_imports.specs.declared.production.ProductionName.{ProductionName}
-use Rattle.witx_values.specs.Language.{StartWith, stack_of}
-use Rattle.witx_imports.specs.Actions.{act, words}
-use Rattle.witx_imports.specs.Sorts.{parts_of, sort_of}
+use Rattle.witx_imports.specs.declared.production.ProductionName.TheVariants as p
+use Rattle.witx_values.specs.Language.{Holds, parts_of, stack_of}
+use Rattle.witx_imports.specs.Actions.{act, the_language, words}
 use Rattle.witx_imports.specs.Values.{Val, a_name, a_type, some_types, a_signature, an_import, some_imports}
 
 -- what a value of the code stands for
@@ -20,8 +20,13 @@ value_view (value.Imports is) = some_imports (reverse is.items)
 
 -- what the production is made of lies on top
 abbrev pub Ready : ProductionName → List Value → Type 0
-Ready p stack = StartWith sort_of (parts_of p) (stack_of value_view stack)
+Ready p stack = Holds the_language (parts_of the_language p) (stack_of value_view stack)
+
+-- what a production makes of its parts. Of one that isn't known this is a word alone, in which a match puts the one that it is
+abbrev pub performed : ProductionName → List Val → List Val
+performed p.NoImports vs = act p.NoImports [] vs
+performed p vs = act p [] vs
 
 -- the production's value lies in place of that
 abbrev pub Made : ProductionName → List Value → List Value → Type 0
-Made p old new = stack_of value_view new ≡ act p [] (stack_of value_view old)
+Made p old new = stack_of value_view new ≡ performed p (stack_of value_view old)

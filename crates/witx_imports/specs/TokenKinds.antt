@@ -1,8 +1,8 @@
 -- Kinds of tokens: each word of the grammar is of one, tied to its spelling here and nowhere else.
-use Rattle.std.specs.Prelude.{List, [], ◌∷◌, ◌++◌, map, codes}
-use Rattle.witx_lex.specs.Tokens.{Token, left, right, id, word, annot, int, quoted, Lexed}
+use Rattle.std.specs.Prelude.{List, [], ◌∷◌, codes}
+use Rattle.witx_lex.specs.Tokens.{Token, left, right, id, word, quoted}
 use Rattle.witx_imports.specs.declared.token_kind.TokenKind.{TokenKind}
-use Rattle.witx_imports.specs.declared.token_kind.TokenKind.TheVariants.{Left, Right, Id, Quoted, ImportWord, FuncWord, ParamWord, ResultWord, I32Word, I64Word, F32Word, F64Word, Other, End}
+use Rattle.witx_imports.specs.declared.token_kind.TokenKind.TheVariants.{Left, Right, Id, Quoted, ImportWord, FuncWord, ParamWord, ResultWord, I32Word, I64Word, F32Word, F64Word, Other}
 use Rattle.witx_values.specs.Words.{Spelling, spelled, kind_spelled}
 
 -- the words, those that stand often first
@@ -18,10 +18,5 @@ token_kind left = Left
 token_kind right = Right
 token_kind (id t) = Id
 token_kind (quoted t) = Quoted
-token_kind (int t) = Other
 token_kind (word t) = kind_spelled Other the_words t
-token_kind (annot t) = Other
-
--- the kinds of the tokens of a text, and then, once, that of its end
-abbrev pub token_kinds : List Lexed → List TokenKind
-token_kinds ts = map (λ l. token_kind l.token) ts ++ End ∷ []
+token_kind t = Other

@@ -1,6 +1,6 @@
 -- What tokens and nonterminals stand for while a list is read.
 use Rattle.std.specs.Prelude.{ℕ, List, [], ◌∷◌}
-use Rattle.witx_lex.specs.Tokens.{Token, left, right, id, word, annot, int, quoted, Lexed}
+use Rattle.witx_lex.specs.Tokens.{Token, quoted, Lexed}
 use Rattle.witx_machine.specs.declared.surface.WasmType.{WasmType}
 use Rattle.witx_imports.specs.declared.import.WasmImport.{WasmImport}
 
@@ -20,13 +20,8 @@ pub data Val : Type 0 where
 
 -- A string stands for its text; other tokens, identifiers among them, for nothing.
 abbrev pub token_values : Token → List Val
-token_values left = []
-token_values right = []
-token_values (id t) = []
 token_values (quoted t) = a_name t ∷ []
-token_values (int t) = []
-token_values (word t) = []
-token_values (annot t) = []
+token_values t = []
 
 -- what a token of the text stands for
 abbrev pub leaf : Lexed → List Val

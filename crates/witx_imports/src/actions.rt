@@ -1,19 +1,16 @@
 //! What each production makes of its parts.
-#![tactic(auto, unfolding(crate::specs::Actions::act))]
 
 ghost use Rattle.std.specs.Prelude.{◌≡◌, ◌++◌, reverse, IfOk};
 ghost use Rattle.witx_imports.specs.declared.production.ProductionName.TheVariants as production;
 ghost use Rattle.witx_imports.specs.Stack.{Made, Ready};
 
 use crate::import::WasmImport;
-use crate::stack::{
-    push, take_import, take_imports, take_name, take_signature, take_type, take_types,
-};
+use crate::stack::push;
 use crate::value::{Signature, Value};
 use std::alloc::Global;
 use witx_base::{Items, OutOfMemory};
 use witx_machine::WasmType;
-use witx_values::{appended, reversed};
+use witx_values::{appended, held, reversed, top};
 
 /// No words.
 pub fn no_words(alloc: Global, stack: &mut Vec<Value>) -> Result<(), OutOfMemory>
@@ -31,8 +28,8 @@ pub fn more_imports(stack: &mut Vec<Value>) -> Result<(), OutOfMemory>
     requires { Ready production.MoreImports stack.old.items }
     ensures { IfOk result (λ _. Made production.MoreImports stack.old.items stack.new.items) }
 {
-    let import = take_import(stack);
-    let imports = appended(take_imports(stack), import)?;
+    let import = held!(top!(stack), Value::Import);
+    let imports = appended(held!(top!(stack), Value::Imports), import)?;
     push(stack, Value::Imports(imports))
 }
 
@@ -41,9 +38,9 @@ pub fn import(stack: &mut Vec<Value>) -> Result<(), OutOfMemory>
     requires { Ready production.Import stack.old.items }
     ensures { IfOk result (λ _. Made production.Import stack.old.items stack.new.items) }
 {
-    let module = take_name(stack);
-    let name = take_name(stack);
-    let signature = take_signature(stack);
+    let module = held!(top!(stack), Value::Name);
+    let name = held!(top!(stack), Value::Name);
+    let signature = held!(top!(stack), Value::Signature);
     let import = WasmImport {
         module,
         name,
@@ -58,8 +55,8 @@ pub fn more_params(stack: &mut Vec<Value>) -> Result<(), OutOfMemory>
     requires { Ready production.MoreParams stack.old.items }
     ensures { IfOk result (λ _. Made production.MoreParams stack.old.items stack.new.items) }
 {
-    let group = take_types(stack);
-    let signature = take_signature(stack);
+    let group = held!(top!(stack), Value::Types);
+    let signature = held!(top!(stack), Value::Signature);
     let params = joined(signature.params, group)?;
     let results = signature.results;
     push(stack, Value::Signature(Signature { params, results }))
@@ -70,8 +67,8 @@ pub fn more_results(stack: &mut Vec<Value>) -> Result<(), OutOfMemory>
     requires { Ready production.MoreResults stack.old.items }
     ensures { IfOk result (λ _. Made production.MoreResults stack.old.items stack.new.items) }
 {
-    let group = take_types(stack);
-    let signature = take_signature(stack);
+    let group = held!(top!(stack), Value::Types);
+    let signature = held!(top!(stack), Value::Signature);
     let results = joined(signature.results, group)?;
     let params = signature.params;
     push(stack, Value::Signature(Signature { params, results }))
@@ -82,7 +79,7 @@ pub fn named_param(alloc: Global, stack: &mut Vec<Value>) -> Result<(), OutOfMem
     requires { Ready production.NamedParam stack.old.items }
     ensures { IfOk result (λ _. Made production.NamedParam stack.old.items stack.new.items) }
 {
-    let group = appended(Vec::new(alloc), take_type(stack))?;
+    let group = appended(Vec::new(alloc), held!(top!(stack), Value::Type))?;
     push(stack, Value::Types(group))
 }
 
@@ -91,8 +88,8 @@ pub fn more_types(stack: &mut Vec<Value>) -> Result<(), OutOfMemory>
     requires { Ready production.MoreTypes stack.old.items }
     ensures { IfOk result (λ _. Made production.MoreTypes stack.old.items stack.new.items) }
 {
-    let word = take_type(stack);
-    let group = appended(take_types(stack), word)?;
+    let word = held!(top!(stack), Value::Type);
+    let group = appended(held!(top!(stack), Value::Types), word)?;
     push(stack, Value::Types(group))
 }
 

@@ -71,7 +71,6 @@ impl<'a> Actions for Building<'a> {
         }
     }
 
-    #[tactic(auto, using(crate::proofs::Chosen::anywhere))]
     fn perform(
         &self,
         production: P,
@@ -86,7 +85,6 @@ impl<'a> Actions for Building<'a> {
 }
 
 /// Puts the value of a production in place of its parts.
-#[tactic(auto, using(crate::proofs::Chosen::productions))]
 fn perform(alloc: Global, production: P, stack: &mut Vec<Value>) -> Result<(), OutOfMemory>
     requires { Ready production stack.old.items }
     ensures { IfOk result (λ _. Made production stack.old.items stack.new.items) }

@@ -73,7 +73,8 @@ pub fn check_imports(
     adapted: &Adapted,
     imports: &WasmImports,
 ) -> Result<ImportFaults, OutOfMemory>
-    ensures { IfOk result (λ faults. faults ≡ spec.import_faults (map spec.offered adapted.now.functions) imports.now) }
+    ensures { IfOk result (λ faults. faults
+        ≡ spec.import_faults (map spec.offered adapted.now.functions) imports.now) }
 {
     faults_of(alloc, adapted.functions.as_slice(), imports.as_slice())
 }

@@ -54,7 +54,8 @@ static RULES: [Rule<'static, TokenKind, Nonterminal, ProductionName>; 8] = [
 
 /// The grammar.
 pub fn the_table() -> Table<'static, TokenKind, Nonterminal, ProductionName>
-    ensures predictive { IsPredictive ⟦<TokenKind as PartialEq>⟧.eq ⟦<Nonterminal as PartialEq>⟧.eq ⟦<ProductionName as PartialEq>⟧.eq result }
+    ensures predictive { IsPredictive ⟦<TokenKind as PartialEq>⟧.eq ⟦<Nonterminal as PartialEq>⟧.eq
+        ⟦<ProductionName as PartialEq>⟧.eq result }
     ensures grammar { grammar result ≡ the_grammar }
 {
     Table { rules: &RULES }

@@ -3,14 +3,12 @@ use Rattle.std.proofs.Common.{◌≡◌, Bool, true, false, cond, ◌&&◌, ◌|
 use Rattle.std.specs.List.{list_all, list_any}
 use Rattle.std.proofs.lemmas.Bool.{and_parts}
 use Rattle.witx_grammar.specs.Grammar.{In}
+use Rattle.witx_values.proofs.Truths.{not_both, both_true}
 use Rattle.witx_language.specs.declared.token_kind.TokenKind.{TokenKind}
 use Rattle.witx_language.specs.declared.token_kind.TokenKind.TheVariants.{Integer, BigInteger, End}
 use Rattle.witx_language.specs.Messages.{first_kind, alone, only_kind, message_of_only, message_of}
 use Rattle.witx_language.specs.TokenKinds.{is_kind}
 use Rattle.witx_language.proofs.Apart.{is_exact, same_tests}
-
-not_both : true ≡ false → ⊥
-not_both e = cc
 
 or_left : (a b : Bool) → a ≡ true → (a || b) ≡ true
 or_left true b e = refl
@@ -23,10 +21,6 @@ or_right false b e = e
 or_first : (a b : Bool) → b ≡ false → (a || b) ≡ true → a ≡ true
 or_first true b f e = refl
 or_first false b f e = absurd (not_both (sym e ∙ f))
-
-both_true : (a b : Bool) → a ≡ true → b ≡ true → (a && b) ≡ true
-both_true true b e f = f
-both_true false b e f = absurd (not_both (sym e))
 
 some_is : (k t : TokenKind) → Some k ≡ Some t → k ≡ t
 some_is k t e = cc

@@ -1,8 +1,8 @@
 -- What a derivation stands for: each production makes one value of those of what it is written by.
-use Rattle.std.specs.Prelude.{ℕ, Bool, true, false, List, [], ◌∷◌, Some, None}
+use Rattle.std.specs.Prelude.{Bool, true, false, List, [], ◌∷◌, Some, None}
 use Rattle.witx_lex.specs.Tokens.{Lexed}
 use Rattle.witx_values.specs.Language.{Language}
-use Rattle.witx_values.specs.Parts.{made}
+use Rattle.witx_values.specs.Parts.{Meaning, in_place}
 use Rattle.witx_language.specs.declared.nonterminal.Nonterminal.{Nonterminal}
 use Rattle.witx_language.specs.declared.production.ProductionName.{ProductionName}
 use Rattle.witx_language.specs.declared.production.ProductionName.TheVariants as p
@@ -11,12 +11,11 @@ use Rattle.witx_language.specs.declared.sort.Sort.TheVariants as k
 use Rattle.witx_language.specs.declared.token_kind.TokenKind.{TokenKind}
 use Rattle.witx_language.specs.declared.token_kind.TokenKind.TheVariants.{End}
 use Rattle.witx_language.specs.Grammar.{the_names, written}
-use Rattle.witx_language.specs.Sorts.{Of, sort_of, wrap, unwrap, terminal_sorts, nonterminal_sort, parts_of, made_sort, Meaning}
+use Rattle.witx_language.specs.Sorts.{sorting, sort_of, wrap, terminal_sorts, nonterminal_sort}
 use Rattle.witx_language.specs.TokenKinds.{token_kind}
 use Rattle.witx_language.specs.Values.{EntryTree, param, result_of, noreturn, stored, FieldTree, UnionFieldTree, CaseTree, EntriesTree, Val, leaf, comments_of, second_comments}
 use Rattle.witx_syntax_tree.specs.declared.tree.BuiltinSyntax.TheVariants as b
-use Rattle.witx_comments.specs.Comments.{Comments}
-use Rattle.witx_syntax_tree.specs.Trees.{Name, TypeTree, ident, builtin, string, boolean, handle, list_of, pointer_to, const_pointer_to, tuple_of, enum_of, flags_of, record_of, union_of, variant_of, expected, Maybe, absent, present, no_types, one_type, Fields, no_fields, one_field, UnionFields, no_union_fields, one_union_field, Cases, no_cases, one_case, memory, function, uses, typename, module_of, constant}
+use Rattle.witx_syntax_tree.specs.Trees.{ident, builtin, string, boolean, handle, list_of, pointer_to, const_pointer_to, tuple_of, enum_of, flags_of, record_of, union_of, variant_of, expected, absent, present, no_types, one_type, Fields, no_fields, one_field, UnionFields, no_union_fields, one_union_field, Cases, no_cases, one_case, memory, function, uses, typename, module_of, constant}
 
 -- the field in front of the others
 abbrev pub more_fields : FieldTree → Fields → Fields
@@ -44,7 +43,7 @@ with_entry e ps rs b s = wrap k.Entries (more_entries e (record { params = ps; r
 -- ---- production by production, of the values of its parts in their order, where the tokens from its first one on are ts
 
 -- what a production makes
-abbrev pub meaning : (x : ProductionName) → List Lexed → Meaning x
+abbrev pub meaning : (x : ProductionName) → List Lexed → Meaning sorting (written x)
 meaning p.NoItems ts = []
 meaning p.MoreItems ts = λ i is. record { comments = comments_of ts; item = i } ∷ is
 meaning p.Use ts = λ q. uses q.text
@@ -117,7 +116,7 @@ meaning p.MoreEntries ts = λ e es. more_entries e es
 
 -- in place of the values of its parts, which stand first
 abbrev pub act : ProductionName → List Lexed → List Val → List Val
-act p ts vs = made Of wrap unwrap (parts_of p) (made_sort p) (meaning p ts) vs
+act p ts vs = in_place sorting (written p) (meaning p ts) vs
 
 -- the interface language
 abbrev pub the_language : Language TokenKind Nonterminal ProductionName Lexed Sort Val

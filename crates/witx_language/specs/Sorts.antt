@@ -1,17 +1,14 @@
 -- Sorts of values: what tokens and nonterminals stand for, and so what a production is made of.
-use Rattle.std.specs.Prelude.{ℕ, Bool, List, [], ◌∷◌, Option, Some, None}
-use Rattle.witx_values.specs.Language.{wants_sorts}
-use Rattle.witx_values.specs.Parts.{Makes}
+use Rattle.std.specs.Prelude.{ℕ, List, [], ◌∷◌, Option, Some, None}
+use Rattle.witx_values.specs.Parts.{Sorting}
 use Rattle.witx_syntax_tree.specs.declared.tree.BuiltinSyntax.{BuiltinSyntax}
 use Rattle.witx_syntax_tree.specs.Trees.{Name, QuotedText, Member, TypeTree, Maybe, Types, Fields, UnionFields, Cases, NotedDecl, ItemTree, NotedItem}
 use Rattle.witx_language.specs.declared.nonterminal.Nonterminal.{Nonterminal as FormName}
 use Rattle.witx_language.specs.declared.nonterminal.Nonterminal.TheVariants as n
-use Rattle.witx_language.specs.declared.production.ProductionName.{ProductionName}
 use Rattle.witx_language.specs.declared.sort.Sort.{Sort}
 use Rattle.witx_language.specs.declared.sort.Sort.TheVariants as s
 use Rattle.witx_language.specs.declared.token_kind.TokenKind.{TokenKind}
 use Rattle.witx_language.specs.declared.token_kind.TokenKind.TheVariants.{Id, Quoted, Integer}
-use Rattle.witx_language.specs.Grammar.{written}
 use Rattle.witx_language.specs.Values.{EntryTree, FieldTree, UnionFieldTree, CaseTree, EntriesTree, Val, a_name, a_text, an_integer, a_builtin, a_type, some_types, an_error, a_member, some_members, a_field, some_fields, a_union_field, some_union_fields, a_case, some_cases, an_entry, some_entries, a_decl, some_decls, an_item, some_items}
 
 -- what the values of a sort are
@@ -141,14 +138,13 @@ nonterminal_sort n.Decls = s.Decls
 nonterminal_sort n.Entry = s.Entry
 nonterminal_sort n.Entries = s.Entries
 
--- the sorts of the values that a production is made of
-abbrev pub parts_of : ProductionName → List Sort
-parts_of p = wants_sorts terminal_sorts nonterminal_sort (written p).symbols
-
--- the sort of the value that it makes
-abbrev pub made_sort : ProductionName → Sort
-made_sort p = nonterminal_sort (written p).nonterminal
-
--- what a production means: a function from values of its parts to the value that it makes
-abbrev pub Meaning : ProductionName → Type 0
-Meaning p = Makes Of (parts_of p) (made_sort p)
+-- the sorts of the language
+abbrev pub sorting : Sorting TokenKind FormName Sort Val
+sorting = record {
+  Of = Of;
+  wrap = wrap;
+  unwrap = unwrap;
+  sort_of = sort_of;
+  terminal_sorts = terminal_sorts;
+  nonterminal_sort = nonterminal_sort;
+}

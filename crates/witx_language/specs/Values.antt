@@ -1,6 +1,6 @@
 -- What tokens and nonterminals stand for while a text is read.
 use Rattle.std.specs.Prelude.{ℕ, Bool, List, [], ◌∷◌, if◌then◌else◌}
-use Rattle.witx_lex.specs.Tokens.{Token, left, right, id, word, annot, int, quoted, Lexed}
+use Rattle.witx_lex.specs.Tokens.{Token, id, int, quoted, Lexed}
 use Rattle.witx_syntax_tree.specs.declared.tree.BuiltinSyntax.{BuiltinSyntax}
 use Rattle.witx_language.specs.Integers.{is_small, int_value}
 use Rattle.witx_comments.specs.Comments.{Comments}
@@ -73,13 +73,10 @@ second_comments (t ∷ ts) = comments_of ts
 
 -- An identifier stands for itself with its place, a string for its text with its place, an integer for its number; other tokens for nothing.
 abbrev pub token_values : Token → ℕ → ℕ → List Val
-token_values left start end = []
-token_values right start end = []
 token_values (id t) start end = a_name (record { name = t; start = start; end = end }) ∷ []
 token_values (quoted t) start end = a_text (record { text = t; start = start; end = end }) ∷ []
 token_values (int t) start end = if is_small t then an_integer (int_value t) ∷ [] else []
-token_values (word t) start end = []
-token_values (annot t) start end = []
+token_values t start end = []
 
 -- what a token of the text stands for
 abbrev pub leaf : Lexed → List Val

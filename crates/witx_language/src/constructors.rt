@@ -126,7 +126,8 @@ pub fn union_of<'a>(
     tag: Option<Box<TypedefSyntax<'a>>>,
     fields: Vec<Documented<'a, TypedefSyntax<'a>>>,
 ) -> TypedefSyntax<'a>
-    ensures { type_view result ≡ tree.union_of (boxed_view tag.entry) (union_fields_view (reverse fields.entry.items)) }
+    ensures { type_view result
+        ≡ tree.union_of (boxed_view tag.entry) (union_fields_view (reverse fields.entry.items)) }
 {
     TypedefSyntax::Union(UnionSyntax {
         tag,

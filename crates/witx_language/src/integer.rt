@@ -43,7 +43,8 @@ fn unsigned(bytes: &[u8]) -> &[u8]
 
 /// The number that decimal digits, or `0x` and hexadecimal digits, write, if it is below 2^64.
 fn unsigned_value(bytes: &[u8]) -> Option<u64>
-    ensures { result ≡ (if is_hexadecimal bytes.now then small (number_of 16 (drop 2 bytes.now)) else small (number_of 10 bytes.now)) }
+    ensures { result ≡ (if is_hexadecimal bytes.now
+        then small (number_of 16 (drop 2 bytes.now)) else small (number_of 10 bytes.now)) }
 {
     match bytes {
         [b'0', b'x', digits @ ..] => number(digits, 16),

@@ -1,11 +1,11 @@
 -- What holds of its identifiers and quoted texts holds of all of the document's.
-use Rattle.std.proofs.Common.{◌≡◌, ℕ, zero, suc, Bool, true, false, cond, List, [], ◌∷◌, ◌++◌, refl, ap, ◌∙◌, subst, arith}
+use Rattle.std.proofs.Common.{◌≡◌, ℕ, zero, suc, Bool, true, false, cond, List, [], ◌∷◌, ◌++◌, refl, subst, arith}
 use Rattle.std.specs.Prelude.{All, slice_range}
 use Rattle.witx_grammar.specs.Grammar.{Derives}
 use Rattle.witx_grammar.specs.declared.table.Symbol.TheVariants.{Nonterminal}
 use Rattle.witx_grammar.specs.declared.table.Step.{Step}
 use Rattle.witx_lex.specs.Slices.{Spells, StandsAt}
-use Rattle.witx_lex.specs.Tokens.{Token, left, right, id, word, annot, int, quoted, Lexed}
+use Rattle.witx_lex.specs.Tokens.{Token, id, int, quoted, Lexed}
 use Rattle.witx_values.specs.Language as general
 use Rattle.witx_values.proofs.Keeping.{AllAre, Keeps, TokensAre, made_keeps, derived_keeps}
 use Rattle.witx_syntax_tree.specs.Trees.{Name, Document}
@@ -16,12 +16,12 @@ use Rattle.witx_language.specs.declared.sort.Sort.{Sort}
 use Rattle.witx_language.specs.Actions.{meaning, more_entries, the_language}
 use Rattle.witx_language.specs.Grammar.{the_grammar}
 use Rattle.witx_language.specs.Integers.{is_small, int_value}
-use Rattle.witx_language.specs.Sorts.{Of, sort_of, wrap, unwrap, parts_of, made_sort}
+use Rattle.witx_language.specs.Sorts.{sorting}
 use Rattle.witx_syntax.specs.Names.{StandsInText, NamesOfMembers, NamesOfType, NamesOfMaybe, NamesOfTypes, NamesOfFields, NamesOfUnionFields, NamesOfCases, NamesOfDecl, NamesOfDecls, NamesOfItem, AllNames}
 use Rattle.witx_syntax.specs.Reads.{stands_for}
 use Rattle.witx_language.specs.TokenKinds.{token_kinds}
 use Rattle.witx_language.specs.Values.{EntryTree, param, result_of, noreturn, stored, EntriesTree, Val, a_name, a_text, an_integer, a_builtin, a_type, some_types, an_error, a_member, some_members, a_field, some_fields, a_union_field, some_union_fields, a_case, some_cases, an_entry, some_entries, a_decl, some_decls, an_item, some_items, token_values}
-use Rattle.witx_language.proofs.Lawful.{wraps, opens, lawful}
+use Rattle.witx_language.proofs.Lawful.{is_sorting, lawful}
 
 -- ---- the identifiers and quoted texts of values
 
@@ -69,32 +69,17 @@ keeps_entry P Q (result_of cs n t) es h k = (k.0, (h, k.1))
 keeps_entry P Q noreturn es h k = k
 keeps_entry P Q stored es h k = k
 
-keeps : (P : Name → Type 0) (Q : List ℕ → Type 0) (x : ProductionName) (ts : List Lexed) → Keeps Of wrap (NamesOfValue P Q) (parts_of x) (made_sort x) (meaning x ts)
-keeps P Q p.NoItems ts = tt
+keeps : (P : Name → Type 0) (Q : List ℕ → Type 0) (x : ProductionName) (ts : List Lexed)
+    → Keeps sorting (NamesOfValue P Q) (general.parts_of the_language x) (general.made_sort the_language x) (meaning x ts)
 keeps P Q p.MoreItems ts = λ i hi is his. (hi, his)
 keeps P Q p.Use ts = λ q hq. hq
 keeps P Q p.Typename ts = λ n hn t ht. (hn, ht)
 keeps P Q p.Module ts = λ n hn ds hds. (hn, hds)
 keeps P Q p.Const ts = λ t ht n hn i hi. (ht, hn)
-keeps P Q p.Char ts = tt
-keeps P Q p.U8 ts = tt
-keeps P Q p.U16 ts = tt
-keeps P Q p.U32 ts = tt
-keeps P Q p.U64 ts = tt
-keeps P Q p.S8 ts = tt
-keeps P Q p.S16 ts = tt
-keeps P Q p.S32 ts = tt
-keeps P Q p.S64 ts = tt
-keeps P Q p.F32 ts = tt
-keeps P Q p.F64 ts = tt
 keeps P Q p.Pointer ts = λ t ht. ht
 keeps P Q p.ConstPointer ts = λ t ht. ht
-keeps P Q p.Usize ts = tt
-keeps P Q p.Char8 ts = tt
 keeps P Q p.PlainType ts = λ t ht. ht
 keeps P Q p.Ident ts = λ n hn. hn
-keeps P Q p.String ts = tt
-keeps P Q p.Bool ts = tt
 keeps P Q p.TaggedEnum ts = λ b hb m hm ms hms. (hm, hms)
 keeps P Q p.Enum ts = λ m hm ms hms. (hm, hms)
 keeps P Q p.TaggedFlags ts = λ b hb ms hms. hms
@@ -102,7 +87,6 @@ keeps P Q p.Flags ts = λ ms hms. hms
 keeps P Q p.Record ts = λ f hf fs hfs. (tt, (hf, hfs))
 keeps P Q p.Tuple ts = λ us hus. hus
 keeps P Q p.List ts = λ t ht. ht
-keeps P Q p.Handle ts = tt
 keeps P Q p.Expected ts = λ e he. (tt, he)
 keeps P Q p.ExpectedType ts = λ t ht e he. (ht, he)
 keeps P Q p.TaggedUnion ts = λ t ht fs hfs. (ht, hfs)
@@ -112,38 +96,31 @@ keeps P Q p.TaggedVariant ts = λ t ht cs hcs. (ht, hcs)
 keeps P Q p.Variant ts = λ cs hcs. (tt, hcs)
 keeps P Q p.BuiltinType ts = λ b hb. tt
 keeps P Q p.Name ts = λ n hn. hn
-keeps P Q p.NoNames ts = tt
 keeps P Q p.MoreNames ts = λ m hm ms hms. (hm, hms)
-keeps P Q p.NoTypes ts = tt
 keeps P Q p.MoreTypes ts = λ t ht us hus. (ht, hus)
 keeps P Q p.UnionField ts = λ t ht. ht
 keeps P Q p.FirstUnionField ts = λ t ht. ht
-keeps P Q p.NoUnionFields ts = tt
 keeps P Q p.MoreUnionFields ts = λ f hf fs hfs. (hf, hfs)
 keeps P Q p.Field ts = λ n hn t ht. (hn, ht)
-keeps P Q p.NoFields ts = tt
 keeps P Q p.MoreFields ts = λ f hf fs hfs. (hf, hfs)
-keeps P Q p.BareError ts = tt
 keeps P Q p.Error ts = λ t ht. ht
 keeps P Q p.BareCase ts = λ n hn. (hn, tt)
 keeps P Q p.Case ts = λ n hn t ht. (hn, ht)
-keeps P Q p.NoCases ts = tt
 keeps P Q p.MoreCases ts = λ c hc cs hcs. (hc, hcs)
 keeps P Q p.Import ts = λ q hq. hq
 keeps P Q p.Func ts = λ q hq es hes. (hq, hes)
-keeps P Q p.NoDecls ts = tt
 keeps P Q p.MoreDecls ts = λ d hd ds hds. (hd, hds)
 keeps P Q p.Param ts = λ n hn t ht. (hn, ht)
 keeps P Q p.Result ts = λ n hn t ht. (hn, ht)
-keeps P Q p.Noreturn ts = tt
-keeps P Q p.Stored ts = tt
 keeps P Q p.NoEntries ts = (tt, tt)
 keeps P Q p.MoreEntries ts = λ e he es hes. keeps_entry P Q e es he hes
+keeps P Q x ts = tt
 
 module _ (P : Name → Type 0) (Q : List ℕ → Type 0) where
   pub made_keep : (x : ProductionName) (ls : List Lexed) (ss : List Sort) (vs : List Val) → general.Are the_language (general.parts_of the_language x ++ ss) vs → NamesOfValues P Q vs
       → NamesOfValues P Q (the_language.act x ls vs)
-  made_keep x ls ss vs e h = made_keeps Of wrap unwrap sort_of wraps opens (NamesOfValue P Q) (parts_of x) ss (made_sort x) (meaning x ls) vs e (keeps P Q x ls) h
+  made_keep x ls ss vs e h =
+      made_keeps sorting (NamesOfValue P Q) is_sorting (general.parts_of the_language x) ss (general.made_sort the_language x) (meaning x ls) vs e (keeps P Q x ls) h
 
   -- the claims hold of each token
   abbrev pub NamesOfTokens : List Lexed → Type 0
@@ -163,13 +140,10 @@ int_names P Q false n = tt
 
 pub token_names : (P : Name → Type 0) (Q : List ℕ → Type 0) (t : Token) (start end : ℕ) → ((x : List ℕ) → t ≡ id x → P (record { name = x; start = start; end = end })) → ((x : List ℕ) → t ≡ quoted x → Q x)
     → NamesOfValues P Q (token_values t start end)
-token_names P Q left start end h q = tt
-token_names P Q right start end h q = tt
 token_names P Q (id x) start end h q = (h x refl, tt)
 token_names P Q (quoted x) start end h q = (q x refl, tt)
 token_names P Q (int x) start end h q = int_names P Q (is_small x) (int_value x)
-token_names P Q (word x) start end h q = tt
-token_names P Q (annot x) start end h q = tt
+token_names P Q t start end h q = tt
 
 -- ---- texts
 

@@ -1,9 +1,9 @@
 //! The actions of the grammar.
 
-ghost use Rattle.std.specs.Prelude.{◌≡◌, IfOk, ◌∷◌, map, drop};
+ghost use Rattle.std.specs.Prelude.{◌≡◌, IfOk, map};
 ghost use Rattle.witx_lex.specs.Tokens as lex;
-ghost use Rattle.witx_lex.specs.Views.{lexed_view, tokens_view};
-ghost use Rattle.witx_values.specs.Language.{stack_of};
+ghost use Rattle.witx_lex.specs.Views.{lexed_view};
+ghost use Rattle.witx_values.specs.Language.{IsOnTop};
 ghost use Rattle.witx_language.specs.declared.sort.Sort as sorts;
 ghost use Rattle.witx_language.specs.declared.sort.Sort.TheVariants as variants;
 ghost use Rattle.witx_language.specs.Sorts.{sort_of};
@@ -30,35 +30,35 @@ use witx_values::{Actions, reversed};
 
 /// Puts a builtin word on top.
 fn push_word<'a>(stack: &mut Stack<'a>, builtin: BuiltinSyntax) -> Done
-    ensures { IfOk result (λ _. stack_of value_view stack.new.items ≡ a_builtin builtin ∷ stack_of value_view stack.old.items) }
+    ensures { IfOk result (λ _. IsOnTop value_view (a_builtin builtin) stack.old.items stack.new.items) }
 {
     push(stack, Value::Builtin(BuiltinWord { builtin }))
 }
 
 /// Puts a builtin type on top.
 fn push_builtin<'a>(stack: &mut Stack<'a>, word: BuiltinSyntax) -> Done
-    ensures { IfOk result (λ _. stack_of value_view stack.new.items ≡ a_type (tree.builtin word) ∷ stack_of value_view stack.old.items) }
+    ensures { IfOk result (λ _. IsOnTop value_view (a_type (tree.builtin word)) stack.old.items stack.new.items) }
 {
     push(stack, Value::Type(builtin(word)))
 }
 
 /// Puts an identifier on the stack.
 fn push_name<'a>(name: Named<'a>, stack: &mut Stack<'a>) -> Done
-    ensures { IfOk result (λ _. stack_of value_view stack.new.items ≡ a_name (name_view name.entry.id) ∷ stack_of value_view stack.old.items) }
+    ensures { IfOk result (λ _. IsOnTop value_view (a_name (name_view name.entry.id)) stack.old.items stack.new.items) }
 {
     push(stack, Value::Name(name))
 }
 
 /// Puts a quoted text on the stack.
 fn push_quoted<'a>(quoted: Quoted, stack: &mut Stack<'a>) -> Done
-    ensures { IfOk result (λ _. stack_of value_view stack.new.items ≡ a_text (quoted_view quoted) ∷ stack_of value_view stack.old.items) }
+    ensures { IfOk result (λ _. IsOnTop value_view (a_text (quoted_view quoted)) stack.old.items stack.new.items) }
 {
     push(stack, Value::Quoted(quoted))
 }
 
 /// Puts an integer on the stack.
 fn push_integer<'a>(number: Number, stack: &mut Stack<'a>) -> Done
-    ensures { IfOk result (λ _. stack_of value_view stack.new.items ≡ an_integer number.value ∷ stack_of value_view stack.old.items) }
+    ensures { IfOk result (λ _. IsOnTop value_view (an_integer number.value) stack.old.items stack.new.items) }
 {
     push(stack, Value::Integer(number))
 }
@@ -66,7 +66,6 @@ fn push_integer<'a>(number: Number, stack: &mut Stack<'a>) -> Done
 /// Puts the value of a production, whose first token has the number `at`, in place of its parts.
 ///
 /// No arm makes a value itself: a function pays at its entry for the size of all its locals.
-#[tactic(auto, using(crate::proofs::Plain::productions))]
 fn perform<'a>(
     alloc: Global,
     production: P,
@@ -75,7 +74,7 @@ fn perform<'a>(
     stack: &mut Stack<'a>,
 ) -> Done
     requires { Ready production stack.old.items }
-    ensures { IfOk result (λ _. Made production (drop at (tokens_view tokens.now)) stack.old.items stack.new.items) }
+    ensures { IfOk result (λ _. Made production tokens.now at stack.old.items stack.new.items) }
 {
     match production {
         P::NoItems => items::no_items(alloc, stack),
@@ -219,7 +218,6 @@ impl<'a> Actions for Building<'a> {
         }
     }
 
-    #[tactic(auto, unfolding(crate::specs::Stack::performed))]
     fn perform(
         &self,
         production: P,

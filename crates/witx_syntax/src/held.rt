@@ -13,6 +13,7 @@ use crate::value::{
 };
 use witx_language::{Entries, Entry};
 use witx_syntax_tree::{TopLevelSyntax, TypedefSyntax};
+use witx_values::held;
 
 /// What the values of one sort hold.
 pub trait Held<'a>: Sized {
@@ -26,23 +27,13 @@ pub trait Held<'a>: Sized {
         ensures { value_view value.entry ≡ value_view (holding result) };
 }
 
-/// What a value of the variant holds.
-macro_rules! held {
-    ($value:ident, $variant:ident) => {
-        match $value {
-            Value::$variant(held) => held,
-            _ => unreachable!(),
-        }
-    };
-}
-
 impl<'a> Held<'a> for Named<'a> {
     ghost sort = { sorts.Name };
 
     ghost holding = { values.Name };
 
     fn of(value: Value<'a>) -> Named<'a> {
-        held!(value, Name)
+        held!(value, Value::Name)
     }
 }
 
@@ -52,7 +43,7 @@ impl<'a> Held<'a> for Quoted {
     ghost holding = { values.Quoted };
 
     fn of(value: Value<'a>) -> Quoted {
-        held!(value, Quoted)
+        held!(value, Value::Quoted)
     }
 }
 
@@ -62,7 +53,7 @@ impl<'a> Held<'a> for Number {
     ghost holding = { values.Integer };
 
     fn of(value: Value<'a>) -> Number {
-        held!(value, Integer)
+        held!(value, Value::Integer)
     }
 }
 
@@ -72,7 +63,7 @@ impl<'a> Held<'a> for BuiltinWord {
     ghost holding = { values.Builtin };
 
     fn of(value: Value<'a>) -> BuiltinWord {
-        held!(value, Builtin)
+        held!(value, Value::Builtin)
     }
 }
 
@@ -82,7 +73,7 @@ impl<'a> Held<'a> for TypedefSyntax<'a> {
     ghost holding = { values.Type };
 
     fn of(value: Value<'a>) -> TypedefSyntax<'a> {
-        held!(value, Type)
+        held!(value, Value::Type)
     }
 }
 
@@ -92,7 +83,7 @@ impl<'a> Held<'a> for Vec<TypedefSyntax<'a>> {
     ghost holding = { values.Types };
 
     fn of(value: Value<'a>) -> Vec<TypedefSyntax<'a>> {
-        held!(value, Types)
+        held!(value, Value::Types)
     }
 }
 
@@ -102,7 +93,7 @@ impl<'a> Held<'a> for Option<Box<TypedefSyntax<'a>>> {
     ghost holding = { values.Error };
 
     fn of(value: Value<'a>) -> Option<Box<TypedefSyntax<'a>>> {
-        held!(value, Error)
+        held!(value, Value::Error)
     }
 }
 
@@ -112,7 +103,7 @@ impl<'a> Held<'a> for Member<'a> {
     ghost holding = { values.Member };
 
     fn of(value: Value<'a>) -> Member<'a> {
-        held!(value, Member)
+        held!(value, Value::Member)
     }
 }
 
@@ -122,7 +113,7 @@ impl<'a> Held<'a> for Vec<Member<'a>> {
     ghost holding = { values.Members };
 
     fn of(value: Value<'a>) -> Vec<Member<'a>> {
-        held!(value, Members)
+        held!(value, Value::Members)
     }
 }
 
@@ -132,7 +123,7 @@ impl<'a> Held<'a> for Field<'a> {
     ghost holding = { values.Field };
 
     fn of(value: Value<'a>) -> Field<'a> {
-        held!(value, Field)
+        held!(value, Value::Field)
     }
 }
 
@@ -142,7 +133,7 @@ impl<'a> Held<'a> for Vec<Field<'a>> {
     ghost holding = { values.Fields };
 
     fn of(value: Value<'a>) -> Vec<Field<'a>> {
-        held!(value, Fields)
+        held!(value, Value::Fields)
     }
 }
 
@@ -152,7 +143,7 @@ impl<'a> Held<'a> for UnionField<'a> {
     ghost holding = { values.UnionField };
 
     fn of(value: Value<'a>) -> UnionField<'a> {
-        held!(value, UnionField)
+        held!(value, Value::UnionField)
     }
 }
 
@@ -162,7 +153,7 @@ impl<'a> Held<'a> for Vec<UnionField<'a>> {
     ghost holding = { values.UnionFields };
 
     fn of(value: Value<'a>) -> Vec<UnionField<'a>> {
-        held!(value, UnionFields)
+        held!(value, Value::UnionFields)
     }
 }
 
@@ -172,7 +163,7 @@ impl<'a> Held<'a> for Case<'a> {
     ghost holding = { values.Case };
 
     fn of(value: Value<'a>) -> Case<'a> {
-        held!(value, Case)
+        held!(value, Value::Case)
     }
 }
 
@@ -182,7 +173,7 @@ impl<'a> Held<'a> for Vec<Case<'a>> {
     ghost holding = { values.Cases };
 
     fn of(value: Value<'a>) -> Vec<Case<'a>> {
-        held!(value, Cases)
+        held!(value, Value::Cases)
     }
 }
 
@@ -192,7 +183,7 @@ impl<'a> Held<'a> for Entry<'a> {
     ghost holding = { values.Entry };
 
     fn of(value: Value<'a>) -> Entry<'a> {
-        held!(value, Entry)
+        held!(value, Value::Entry)
     }
 }
 
@@ -202,7 +193,7 @@ impl<'a> Held<'a> for Entries<'a> {
     ghost holding = { values.Entries };
 
     fn of(value: Value<'a>) -> Entries<'a> {
-        held!(value, Entries)
+        held!(value, Value::Entries)
     }
 }
 
@@ -212,7 +203,7 @@ impl<'a> Held<'a> for Decl<'a> {
     ghost holding = { values.Decl };
 
     fn of(value: Value<'a>) -> Decl<'a> {
-        held!(value, Decl)
+        held!(value, Value::Decl)
     }
 }
 
@@ -222,7 +213,7 @@ impl<'a> Held<'a> for Vec<Decl<'a>> {
     ghost holding = { values.Decls };
 
     fn of(value: Value<'a>) -> Vec<Decl<'a>> {
-        held!(value, Decls)
+        held!(value, Value::Decls)
     }
 }
 
@@ -232,7 +223,7 @@ impl<'a> Held<'a> for TopLevelSyntax<'a> {
     ghost holding = { values.Item };
 
     fn of(value: Value<'a>) -> TopLevelSyntax<'a> {
-        held!(value, Item)
+        held!(value, Value::Item)
     }
 }
 
@@ -242,6 +233,6 @@ impl<'a> Held<'a> for Vec<Item<'a>> {
     ghost holding = { values.Items };
 
     fn of(value: Value<'a>) -> Vec<Item<'a>> {
-        held!(value, Items)
+        held!(value, Value::Items)
     }
 }

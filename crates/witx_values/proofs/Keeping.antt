@@ -1,5 +1,5 @@
 -- What holds of the values of tokens, and of what each production makes of such values, holds of what a derivation stands for.
-use Rattle.std.proofs.Common.{◌≡◌, List, [], ◌∷◌, ◌++◌, map, Option, Some, sym, ap, ◌∙◌, subst}
+use Rattle.std.proofs.Common.{◌≡◌, List, [], ◌∷◌, ◌++◌, map, Option, sym, ap, ◌∙◌, subst}
 use Rattle.std.proofs.lemmas.List.Concat.{flat_map-append}
 use Rattle.witx_grammar.specs.Grammar.{Wants, In, Rewrite, Derives}
 use Rattle.witx_grammar.specs.Reading.{values}
@@ -7,9 +7,9 @@ use Rattle.witx_grammar.specs.declared.table.Symbol.TheVariants.{Terminal, Nonte
 use Rattle.witx_grammar.specs.declared.table.Step.{Step}
 use Rattle.witx_grammar.specs.declared.table.Step.TheVariants.{Leaf, Node}
 use Rattle.witx_values.specs.Language.{Language, production_of, symbol_sorts, grammar_of, sorts_of, parts_of, Are, stands_for, IsDerived, IsLawful}
-use Rattle.witx_values.specs.Parts.{on_some, Makes, made}
+use Rattle.witx_values.specs.Parts.{Sorting, on_some, Makes, made}
 use Rattle.witx_values.proofs.Fitting.{named, AreMute, all_fit}
-use Rattle.witx_values.proofs.Parts.{no_sorts, first_sort, other_sorts, opened}
+use Rattle.witx_values.proofs.Parts.{IsSorting, no_sorts, first_sort, other_sorts, opened}
 
 -- the claim holds of each value
 abbrev pub AllAre : {V : Type 0} → (V → Type 0) → List V → Type 0
@@ -20,20 +20,19 @@ all_append : {V : Type 0} (Q : V → Type 0) (us vs : List V) → AllAre Q us �
 all_append Q [] vs h k = k
 all_append Q (u ∷ us) vs h k = (h.0, all_append Q us vs h.1 k)
 
--- what is made of values for which the claim holds is such a value
-abbrev pub Keeps : {S V : Type 0} (Of : S → Type 0) (wrap : (s : S) → Of s → V) (Q : V → Type 0) (rs : List S) (s : S) → Makes Of rs s → Type 0
-Keeps Of wrap Q [] s x = Q (wrap s x)
-Keeps Of wrap Q (r ∷ rs) s f = (x : Of r) → Q (wrap r x) → Keeps Of wrap Q rs s (f x)
+module _ {T N S V : Type 0} (k : Sorting T N S V) (Q : V → Type 0) where
+  -- what is made of values for which the claim holds is such a value
+  abbrev pub Keeps : (rs : List S) (s : S) → Makes k.Of rs s → Type 0
+  Keeps [] s x = Q (k.wrap s x)
+  Keeps (r ∷ rs) s f = (x : k.Of r) → Q (k.wrap r x) → Keeps rs s (f x)
 
-module _ {S V : Type 0} (Of : S → Type 0) (wrap : (s : S) → Of s → V) (unwrap : (s : S) → V → Option (Of s)) (sort_of : V → S)
-    (wraps : (s : S) (x : Of s) → sort_of (wrap s x) ≡ s) (opens : (v : V) → (x : Of (sort_of v)) × (unwrap (sort_of v) v ≡ Some x) × (wrap (sort_of v) x ≡ v)) (Q : V → Type 0) where
-  pub made_keeps : (rs ss : List S) (s : S) (f : Makes Of rs s) (vs : List V) → map sort_of vs ≡ rs ++ ss → Keeps Of wrap Q rs s f → AllAre Q vs → AllAre Q (made Of wrap unwrap rs s f vs)
-  made_keeps [] ss s x vs e k h = (k, h)
-  made_keeps (r ∷ rs) ss s f [] e k h = absurd (no_sorts r (rs ++ ss) e)
-  made_keeps (r ∷ rs) ss s f (v ∷ vs) e k h =
-      let o = opened Of wrap unwrap sort_of wraps opens r v (first_sort (sort_of v) r (map sort_of vs) (rs ++ ss) e) in
-      subst (λ (x : Option (Of r)). AllAre Q (on_some x (λ y. made Of wrap unwrap rs s (f y) vs))) (sym o.1)
-      (made_keeps rs ss s (f o.0) vs (other_sorts (sort_of v) r (map sort_of vs) (rs ++ ss) e) (k o.0 (subst (λ (u : V). Q u) (sym o.2) h.0)) h.1)
+  pub made_keeps : IsSorting k → (rs ss : List S) (s : S) (f : Makes k.Of rs s) (vs : List V) → map k.sort_of vs ≡ rs ++ ss → Keeps rs s f → AllAre Q vs → AllAre Q (made k rs s f vs)
+  made_keeps h [] ss s x vs e keeps all = (keeps, all)
+  made_keeps h (r ∷ rs) ss s f [] e keeps all = absurd (no_sorts r (rs ++ ss) e)
+  made_keeps h (r ∷ rs) ss s f (v ∷ vs) e keeps all =
+      let o = opened k h r v (first_sort (k.sort_of v) r (map k.sort_of vs) (rs ++ ss) e) in
+      subst (λ (x : Option (k.Of r)). AllAre Q (on_some x (λ y. made k rs s (f y) vs))) (sym o.1)
+      (made_keeps h rs ss s (f o.0) vs (other_sorts (k.sort_of v) r (map k.sort_of vs) (rs ++ ss) e) (keeps o.0 (subst (λ (u : V). Q u) (sym o.2) all.0)) all.1)
 
 module _ {T N P L S V : Type 0} (a : Language T N P L S V) (h : IsLawful a) (Q : V → Type 0)
     (keeps : (p : P) (ls : List L) (ss : List S) (vs : List V) → Are a (parts_of a p ++ ss) vs → AllAre Q vs → AllAre Q (a.act p ls vs)) where

@@ -14,7 +14,7 @@ use Rattle.witx_lex.specs.declared.error.LexKind.{LexKind}
 use Rattle.witx_lex.proofs.Unique.{pieces_unique}
 use Rattle.witx_lex.proofs.Faults.{no_pieces, one_place}
 use Rattle.witx_lex.proofs.Total.{pieces_or_fault}
-use Rattle.witx_values.specs.Language.{Language, grammar_of, kinds_of, stands_for, IsDerived, IsLawful}
+use Rattle.witx_values.specs.Language.{Language, grammar_of, kinds_of, stands_for, IsLawful}
 use Rattle.witx_values.specs.Readings.{IsValue}
 use Rattle.witx_values.specs.Texts.{Telling, HasValue, IsLexical, IsSyntactic, IsTextFault, start_of}
 use Rattle.witx_values.proofs.Fitting.{first_value, reads_as}
@@ -43,18 +43,22 @@ module _ {T N P S V F : Type 0} (a : Language T N P Lexed S V) (start : N) (tell
       no_fault (grammar_of a) start (kinds_of a x.tokens) x.parsed.steps s.at s.expected x.parsed.derives
       (subst (λ (ts : List Lexed). IsFault (grammar_of a) start (kinds_of a ts) s.at s.expected) (one_lexing text s.tokens x.tokens s.lexed x.lexed) s.has_fault)
 
-  -- a text has a value or a fault
-  abbrev Read : List ℕ → Type 0
-  Read text = ((v : V) × HasValue a start text v × (a.sort_of v ≡ a.nonterminal_sort start)) ⊎ ((f : F) × IsTextFault a start telling text f)
+  -- where a value of the sort of the nonterminal holds something
+  module _ (h : IsLawful a) (g : List (Rewrite T N P)) (rows : g ≡ grammar_of a) (either : (ts : List T) → HasDerivation g start ts ⊎ HasFault g start ts)
+      {D : Type 0} (holding : D → V) (held : (v : V) → a.sort_of v ≡ a.nonterminal_sort start → (d : D) × (holding d ≡ v)) where
+    -- a text has a value or a fault
+    abbrev Read : List ℕ → Type 0
+    Read text = ((d : D) × HasValue a start text (holding d)) ⊎ ((f : F) × IsTextFault a start telling text f)
 
-  module _ (h : IsLawful a) (g : List (Rewrite T N P)) (rows : g ≡ grammar_of a) (either : (ts : List T) → HasDerivation g start ts ⊎ HasFault g start ts) where
     parsed : (ts : List T) → HasDerivation (grammar_of a) start ts ⊎ HasFault (grammar_of a) start ts
     parsed ts = subst (λ (r : List (Rewrite T N P)). HasDerivation r start ts ⊎ HasFault r start ts) rows (either ts)
 
     of_pieces : (text : List ℕ) (ps : List Piece) → ArePieces ps text → HasDerivation (grammar_of a) start (kinds_of a (tokens_of ps)) ⊎ HasFault (grammar_of a) start (kinds_of a (tokens_of ps)) → Read text
     of_pieces text ps k (inl d) =
         let one = reads_as a h start (tokens_of ps) d.0 d.1 in
-        inl (one.0, record { tokens = tokens_of ps; lexed = (ps, k, refl); parsed = record { steps = d.0; derives = d.1; meaning = one.1 } }, one.2)
+        let holds = held one.0 one.2 in
+        let meaning : stands_for a (tokens_of ps) d.0 ≡ holding holds.0 ∷ [] = one.1 ∙ ap (λ (v : V). v ∷ []) (sym holds.1) in
+        inl (holds.0, record { tokens = tokens_of ps; lexed = (ps, k, refl); parsed = record { steps = d.0; derives = d.1; meaning = meaning } })
     of_pieces text ps k (inr f) =
         inr (
           telling.unexpected text f.1 (slice_index_or (kinds_of a (tokens_of ps)) f.0 a.end) (start_of text (tokens_of ps) f.0),

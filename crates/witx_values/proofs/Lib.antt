@@ -1,3 +1,4 @@
+pub mod Truths
 pub mod Parts
 pub mod Fitting
 pub mod Loop

@@ -4,9 +4,7 @@ use Rattle.std.specs.List.{list_all}
 use Rattle.std.proofs.lemmas.Bool.{and_parts}
 use Rattle.witx_base.specs.Texts.{same_text}
 use Rattle.witx_values.specs.Words.{Spelling, kind_spelled}
-
-not_both : true ≡ false → ⊥
-not_both e = cc
+use Rattle.witx_values.proofs.Truths.{not_both}
 
 abbrev is_none : {S : Type 0} → List S → Bool
 is_none [] = true

@@ -92,3 +92,7 @@ module _ {T N P L S V : Type 0} (a : Language T N P L S V) where
 -- the values on a stack of the code, the top one first, where v says what each is
 abbrev pub stack_of : {X V : Type 0} → (X → V) → List X → List V
 stack_of v xs = map v (reverse xs)
+
+-- the value lies on top of the values of a stack
+abbrev pub IsOnTop : {X V : Type 0} → (X → V) → V → List X → List X → Type 0
+IsOnTop v x below xs = stack_of v xs ≡ x ∷ stack_of v below

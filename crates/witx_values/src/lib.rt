@@ -6,6 +6,7 @@
 
 mod actions;
 mod builder;
+mod holding;
 mod lists;
 mod reader;
 mod rules;

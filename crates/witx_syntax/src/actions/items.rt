@@ -1,8 +1,6 @@
 //! The values of top-level forms and of declarations of modules.
-#![tactic(auto, unfolding(crate::specs::Stack::performed))]
 
-ghost use Rattle.std.specs.Prelude.{drop, IfOk};
-ghost use Rattle.witx_lex.specs.Views.{tokens_view};
+ghost use Rattle.std.specs.Prelude.{IfOk};
 ghost use Rattle.witx_language.specs.declared.production.ProductionName.TheVariants as production;
 ghost use Rattle.witx_syntax.specs.Stack.{Made, MadeAlone, Ready};
 
@@ -29,7 +27,7 @@ pub fn no_items<'a>(alloc: Global, stack: &mut Stack<'a>) -> Done
 /// A top-level form, with its comments, in front of those behind it.
 pub fn more_items<'a>(alloc: Global, tokens: &[Lexed<'a>], at: usize, stack: &mut Stack<'a>) -> Done
     requires { Ready production.MoreItems stack.old.items }
-    ensures { IfOk result (λ _. Made production.MoreItems (drop at (tokens_view tokens.now)) stack.old.items stack.new.items) }
+    ensures { IfOk result (λ _. Made production.MoreItems tokens.now at stack.old.items stack.new.items) }
 {
     let comments = comments_at(alloc, tokens, at)?;
     let (item, items): (TopLevelSyntax<'a>, Vec<Item<'a>>) = take_two(stack);
@@ -81,7 +79,7 @@ pub fn module<'a>(stack: &mut Stack<'a>) -> Done
 /// `(@witx const $type $name NUMBER)`, with the comments behind its parenthesis.
 pub fn constant<'a>(alloc: Global, tokens: &[Lexed<'a>], at: usize, stack: &mut Stack<'a>) -> Done
     requires { Ready production.Const stack.old.items }
-    ensures { IfOk result (λ _. Made production.Const (drop at (tokens_view tokens.now)) stack.old.items stack.new.items) }
+    ensures { IfOk result (λ _. Made production.Const tokens.now at stack.old.items stack.new.items) }
 {
     let comments = comments_behind(alloc, tokens, at)?;
     let (ty, name, number): (Named<'a>, Named<'a>, Number) = take_three(stack);
@@ -99,7 +97,7 @@ pub fn constant<'a>(alloc: Global, tokens: &[Lexed<'a>], at: usize, stack: &mut 
 /// `(import "name" (memory))`, with its comments.
 pub fn import<'a>(alloc: Global, tokens: &[Lexed<'a>], at: usize, stack: &mut Stack<'a>) -> Done
     requires { Ready production.Import stack.old.items }
-    ensures { IfOk result (λ _. Made production.Import (drop at (tokens_view tokens.now)) stack.old.items stack.new.items) }
+    ensures { IfOk result (λ _. Made production.Import tokens.now at stack.old.items stack.new.items) }
 {
     let comments = comments_at(alloc, tokens, at)?;
     let Quoted { text, span } = take(stack);
@@ -114,7 +112,7 @@ pub fn import<'a>(alloc: Global, tokens: &[Lexed<'a>], at: usize, stack: &mut St
 /// `(@interface func (export "name") ENTRY..)`, with its comments: parameters and results in two lists.
 pub fn func<'a>(alloc: Global, tokens: &[Lexed<'a>], at: usize, stack: &mut Stack<'a>) -> Done
     requires { Ready production.Func stack.old.items }
-    ensures { IfOk result (λ _. Made production.Func (drop at (tokens_view tokens.now)) stack.old.items stack.new.items) }
+    ensures { IfOk result (λ _. Made production.Func tokens.now at stack.old.items stack.new.items) }
 {
     let comments = comments_at(alloc, tokens, at)?;
     let (name, entries): (Quoted, Entries<'a>) = take_two(stack);
@@ -132,7 +130,7 @@ pub fn func<'a>(alloc: Global, tokens: &[Lexed<'a>], at: usize, stack: &mut Stac
 /// `(param $name TYPE)`, with its comments.
 pub fn param<'a>(alloc: Global, tokens: &[Lexed<'a>], at: usize, stack: &mut Stack<'a>) -> Done
     requires { Ready production.Param stack.old.items }
-    ensures { IfOk result (λ _. Made production.Param (drop at (tokens_view tokens.now)) stack.old.items stack.new.items) }
+    ensures { IfOk result (λ _. Made production.Param tokens.now at stack.old.items stack.new.items) }
 {
     let comments = comments_at(alloc, tokens, at)?;
     let (name, type_): (Named<'a>, TypedefSyntax<'a>) = take_two(stack);
@@ -146,7 +144,7 @@ pub fn param<'a>(alloc: Global, tokens: &[Lexed<'a>], at: usize, stack: &mut Sta
 /// `(result $name TYPE)`, with its comments.
 pub fn result_of<'a>(alloc: Global, tokens: &[Lexed<'a>], at: usize, stack: &mut Stack<'a>) -> Done
     requires { Ready production.Result stack.old.items }
-    ensures { IfOk result (λ _. Made production.Result (drop at (tokens_view tokens.now)) stack.old.items stack.new.items) }
+    ensures { IfOk result (λ _. Made production.Result tokens.now at stack.old.items stack.new.items) }
 {
     let comments = comments_at(alloc, tokens, at)?;
     let (name, type_): (Named<'a>, TypedefSyntax<'a>) = take_two(stack);

@@ -1,8 +1,6 @@
 //! The values of parts of types.
-#![tactic(auto, unfolding(crate::specs::Stack::performed))]
 
-ghost use Rattle.std.specs.Prelude.{drop, IfOk};
-ghost use Rattle.witx_lex.specs.Views.{tokens_view};
+ghost use Rattle.std.specs.Prelude.{IfOk};
 ghost use Rattle.witx_language.specs.declared.production.ProductionName.TheVariants as production;
 ghost use Rattle.witx_syntax.specs.Stack.{Made, MadeAlone, Ready};
 
@@ -17,7 +15,7 @@ use witx_values::appended;
 /// The name of a member, with its comments.
 pub fn name<'a>(alloc: Global, tokens: &[Lexed<'a>], at: usize, stack: &mut Stack<'a>) -> Done
     requires { Ready production.Name stack.old.items }
-    ensures { IfOk result (λ _. Made production.Name (drop at (tokens_view tokens.now)) stack.old.items stack.new.items) }
+    ensures { IfOk result (λ _. Made production.Name tokens.now at stack.old.items stack.new.items) }
 {
     let comments = comments_at(alloc, tokens, at)?;
     let Named { id: item } = take(stack);
@@ -27,7 +25,7 @@ pub fn name<'a>(alloc: Global, tokens: &[Lexed<'a>], at: usize, stack: &mut Stac
 /// A type of a union, with its comments.
 pub fn union_type<'a>(alloc: Global, tokens: &[Lexed<'a>], at: usize, stack: &mut Stack<'a>) -> Done
     requires { Ready production.UnionField stack.old.items }
-    ensures { IfOk result (λ _. Made production.UnionField (drop at (tokens_view tokens.now)) stack.old.items stack.new.items) }
+    ensures { IfOk result (λ _. Made production.UnionField tokens.now at stack.old.items stack.new.items) }
 {
     let comments = comments_at(alloc, tokens, at)?;
     let item: TypedefSyntax<'a> = take(stack);
@@ -37,7 +35,7 @@ pub fn union_type<'a>(alloc: Global, tokens: &[Lexed<'a>], at: usize, stack: &mu
 /// `(field $name TYPE)`, with its comments.
 pub fn field<'a>(alloc: Global, tokens: &[Lexed<'a>], at: usize, stack: &mut Stack<'a>) -> Done
     requires { Ready production.Field stack.old.items }
-    ensures { IfOk result (λ _. Made production.Field (drop at (tokens_view tokens.now)) stack.old.items stack.new.items) }
+    ensures { IfOk result (λ _. Made production.Field tokens.now at stack.old.items stack.new.items) }
 {
     let comments = comments_at(alloc, tokens, at)?;
     let (name, type_): (Named<'a>, TypedefSyntax<'a>) = take_two(stack);
@@ -64,7 +62,7 @@ pub fn bare_error<'a>(stack: &mut Stack<'a>) -> Done
 /// `(case $name)`, with its comments.
 pub fn bare_case<'a>(alloc: Global, tokens: &[Lexed<'a>], at: usize, stack: &mut Stack<'a>) -> Done
     requires { Ready production.BareCase stack.old.items }
-    ensures { IfOk result (λ _. Made production.BareCase (drop at (tokens_view tokens.now)) stack.old.items stack.new.items) }
+    ensures { IfOk result (λ _. Made production.BareCase tokens.now at stack.old.items stack.new.items) }
 {
     let comments = comments_at(alloc, tokens, at)?;
     let Named { id } = take(stack);
@@ -75,7 +73,7 @@ pub fn bare_case<'a>(alloc: Global, tokens: &[Lexed<'a>], at: usize, stack: &mut
 /// `(case $name TYPE)`, with its comments.
 pub fn case<'a>(alloc: Global, tokens: &[Lexed<'a>], at: usize, stack: &mut Stack<'a>) -> Done
     requires { Ready production.Case stack.old.items }
-    ensures { IfOk result (λ _. Made production.Case (drop at (tokens_view tokens.now)) stack.old.items stack.new.items) }
+    ensures { IfOk result (λ _. Made production.Case tokens.now at stack.old.items stack.new.items) }
 {
     let comments = comments_at(alloc, tokens, at)?;
     let (name, type_): (Named<'a>, TypedefSyntax<'a>) = take_two(stack);

@@ -1,5 +1,4 @@
 //! The values of types.
-#![tactic(auto, unfolding(crate::specs::Stack::performed))]
 
 ghost use Rattle.std.specs.Prelude.{IfOk};
 ghost use Rattle.witx_language.specs.declared.production.ProductionName.TheVariants as production;
