@@ -111,8 +111,8 @@ pub TypeRefRepresentable::representable-loop-tref-preserved : goal.TypeRefRepres
 TypeRefRepresentable::representable-loop-tref-preserved t c = record {
   behind = search (rules, compat_rules);
   shallower =
-    let d : the_size c.deref.result.now.tref ≤ the_size c.loop-tref.tref.now = rw (c.deref.ensures, c.in-Name.is) (behind-name c.in-Name.named) in
-    omega (arith, d, c.loop-tref.invariant.shallower);
+      let d : the_size c.deref.result.now.tref ≤ the_size c.loop-tref.tref.now = rw (c.deref.ensures, c.in-Name.is) (behind-name c.in-Name.named) in
+      omega (arith, d, c.loop-tref.invariant.shallower);
 }
 
 pub TypeRefRepresentable::representable-returns-in-Value-clause-alike : goal.TypeRefRepresentable::representable-returns-in-Value-clause-alike
