@@ -26,3 +26,6 @@ pub mod ReadFlags
 pub mod ReadParts
 pub mod Answered
 pub mod CopiedBlocks
+pub mod Laying
+pub mod KnownParts
+pub mod Nodes

@@ -219,6 +219,12 @@ can_by t q v e h = subst (λ t. CanWrite t v) e h
 pub room_by : (at : ℕ) (t q : Plain) (m : Bytes) → t ≡ q → HasRange at (size_of t) m → HasRange at (size_of q) m
 room_by at t q m e h = subst (λ t. HasRange at (size_of t) m) e h
 
+pub case_can_by : (o p : Option TypeRef) (v : plain.Value) → o ≡ p → CanWriteCase o v → CanWriteCase p v
+case_can_by o p v e h = subst (λ o. CanWriteCase o v) e h
+
+pub case_room_by : (at : ℕ) (o p : Option TypeRef) (m : Bytes) → o ≡ p → HasRange at (case_size o) m → HasRange at (case_size p) m
+case_room_by at o p m e h = subst (λ o. HasRange at (case_size o) m) e h
+
 pub payload_bound : (cs : List Case) (i : ℕ) (o : Option (Box Value Global)) (b : Box Value Global) → CanWritePayload (cases_plain cs) i (option_map seen_in o) → o ≡ Some b → i < length cs
 payload_bound cs i o b h e =
     let k : is_case_with (cases_plain cs) i (seen b.value) ≡ true = ap (λ o. is_case (cases_plain cs) i (option_map seen_in o)) (sym e) ∙ h.value in

@@ -235,6 +235,9 @@ record_can_read ms at c = record { fit = c.fit; size = omega (arith, c.size, abo
 pub can_read_by : (at : ℕ) (t q : Plain) → t ≡ q → CanRead at t → CanRead at q
 can_read_by at t q e h = subst (λ t. CanRead at t) e h
 
+pub case_can_read_by : (at : ℕ) (o p : Option TypeRef) → o ≡ p → CanReadCase at o → CanReadCase at p
+case_can_read_by at o p e h = subst (CanReadCase at) e h
+
 -- flags, and payloads in a box
 pub flags_read : (r : IntRepr) (ms : List RecordMember) (m : Bytes) (at bits : ℕ) (result : Result Value ReadError) → number_at (repr_size r) m at ≡ Some bits → Reads seen (flags_at (length ms) bits) result → Reads seen (value_at (Plain.record_of (RecordKind.Bitflags r) (members_plain ms)) m at) result
 flags_read r ms m at bits result h k = subst (λ o. Reads seen o result) (sym (ap (option_and_then (flags_at (field_count (members_plain ms)))) h ∙ ap (λ n. flags_at n bits) (count-members ms))) k

@@ -105,7 +105,7 @@ fn kind_fits(kind: RecordKind, count: usize) -> bool
     }
 }
 
-fn bits(repr: IntRepr) -> usize
+pub(crate) fn bits(repr: IntRepr) -> usize
     ensures { result ≡ repr_bits repr }
 {
     match repr {
@@ -117,7 +117,7 @@ fn bits(repr: IntRepr) -> usize
 }
 
 /// Whether as many cases have numbers in the tag, and below 2^32.
-fn count_fits(count: usize, repr: IntRepr) -> bool
+pub(crate) fn count_fits(count: usize, repr: IntRepr) -> bool
     ensures { result ≡ (nat_le count (2 ^ repr_bits repr) && nat_le count (2 ^ 32)) }
 {
     let most = match repr {

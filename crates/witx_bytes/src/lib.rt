@@ -2,7 +2,9 @@
 #![tactic(auto)]
 
 mod block;
+mod extent;
 mod fitting;
+mod laid;
 mod laws;
 mod membership;
 mod memory;
@@ -14,7 +16,9 @@ mod scalars;
 mod value;
 mod write;
 
+pub use extent::{DEEPEST, MOST_TYPES, is_within_reach};
 pub use fitting::writable;
+pub use laid::{Laid, lay_out};
 pub use laws::{
     alike_images, at_most_one_value, bytes_follow_cells, image_has_the_size, reading_is_spelling,
     traces_run_over_bytes, traces_take_writable, writing_is_spelling,
@@ -22,7 +26,7 @@ pub use laws::{
 pub use membership::{are_bare, is_value};
 pub use memory::{ByteMemory, PlaceError};
 pub use numbers::{flag_bits, in_range, number_of};
-pub use read::{flags_of, read_value};
+pub use read::{flags_of, read_laid, read_value};
 pub use read_error::ReadError;
 pub use value::{Bools, Value, Values, boxed};
-pub use write::write_value;
+pub use write::{write_laid, write_value};

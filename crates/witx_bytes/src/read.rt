@@ -1,6 +1,6 @@
 //! The value that bytes spell.
 
-ghost use Rattle.std.specs.Prelude.{◌≡◌, ◌+◌, ◌^◌, ◌<◌, ◌≤◌, ℕ, true, Err, IfOk, Some, length, option_map};
+ghost use Rattle.std.specs.Prelude.{◌≡◌, ◌+◌, ◌^◌, ◌<◌, ◌≤◌, ℕ, true, Err, IfOk, Some, length, option_copied, option_map};
 ghost use Rattle.witx_ast.specs.Plain.{plain, record_of, variant_of};
 ghost use Rattle.witx_ast.specs.Tags.{fits};
 ghost use Rattle.witx_ast.specs.Values.{Value as PlainValue};
@@ -9,14 +9,16 @@ ghost use Rattle.witx_ast.specs.declared.types.RecordKind.{RecordKind};
 ghost use Rattle.witx_layout.specs.Numbers.{size_of, repr_size, payload_offset as begin_of_payload};
 ghost use Rattle.witx_bytes.specs.Bytes.{held};
 ghost use Rattle.witx_bytes.specs.Images.{Spells};
+ghost use Rattle.witx_bytes.specs.Laids.{IsLaid, KnownOf, KnownMembers, KnownCases, KnownPayload};
 ghost use Rattle.witx_bytes.specs.Payloads.{payload_at};
 ghost use Rattle.witx_bytes.specs.Reading.{number_at, flags_at, value_at, members_at};
 ghost use Rattle.witx_bytes.specs.Readings.{CanRead, CanReadAll, CanReadCase, Reads, case_number};
 ghost use Rattle.witx_bytes.specs.Seen.{seen, seen_in, values_seen};
 
+use crate::laid::{Laid, lay_out};
 use crate::membership::are_bare;
 use crate::memory::ByteMemory;
-use crate::places::{layout_of, payload_begin, rounded_up};
+use crate::places::{known_member, known_payload, layout_of, payload_begin, rounded_up};
 use crate::read_error::ReadError;
 use crate::scalars::{
     read_builtin, read_const_pointer, read_handle, read_list, read_number, read_pointer,
@@ -27,7 +29,7 @@ use std::boxed::Box;
 use witx_ast::{
     Case, Datatype, IntRepr, RecordDatatype, RecordKind, RecordMember, TypeRef, Variant,
 };
-use witx_layout::Layout;
+use witx_layout::{Layout, LayoutError};
 
 /// The value that the bytes from an address on spell. There is at most one.
 ///
@@ -45,19 +47,47 @@ pub fn read_value(
     ensures no_value { result ≡ Err ReadError.NoValue → (value : PlainValue) → ¬ (Spells (held memory.now) at (plain (tree_of ty.now)) value) }
 {
     memory.bounds();
-    read_type(alloc, memory, at as u128, ty)
+    match lay_out(alloc, ty) {
+        Ok(laid) => {
+            let value = read_laid(alloc, memory, at, ty, &laid);
+            drop(laid);
+            value
+        }
+        Err(LayoutError::TooLarge) => unreachable!(),
+        Err(LayoutError::OutOfMemory) => Err(ReadError::OutOfMemory),
+    }
+}
+
+/// The same, with the layout of the type.
+pub fn read_laid(
+    alloc: Global,
+    memory: &ByteMemory,
+    at: u32,
+    ty: &TypeRef,
+    laid: &Laid,
+) -> Result<Value, ReadError>
+    requires writable { fits (plain (tree_of ty.now)) ≡ true }
+    requires sized { size_of (plain (tree_of ty.now)) < 2 ^ 64 }
+    requires laid { IsLaid (plain (tree_of ty.now)) laid.now }
+    ensures { Reads seen (value_at (plain (tree_of ty.now)) (held memory.now) at) result }
+{
+    read_type(alloc, memory, at as u128, ty, Some(laid))
 }
 
 #[cycle(reading)]
 #[tactic(auto, using(crate::proofs::Members::write_rules))]
-fn read_type(alloc: Global, memory: &ByteMemory, at: u128, ty: &TypeRef) -> Result<Value, ReadError>
-    requires { CanRead at (plain (tree_of ty.now)) }
+fn read_type(
+    alloc: Global,
+    memory: &ByteMemory,
+    at: u128,
+    ty: &TypeRef,
+    known: Option<&Laid>,
+) -> Result<Value, ReadError>
+    requires can { CanRead at (plain (tree_of ty.now)) }
+    requires known { KnownOf (plain (tree_of ty.now)) (option_copied known) }
     ensures { Reads seen (value_at (plain (tree_of ty.now)) (held memory.now) at) result }
 {
-    match ty {
-        TypeRef::Name(named) => read_type(alloc, memory, at, &named.tref),
-        TypeRef::Value(datatype) => read_datatype(alloc, memory, at, datatype),
-    }
+    read_datatype(alloc, memory, at, ty.type_(), known)
 }
 
 #[cycle(reading)]
@@ -67,13 +97,15 @@ fn read_datatype(
     memory: &ByteMemory,
     at: u128,
     datatype: &Datatype,
+    known: Option<&Laid>,
 ) -> Result<Value, ReadError>
-    requires { CanRead at (plain (datatype_tree datatype.now)) }
+    requires can { CanRead at (plain (datatype_tree datatype.now)) }
+    requires known { KnownOf (plain (datatype_tree datatype.now)) (option_copied known) }
     ensures { Reads seen (value_at (plain (datatype_tree datatype.now)) (held memory.now) at) result }
 {
     match datatype {
-        Datatype::Record(record) => read_record(alloc, memory, at, record),
-        Datatype::Variant(variant) => read_variant(alloc, memory, at, variant),
+        Datatype::Record(record) => read_record(alloc, memory, at, record, known),
+        Datatype::Variant(variant) => read_variant(alloc, memory, at, variant, known),
         Datatype::Handle(_) => read_handle(memory, at),
         Datatype::List(target) => read_list(memory, at, target),
         Datatype::Pointer(target) => read_pointer(memory, at, target),
@@ -89,15 +121,17 @@ fn read_record(
     memory: &ByteMemory,
     at: u128,
     record_type: &RecordDatatype,
+    known: Option<&Laid>,
 ) -> Result<Value, ReadError>
-    requires { CanRead at (plain (record_tree record_type.now)) }
+    requires can { CanRead at (plain (record_tree record_type.now)) }
+    requires known { KnownOf (plain (record_tree record_type.now)) (option_copied known) }
     ensures { Reads seen (value_at (plain (record_tree record_type.now)) (held memory.now) at) result }
 {
     let members = record_type.members.as_slice();
     match record_type.kind {
         RecordKind::Bitflags(repr) => read_flags(alloc, memory, at, repr, members),
-        RecordKind::Tuple => read_tuple(alloc, memory, at, members),
-        RecordKind::Other => read_other(alloc, memory, at, members),
+        RecordKind::Tuple => read_tuple(alloc, memory, at, members, known),
+        RecordKind::Other => read_other(alloc, memory, at, members, known),
     }
 }
 
@@ -108,11 +142,13 @@ fn read_tuple(
     memory: &ByteMemory,
     at: u128,
     members: &[RecordMember],
+    known: Option<&Laid>,
 ) -> Result<Value, ReadError>
-    requires { CanReadAll at (members_plain members.now) }
+    requires can { CanReadAll at (members_plain members.now) }
+    requires known { KnownMembers (members_plain members.now) (option_copied known) }
     ensures { Reads seen (value_at (record_of RecordKind.Tuple (members_plain members.now)) (held memory.now) at) result }
 {
-    let values = read_members(alloc, memory, at, members)?;
+    let values = read_members(alloc, memory, at, members, known)?;
     Ok(Value::Tuple(values))
 }
 
@@ -123,11 +159,13 @@ fn read_other(
     memory: &ByteMemory,
     at: u128,
     members: &[RecordMember],
+    known: Option<&Laid>,
 ) -> Result<Value, ReadError>
-    requires { CanReadAll at (members_plain members.now) }
+    requires can { CanReadAll at (members_plain members.now) }
+    requires known { KnownMembers (members_plain members.now) (option_copied known) }
     ensures { Reads seen (value_at (record_of RecordKind.Other (members_plain members.now)) (held memory.now) at) result }
 {
-    let values = read_members(alloc, memory, at, members)?;
+    let values = read_members(alloc, memory, at, members, known)?;
     Ok(Value::Rec(values))
 }
 
@@ -139,17 +177,20 @@ fn read_members(
     memory: &ByteMemory,
     at: u128,
     members: &[RecordMember],
+    known: Option<&Laid>,
 ) -> Result<Values, ReadError>
-    requires { CanReadAll at (members_plain members.now) }
+    requires can { CanReadAll at (members_plain members.now) }
+    requires known { KnownMembers (members_plain members.now) (option_copied known) }
     ensures { Reads values_seen (members_at 0 (members_plain members.now) (held memory.now) at) result }
 {
     let mut values = Values::new(alloc);
     let mut end = 0;
     for i in 0..members.len() {
         let member = &members[i];
-        let layout = layout_of(&member.tref);
+        let part = known_member(known, members, i);
+        let layout = layout_of(part, &member.tref);
         let start = rounded_up(end, layout.align as u64);
-        let value = read_type(alloc, memory, at + start as u128, &member.tref)?;
+        let value = read_type(alloc, memory, at + start as u128, &member.tref, part)?;
         values.push(value)?;
         end = start + layout.size as u64;
     }
@@ -163,13 +204,15 @@ fn read_variant(
     memory: &ByteMemory,
     at: u128,
     variant: &Variant,
+    known: Option<&Laid>,
 ) -> Result<Value, ReadError>
-    requires { CanRead at (plain (variant_tree variant.now)) }
+    requires can { CanRead at (plain (variant_tree variant.now)) }
+    requires known { KnownOf (plain (variant_tree variant.now)) (option_copied known) }
     ensures { Reads seen (value_at (plain (variant_tree variant.now)) (held memory.now) at) result }
 {
-    let offset = payload_begin(variant);
+    let offset = payload_begin(known, variant);
     let cases = variant.cases.as_slice();
-    read_cases(alloc, memory, at, variant.tag_repr, offset, cases)
+    read_cases(alloc, memory, at, variant.tag_repr, offset, cases, known)
 }
 
 /// The case that the tag names, with its payload if it has one.
@@ -182,9 +225,11 @@ fn read_cases(
     repr: IntRepr,
     offset: u64,
     cases: &[Case],
+    known: Option<&Laid>,
 ) -> Result<Value, ReadError>
     requires offset { offset ≡ begin_of_payload repr (cases_plain cases.now) }
     requires can { CanRead at (variant_of repr (cases_plain cases.now)) }
+    requires known { KnownCases (cases_plain cases.now) (option_copied known) }
     ensures { Reads seen (value_at (variant_of repr (cases_plain cases.now)) (held memory.now) at) result }
 {
     let Some(i) = case_at(memory, at, repr, cases.len()) else {
@@ -193,7 +238,8 @@ fn read_cases(
     if are_bare(cases) {
         return Ok(Value::Enum(i));
     }
-    let payload = read_payload(alloc, memory, at + offset as u128, &cases[i as usize])?;
+    let part = known_payload(known, cases, i as usize);
+    let payload = read_payload(alloc, memory, at + offset as u128, &cases[i as usize], part)?;
     Ok(Value::Case(i, payload))
 }
 
@@ -205,12 +251,14 @@ fn read_payload(
     memory: &ByteMemory,
     at: u128,
     case: &Case,
+    known: Option<&Laid>,
 ) -> Result<Option<Box<Value>>, ReadError>
-    requires { CanReadCase at case.now.tref }
+    requires can { CanReadCase at case.now.tref }
+    requires known { KnownPayload case.now.tref (option_copied known) }
     ensures { Reads (option_map seen_in) (payload_at case.now.tref (held memory.now) at) result }
 {
     match &case.tref {
-        Some(tref) => read_boxed(alloc, memory, at, tref),
+        Some(tref) => read_boxed(alloc, memory, at, tref, known),
         None => Ok(None),
     }
 }
@@ -222,11 +270,13 @@ fn read_boxed(
     memory: &ByteMemory,
     at: u128,
     ty: &TypeRef,
+    known: Option<&Laid>,
 ) -> Result<Option<Box<Value>>, ReadError>
-    requires { CanRead at (plain (tree_of ty.now)) }
+    requires can { CanRead at (plain (tree_of ty.now)) }
+    requires known { KnownOf (plain (tree_of ty.now)) (option_copied known) }
     ensures { Reads (option_map seen_in) (option_map Some (value_at (plain (tree_of ty.now)) (held memory.now) at)) result }
 {
-    let value = read_type(alloc, memory, at, ty)?;
+    let value = read_type(alloc, memory, at, ty, known)?;
     let boxed = boxed(alloc, value)?;
     Ok(Some(boxed))
 }

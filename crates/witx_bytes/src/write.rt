@@ -11,16 +11,18 @@ ghost use Rattle.witx_machine.specs.Cells.{values_of};
 ghost use Rattle.witx_bytes.specs.Bytes.{held, written};
 ghost use Rattle.witx_bytes.specs.Images.{image, members_image, payload_image};
 ghost use Rattle.witx_bytes.specs.ByteMachine.{has_room};
+ghost use Rattle.witx_bytes.specs.Laids.{IsLaid, KnownOf, KnownMembers, KnownCases, KnownPayload};
 ghost use Rattle.witx_bytes.specs.Seen.{seen, seen_in};
-ghost use Rattle.std.specs.Prelude.{option_map};
+ghost use Rattle.std.specs.Prelude.{option_copied, option_map};
 ghost use Rattle.witx_ast.specs.Plain.{all_bare};
 ghost use Rattle.witx_layout.specs.Numbers.{align_of, payloads_size, repr_size};
 ghost use Rattle.witx_bytes.specs.Payloads.{case_size, type_image, case_image};
 ghost use Rattle.witx_bytes.specs.Writes.{CanWriteCase, CanWritePayload, CanWrite, CanWriteAll, HasRange, Writes};
 
+use crate::laid::Laid;
 use crate::memory::ByteMemory;
 use crate::numbers::{flag_bits, number_bits, write_number};
-use crate::places::{layout_of, payload_begin, rounded_up};
+use crate::places::{known_member, known_payload, layout_of, payload_begin, rounded_up};
 use crate::value::Value;
 use std::boxed::Box;
 use witx_ast::{
@@ -37,32 +39,49 @@ pub fn write_value(memory: &mut ByteMemory, at: u32, ty: &TypeRef, value: &Value
     requires room { has_room (plain (tree_of ty.now)) at (held memory.old) ≡ true }
     ensures { (x : ℕ) → held memory.new x ≡ written at (image (plain (tree_of ty.now)) (seen value.now)) (held memory.old) x }
 {
-    write_type(memory, at as u64, ty, value);
+    write_type(memory, at as u64, ty, None, value);
+}
+
+/// The same, with the layout of the type.
+#[tactic(auto, using(crate::proofs::Parts::scalar_rules))]
+pub fn write_laid(memory: &mut ByteMemory, at: u32, ty: &TypeRef, laid: &Laid, value: &Value)
+    requires value { is_of (plain (tree_of ty.now)) (seen value.now) ≡ true }
+    requires writable { fits (plain (tree_of ty.now)) ≡ true }
+    requires room { has_room (plain (tree_of ty.now)) at (held memory.old) ≡ true }
+    requires laid { IsLaid (plain (tree_of ty.now)) laid.now }
+    ensures { (x : ℕ) → held memory.new x ≡ written at (image (plain (tree_of ty.now)) (seen value.now)) (held memory.old) x }
+{
+    write_type(memory, at as u64, ty, Some(laid), value);
 }
 
 #[cycle(writing)]
 #[tactic(auto, using(crate::proofs::Members::write_rules))]
-fn write_type(memory: &mut ByteMemory, at: u64, ty: &TypeRef, value: &Value)
+fn write_type(memory: &mut ByteMemory, at: u64, ty: &TypeRef, known: Option<&Laid>, value: &Value)
     requires value { CanWrite (plain (tree_of ty.now)) (seen value.now) }
     requires room { HasRange at (size_of (plain (tree_of ty.now))) (held memory.old) }
+    requires known { KnownOf (plain (tree_of ty.now)) (option_copied known) }
     ensures { Writes at (image (plain (tree_of ty.now)) (seen value.now)) (held memory.old) (held memory.new) }
 {
-    match ty {
-        TypeRef::Name(named) => write_type(memory, at, &named.tref, value),
-        TypeRef::Value(datatype) => write_datatype(memory, at, datatype, value),
-    }
+    write_datatype(memory, at, ty.type_(), known, value);
 }
 
 #[cycle(writing)]
 #[tactic(auto, using(crate::proofs::Members::write_rules))]
-fn write_datatype(memory: &mut ByteMemory, at: u64, datatype: &Datatype, value: &Value)
+fn write_datatype(
+    memory: &mut ByteMemory,
+    at: u64,
+    datatype: &Datatype,
+    known: Option<&Laid>,
+    value: &Value,
+)
     requires value { CanWrite (plain (datatype_tree datatype.now)) (seen value.now) }
     requires room { HasRange at (size_of (plain (datatype_tree datatype.now))) (held memory.old) }
+    requires known { KnownOf (plain (datatype_tree datatype.now)) (option_copied known) }
     ensures { Writes at (image (plain (datatype_tree datatype.now)) (seen value.now)) (held memory.old) (held memory.new) }
 {
     match datatype {
-        Datatype::Record(record) => write_record(memory, at, record, value),
-        Datatype::Variant(variant) => write_variant(memory, at, variant, value),
+        Datatype::Record(record) => write_record(memory, at, record, known, value),
+        Datatype::Variant(variant) => write_variant(memory, at, variant, known, value),
         Datatype::Handle(_) => write_handle(memory, at, value),
         Datatype::List(target) => write_list(memory, at, target, value),
         Datatype::Pointer(target) => write_pointer(memory, at, target, value),
@@ -73,9 +92,16 @@ fn write_datatype(memory: &mut ByteMemory, at: u64, datatype: &Datatype, value: 
 
 #[cycle(writing)]
 #[tactic(auto, using(crate::proofs::Members::write_rules))]
-fn write_record(memory: &mut ByteMemory, at: u64, record_type: &RecordDatatype, value: &Value)
+fn write_record(
+    memory: &mut ByteMemory,
+    at: u64,
+    record_type: &RecordDatatype,
+    known: Option<&Laid>,
+    value: &Value,
+)
     requires value { CanWrite (plain (record_tree record_type.now)) (seen value.now) }
     requires room { HasRange at (size_of (plain (record_tree record_type.now))) (held memory.old) }
+    requires known { KnownOf (plain (record_tree record_type.now)) (option_copied known) }
     ensures { Writes at (image (plain (record_tree record_type.now)) (seen value.now)) (held memory.old) (held memory.new) }
 {
     match record_type.kind {
@@ -86,33 +112,47 @@ fn write_record(memory: &mut ByteMemory, at: u64, record_type: &RecordDatatype, 
             record_type.members.as_slice(),
             value,
         ),
-        RecordKind::Tuple => write_tuple(memory, at, record_type.members.as_slice(), value),
-        RecordKind::Other => write_other(memory, at, record_type.members.as_slice(), value),
+        RecordKind::Tuple => write_tuple(memory, at, record_type.members.as_slice(), known, value),
+        RecordKind::Other => write_other(memory, at, record_type.members.as_slice(), known, value),
     }
 }
 
 #[cycle(writing)]
 #[tactic(auto, using(crate::proofs::Parts::scalar_rules))]
-fn write_tuple(memory: &mut ByteMemory, at: u64, members: &[RecordMember], value: &Value)
+fn write_tuple(
+    memory: &mut ByteMemory,
+    at: u64,
+    members: &[RecordMember],
+    known: Option<&Laid>,
+    value: &Value,
+)
     requires value { CanWrite (record_of RecordKind.Tuple (members_plain members.now)) (seen value.now) }
     requires room { HasRange at (size_of (record_of RecordKind.Tuple (members_plain members.now))) (held memory.old) }
+    requires known { KnownMembers (members_plain members.now) (option_copied known) }
     ensures { Writes at (image (record_of RecordKind.Tuple (members_plain members.now)) (seen value.now)) (held memory.old) (held memory.new) }
 {
     match value {
-        Value::Tuple(values) => write_members(memory, at, members, values.as_slice()),
+        Value::Tuple(values) => write_members(memory, at, members, known, values.as_slice()),
         _ => unreachable!(),
     }
 }
 
 #[cycle(writing)]
 #[tactic(auto, using(crate::proofs::Parts::scalar_rules))]
-fn write_other(memory: &mut ByteMemory, at: u64, members: &[RecordMember], value: &Value)
+fn write_other(
+    memory: &mut ByteMemory,
+    at: u64,
+    members: &[RecordMember],
+    known: Option<&Laid>,
+    value: &Value,
+)
     requires value { CanWrite (record_of RecordKind.Other (members_plain members.now)) (seen value.now) }
     requires room { HasRange at (size_of (record_of RecordKind.Other (members_plain members.now))) (held memory.old) }
+    requires known { KnownMembers (members_plain members.now) (option_copied known) }
     ensures { Writes at (image (record_of RecordKind.Other (members_plain members.now)) (seen value.now)) (held memory.old) (held memory.new) }
 {
     match value {
-        Value::Rec(values) => write_members(memory, at, members, values.as_slice()),
+        Value::Rec(values) => write_members(memory, at, members, known, values.as_slice()),
         _ => unreachable!(),
     }
 }
@@ -120,36 +160,52 @@ fn write_other(memory: &mut ByteMemory, at: u64, members: &[RecordMember], value
 /// Members, each at the next multiple of its alignment behind the one before it.
 #[cycle(writing)]
 #[tactic(auto, using(crate::proofs::Parts::scalar_rules))]
-fn write_members(memory: &mut ByteMemory, at: u64, members: &[RecordMember], values: &[Value])
+fn write_members(
+    memory: &mut ByteMemory,
+    at: u64,
+    members: &[RecordMember],
+    known: Option<&Laid>,
+    values: &[Value],
+)
     requires values { CanWriteAll (members_plain members.now) (values_of (map seen values.now)) }
     requires room { HasRange at (members_end 0 (members_plain members.now)) (held memory.old) }
+    requires known { KnownMembers (members_plain members.now) (option_copied known) }
     ensures { Writes at (members_image 0 (members_plain members.now) (values_of (map seen values.now))) (held memory.old) (held memory.new) }
 {
     let mut end = 0;
     for i in 0..members.len() {
         let member = &members[i];
         let value = &values[i];
-        let layout = layout_of(&member.tref);
+        let part = known_member(known, members, i);
+        let layout = layout_of(part, &member.tref);
         let start = rounded_up(end, layout.align as u64);
-        write_type(memory, at + start, &member.tref, value);
+        write_type(memory, at + start, &member.tref, part, value);
         end = start + layout.size as u64;
     }
 }
 
 #[cycle(writing)]
 #[tactic(auto, using(crate::proofs::Members::write_rules))]
-fn write_variant(memory: &mut ByteMemory, at: u64, variant: &Variant, value: &Value)
+fn write_variant(
+    memory: &mut ByteMemory,
+    at: u64,
+    variant: &Variant,
+    known: Option<&Laid>,
+    value: &Value,
+)
     requires value { CanWrite (plain (variant_tree variant.now)) (seen value.now) }
     requires room { HasRange at (size_of (plain (variant_tree variant.now))) (held memory.old) }
+    requires known { KnownOf (plain (variant_tree variant.now)) (option_copied known) }
     ensures { Writes at (image (plain (variant_tree variant.now)) (seen value.now)) (held memory.old) (held memory.new) }
 {
-    let offset = payload_begin(variant);
+    let offset = payload_begin(known, variant);
     write_cases(
         memory,
         at,
         variant.tag_repr,
         offset,
         variant.cases.as_slice(),
+        known,
         value,
     );
 }
@@ -162,18 +218,20 @@ fn write_cases(
     repr: IntRepr,
     offset: u64,
     cases: &[Case],
+    known: Option<&Laid>,
     value: &Value,
 )
     requires offset { offset ≡ begin_of_payload repr (cases_plain cases.now) }
     requires value { CanWrite (variant_of repr (cases_plain cases.now)) (seen value.now) }
     requires room { HasRange at (size_of (variant_of repr (cases_plain cases.now))) (held memory.old) }
+    requires known { KnownCases (cases_plain cases.now) (option_copied known) }
     ensures { Writes at (image (variant_of repr (cases_plain cases.now)) (seen value.now)) (held memory.old) (held memory.new) }
 {
     match value {
         Value::Enum(i) => write_number(memory, at, repr.mem_align() as u64, *i as u64),
         Value::Case(i, payload) => {
             write_number(memory, at, repr.mem_align() as u64, *i as u64);
-            write_payload(memory, at + offset, cases, *i, payload);
+            write_payload(memory, at + offset, cases, known, *i, payload);
         }
         _ => unreachable!(),
     }
@@ -186,28 +244,32 @@ fn write_payload(
     memory: &mut ByteMemory,
     at: u64,
     cases: &[Case],
+    known: Option<&Laid>,
     i: u32,
     payload: &Option<Box<Value>>,
 )
     requires value { CanWritePayload (cases_plain cases.now) i (option_map seen_in payload.now) }
     requires room { HasRange at (payloads_size (cases_plain cases.now)) (held memory.old) }
+    requires known { KnownCases (cases_plain cases.now) (option_copied known) }
     ensures { Writes at (case_image (cases_plain cases.now) i (option_map seen_in payload.now)) (held memory.old) (held memory.new) }
 {
     if let Some(value) = payload {
-        write_case(memory, at, &cases[i as usize], value);
+        let part = known_payload(known, cases, i as usize);
+        write_case(memory, at, &cases[i as usize], part, value);
     }
 }
 
 /// The payload of a case that has one.
 #[cycle(writing)]
 #[tactic(auto, using(crate::proofs::Parts::scalar_rules))]
-fn write_case(memory: &mut ByteMemory, at: u64, case: &Case, value: &Value)
+fn write_case(memory: &mut ByteMemory, at: u64, case: &Case, known: Option<&Laid>, value: &Value)
     requires value { CanWriteCase case.now.tref (seen value.now) }
     requires room { HasRange at (case_size case.now.tref) (held memory.old) }
+    requires known { KnownPayload case.now.tref (option_copied known) }
     ensures { Writes at (type_image case.now.tref (seen value.now)) (held memory.old) (held memory.new) }
 {
     match &case.tref {
-        Some(tref) => write_type(memory, at, tref, value),
+        Some(tref) => write_type(memory, at, tref, known, value),
         None => unreachable!(),
     }
 }

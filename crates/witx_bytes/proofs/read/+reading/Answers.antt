@@ -5,8 +5,7 @@ use Rattle.witx_ast.specs.Views.{tree_of, datatype_tree, members_plain, cases_pl
 use Rattle.witx_ast.specs.declared.types.RecordKind.{RecordKind}
 use Rattle.witx_ast.specs.declared.types.RecordDatatype.{out-RecordDatatype}
 use Rattle.witx_ast.specs.declared.types.Variant.{out-Variant}
-use Rattle.witx_ast.specs.declared.types.Datatype.{the_lemmas}
-use Rattle.witx_ast.proofs.Trees.{tree-Name, tree-Value, tree-NamedType, tree-Record, tree-Variant}
+use Rattle.witx_ast.proofs.Trees.{tree-Record, tree-Variant}
 use Rattle.witx_ast.proofs.Parts.{record-plain, variant-plain}
 use Rattle.witx_layout.specs.Numbers.{align_of, size_of, align_to, payload_offset, repr_size}
 use Rattle.witx_layout.proofs.LawProofs.{align-low, align-high}
@@ -16,60 +15,55 @@ use Rattle.witx_bytes.specs.Reading.{number_at, value_at, members_at}
 use Rattle.witx_bytes.specs.Readings.{CanRead, CanReadCase, Reads, case_number}
 use Rattle.witx_bytes.specs.Seen.{seen, seen_in, values_seen}
 use Rattle.witx_bytes.specs.declared.read_error.ReadError.{ReadError}
-use Rattle.witx_bytes.proofs.ReadParts.{ReadTo, read_first, read_within, read_can, read_next, read_stops, can_read_by, tuple_can_read, record_can_read, case_below, case_read, case_refused, case_can_read, cases_few}
+use Rattle.witx_bytes.proofs.ReadParts.{ReadTo, read_first, read_within, read_can, read_next, read_stops, can_read_by, case_can_read_by, tuple_can_read, record_can_read, case_below, case_read, case_refused, case_can_read, cases_few}
+use Rattle.witx_bytes.proofs.KnownParts.{known_by, payload_known_by, known_tuple, known_record, known_cases}
 use Rattle.witx_bytes.proofs.Members.{write_rules}
+use Rattle.witx_bytes.proofs.Nodes.{nodes, payload_nodes, behind_plain, member_fewer, payload_fewer}
 use Rattle.witx_bytes.proofs.ReadParts.{read_rules}
 use Rattle.witx_bytes.proofs.read.+reading.Goals as goal
 
-pub read_type-read_type-requires : goal.read_type-read_type-requires
-read_type-read_type-requires t c =
-    let named = c.in-Name.named in
-    let e = ap (λ t. plain (tree_of t)) c.in-Name.is ∙ ap plain (tree-Name named ∙ tree-NamedType named.value) ∙ ap (λ n. plain (tree_of n.tref)) (sym c.deref.ensures) in
-    (search (rules, the_lemmas), can_read_by c.args.at _ _ e c.requires)
-
 pub read_type-read_datatype-requires : goal.read_type-read_datatype-requires
 read_type-read_datatype-requires t c =
-    let d = c.in-Value.datatype in
-    let e = ap (λ t. plain (tree_of t)) c.in-Value.is ∙ ap plain (tree-Value d) ∙ ap (λ d. plain (datatype_tree d)) (sym c.deref-in-Value.ensures) in
-    (search (rules, the_lemmas), can_read_by c.args.at _ _ e c.requires)
+    let e = behind_plain (datatype_tree c.deref.result.now) (tree_of c.args.ty.now) (ap datatype_tree c.deref.ensures ∙ c.type_.ensures) in
+    (omega (arith, ap nodes e), (can_read_by c.args.at _ _ e c.requires.can, known_by _ _ _ e c.requires.known))
 
 pub read_datatype-read_record-requires : goal.read_datatype-read_record-requires
 read_datatype-read_record-requires t c =
     let e = ap (λ d. plain (datatype_tree d)) c.in-Record.is ∙ ap plain (tree-Record c.in-Record.record) in
-    (search (rules, the_lemmas), can_read_by c.args.at _ _ e c.requires)
+    (omega (arith, ap nodes e), (can_read_by c.args.at _ _ e c.requires.can, known_by _ _ _ e c.requires.known))
 
 pub read_datatype-read_variant-requires : goal.read_datatype-read_variant-requires
 read_datatype-read_variant-requires t c =
     let e = ap (λ d. plain (datatype_tree d)) c.in-Variant.is ∙ ap plain (tree-Variant c.in-Variant.variant) in
-    (search (rules, the_lemmas), can_read_by c.args.at _ _ e c.requires)
+    (omega (arith, ap nodes e), (can_read_by c.args.at _ _ e c.requires.can, known_by _ _ _ e c.requires.known))
 
 pub read_datatype-read_handle-requires : goal.read_datatype-read_handle-requires
-read_datatype-read_handle-requires t c = omega (arith, c.requires.end)
+read_datatype-read_handle-requires t c = omega (arith, c.requires.can.end)
 
 pub read_datatype-read_list-requires : goal.read_datatype-read_list-requires
-read_datatype-read_list-requires t c = omega (arith, c.requires.end)
+read_datatype-read_list-requires t c = omega (arith, c.requires.can.end)
 
 pub read_datatype-read_pointer-requires : goal.read_datatype-read_pointer-requires
-read_datatype-read_pointer-requires t c = omega (arith, c.requires.end)
+read_datatype-read_pointer-requires t c = omega (arith, c.requires.can.end)
 
 pub read_datatype-read_const_pointer-requires : goal.read_datatype-read_const_pointer-requires
-read_datatype-read_const_pointer-requires t c = omega (arith, c.requires.end)
+read_datatype-read_const_pointer-requires t c = omega (arith, c.requires.can.end)
 
 pub read_datatype-read_builtin-requires : goal.read_datatype-read_builtin-requires
-read_datatype-read_builtin-requires t c = omega (arith, c.requires.end)
+read_datatype-read_builtin-requires t c = omega (arith, c.requires.can.end)
 
 pub read_record-read_flags-requires : goal.read_record-read_flags-requires
-read_record-read_flags-requires t c = omega (arith, c.requires.end)
+read_record-read_flags-requires t c = omega (arith, c.requires.can.end)
 
 pub read_record-read_tuple-requires : goal.read_record-read_tuple-requires
 read_record-read_tuple-requires t c =
     let e = record-plain c.args.record_type.now ∙ ap (λ k. Plain.record_of k (members_plain (out-RecordDatatype c.args.record_type.now).members)) c.in-Tuple.is ∙ ap (λ ms. Plain.record_of RecordKind.Tuple (members_plain ms)) (sym c.as_slice-members.ensures) in
-    (search (rules, the_lemmas), tuple_can_read _ c.args.at (can_read_by c.args.at _ _ e c.requires))
+    (omega (arith, ap nodes e), (tuple_can_read _ c.args.at (can_read_by c.args.at _ _ e c.requires.can), known_tuple _ _ (known_by _ _ _ e c.requires.known)))
 
 pub read_record-read_other-requires : goal.read_record-read_other-requires
 read_record-read_other-requires t c =
     let e = record-plain c.args.record_type.now ∙ ap (λ k. Plain.record_of k (members_plain (out-RecordDatatype c.args.record_type.now).members)) c.in-Other.is ∙ ap (λ ms. Plain.record_of RecordKind.Other (members_plain ms)) (sym c.as_slice-members.ensures) in
-    (search (rules, the_lemmas), record_can_read _ c.args.at (can_read_by c.args.at _ _ e c.requires))
+    (omega (arith, ap nodes e), (record_can_read _ c.args.at (can_read_by c.args.at _ _ e c.requires.can), known_record _ _ (known_by _ _ _ e c.requires.known)))
 
 pub read_members-rounded_up-start-requires-clause-some : goal.read_members-rounded_up-start-requires-clause-some
 read_members-rounded_up-start-requires-clause-some t c = omega (arith, c.layout_of-layout.ensures.align, align-low (plain (tree_of c.index-members-i.result.tref)))
@@ -82,45 +76,55 @@ read_members-rounded_up-start-requires-clause-small t c =
     let ms = c.args.members.now in
     let d = c.index-members-i.result in
     let w = read_within ms c.loop-i.values c.args.at c.loop-i.end c.loop-i.i (held c.args.memory.now) d c.loop-i.invariant c.loop-i-test.true c.index-members-i.is in
-    let small : align_to c.loop-i.end (align_of (plain (tree_of d.tref))) < 2 ^ 64 = omega (arith, w, c.requires.size) in
+    let small : align_to c.loop-i.end (align_of (plain (tree_of d.tref))) < 2 ^ 64 = omega (arith, w, c.requires.can.size) in
     subst (λ a. align_to c.loop-i.end a < 2 ^ 64) (sym c.layout_of-layout.ensures.align) small
 
-pub read_members-layout_of-layout-requires : goal.read_members-layout_of-layout-requires
-read_members-layout_of-layout-requires t c =
+pub read_members-layout_of-layout-requires-clause-size : goal.read_members-layout_of-layout-requires-clause-size
+read_members-layout_of-layout-requires-clause-size t c =
     let w = read_within c.args.members.now c.loop-i.values c.args.at c.loop-i.end c.loop-i.i (held c.args.memory.now) c.index-members-i.result c.loop-i.invariant c.loop-i-test.true c.index-members-i.is in
-    omega (arith, w, c.requires.size)
+    omega (arith, w, c.requires.can.size)
+
+pub read_members-layout_of-layout-requires-clause-known : goal.read_members-layout_of-layout-requires-clause-known
+read_members-layout_of-layout-requires-clause-known t c = c.known_member-part.ensures c.index-members-i.result c.index-members-i.is
 
 pub read_members-loop-i-init : goal.read_members-loop-i-init
-read_members-loop-i-init t c = subst (λ vs. ReadTo c.args.members.now vs c.args.at 0 0 (held c.args.memory.now)) (sym c.new-values.ensures) (read_first c.args.members.now c.args.at (held c.args.memory.now) c.requires)
+read_members-loop-i-init t c = subst (λ vs. ReadTo c.args.members.now vs c.args.at 0 0 (held c.args.memory.now)) (sym c.new-values.ensures) (read_first c.args.members.now c.args.at (held c.args.memory.now) c.requires.can)
 
 pub read_members-overflow_add-at : goal.read_members-overflow_add-at
 read_members-overflow_add-at t c =
     let d = c.index-members-i.result in
     let w = read_within c.args.members.now c.loop-i.values c.args.at c.loop-i.end c.loop-i.i (held c.args.memory.now) d c.loop-i.invariant c.loop-i-test.true c.index-members-i.is in
     let start : c.rounded_up-start.result ≡ align_to c.loop-i.end (align_of (plain (tree_of d.tref))) = c.rounded_up-start.ensures ∙ ap (align_to c.loop-i.end) c.layout_of-layout.ensures.align in
-    let small : c.args.at + c.rounded_up-start.result < 2 ^ 65 = omega (arith, start, w, c.requires.end) in
+    let small : c.args.at + c.rounded_up-start.result < 2 ^ 65 = omega (arith, start, w, c.requires.can.end) in
     omega (arith, small)
 
 pub read_members-read_type-requires : goal.read_members-read_type-requires
 read_members-read_type-requires t c =
     let d = c.index-members-i.result in
     let start : c.rounded_up-start.result ≡ align_to c.loop-i.end (align_of (plain (tree_of d.tref))) = c.rounded_up-start.ensures ∙ ap (align_to c.loop-i.end) c.layout_of-layout.ensures.align in
-    let can = read_can c.args.members.now c.loop-i.values c.args.at c.loop-i.end c.loop-i.i (held c.args.memory.now) d c.loop-i.invariant c.loop-i-test.true c.index-members-i.is c.requires in
-    (search (rules, the_lemmas), subst (λ s. CanRead (c.args.at + s) (plain (tree_of d.tref))) (sym start) can)
+    let can = read_can c.args.members.now c.loop-i.values c.args.at c.loop-i.end c.loop-i.i (held c.args.memory.now) d c.loop-i.invariant c.loop-i-test.true c.index-members-i.is c.requires.can in (
+      omega (arith, member_fewer c.args.members.now c.loop-i.i d c.loop-i-test.true c.index-members-i.is),
+      (subst (λ s. CanRead (c.args.at + s) (plain (tree_of d.tref))) (sym start) can, c.known_member-part.ensures d c.index-members-i.is),
+    )
 
 pub read_members-overflow_add-end : goal.read_members-overflow_add-end
 read_members-overflow_add-end t c =
     let d = c.index-members-i.result in
     let w = read_within c.args.members.now c.loop-i.values c.args.at c.loop-i.end c.loop-i.i (held c.args.memory.now) d c.loop-i.invariant c.loop-i-test.true c.index-members-i.is in
     let start : c.rounded_up-start.result ≡ align_to c.loop-i.end (align_of (plain (tree_of d.tref))) = c.rounded_up-start.ensures ∙ ap (align_to c.loop-i.end) c.layout_of-layout.ensures.align in
-    let small : c.rounded_up-start.result + c.layout_of-layout.result.size < 2 ^ 64 = omega (arith, start, w, c.requires.size, c.layout_of-layout.ensures.size) in
+    let small : c.rounded_up-start.result + c.layout_of-layout.result.size < 2 ^ 64 = omega (arith, start, w, c.requires.can.size, c.layout_of-layout.ensures.size) in
     omega (arith, small)
 
 pub read_variant-read_cases-requires : goal.read_variant-read_cases-requires
 read_variant-read_cases-requires t c =
     let r = (out-Variant c.args.variant.now).tag_repr in
-    let e = variant-plain c.args.variant.now ∙ ap (λ cs. Plain.variant_of r (cases_plain cs)) (sym c.as_slice-cases.ensures) in
-    (search (rules, the_lemmas), (c.payload_begin-offset.ensures ∙ ap (λ cs. payload_offset r (cases_plain cs)) (sym c.as_slice-cases.ensures), can_read_by c.args.at _ _ e c.requires))
+    let e = variant-plain c.args.variant.now ∙ ap (λ cs. Plain.variant_of r (cases_plain cs)) (sym c.as_slice-cases.ensures) in (
+      omega (arith, ap nodes e),
+      (
+        c.payload_begin-offset.ensures ∙ ap (λ cs. payload_offset r (cases_plain cs)) (sym c.as_slice-cases.ensures),
+        (can_read_by c.args.at _ _ e c.requires.can, known_cases r _ _ (known_by _ _ _ e c.requires.known)),
+      ),
+    )
 
 pub read_cases-case_at-requires-clause-few : goal.read_cases-case_at-requires-clause-few
 read_cases-case_at-requires-clause-few t c = omega (arith, cases_few c.args.repr c.args.cases.now c.args.at c.requires.can)
@@ -162,10 +166,25 @@ pub read_cases-read_payload-requires : goal.read_cases-read_payload-requires
 read_cases-read_payload-requires t c =
     let number : case_number (length c.args.cases.now) (number_at (repr_size c.args.repr) (held c.args.memory.now) c.args.at) ≡ Some c.in-Some.i = search rules in
     let l : c.in-Some.i < length c.args.cases.now = case_below c.args.repr c.args.cases.now (held c.args.memory.now) c.args.at c.in-Some.i number in (
-      search (rules, the_lemmas, l),
-      subst (λ o. CanReadCase (c.args.at + o) c.index-cases-i.result.tref) (sym c.requires.offset)
-          (case_can_read c.args.repr c.args.cases.now (held c.args.memory.now) c.args.at c.in-Some.i number c.index-cases-i.result c.index-cases-i.is c.requires.can),
+      omega (arith, payload_fewer c.args.cases.now c.in-Some.i c.index-cases-i.result l c.index-cases-i.is),
+      (
+        subst (λ o. CanReadCase (c.args.at + o) c.index-cases-i.result.tref) (sym c.requires.offset)
+            (case_can_read c.args.repr c.args.cases.now (held c.args.memory.now) c.args.at c.in-Some.i number c.index-cases-i.result c.index-cases-i.is c.requires.can),
+        c.known_payload-part.ensures c.index-cases-i.result c.index-cases-i.is,
+      ),
     )
+
+pub read_cases-known_payload-part-requires-clause-some : goal.read_cases-known_payload-part-requires-clause-some
+read_cases-known_payload-part-requires-clause-some t c =
+    let number : case_number (length c.args.cases.now) (number_at (repr_size c.args.repr) (held c.args.memory.now) c.args.at) ≡ Some c.in-Some.i = search rules in
+    case_below c.args.repr c.args.cases.now (held c.args.memory.now) c.args.at c.in-Some.i number
+
+pub read_payload-read_boxed-requires : goal.read_payload-read_boxed-requires
+read_payload-read_boxed-requires t c =
+    (omega (arith, ap payload_nodes c.in-Some.is), (case_can_read_by c.args.at _ _ c.in-Some.is c.requires.can, payload_known_by _ _ _ c.in-Some.is c.requires.known))
+
+pub read_boxed-read_type-requires : goal.read_boxed-read_type-requires
+read_boxed-read_type-requires t c = (omega arith, (c.requires.can, c.requires.known))
 
 pub read_cases-returns-in_err-payload : goal.read_cases-returns-in_err-payload
 read_cases-returns-in_err-payload t c =
@@ -230,11 +249,10 @@ read_record-returns-in-Other t c = search (rules, write_rules)
 pub read_tuple-returns : goal.read_tuple-returns
 read_tuple-returns t c = search (rules, read_rules)
 
-pub read_type-returns-in-Name : goal.read_type-returns-in-Name
-read_type-returns-in-Name t c = search (rules, write_rules)
-
-pub read_type-returns-in-Value : goal.read_type-returns-in-Value
-read_type-returns-in-Value t c = search (rules, write_rules)
+pub read_type-returns : goal.read_type-returns
+read_type-returns t c =
+    let e = behind_plain (datatype_tree c.deref.result.now) (tree_of c.args.ty.now) (ap datatype_tree c.deref.ensures ∙ c.type_.ensures) in
+    subst (λ t. Reads seen (value_at t (held c.args.memory.now) c.args.at) c.read_datatype.result) (sym e) c.read_datatype.ensures
 
 pub read_variant-returns : goal.read_variant-returns
 read_variant-returns t c = search (rules, write_rules)

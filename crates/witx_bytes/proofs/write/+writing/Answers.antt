@@ -5,8 +5,7 @@ use Rattle.witx_ast.specs.Views.{tree_of, datatype_tree, members_plain, cases_pl
 use Rattle.witx_ast.specs.declared.types.RecordKind.{RecordKind}
 use Rattle.witx_ast.specs.declared.types.RecordDatatype.{out-RecordDatatype}
 use Rattle.witx_ast.specs.declared.types.Variant.{out-Variant}
-use Rattle.witx_ast.specs.declared.types.Datatype.{the_lemmas}
-use Rattle.witx_ast.proofs.Trees.{tree-Name, tree-Value, tree-NamedType, tree-Record, tree-Variant}
+use Rattle.witx_ast.proofs.Trees.{tree-Record, tree-Variant}
 use Rattle.witx_ast.proofs.Parts.{record-plain, variant-plain}
 use Rattle.witx_layout.specs.Numbers.{align_of, size_of, align_to, members_end}
 use Rattle.witx_layout.proofs.LawProofs.{align-low, align-high}
@@ -16,8 +15,10 @@ use Rattle.witx_bytes.specs.Seen.{seen}
 use Rattle.witx_bytes.specs.Payloads.{type_image}
 use Rattle.witx_bytes.specs.Writes.{CanWriteCase, HasRange, Writes}
 use Rattle.witx_bytes.proofs.Writing.{range_kept}
-use Rattle.witx_bytes.proofs.Members.{MembersLeft, members_first, members_bound, members_can, members_room, members_within, members_next, tuple_written, record_written, enum_written, case_written, case_can, payload_room, can_by, room_by, payload_bound, case_can_be, case_has_room, case_is_written}
+use Rattle.witx_bytes.proofs.Members.{MembersLeft, members_first, members_bound, members_can, members_room, members_within, members_next, tuple_written, record_written, enum_written, case_written, case_can, payload_room, can_by, room_by, payload_bound, case_can_by, case_room_by, case_can_be, case_has_room, case_is_written}
+use Rattle.witx_bytes.proofs.KnownParts.{known_by, payload_known_by, known_tuple, known_record, known_cases}
 use Rattle.witx_bytes.proofs.Members.{write_rules}
+use Rattle.witx_bytes.proofs.Nodes.{nodes, payload_nodes, behind_plain, member_fewer, payload_fewer}
 use Rattle.witx_bytes.proofs.write.+writing.Goals as goal
 
 pub write_cases-write_payload-requires : goal.write_cases-write_payload-requires
@@ -25,17 +26,17 @@ write_cases-write_payload-requires t c =
     let cs = cases_plain c.args.cases.now in
     let value = case_can c.args.repr cs c.args.value.now c.in-Case.i c.in-Case.payload c.requires.value c.in-Case.is in
     let room = range_kept (c.args.at + Rattle.witx_layout.specs.Numbers.payload_offset c.args.repr cs) (Rattle.witx_layout.specs.Numbers.payloads_size cs) c.args.at (Rattle.witx_bytes.specs.Images.little c.mem_align-in-Case.result c.in-Case.i) (held c.args.memory.now) (held c.write_number-in-Case.new.memory) (payload_room c.args.repr cs c.args.at (held c.args.memory.now) c.requires.room) c.write_number-in-Case.ensures in
-    (search (rules, the_lemmas), (value, subst (λ o. HasRange (c.args.at + o) (Rattle.witx_layout.specs.Numbers.payloads_size cs) (held c.write_number-in-Case.new.memory)) (sym c.requires.offset) room))
+    (omega arith, (value, (subst (λ o. HasRange (c.args.at + o) (Rattle.witx_layout.specs.Numbers.payloads_size cs) (held c.write_number-in-Case.new.memory)) (sym c.requires.offset) room, c.requires.known)))
 
 pub write_datatype-write_record-requires : goal.write_datatype-write_record-requires
 write_datatype-write_record-requires t c =
     let e = ap (λ d. plain (datatype_tree d)) c.in-Record.is ∙ ap plain (tree-Record c.in-Record.record) in
-    (search (rules, the_lemmas), (can_by _ _ (seen c.args.value.now) e c.requires.value, room_by c.args.at _ _ (held c.args.memory.now) e c.requires.room))
+    (omega (arith, ap nodes e), (can_by _ _ (seen c.args.value.now) e c.requires.value, (room_by c.args.at _ _ (held c.args.memory.now) e c.requires.room, known_by _ _ _ e c.requires.known)))
 
 pub write_datatype-write_variant-requires : goal.write_datatype-write_variant-requires
 write_datatype-write_variant-requires t c =
     let e = ap (λ d. plain (datatype_tree d)) c.in-Variant.is ∙ ap plain (tree-Variant c.in-Variant.variant) in
-    (search (rules, the_lemmas), (can_by _ _ (seen c.args.value.now) e c.requires.value, room_by c.args.at _ _ (held c.args.memory.now) e c.requires.room))
+    (omega (arith, ap nodes e), (can_by _ _ (seen c.args.value.now) e c.requires.value, (room_by c.args.at _ _ (held c.args.memory.now) e c.requires.room, known_by _ _ _ e c.requires.known)))
 
 pub write_members-rounded_up-start-requires-clause-some : goal.write_members-rounded_up-start-requires-clause-some
 write_members-rounded_up-start-requires-clause-some t c = omega (arith, c.layout_of-layout.ensures.align, align-low (plain (tree_of c.index-members-i.result.tref)))
@@ -66,7 +67,7 @@ write_members-write_type-requires t c =
     let u = members_bound ms vs c.args.at c.loop-i.end c.loop-i.i (held c.args.memory.now) (held c.loop-i.memory) d f c.loop-i-test.true c.index-members-i.is in
     let start : c.rounded_up-start.result ≡ align_to c.loop-i.end (align_of (plain (tree_of d.tref))) = c.rounded_up-start.ensures ∙ ap (align_to c.loop-i.end) c.layout_of-layout.ensures.align in
     let room = members_room ms vs c.args.at c.loop-i.end c.loop-i.i (held c.args.memory.now) (held c.loop-i.memory) d v f c.loop-i-test.true c.index-members-i.is u c.index-values-i.is in
-    (search (rules, the_lemmas), (members_can ms vs c.args.at c.loop-i.end c.loop-i.i (held c.args.memory.now) (held c.loop-i.memory) d v f c.loop-i-test.true c.index-members-i.is u c.index-values-i.is, subst (λ s. HasRange (c.args.at + s) (size_of (plain (tree_of d.tref))) (held c.loop-i.memory)) (sym start) room))
+    (omega (arith, member_fewer ms c.loop-i.i d c.loop-i-test.true c.index-members-i.is), (members_can ms vs c.args.at c.loop-i.end c.loop-i.i (held c.args.memory.now) (held c.loop-i.memory) d v f c.loop-i-test.true c.index-members-i.is u c.index-values-i.is, (subst (λ s. HasRange (c.args.at + s) (size_of (plain (tree_of d.tref))) (held c.loop-i.memory)) (sym start) room, c.known_member-part.ensures d c.index-members-i.is)))
 
 pub write_members-overflow_add-at : goal.write_members-overflow_add-at
 write_members-overflow_add-at t c =
@@ -79,8 +80,11 @@ write_members-overflow_add-at t c =
     let small : c.args.at + c.rounded_up-start.result ≤ 2 ^ 32 = omega (arith, start, w, f.room.within) in
     omega (arith, small)
 
-pub write_members-layout_of-layout-requires : goal.write_members-layout_of-layout-requires
-write_members-layout_of-layout-requires t c =
+pub write_members-layout_of-layout-requires-clause-known : goal.write_members-layout_of-layout-requires-clause-known
+write_members-layout_of-layout-requires-clause-known t c = c.known_member-part.ensures c.index-members-i.result c.index-members-i.is
+
+pub write_members-layout_of-layout-requires-clause-size : goal.write_members-layout_of-layout-requires-clause-size
+write_members-layout_of-layout-requires-clause-size t c =
     let ms = c.args.members.now in
     let d = c.index-members-i.result in
     let f = c.loop-i.invariant in
@@ -119,12 +123,28 @@ write_payload-bounds-cases-i t c = payload_bound c.args.cases.now c.args.i c.arg
 pub write_payload-write_case-requires : goal.write_payload-write_case-requires
 write_payload-write_case-requires t c =
     let l : c.args.i < Rattle.std.proofs.Common.length c.args.cases.now = payload_bound c.args.cases.now c.args.i c.args.payload.now c.in-Some.value c.requires.value c.in-Some.is in (
-      search (rules, the_lemmas, l),
+      omega (arith, payload_fewer c.args.cases.now c.args.i c.index-cases-i.result l c.index-cases-i.is),
       (
         subst (λ u. CanWriteCase c.index-cases-i.result.tref (seen u)) (sym c.deref.ensures) (case_can_be c.args.cases.now c.args.i c.args.payload.now c.in-Some.value c.index-cases-i.result c.requires.value c.in-Some.is c.index-cases-i.is),
-        case_has_room c.args.cases.now c.args.i c.args.payload.now c.in-Some.value c.index-cases-i.result c.requires.value c.in-Some.is c.index-cases-i.is c.args.at (held c.args.memory.now) c.requires.room,
+        (
+          case_has_room c.args.cases.now c.args.i c.args.payload.now c.in-Some.value c.index-cases-i.result c.requires.value c.in-Some.is c.index-cases-i.is c.args.at (held c.args.memory.now) c.requires.room,
+          c.known_payload-part.ensures c.index-cases-i.result c.index-cases-i.is,
+        ),
       ),
     )
+
+pub write_payload-known_payload-part-requires-clause-some : goal.write_payload-known_payload-part-requires-clause-some
+write_payload-known_payload-part-requires-clause-some t c =
+    payload_bound c.args.cases.now c.args.i c.args.payload.now c.in-Some.value c.requires.value c.in-Some.is
+
+pub write_case-write_type-requires : goal.write_case-write_type-requires
+write_case-write_type-requires t c = (
+  omega (arith, ap payload_nodes c.in-Some.is),
+  (
+    case_can_by _ _ (seen c.args.value.now) c.in-Some.is c.requires.value,
+    (case_room_by c.args.at _ _ (held c.args.memory.now) c.in-Some.is c.requires.room, payload_known_by _ _ _ c.in-Some.is c.requires.known),
+  ),
+)
 
 pub write_payload-returns-in-Some : goal.write_payload-returns-in-Some
 write_payload-returns-in-Some t c =
@@ -133,31 +153,42 @@ write_payload-returns-in-Some t c =
 
 pub write_record-write_tuple-requires : goal.write_record-write_tuple-requires
 write_record-write_tuple-requires t c =
-    let e = record-plain c.args.record_type.now ∙ ap (λ k. Plain.record_of k (members_plain (out-RecordDatatype c.args.record_type.now).members)) c.in-Tuple.is ∙ ap (λ ms. Plain.record_of RecordKind.Tuple (members_plain ms)) (sym c.as_slice-in-Tuple.ensures) in
-    (search (rules, the_lemmas), (can_by _ _ (seen c.args.value.now) e c.requires.value, room_by c.args.at _ (Plain.record_of RecordKind.Tuple (members_plain c.as_slice-in-Tuple.result.now)) (held c.args.memory.now) e c.requires.room))
+    let e = record-plain c.args.record_type.now ∙ ap (λ k. Plain.record_of k (members_plain (out-RecordDatatype c.args.record_type.now).members)) c.in-Tuple.is ∙ ap (λ ms. Plain.record_of RecordKind.Tuple (members_plain ms)) (sym c.as_slice-in-Tuple.ensures) in (
+      omega (arith, ap nodes e),
+      (
+        can_by _ _ (seen c.args.value.now) e c.requires.value,
+        (room_by c.args.at _ (Plain.record_of RecordKind.Tuple (members_plain c.as_slice-in-Tuple.result.now)) (held c.args.memory.now) e c.requires.room, known_tuple _ _ (known_by _ _ _ e c.requires.known)),
+      ),
+    )
 
 pub write_record-write_other-requires : goal.write_record-write_other-requires
 write_record-write_other-requires t c =
-    let e = record-plain c.args.record_type.now ∙ ap (λ k. Plain.record_of k (members_plain (out-RecordDatatype c.args.record_type.now).members)) c.in-Other.is ∙ ap (λ ms. Plain.record_of RecordKind.Other (members_plain ms)) (sym c.as_slice-in-Other.ensures) in
-    (search (rules, the_lemmas), (can_by _ _ (seen c.args.value.now) e c.requires.value, room_by c.args.at _ (Plain.record_of RecordKind.Other (members_plain c.as_slice-in-Other.result.now)) (held c.args.memory.now) e c.requires.room))
-
-pub write_type-write_type-requires : goal.write_type-write_type-requires
-write_type-write_type-requires t c =
-    let named = c.in-Name.named in
-    let e = ap (λ t. plain (tree_of t)) c.in-Name.is ∙ ap plain (tree-Name named ∙ tree-NamedType named.value) ∙ ap (λ n. plain (tree_of n.tref)) (sym c.deref.ensures) in
-    (search (rules, the_lemmas), (can_by _ _ (seen c.args.value.now) e c.requires.value, room_by c.args.at _ _ (held c.args.memory.now) e c.requires.room))
+    let e = record-plain c.args.record_type.now ∙ ap (λ k. Plain.record_of k (members_plain (out-RecordDatatype c.args.record_type.now).members)) c.in-Other.is ∙ ap (λ ms. Plain.record_of RecordKind.Other (members_plain ms)) (sym c.as_slice-in-Other.ensures) in (
+      omega (arith, ap nodes e),
+      (
+        can_by _ _ (seen c.args.value.now) e c.requires.value,
+        (room_by c.args.at _ (Plain.record_of RecordKind.Other (members_plain c.as_slice-in-Other.result.now)) (held c.args.memory.now) e c.requires.room, known_record _ _ (known_by _ _ _ e c.requires.known)),
+      ),
+    )
 
 pub write_type-write_datatype-requires : goal.write_type-write_datatype-requires
 write_type-write_datatype-requires t c =
-    let d = c.in-Value.datatype in
-    let e = ap (λ t. plain (tree_of t)) c.in-Value.is ∙ ap plain (tree-Value d) ∙ ap (λ d. plain (datatype_tree d)) (sym c.deref-in-Value.ensures) in
-    (search (rules, the_lemmas), (can_by _ _ (seen c.args.value.now) e c.requires.value, room_by c.args.at _ _ (held c.args.memory.now) e c.requires.room))
+    let e = behind_plain (datatype_tree c.deref.result.now) (tree_of c.args.ty.now) (ap datatype_tree c.deref.ensures ∙ c.type_.ensures) in
+    (omega (arith, ap nodes e), (can_by _ _ (seen c.args.value.now) e c.requires.value, (room_by c.args.at _ _ (held c.args.memory.now) e c.requires.room, known_by _ _ _ e c.requires.known)))
 
 pub write_variant-write_cases-requires : goal.write_variant-write_cases-requires
 write_variant-write_cases-requires t c =
     let r = (out-Variant c.args.variant.now).tag_repr in
-    let e = variant-plain c.args.variant.now ∙ ap (λ cs. Plain.variant_of r (cases_plain cs)) (sym c.as_slice.ensures) in
-    (search (rules, the_lemmas), (c.payload_begin-offset.ensures ∙ ap (λ cs. Rattle.witx_layout.specs.Numbers.payload_offset r (cases_plain cs)) (sym c.as_slice.ensures), (can_by _ _ (seen c.args.value.now) e c.requires.value, room_by c.args.at _ (Plain.variant_of r (cases_plain c.as_slice.result.now)) (held c.args.memory.now) e c.requires.room)))
+    let e = variant-plain c.args.variant.now ∙ ap (λ cs. Plain.variant_of r (cases_plain cs)) (sym c.as_slice.ensures) in (
+      omega (arith, ap nodes e),
+      (
+        c.payload_begin-offset.ensures ∙ ap (λ cs. Rattle.witx_layout.specs.Numbers.payload_offset r (cases_plain cs)) (sym c.as_slice.ensures),
+        (
+          can_by _ _ (seen c.args.value.now) e c.requires.value,
+          (room_by c.args.at _ (Plain.variant_of r (cases_plain c.as_slice.result.now)) (held c.args.memory.now) e c.requires.room, known_cases r _ _ (known_by _ _ _ e c.requires.known)),
+        ),
+      ),
+    )
 
 pub write_cases-returns-in-Enum : goal.write_cases-returns-in-Enum
 write_cases-returns-in-Enum t c = enum_written c.args.repr (cases_plain c.args.cases.now) c.args.value.now c.in-Enum.i c.args.at c.mem_align.result (held c.args.memory.now) (held c.write_number.new.memory) c.in-Enum.is c.mem_align.ensures c.write_number.ensures
@@ -207,11 +238,10 @@ write_record-returns-in-Tuple t c = search (rules, write_rules)
 pub write_record-returns-in-Other : goal.write_record-returns-in-Other
 write_record-returns-in-Other t c = search (rules, write_rules)
 
-pub write_type-returns-in-Name : goal.write_type-returns-in-Name
-write_type-returns-in-Name t c = search (rules, write_rules)
-
-pub write_type-returns-in-Value : goal.write_type-returns-in-Value
-write_type-returns-in-Value t c = search (rules, write_rules)
+pub write_type-returns : goal.write_type-returns
+write_type-returns t c =
+    let e = behind_plain (datatype_tree c.deref.result.now) (tree_of c.args.ty.now) (ap datatype_tree c.deref.ensures ∙ c.type_.ensures) in
+    subst (λ t. Writes c.args.at (image t (seen c.args.value.now)) (held c.args.memory.now) (held c.write_datatype.new.memory)) (sym e) c.write_datatype.ensures
 
 pub write_variant-returns : goal.write_variant-returns
 write_variant-returns t c = search (rules, write_rules)
