@@ -1,0 +1,82 @@
+//! What may still be gone through.
+
+ghost use Rattle.std.specs.Prelude.{◌≡◌, ◌+◌, OnOk};
+ghost use Rattle.witx_ast.specs.Views.{tree_of};
+ghost use Rattle.witx_extent.specs.Extents.{extent};
+ghost use Rattle.witx_extent.specs.Waiting.{own_extent};
+
+use crate::parts::{Waiting, own_extent, put_parts};
+use std::alloc::Global;
+use witx_ast::TypeRef;
+use witx_base::OutOfMemory;
+
+/// How many names may stand one for the other in a type, and how many lists, pointers, records and variants may lie
+/// one in the other. What goes through a type by recursion has room for both on a stack of 8 MiB.
+pub const DEEPEST: usize = 32_768;
+
+/// How much of types may still be gone through, each name looked through wherever it is mentioned.
+#[derive(Debug, Drop)]
+pub struct Allowance {
+    left: usize,
+}
+
+impl Allowance {
+    /// So much: one for each name and for each type that is written out, at each of its mentions, and one for each
+    /// case.
+    pub fn new(extent: usize) -> Allowance
+        ensures { result.left ≡ extent }
+    {
+        Allowance { left: extent }
+    }
+
+    /// Takes what there is to a type. Want of memory where that is more than is left, or where it is deeper than
+    /// `DEEPEST`.
+
+    #[tactic(auto, using(crate::proofs::Counting::extent_rules))]
+    pub fn take(&mut self, alloc: Global, tref: &TypeRef) -> Result<(), OutOfMemory>
+        ensures { OnOk result (self.new.left + extent (tree_of tref.now) ≡ self.old.left) }
+    {
+        let mut waiting = Vec::new(alloc);
+        waiting.push(Waiting {
+            tref,
+            names: 0,
+            types: 0,
+        })?;
+        while let Some(next) = waiting.pop() {
+            self.take_one(next)?;
+            put_parts(&mut waiting, next)?;
+        }
+        Ok(())
+    }
+
+    /// How much is left.
+    pub fn left(&self) -> usize
+        ensures { result ≡ self.now.left }
+    {
+        self.left
+    }
+
+    /// Takes so much. Want of memory where that is more than is left.
+    pub fn take_number(&mut self, number: usize) -> Result<(), OutOfMemory>
+        ensures { OnOk result (self.new.left + number ≡ self.old.left) }
+    {
+        if number > self.left {
+            return Err(OutOfMemory);
+        }
+        self.left -= number;
+        Ok(())
+    }
+
+    /// Takes what there is to a type beside its parts.
+    #[tactic(auto, using(crate::proofs::Counting::extent_rules))]
+    fn take_one(&mut self, one: Waiting<'_>) -> Result<(), OutOfMemory>
+        ensures { OnOk result (self.new.left + own_extent (tree_of one.entry.tref.now) ≡ self.old.left) }
+    {
+        let own = own_extent(one.tref);
+        if one.names > DEEPEST || one.types > DEEPEST || own > self.left {
+            return Err(OutOfMemory);
+        }
+        self.left -= own;
+        Ok(())
+    }
+}
