@@ -1,11 +1,13 @@
 -- `named-ok`, `named-wrong`: the checks of a typename or a module, from those of its inside.
-use Rattle.std.specs.Prelude.{◌≡◌, ℕ, List, [], ◌∷◌, Option, Some, None, true, option_map}
+use Rattle.std.specs.Prelude.{◌≡◌, ℕ, List, [], ◌∷◌, Option, Some, None, Bool, true, false, cond, option_map, Result, Ok, Err, OnOk, OnErr}
+use Rattle.std.specs.Option.{is_some}
 use Rattle.std.proofs.Common.{refl, sym, ap, subst, ◌∙◌, inl, inr}
 use Rattle.witx_base.specs.Found.{found}
 use Rattle.witx_base.specs.Paths.{Path}
 use Rattle.witx_files.specs.declared.location.Location.{Location}
 use Rattle.witx_syntax_tree.specs.Trees.{TypeTree, Name}
 use Rattle.witx_ast.specs.declared.definition.Entry.{Entry}
+use Rattle.witx_ast.specs.Definitions.{DefinitionTree, entry_tree}
 use Rattle.witx_ast.proofs.Trees.{tree_rules}
 use Rattle.witx_scope.specs.declared.scope.Scope.{Scope}
 use Rattle.witx_scope.specs.Places.{location_in}
@@ -20,6 +22,9 @@ use Rattle.witx_scope.specs.declared.error.CheckError.{CheckError}
 use Rattle.witx_scope.specs.declared.error.CheckError.TheVariants as check_error
 use Rattle.witx_scope.specs.Blame.{Blames}
 use Rattle.witx_scope.specs.Answers.{IsFault}
+use Rattle.witx_scope.specs.Introduced.{AreIntroduced}
+use Rattle.witx_scope.specs.Kept.{tree_with}
+use Rattle.witx_scope.specs.Positions.{is_name}
 use Rattle.witx_scope.proofs.FirstFaults.{fault-past, blames-head, blames-to}
 use Rattle.witx_scope.proofs.Steps.{funext}
 
@@ -153,3 +158,35 @@ pub refuses-new : (old new : Names) (n : List ℕ) (at : Location) → new_name 
 refuses-new old new n at a k = inl (takes-new old new n at a k)
 
 pub ruleset takes_rules = (within_rules, takes-none, takes-one, refuses-new)
+
+-- ---- each entry's name stays introduced
+
+still-some : {T : Type 0} (t : Bool) (v : T) (o : Option T) → is_some o ≡ true → is_some (cond t (Some v) o) ≡ true
+still-some true v o h = refl
+still-some false v o h = h
+
+introduced-more : (old new : Names) (es : List (List ℕ × Entry)) (n : List ℕ) (at : Location) → AreIntroduced old es
+    → ((q : List ℕ) → found new q ≡ found ((n, at) ∷ old) q) → AreIntroduced new es
+introduced-more old new es n at h k q e = ap is_some (k q) ∙ still-some (is_name q n) at (found old q) (h q e)
+
+some-tree : (o : Option Entry) → is_some o ≡ true → is_some (option_map entry_tree o) ≡ true
+some-tree (Some e) h = refl
+some-tree None h = h
+
+finished-at : (t : Bool) (tree : DefinitionTree) (e : Option Entry) (at : Location) (o : Option Location) → (is_some e ≡ true → is_some o ≡ true)
+    → is_some (cond t (Some tree) (option_map entry_tree e)) ≡ true → is_some (cond t (Some at) o) ≡ true
+finished-at true tree e at o h s = refl
+finished-at false tree (Some e) at o h s = h refl
+finished-at false tree None at o h s = h s
+
+introduced-finished : (old new : Names) (es now : List (List ℕ × Entry)) (n m : List ℕ) (at : Location) (tree : DefinitionTree) → m ≡ n → AreIntroduced old es
+    → ((q : List ℕ) → found new q ≡ found ((n, at) ∷ old) q) → ((q : List ℕ) → option_map entry_tree (found now q) ≡ tree_with es m tree q) → AreIntroduced new now
+introduced-finished old new es now n m at tree same h k f q e =
+    let f1 : option_map entry_tree (found now q) ≡ tree_with es n tree q = f q ∙ ap (λ (x : List ℕ). tree_with es x tree q) same in
+    ap is_some (k q) ∙ finished-at (is_name q n) tree (found es q) at (found old q) (h q) (sym (ap is_some f1) ∙ some-tree (found now q) e)
+
+-- a declaration is kept, or its entry found no memory
+pub introduced-kept : {U X : Type 0} (r : Result U X) (old new : Names) (es now : List (List ℕ × Entry)) (n m : List ℕ) (at : Location) (tree : DefinitionTree) → m ≡ n → AreIntroduced old es
+    → ((q : List ℕ) → found new q ≡ found ((n, at) ∷ old) q) → ((q : List ℕ) → OnOk r (option_map entry_tree (found now q) ≡ tree_with es m tree q)) → OnErr r (now ≡ es) → AreIntroduced new now
+introduced-kept (Ok u) old new es now n m at tree same h k f e = introduced-finished old new es now n m at tree same h k f
+introduced-kept (Err x) old new es now n m at tree same h k f e = subst (λ (x : List (List ℕ × Entry)). AreIntroduced new x) (sym e) (introduced-more old new es n at h k)

@@ -14,6 +14,7 @@ ghost use Rattle.witx_scope.specs.Answers.{IsFault};
 ghost use Rattle.witx_scope.specs.Senses.{here_of};
 ghost use Rattle.witx_scope.specs.DeclarationForms.{items_in};
 ghost use Rattle.witx_scope.specs.Modules.{with_name, item_called, item_with, item_checks, items_checks, item_meant};
+ghost use Rattle.witx_scope.specs.Introduced.{AreIntroduced};
 ghost use Rattle.witx_scope.specs.Inside.{TakesAtMost, Refuses};
 ghost use Rattle.witx_scope.specs.Sites.{place_at, checks_module, makes_module};
 
@@ -147,7 +148,8 @@ pub fn checked_module(
     site: Site<'_>,
     decl: &ModuleSyntax<'_>,
 ) -> Result<Module, CheckError>
-    requires { site.place ≡ place_at site decl.now.name }
+    requires place { site.place ≡ place_at site decl.now.name }
+    requires introduced { AreIntroduced names.old entries.now }
     ensures ok { OnOk result (first_fault (checks_module names.old entries.now site.entry decl.now) ≡ None) }
     ensures tree { IfOk result (λ m. module_tree m ≡ makes_module names.old entries.now site.entry decl.now) }
     ensures name { IfOk result (λ m. m.name ≡ decl.now.name.name.now) }

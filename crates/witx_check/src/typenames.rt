@@ -6,6 +6,7 @@ ghost use Rattle.witx_ast.specs.Views.{named_tree};
 ghost use Rattle.witx_scope.specs.Faults.{first_fault};
 ghost use Rattle.witx_scope.specs.Blame.{Blames};
 ghost use Rattle.witx_scope.specs.Answers.{IsFault};
+ghost use Rattle.witx_scope.specs.Introduced.{AreIntroduced};
 ghost use Rattle.witx_scope.specs.Inside.{TakesAtMost, Refuses};
 ghost use Rattle.witx_scope.specs.Sites.{place_at, checks_typename, makes_typename};
 
@@ -25,7 +26,8 @@ pub fn checked_typename(
     site: Site<'_>,
     decl: &TypenameSyntax<'_>,
 ) -> Result<NamedType, CheckError>
-    requires { site.place ≡ place_at site decl.now.ident }
+    requires place { site.place ≡ place_at site decl.now.ident }
+    requires introduced { AreIntroduced names.old entries.now }
     ensures ok { OnOk result (first_fault (checks_typename names.old entries.now site.entry decl.now) ≡ None) }
     ensures tree { IfOk result (λ n. named_tree n ≡ makes_typename names.old entries.now site.entry decl.now) }
     ensures name { IfOk result (λ n. n.name ≡ decl.now.ident.name.now) }

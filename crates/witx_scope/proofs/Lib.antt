@@ -3,6 +3,8 @@ pub mod ConstantChecks
 pub mod ConstantKeys
 pub mod ConstantSteps
 pub mod FirstFaults
+pub mod Inserted
+pub mod Introducing
 pub mod NamePlaces
 pub mod Pushed
 pub mod Reporting

@@ -8,6 +8,7 @@ pub mod Faults
 pub mod Functions
 pub mod Inside
 pub mod Integers
+pub mod Introduced
 pub mod Kept
 pub mod Messages
 pub mod Modules

@@ -12,8 +12,10 @@ ghost use Rattle.witx_scope.specs.Sites.{kept_in, place_at, checks_constant};
 ghost use Rattle.witx_scope.specs.SyntaxChecks.{denoted_tree, integer_name_checks};
 
 use crate::error::CheckError;
+use crate::faults::{known, too_large, wrong_kind};
+use crate::names::denoted;
 use crate::place::SharedPlace;
-use crate::scope::{Scope, denoted, known, too_large, wrong_kind};
+use crate::scope::Scope;
 use crate::site::Site;
 use crate::tables::Tables;
 use std::alloc::Global;

@@ -4,7 +4,9 @@
 mod cases;
 mod constants;
 mod error;
+mod faults;
 mod keep;
+mod names;
 mod naming;
 mod place;
 mod report;
@@ -16,13 +18,12 @@ mod tables;
 pub use cases::{TagNames, case_names, case_with, ordered};
 pub use constants::{ConstantName, ConstantPlaces};
 pub use error::{CheckError, ValidationError};
+pub use faults::{abi_fault, anonymous_type, bad_field, bad_tag, repr, wrong_kind, wrong_size};
 pub use keep::take_constant;
+pub use names::{introduce, introduce_mark, mark, used};
 pub use naming::named;
 pub use place::{SharedPath, SharedPlace, shared_path, with_shared};
 pub use room::with_room;
-pub use scope::{
-    Marks, Names, Scope, abi_fault, anonymous_type, bad_field, bad_tag, introduce, introduce_mark,
-    mark, repr, used, wrong_kind, wrong_size,
-};
+pub use scope::{Marks, Names, Scope};
 pub use site::Site;
 pub use tables::Tables;

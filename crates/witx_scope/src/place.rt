@@ -101,3 +101,15 @@ impl SharedPlace {
         })
     }
 }
+
+impl Duplicate for SharedPlace {
+    ghost is_copy = { λ place made. made ≡ place };
+
+    fn copy(&self) -> Result<SharedPlace, OutOfMemory> {
+        Ok(SharedPlace {
+            path: self.path.clone()?,
+            line: self.line,
+            column: self.column,
+        })
+    }
+}

@@ -1,5 +1,7 @@
 //! What is kept of the declarations so far.
 
+ghost use Rattle.witx_scope.specs.Introduced.{AreIntroduced};
+
 use crate::constants::ConstantPlaces;
 use crate::scope::Names;
 use std::alloc::Global;
@@ -13,4 +15,5 @@ pub struct Tables {
     pub entries: Entries,
     pub constants: ConstantPlaces,
     pub alloc: Global,
+    ghost introduced: { AreIntroduced names entries },
 }

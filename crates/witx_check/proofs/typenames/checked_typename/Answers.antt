@@ -6,4 +6,4 @@ use Rattle.witx_check.proofs.typenames.checked_typename.Goals as goal
 pub returns-in_err-name-clause-fault : goal.returns-in_err-name-clause-fault
 returns-in_err-name-clause-fault c =
     let p = err_from_is_err_and c.from_residual.result c.from_residual.ensures.1 in
-    rw (p.1, p.2) (typename-bad c.in_err-name.field-0.0 c.args.names.now c.args.entries.now c.args.site.text.now c.args.site.path.now (name_view c.args.decl.now.ident) (type_view c.args.decl.now.def) c.args.site.place c.requires c.in_err-name.ensures.fault)
+    rw (p.1, p.2) (typename-bad c.in_err-name.field-0.0 c.args.names.now c.args.entries.now c.args.site.text.now c.args.site.path.now (name_view c.args.decl.now.ident) (type_view c.args.decl.now.def) c.args.site.place c.requires.place c.in_err-name.ensures.fault)
