@@ -1,6 +1,6 @@
 //! What types are made of: builtins, representations, tags, the names of members and cases.
 
-ghost use Rattle.std.specs.Prelude.{◌≡◌, ◌∷◌, ◌++◌, IfOk, IfErr, OnOk, Some, None, [], map, option_map};
+ghost use Rattle.std.specs.Prelude.{◌≡◌, ◌<◌, ◌∷◌, ◌++◌, IfOk, IfErr, OnOk, Some, None, [], map, option_map};
 ghost use Rattle.witx_ast.specs.Tree.{Tree, behind, arms_of};
 ghost use Rattle.witx_ast.specs.Views.{tree_of, datatype_tree, record_tree, variant_tree, member_field, case_arm};
 ghost use Rattle.witx_scope.specs.Faults.{first_fault};
@@ -55,10 +55,33 @@ pub fn builtin_type(syntax: BuiltinSyntax) -> BuiltinType
     }
 }
 
+/// The text of a number of one digit.
+fn digit(number: usize) -> &'static str
+    requires { number < 10 }
+    ensures { result.now ≡ number_name number }
+{
+    match number {
+        0 => "0",
+        1 => "1",
+        2 => "2",
+        3 => "3",
+        4 => "4",
+        5 => "5",
+        6 => "6",
+        7 => "7",
+        8 => "8",
+        9 => "9",
+        _ => unreachable!(),
+    }
+}
+
 /// The name of the member or case numbered `i`: its decimal digits.
 pub fn number_name(alloc: Global, i: usize) -> Result<Id, OutOfMemory>
     ensures { IfOk result (λ id. id ≡ number_name i) }
 {
+    if i < 10 {
+        return Ok(Id::new(alloc, digit(i))?);
+    }
     let text = format!(in alloc; "{i}")?;
     Ok(Id::new(alloc, text.as_str())?)
 }
