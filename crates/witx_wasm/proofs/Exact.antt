@@ -1,12 +1,12 @@
 -- Readings that are exact for a form: what is read has the form, and what has the form is read, whatever follows.
-use Rattle.std.proofs.Common.{◌≡◌, ℕ, zero, suc, ◌+◌, ◌-◌, ◌*◌, ◌^◌, ◌<◌, ◌≤◌, Bool, true, false, cond, ltb, eqb, List, [], ◌∷◌, ◌++◌, length, take, drop, Result, Ok, Err, refl, sym, ap, subst, ◌∙◌, append_assoc, arith, inl, inr}
+use Rattle.std.proofs.Common.{◌≡◌, ℕ, zero, suc, ◌+◌, ◌-◌, ◌*◌, ◌^◌, ◌<◌, ◌≤◌, Bool, true, false, cond, ltb, eqb, List, [], ◌∷◌, ◌++◌, length, take, drop, Result, Ok, Err, refl, sym, ap, subst, ◌∙◌, append_assoc, arith}
 use Rattle.std.proofs.lemmas.Bool.{eqb-true, eq-eqb, ltb-true, ltb-false, lt-ltb, le-ltb}
 use Rattle.std.proofs.lemmas.List.{take_at, drop_at, take-append-drop, length-append, length-take, append-nil, nil_from_length}
 use Rattle.std.proofs.lemmas.Str.{IsUtf8-from_is_utf8, is_utf8-from_IsUtf8}
-use Rattle.std.specs.Str.{IsUtf8, is_utf8}
+use Rattle.std.specs.Str.{is_utf8}
 use Rattle.std.specs.Str.Lossy.{utf8_valid_len}
-use Rattle.witx_wasm.specs.Forms.{nothing, just, byte, ◌before◌, IsUnsigned, IsU32, AreMany, IsVector, IsSized, IsName}
-use Rattle.witx_wasm.specs.Readers.{Reading, ◌>>=◌, stop, stops, byte_at, expected_at, literal_at, unsigned_at, u32_at, many_at, vector_at, sized_at, name_at, all_of}
+use Rattle.witx_wasm.specs.Forms.{just, byte, ◌before◌, IsUnsigned, IsU32, AreMany, IsVector, IsSized, IsName}
+use Rattle.witx_wasm.specs.Readers.{Reading, ◌>>=◌, stop, byte_at, expected_at, literal_at, unsigned_at, u32_at, many_at, vector_at, sized_at, name_at, all_of}
 use Rattle.witx_wasm.specs.declared.fault.FaultKind.{FaultKind}
 use Rattle.witx_wasm.specs.declared.fault.FaultKind.TheVariants as kinds
 use Rattle.witx_wasm.specs.declared.fault.Stop.{Stop}

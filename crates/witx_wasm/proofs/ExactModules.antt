@@ -3,11 +3,11 @@ use Rattle.std.proofs.Common.{◌≡◌, ℕ, zero, suc, ◌+◌, ◌-◌, ◌<�
 use Rattle.std.proofs.lemmas.Bool.{eqb-true, eqb-false, ltb-true, ltb-false, lt-ltb, le-ltb, ne_eqb}
 use Rattle.std.proofs.lemmas.List.{append-nil, length-append}
 use Rattle.std.specs.List.{flat_map, AllByRecursion}
-use Rattle.witx_wasm.proofs.Exact.{Takes, IsExact, takes-before, bind_ok, guard_ok, hold_ok, ok_is, again-before, byte-exact, sized-exact, vector-exact, name-exact, all-sound, all-again, literal-sound, literal-again}
-use Rattle.witx_wasm.proofs.ExactTypes.{picked, IsKnown, IsKnownImport, function-exact, import-exact}
-use Rattle.witx_wasm.specs.Binary.{IsFunctionType, IsDescription, IsImport}
-use Rattle.witx_wasm.specs.Forms.{byte, just, ◌before◌, AreMany, IsVector, IsSized, IsName}
-use Rattle.witx_wasm.specs.Modules.{magic, version, Section, custom, typing, importing, other, IsFramed, HasContents, anything, IsSection, place, InOrder, types_in, imports_in, HasType, AreSectionsOf, IsModule}
+use Rattle.witx_wasm.proofs.Exact.{Takes, takes-before, bind_ok, guard_ok, hold_ok, ok_is, byte-exact, sized-exact, vector-exact, name-exact, all-sound, all-again, literal-sound, literal-again}
+use Rattle.witx_wasm.proofs.ExactTypes.{picked, IsKnownImport, function-exact, import-exact}
+use Rattle.witx_wasm.specs.Binary.{IsFunctionType, IsImport}
+use Rattle.witx_wasm.specs.Forms.{byte, ◌before◌, AreMany, IsVector, IsSized, IsName}
+use Rattle.witx_wasm.specs.Modules.{magic, version, Section, custom, typing, importing, other, IsFramed, anything, IsSection, place, InOrder, types_in, imports_in, HasType, IsModule}
 use Rattle.witx_wasm.specs.Readers.{Reading, ◌>>=◌, stop, byte_at, sized_at, name_at, vector_at, all_of, literal_at}
 use Rattle.witx_wasm.specs.Reading.{function_type_at, import_at, section_number_at, frame_at, with_types, with_imports, with_other, contents_at, placed, section_at, Sections, no_more, faulty, more, preamble_at, nothing_known, HasFaultBehind, HasFault}
 use Rattle.witx_wasm.specs.declared.fault.Fault.{Fault}

@@ -1,16 +1,15 @@
 -- Readings of types and imports are exact for their forms.
-use Rattle.std.proofs.Common.{◌≡◌, ℕ, ◌<◌, ◌≤◌, Bool, true, false, cond, ltb, eqb, List, [], ◌∷◌, ◌++◌, length, Option, Some, None, Result, Ok, Err, ◌⊎◌, inl, inr, refl, sym, ap, subst, ◌∙◌, arith}
+use Rattle.std.proofs.Common.{◌≡◌, ℕ, ◌<◌, ◌≤◌, Bool, true, false, cond, ltb, eqb, List, [], ◌∷◌, ◌++◌, Option, Some, None, Result, Ok, Err, ◌⊎◌, inl, inr, refl, ap, subst, ◌∙◌, arith}
 use Rattle.std.proofs.lemmas.Bool.{eqb-true, eqb-false, ltb-true, ltb-false, lt-ltb}
 use Rattle.witx_wasm.proofs.Exact.{Takes, IsExact, takes-before, bind_ok, guard_ok, hold_ok, ok_is, again-before, byte-exact, u32-exact, vector-exact, name-exact}
-use Rattle.witx_wasm.specs.Binary.{IsValueType, IsFunctionType, AreLimits, IsLimits, IsTableType, IsGlobalType, IsDescription, IsImport}
+use Rattle.witx_wasm.specs.Binary.{IsValueType, IsFunctionType, AreLimits, IsLimits, IsTableType, IsGlobalType, IsDescription}
 use Rattle.witx_wasm.specs.Codes.{reference_code, value_code, mutability_code}
-use Rattle.witx_wasm.specs.Forms.{byte, just, ◌before◌, IsU32, IsVector, IsName}
+use Rattle.witx_wasm.specs.Forms.{byte, ◌before◌, IsU32, IsVector, IsName}
 use Rattle.witx_wasm.specs.Modules.{HasType}
 use Rattle.witx_wasm.specs.Readers.{Reading, ◌>>=◌, stop, byte_at, u32_at, vector_at, name_at}
 use Rattle.witx_wasm.specs.Reading.{reference_of, value_of_reference, value_of, value_fault, decoded, reference_at, value_at, function_type_at, limits_fault, limits_at, table_at, mutability_at, global_at, type_number_at, described, kind_fault, description_at, import_at}
 use Rattle.witx_wasm.specs.declared.fault.FaultKind.{FaultKind}
 use Rattle.witx_wasm.specs.declared.fault.FaultKind.TheVariants as kinds
-use Rattle.witx_wasm.specs.declared.fault.Stop.{Stop}
 use Rattle.witx_wasm.specs.declared.module.FunctionType.{FunctionType}
 use Rattle.witx_wasm.specs.declared.module.GlobalType.{GlobalType}
 use Rattle.witx_wasm.specs.declared.module.Import.{Import}

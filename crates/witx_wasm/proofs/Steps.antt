@@ -1,5 +1,5 @@
 -- What a loop has read and what is left make up the whole.
-use Rattle.std.proofs.Common.{◌≡◌, ℕ, zero, suc, ◌+◌, ◌-◌, ◌*◌, ◌^◌, ◌<◌, ◌≤◌, Bool, true, false, List, [], ◌∷◌, ◌++◌, length, drop, Result, Ok, Err, inl, inr, refl, sym, ap, ◌∙◌, append_assoc, arith}
+use Rattle.std.proofs.Common.{◌≡◌, ℕ, suc, ◌+◌, ◌-◌, ◌*◌, ◌^◌, ◌<◌, ◌≤◌, Bool, true, false, List, [], ◌∷◌, ◌++◌, length, drop, Ok, Err, inl, inr, refl, sym, ap, ◌∙◌, append_assoc, arith}
 use Rattle.std.proofs.lemmas.Bool.{cases_lt}
 use Rattle.std.proofs.lemmas.List.{append-nil, length-append, length-drop}
 use Rattle.std.proofs.lemmas.Nat.{pow-add, pow_below}
@@ -10,7 +10,6 @@ use Rattle.witx_wasm.specs.Readers.{Reading, ◌>>=◌, Refuses, many_at, sized_
 use Rattle.witx_wasm.specs.declared.fault.FaultKind.TheVariants as kinds
 use Rattle.witx_wasm.specs.declared.fault.ReadError.{ReadError}
 use Rattle.witx_wasm.specs.declared.fault.ReadError.TheVariants as errors
-use Rattle.witx_wasm.specs.declared.fault.Stop.{Stop}
 
 -- values in front of those that are read
 abbrev pub with_front : {A : Type 0} → List A → Reading (List A) → Reading (List A)

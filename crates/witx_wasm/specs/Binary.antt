@@ -1,7 +1,7 @@
 -- The binary format of what is read of a module: types, limits, imports and sections.
-use Rattle.std.specs.Prelude.{◌≡◌, ◌<◌, ℕ, List, [], ◌∷◌, ◌++◌, Option, Some, None}
+use Rattle.std.specs.Prelude.{ℕ, List, Option, Some, None}
 use Rattle.witx_wasm.specs.Codes.{reference_code, value_code, mutability_code}
-use Rattle.witx_wasm.specs.Forms.{byte, just, ◌before◌, IsU32, IsVector, IsSized, IsName}
+use Rattle.witx_wasm.specs.Forms.{byte, ◌before◌, IsU32, IsVector, IsName}
 use Rattle.witx_wasm.specs.declared.module.FunctionType.{FunctionType}
 use Rattle.witx_wasm.specs.declared.module.GlobalType.{GlobalType}
 use Rattle.witx_wasm.specs.declared.module.Import.{Import}

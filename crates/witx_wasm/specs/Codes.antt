@@ -1,5 +1,5 @@
 -- The bytes that stand for types, and the types that bytes stand for.
-use Rattle.std.specs.Prelude.{ℕ, Bool, true, false, Option, Some, None, ◌==◌, if◌then◌else◌}
+use Rattle.std.specs.Prelude.{ℕ, Bool, true, false}
 use Rattle.witx_wasm.specs.declared.module.ReferenceType.{ReferenceType}
 use Rattle.witx_wasm.specs.declared.module.ReferenceType.TheVariants.{Func, Extern}
 use Rattle.witx_wasm.specs.declared.module.ValueType.{ValueType}

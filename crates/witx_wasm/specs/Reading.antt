@@ -1,6 +1,6 @@
 -- Reading a module from left to right, up to its first fault.
-use Rattle.std.specs.Prelude.{◌≡◌, ◌+◌, ◌-◌, ℕ, Bool, true, false, List, [], ◌∷◌, ◌++◌, length, Option, Some, None, Result, Ok, Err, nat_lt, ◌==◌, ◌||◌, if◌then◌else◌}
-use Rattle.witx_wasm.specs.Modules.{magic, version, place, HasType}
+use Rattle.std.specs.Prelude.{◌≡◌, ◌-◌, ℕ, Bool, List, [], ◌∷◌, length, Option, Some, None, Result, Ok, Err, nat_lt, ◌==◌, if◌then◌else◌}
+use Rattle.witx_wasm.specs.Modules.{magic, version, place}
 use Rattle.witx_wasm.specs.Readers.{Reading, ◌>>=◌, stops, byte_at, literal_at, u32_at, vector_at, sized_at, name_at, all_of}
 use Rattle.witx_wasm.specs.declared.fault.Fault.{Fault}
 use Rattle.witx_wasm.specs.declared.fault.FaultKind.{FaultKind}

@@ -1,4 +1,3 @@
-use Rattle.std.proofs.Common.{arith}
 use Rattle.std.proofs.lemmas.Result.{err_from_is_err_and}
 use Rattle.witx_wasm.proofs.ExactModules.{section-shorter}
 use Rattle.witx_wasm.proofs.SectionSteps.{goes_on, breaks, is_done}
