@@ -1,7 +1,7 @@
 //! The front door: `run`, which reads a bundle of interface texts and writes what its command asks for; `adapt`,
 //! the call behind the first command; and again, under their own names, the calls and types that a caller of
 //! these needs of the crates below. Not here: the laws of those crates about their definitions; calls that they
-//! have for each other; and the crates of the tools, which are named by themselves.
+//! have for each other; and the calls of the tools, which `witx_tools` gives on.
 #![tactic(auto)]
 
 mod commands;
@@ -10,13 +10,14 @@ mod program;
 mod refused;
 
 pub use output::{put_text, put_whole};
-pub use program::{Ran, run};
+pub use program::{Ran, finish, prepare_command, run};
 pub use refused::put_refusal;
 pub use witx_commands::{
-    AdaptError, Command, DONE, InputError, NO_BUNDLE, NO_FORM, NO_MEMORY, REFUSED, Refusal, Stop,
-    UNREAD, UNWRITTEN, adapt, adapted_or_stop, arguments_of, command_of, constants_have_typenames,
-    has_form, mapped_modules, module_names, new_file, old_file, output_or_refusal, paths_of,
-    read_bundle, text_stop, valid_files_are_not_refused, valid_is_not_refused,
+    AdaptError, Command, DONE, Forms, InputError, NO_BUNDLE, NO_FORM, NO_MEMORY, Output, REFUSED,
+    Refusal, Stop, UNREAD, UNWRITTEN, adapt, adapted_or_stop, arguments_of, command_of,
+    constants_have_typenames, has_form, mapped_modules, module_names, new_file, old_file,
+    output_or_refusal, paths_of, read_bundle, text_stop, valid_files_are_not_refused,
+    valid_is_not_refused,
 };
 // By hand, since more than a hundred names would be laid out one a line.
 #[rattlefmt::skip]

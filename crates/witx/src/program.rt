@@ -1,21 +1,12 @@
 //! `run`: the commands over a source and two sinks. Its clauses are the headline.
 
-ghost use Rattle.std.specs.Prelude.{◌≡◌, ◌<◌, ◌≤◌, ◌+◌, ◌⊎◌, ℕ, List, [], Option, All, None, Some, Ok, Err, IfErr, IfOk, IfSome, OnOk, IsSome, map, false, ◌==◌, if◌then◌else◌};
+ghost use Rattle.std.specs.Prelude.{◌≡◌, ◌<◌, ◌≤◌, ◌+◌, ◌⊎◌, [], None, Some, Ok, IfErr, IfOk, OnOk, true, false, ◌==◌, if◌then◌else◌};
 ghost use Rattle.std.specs.Io.KnownBytes.{Appends};
 ghost use Rattle.witx_base.specs.Causes.{Rose};
-ghost use Rattle.witx_bundle.specs.Bundles.{IsRead};
-ghost use Rattle.witx_bundle.specs.declared.error.BundleError.{BundleError};
-ghost use Rattle.witx_adapt.specs.Entries.{IsFaithful, all_functions, entry_for, entry_of};
-ghost use Rattle.witx_layout.specs.Layouts.{all_layouts};
-ghost use Rattle.witx_adapt.specs.declared.adapted.Adapted.{Adapted};
-ghost use Rattle.witx_commands.specs.Words.{IsAdapting, IsBounded, IsNoting, IsReading, adapted_paths, arguments_of, bundle_bytes, command_of, reads_source};
-ghost use Rattle.witx_commands.specs.Streams.{BrokeOff, Finished, TookInput, TookPrefix, source_seen};
-ghost use Rattle.witx_commands.specs.Texts.{IsRefused, status_of, text_of};
-ghost use Rattle.witx_commands.specs.Adapting.{defined};
-ghost use Rattle.witx_commands.specs.Reports.{CommandRefuses};
-ghost use Rattle.witx_files.specs.Files.{Files};
-ghost use Rattle.witx_commands.specs.declared.words.Command.{Command};
-ghost use Rattle.witx_commands.specs.Causes.{Cause, FilesCause, IsAnswered, IsCause, IsMeaning, IsTold, IsValidFor, Reads, StopCause, adapted_text, input_of, run_input};
+ghost use Rattle.witx_commands.specs.Causes.{FilesCause, Reads};
+ghost use Rattle.witx_commands.specs.Runs.{IsPrepared, IsRun, IsWritten, command_task, input_of, run_input, seen};
+ghost use Rattle.witx_commands.specs.Streams.{Finished, TookInput, TookPrefix, source_seen};
+ghost use Rattle.witx_commands.specs.Words.{IsBounded, bundle_bytes, reads_source};
 
 use crate::commands::perform;
 use crate::output::put_both;
@@ -24,7 +15,7 @@ use std::alloc::Global;
 use witx_adapt::Adapted;
 use witx_base::{Sink, Source, Text};
 use witx_commands::{
-    Command, InputError, NO_MEMORY, Output, Refusal, Stop, arguments_of, command_of, kept,
+    Command, Forms, InputError, NO_MEMORY, Output, Refusal, Stop, arguments_of, command_of, kept,
     output_or_refusal, read_bundle, valid_is_not_refused,
 };
 use witx_files::MockFs;
@@ -56,106 +47,40 @@ pub fn run<S: Source, O: Sink, E: Sink>(
     out: &mut O,
     err: &mut E,
 ) -> Ran
-    ensures done { result.status ≡ 0 → (text : List ℕ) × (notes : List ℕ)
-        × IsAnswered (input_of words.now S.left S.faults S.reads source.old source.new) text notes result.adapted
-        × Appends (O.taken out.old) (O.taken out.new) text × Appends (E.taken err.old) (E.taken err.new) notes × (notes ≡ [] → err.new ≡ err.old) }
-    ensures listing { IfSome result.adapted (λ a. Appends (O.taken out.old) (O.taken out.new) (adapted_text (command_of words.now) a)) }
-    ensures document { let form = command_of words.now in
-        IfSome result.adapted (λ a. IsMeaning (bundle_bytes form (S.left source.old)) (adapted_paths form (arguments_of words.now)) (defined a)) }
-    ensures functions { IfSome result.adapted (λ a. map entry_of a.functions ≡ map entry_for (all_functions (defined a))) }
-    ensures layouts { IfSome result.adapted (λ a. a.layouts ≡ all_layouts (defined a)) }
-    ensures faithful { IfSome result.adapted (λ a. All IsFaithful a.functions) }
-    ensures adapted { IsSome result.adapted → (result.status ≡ 0) × IsAdapting (command_of words.now) }
-    ensures listed { result.status ≡ 0 → IsAdapting (command_of words.now) → IsSome result.adapted }
-    ensures usage { command_of words.now ≡ None → IsRefused 2 result.status }
-    ensures nothing_read { reads_source (command_of words.now) ≡ false → source.new ≡ source.old }
-    ensures told { IsTold result.status → (r : Refusal) × (status_of r ≡ result.status)
-        × Cause (input_of words.now S.left S.faults S.reads source.old source.new) r
-        × Appends (E.taken err.old) (E.taken err.new) (text_of r) × (out.new ≡ out.old) }
-    ensures no_bundle { (bytes : List ℕ) (e : BundleError) → IsReading (command_of words.now) → S.left source.old ≡ Some bytes → IsCause e → IsRead bytes (Err e)
-        → (BrokeOff (source_seen S.left S.faults S.reads source.old source.new) → ⊥) → IsRefused 6 result.status }
-    ensures complete { (bytes : List ℕ) (files : Files) (c : Command) → bundle_bytes (command_of words.now) (S.left source.old) ≡ Some bytes
-        → IsRead bytes (Ok files) → command_of words.now ≡ Some c → IsValidFor c files (arguments_of words.now)
-        → (BrokeOff (source_seen S.left S.faults S.reads source.old source.new) → ⊥) → (Rose (O.faults out.old) (O.faults out.new) → ⊥)
-        → (IsNoting (command_of words.now) → Rose (E.faults err.old) (E.faults err.new) → ⊥) → (result.status ≡ 0) ⊎ (result.status ≡ 5) }
-    ensures refused { (bytes : List ℕ) (files : Files) (c : Command) (report : List ℕ)
-        → bundle_bytes (command_of words.now) (S.left source.old) ≡ Some bytes → IsRead bytes (Ok files) → command_of words.now ≡ Some c
-        → CommandRefuses c files (arguments_of words.now) report
-        → (BrokeOff (source_seen S.left S.faults S.reads source.old source.new) → ⊥) → IsRefused 1 result.status }
-    ensures source_failed { S.faults source.old < S.faults source.new → IsRefused 3 result.status }
-    ensures unwritten { result.status ≡ 4 →
-        (Rose (O.faults out.old) (O.faults out.new) × (err.new ≡ err.old) × (text : List ℕ) × (notes : List ℕ) × (adapted : Option Adapted)
-        × IsAnswered (input_of words.now S.left S.faults S.reads source.old source.new) text notes adapted
-        × (TookPrefix (O.taken out.old) (O.taken out.new) text × (text ≡ [] → ⊥)))
-        ⊎ (Rose (E.faults err.old) (E.faults err.new) × (text : List ℕ) × (notes : List ℕ) × (adapted : Option Adapted) × (notes ≡ [] → ⊥)
-        × IsAnswered (input_of words.now S.left S.faults S.reads source.old source.new) text notes adapted
-        × Appends (O.taken out.old) (O.taken out.new) text × TookPrefix (E.taken err.old) (E.taken err.new) notes)
-        ⊎ (Rose (E.faults err.old) (E.faults err.new) × (out.new ≡ out.old) × (r : Refusal)
-        × Cause (input_of words.now S.left S.faults S.reads source.old source.new) r
-        × TookPrefix (E.taken err.old) (E.taken err.new) (text_of r)) }
-    ensures out_failed { O.faults out.old < O.faults out.new → result.status ≡ 4 }
-    ensures err_failed { E.faults err.old < E.faults err.new → result.status ≡ 4 }
-    ensures no_memory { result.status ≡ 5 → (out.new ≡ out.old) × (err.new ≡ err.old) }
-    ensures source_later { S.faults source.old ≤ S.faults source.new }
-    ensures out_later { O.faults out.old ≤ O.faults out.new }
-    ensures err_later { E.faults err.old ≤ E.faults err.new }
-    ensures reads { S.reads source.new ≤ S.reads source.old + 4194305 }
-    ensures taken { TookInput (source_seen S.left S.faults S.reads source.old source.new) }
+    ensures { IsRun (input_of words.now S.left S.faults S.reads source.old source.new) result.status result.adapted
+        (seen O.taken O.faults out.old out.new) (seen E.taken E.faults err.old err.new)
+        (source.new ≡ source.old) (out.new ≡ out.old) (err.new ≡ err.old) }
 {
     output_or_refusal();
     valid_is_not_refused();
-    match prepare(alloc, words, source) {
-        Ok(output) => put_output(output, out, err),
-        Err(Stop::Refused(refusal)) => Ran {
-            status: put_refusal(alloc, &refusal, err),
-            adapted: None,
-        },
-        Err(Stop::OutOfMemory) => Ran {
-            status: NO_MEMORY,
-            adapted: None,
-        },
-    }
+    finish(alloc, prepare(alloc, words, source), out, err)
 }
 
 /// What a run is to write, by its words and its source.
-#[tactic(auto, using(witx_commands::proofs::ReadThrough::buffer_rules))]
+#[tactic(auto, using(witx_commands::proofs::Preparing::form_rules))]
 fn prepare<S: Source>(alloc: Global, words: &[Text], source: &mut S) -> Result<Output, Stop>
-    ensures answered { IfOk result (λ o. IsAnswered (input_of words.now S.left S.faults S.reads source.old source.new) o.text o.notes o.adapted) }
-    ensures stopped { IfErr result (StopCause (input_of words.now S.left S.faults S.reads source.old source.new)) }
-    ensures usage { command_of words.now ≡ None → result ≡ Err (Stop.Refused Refusal.Usage) }
-    ensures nothing_read { reads_source (command_of words.now) ≡ false → source.new ≡ source.old }
-    ensures later { S.faults source.old ≤ S.faults source.new }
-    ensures reads { S.reads source.new ≤ S.reads source.old + 4194305 }
-    ensures taken { TookInput (source_seen S.left S.faults S.reads source.old source.new) }
+    ensures { IsPrepared (input_of words.now S.left S.faults S.reads source.old source.new) result
+        (source.new ≡ source.old) }
 {
     match command_of(words) {
         Some(command) => prepare_command(alloc, command, arguments_of(words), source),
-        None => Err(Stop::Refused(Refusal::Usage)),
+        None => Err(Stop::Refused(Refusal::Usage(Forms::Commands))),
     }
 }
 
 /// What a command is to write, by the words behind its own and its source.
-fn prepare_command<S: Source>(
+pub fn prepare_command<S: Source>(
     alloc: Global,
     command: Command,
     arguments: &[Text],
     source: &mut S,
 ) -> Result<Output, Stop>
     requires { IsBounded command }
-    ensures answered { IfOk result (λ o.
-        IsAnswered (run_input (Some command) arguments.now S.left S.faults S.reads source.old source.new) o.text o.notes o.adapted) }
-    ensures stopped { IfErr result (StopCause (run_input (Some command) arguments.now S.left S.faults S.reads source.old source.new)) }
-    ensures nothing_read { reads_source (Some command) ≡ false → source.new ≡ source.old }
-    ensures later { S.faults source.old ≤ S.faults source.new }
-    ensures reads { S.reads source.new ≤ S.reads source.old + 4194305 }
-    ensures taken { TookInput (source_seen S.left S.faults S.reads source.old source.new) }
+    ensures { IsPrepared (run_input (command_task command arguments.now) S.left S.faults S.reads source.old source.new)
+        result (source.new ≡ source.old) }
 {
-    match files_for(alloc, command, source) {
-        Ok(mut files) => perform(alloc, command, arguments, &mut files),
-        Err(InputError::Source) => Err(Stop::Refused(Refusal::Source)),
-        Err(InputError::Bundle(error)) => Err(Stop::Refused(Refusal::Bundle(error))),
-        Err(InputError::OutOfMemory) => Err(Stop::OutOfMemory),
-    }
+    let mut files = files_for(alloc, command, source)?;
+    perform(alloc, command, arguments, &mut files)
 }
 
 /// The files that a command works on: those of its source's bundle, or those of the sample's, for which
@@ -168,10 +93,11 @@ fn files_for<S: Source>(
 ) -> Result<MockFs, InputError>
     requires { IsBounded command }
     ensures files { IfOk result (λ files. Reads (bundle_bytes (Some command) (S.left source.old)) (Ok files)) }
-    ensures finished { OnOk result (IsReading (Some command) → Finished (S.left source.old) (S.left source.new)) }
+    ensures finished { OnOk result (reads_source (Some command) ≡ true
+        → Finished (S.left source.old) (S.left source.new)) }
     ensures nothing_read { reads_source (Some command) ≡ false → source.new ≡ source.old }
     ensures no_fault { OnOk result (S.faults source.new ≡ S.faults source.old) }
-    ensures refused { IfErr result (FilesCause (Some command) (source_seen S.left S.faults S.reads source.old source.new)) }
+    ensures refused { IfErr result (FilesCause command (source_seen S.left S.faults S.reads source.old source.new)) }
     ensures later { S.faults source.old ≤ S.faults source.new }
     ensures reads { S.reads source.new ≤ S.reads source.old + 4194305 }
     ensures taken { TookInput (source_seen S.left S.faults S.reads source.old source.new) }
@@ -185,6 +111,30 @@ fn files_for<S: Source>(
         Command::Sample { functions } => match sample_files(alloc, functions) {
             Ok(files) => Ok(files),
             Err(_) => Err(InputError::OutOfMemory),
+        },
+    }
+}
+
+/// Writes an answer: the output, or what is told of a refusal; of want of memory nothing.
+pub fn finish<O: Sink, E: Sink>(
+    alloc: Global,
+    answer: Result<Output, Stop>,
+    out: &mut O,
+    err: &mut E,
+) -> Ran
+    ensures { IsWritten answer result.status result.adapted
+        (seen O.taken O.faults out.old out.new) (seen E.taken E.faults err.old err.new)
+        (out.new ≡ out.old) (err.new ≡ err.old) }
+{
+    match answer {
+        Ok(output) => put_output(output, out, err),
+        Err(Stop::Refused(refusal)) => Ran {
+            status: put_refusal(alloc, &refusal, err),
+            adapted: None,
+        },
+        Err(Stop::OutOfMemory) => Ran {
+            status: NO_MEMORY,
+            adapted: None,
         },
     }
 }

@@ -1,21 +1,38 @@
 //! The writing of what is told of a refusal.
 
-ghost use Rattle.std.specs.Prelude.{◌≡◌, ◌<◌, ◌≤◌};
+ghost use Rattle.std.specs.Prelude.{◌≡◌, ◌<◌, ◌≤◌, ◌⊎◌, OnErr, OnOk};
 ghost use Rattle.std.specs.Io.KnownBytes.{Appends};
 ghost use Rattle.witx_base.specs.Causes.{Rose};
+ghost use Rattle.witx_commands.specs.Runs.{IsUsage};
 ghost use Rattle.witx_commands.specs.Streams.{TookPrefix};
-ghost use Rattle.witx_commands.specs.Texts.{IsRefused, status_of, text_of};
+ghost use Rattle.witx_commands.specs.Texts.{IsRefused, status_of, text_of, usage_text};
 
 use crate::output::put_text;
 use std::alloc::Global;
-use witx_base::Sink;
-use witx_commands::{NO_MEMORY, Refusal, UNWRITTEN};
+use witx_base::{Failed, Sink};
+use witx_commands::{Forms, NO_FORM, NO_MEMORY, Refusal, UNWRITTEN, command_lines, further_lines};
 
 /// Writes what is to be said of a refusal, and answers the status: that of the refusal, or 4 where the
-/// sink failed, or 5 where there was no memory for the text. Of a refusal for want of memory nothing is
-/// written.
-#[tactic(auto, using(witx_commands::proofs::WrittenWhole::silent_rules))]
+/// sink failed, or 5 where there was no memory for the text, which that of the forms doesn't take. Of a
+/// refusal for want of memory nothing is written.
 pub fn put_refusal<E: Sink>(alloc: Global, refusal: &Refusal, err: &mut E) -> u8
+    ensures status { IsRefused (status_of refusal.now) result }
+    ensures usage { IsUsage refusal.now → (result ≡ 2) ⊎ (result ≡ 4) }
+    ensures told { result ≡ status_of refusal.now → Appends (E.taken err.old) (E.taken err.new) (text_of refusal.now) }
+    ensures unwritten { result ≡ 4 → Rose (E.faults err.old) (E.faults err.new) × TookPrefix (E.taken err.old) (E.taken err.new) (text_of refusal.now) }
+    ensures no_memory { result ≡ 5 → err.new ≡ err.old }
+    ensures failed { E.faults err.old < E.faults err.new → result ≡ 4 }
+    ensures later { E.faults err.old ≤ E.faults err.new }
+{
+    match refusal {
+        Refusal::Usage(known) => put_usage(*known, err),
+        Refusal::Source | Refusal::Bundle(_) | Refusal::Command(_) => put_told(alloc, refusal, err),
+    }
+}
+
+/// Writes the text of a refusal.
+#[tactic(auto, using(witx_commands::proofs::WrittenWhole::silent_rules))]
+fn put_told<E: Sink>(alloc: Global, refusal: &Refusal, err: &mut E) -> u8
     ensures status { IsRefused (status_of refusal.now) result }
     ensures told { result ≡ status_of refusal.now → Appends (E.taken err.old) (E.taken err.new) (text_of refusal.now) }
     ensures unwritten { result ≡ 4 → Rose (E.faults err.old) (E.faults err.new) × TookPrefix (E.taken err.old) (E.taken err.new) (text_of refusal.now) }
@@ -31,4 +48,30 @@ pub fn put_refusal<E: Sink>(alloc: Global, refusal: &Refusal, err: &mut E) -> u8
         Ok(()) => refusal.status(),
         Err(_) => UNWRITTEN,
     }
+}
+
+/// Writes the lines of the forms that are known, and answers the status.
+fn put_usage<E: Sink>(known: Forms, err: &mut E) -> u8
+    ensures status { (result ≡ 2) ⊎ (result ≡ 4) }
+    ensures told { result ≡ 2 → Appends (E.taken err.old) (E.taken err.new) (usage_text known) }
+    ensures unwritten { result ≡ 4 → Rose (E.faults err.old) (E.faults err.new) × TookPrefix (E.taken err.old) (E.taken err.new) (usage_text known) }
+    ensures failed { E.faults err.old < E.faults err.new → result ≡ 4 }
+    ensures later { E.faults err.old ≤ E.faults err.new }
+{
+    match put_forms(known, err) {
+        Ok(()) => NO_FORM,
+        Err(_) => UNWRITTEN,
+    }
+}
+
+/// Writes the lines of `run`, and then the further ones.
+fn put_forms<E: Sink>(known: Forms, err: &mut E) -> Result<(), Failed>
+    ensures whole { OnOk result (Appends (E.taken err.old) (E.taken err.new) (usage_text known)) }
+    ensures no_fault { OnOk result (E.faults err.new ≡ E.faults err.old) }
+    ensures failed { OnErr result (Rose (E.faults err.old) (E.faults err.new)) }
+    ensures prefix { TookPrefix (E.taken err.old) (E.taken err.new) (usage_text known) }
+    ensures later { E.faults err.old ≤ E.faults err.new }
+{
+    put_text(err, command_lines())?;
+    put_text(err, further_lines(known))
 }

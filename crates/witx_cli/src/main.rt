@@ -6,11 +6,8 @@ use std::env;
 use std::io::ErrorKind;
 use std::process::ExitCode;
 use witx_base::{Items, OutOfMemory, Reading, Text, Writing};
-use witx_commands::leave;
+use witx_commands::{NO_MEMORY, leave};
 use witx_tools::run_all;
-
-/// The status of a run that found no memory for its words.
-const NO_MEMORY: u8 = 5;
 
 fn main(rt: HostRuntime) -> ExitCode {
     let alloc = rt.alloc();

@@ -45,13 +45,8 @@ use Rattle.witx_commands.specs.MeantPages.{IsPage, IsPageReport}
 use Rattle.witx_commands.specs.Mappings.{IsAbsentReport, IsPolyfillText, MeansBoth, mapping_of, module_names, new_file, old_file}
 use Rattle.witx_commands.specs.Words.{bundle_bytes, paths_of, reads_source}
 use Rattle.witx_commands.specs.Reports.{AdaptingFails, BothFail, CommandRefuses, IsAdaptReport, MappingFails, IsTextReport, PageFails, ParsingFails, SizesFail}
-use Rattle.witx_commands.specs.declared.refusal.Refusal as refusals
-use Rattle.witx_commands.specs.declared.refusal.Stop.{Stop}
-use Rattle.witx_commands.specs.declared.refusal.Stop.TheVariants as stop
-use Rattle.witx_commands.specs.declared.refusal.Refusal.TheVariants as refusal
-use Rattle.witx_commands.specs.Streams.{BrokeOff}
-use Rattle.witx_commands.specs.Texts.{IsRefused, bundle_status, status_of}
-use Rattle.witx_commands.specs.Causes.{Cause, IsAdaptedText, IsCause, IsMeantPage, IsOutput, IsPolyfill, IsValidFor, Reads, RunInput, StopCause}
+use Rattle.witx_commands.specs.Texts.{IsRefused, bundle_status}
+use Rattle.witx_commands.specs.Causes.{IsAdaptedText, IsCause, IsMeantPage, IsOutput, IsPolyfill, IsValidFor}
 
 -- a refusal where no call failed is the verdict
 refusal-ends : (w : World Fault) (at : Place) (before now : ℕ) (e : WitxError) → (Rose before now → ⊥) → IsTextRefusal e → walk.Refuses w at before now e
@@ -253,10 +248,7 @@ bundle-excluded bytes files (bundle.BeforeFirst at) h i k = let a = h.2 in let b
 bundle-excluded bytes files bundle.OutOfMemory h i k = absurd i
 
 -- a command that works on its source's bundle works on the bytes that are told
-abbrev WorksOnSource : Option Command → Type 0
-WorksOnSource form = reads_source form ≡ true
-
-reading-bytes : (form : Option Command) (left : Option (List ℕ)) → WorksOnSource form → bundle_bytes form left ≡ left
+pub reading-bytes : (form : Option Command) (left : Option (List ℕ)) → reads_source form ≡ true → bundle_bytes form left ≡ left
 reading-bytes None left i = absurd (cc)
 reading-bytes (Some command.Adapt) left i = refl
 reading-bytes (Some command.Print) left i = refl
@@ -265,26 +257,9 @@ reading-bytes (Some command.Docs) left i = refl
 reading-bytes (Some command.Polyfill) left i = refl
 reading-bytes (Some (command.Sample n)) left i = absurd (cc)
 
-pub no-bundle-answered : (form : Option Command) (left : Option (List ℕ)) (bytes : List ℕ) (files : Files) (e : BundleError) → WorksOnSource form → left ≡ Some bytes
-    → IsCause e → IsRead bytes (Err e) → Reads (bundle_bytes form left) (Ok files) → ⊥
-no-bundle-answered form left bytes files e i told c h r =
-    bundle-excluded bytes files e (subst (λ l. Reads l (Ok files)) (reading-bytes form left i ∙ told) r) c h
-
 -- what isn't want of memory is told with status 6
 pub told-as-none : (b : BundleError) (status : ℕ) → IsCause b → IsRefused (bundle_status b) status → IsRefused 6 status
 told-as-none bundle.TooLong status c s = s
 told-as-none (bundle.NotUtf8 at) status c s = s
 told-as-none (bundle.BeforeFirst at) status c s = s
 told-as-none bundle.OutOfMemory status c s = absurd c
-
-no-bundle-refused : (i : RunInput) (bytes : List ℕ) (e : BundleError) (r : refusals.Refusal) (status : ℕ) → WorksOnSource i.form → i.source.left ≡ Some bytes
-    → IsCause e → IsRead bytes (Err e) → (BrokeOff i.source → ⊥) → Cause i r → IsRefused (status_of r) status → IsRefused 6 status
-no-bundle-refused i bytes e refusal.Usage status reads told c h none k s = absurd (let form = k.0 in cc)
-no-bundle-refused i bytes e refusal.Source status reads told c h none k s = absurd (none k.1)
-no-bundle-refused i bytes e (refusal.Bundle b) status reads told c h none k s = told-as-none b status k.2 s
-no-bundle-refused i bytes e (refusal.Command report) status reads told c h none k s =
-    absurd (no-bundle-answered i.form i.source.left bytes k.1 e reads told c h k.2)
-
-pub no-bundle-stopped : (i : RunInput) (bytes : List ℕ) (e : BundleError) (s : Stop) (r : refusals.Refusal) (status : ℕ) → WorksOnSource i.form → i.source.left ≡ Some bytes
-    → IsCause e → IsRead bytes (Err e) → (BrokeOff i.source → ⊥) → s ≡ stop.Refused r → StopCause i s → IsRefused (status_of r) status → IsRefused 6 status
-no-bundle-stopped i bytes e s r status reads told c h none same k t = no-bundle-refused i bytes e r status reads told c h none (subst (StopCause i) same k) t

@@ -3,9 +3,11 @@ pub mod Noting
 pub mod Paths
 pub mod ConstantTypes
 pub mod Exclusion
+pub mod Ending
 pub mod ReadThrough
 pub mod Refusing
 pub mod Preparing
 pub mod Running
 pub mod SampleWords
+pub mod Written
 pub mod WrittenWhole

@@ -1,5 +1,4 @@
--- The page of a document with its notes is what the command tells, and so is the refusal of a page; a command with notes is the
--- one that notes.
+-- The page of a document with its notes is what the command tells, and so is the refusal of a page.
 use Rattle.std.specs.Prelude.{◌≡◌, ◌⊎◌, ℕ, ◌+◌, ◌<◌, ◌≤◌, List, [], ◌∷◌, ◌++◌, length, drop, Option, Some, None, Ok, Err}
 use Rattle.std.specs.List.{flat_map}
 use Rattle.std.proofs.Common.{refl, sym, ap, ◌∙◌, subst, inl, inr, get_or, append_assoc, append-nil}
@@ -13,13 +12,12 @@ use Rattle.witx_docs.specs.Pages.{missing_line, missing_lines, missing_links, pa
 use Rattle.witx_docs.specs.declared.error.DocsError.{DocsError}
 use Rattle.witx_docs.specs.declared.error.DocsError.TheVariants as docs_error
 use Rattle.witx_commands.specs.Adapting.{Parses}
-use Rattle.witx_commands.specs.Causes.{IsAnswered, IsOutput, RunInput}
+use Rattle.witx_commands.specs.Causes.{IsOutput}
 use Rattle.witx_commands.specs.MeantPages.{IsPage, IsPageReport, IsRefusedPage}
 use Rattle.witx_commands.specs.Reports.{CommandRefuses, PageFails, ParsingFails}
 use Rattle.witx_commands.specs.Stops.{StopsWith}
-use Rattle.witx_commands.specs.Words.{IsNoting, paths_of}
+use Rattle.witx_commands.specs.Words.{paths_of}
 use Rattle.witx_commands.specs.declared.refusal.Stop.{Stop}
-use Rattle.witx_commands.specs.declared.words.Command.{Command}
 use Rattle.witx_commands.specs.declared.words.Command.TheVariants as command
 use Rattle.witx_commands.proofs.Refusing.{memory-stops, stops-as}
 
@@ -70,35 +68,3 @@ unfolding CommandRefuses
 page-refused files arguments ds s p k = stops-as (IsPageReport ds) (CommandRefuses command.Docs files arguments) (λ report h. inr (ds, p, h)) s k
 
 pub ruleset output_rules = (page-output, unread-refused, page-refused)
-
--- a command with notes
-pub noting : (form : Option Command) (files : Files) (arguments : List (List ℕ)) (text notes : List ℕ) (adapted : Option Adapted) → IsOutput form files arguments text notes adapted
-    → (notes ≡ [] → ⊥) → IsNoting form
-unfolding IsOutput
-noting None files arguments text notes adapted o n = absurd o
-noting (Some command.Adapt) files arguments text notes adapted o n = absurd (n o.0)
-noting (Some command.Print) files arguments text notes adapted o n = absurd (n o.0)
-noting (Some command.Layouts) files arguments text notes adapted o n = absurd (n o.0)
-noting (Some command.Docs) files arguments text notes adapted o n = tt
-noting (Some command.Polyfill) files arguments text notes adapted o n = absurd (n o.0)
-noting (Some (command.Sample k)) files arguments text notes adapted o n = absurd (n o.0)
-
--- where a sink failed, a command that doesn't note has its text unwritten
-failed-on-notes : {R S P U Q A : Type 0} (i : RunInput) (text notes : List ℕ) (adapted : Option Adapted) → IsAnswered i text notes adapted
-    → (R × P × U) ⊎ (S × Q × (notes ≡ [] → ⊥) × A) → (R → ⊥) → (IsNoting i.form → S → ⊥) → ⊥
-failed-on-notes i text notes adapted x (inl h) out err = out h.0
-failed-on-notes i text notes adapted x (inr h) out err = err (noting i.form x.files i.arguments text notes adapted x.output h.2) h.0
-
-pub finishes : {R S P U Q A : Type 0} (i : RunInput) (text notes : List ℕ) (adapted : Option Adapted) → IsAnswered i text notes adapted → (status : ℕ)
-    → (status ≡ 0) ⊎ (status ≡ 4) → (status ≡ 4 → (R × P × U) ⊎ (S × Q × (notes ≡ [] → ⊥) × A)) → (R → ⊥) → (IsNoting i.form → S → ⊥)
-    → (status ≡ 0) ⊎ (status ≡ 5)
-finishes i text notes adapted x status (inl z) u out err = inl z
-finishes i text notes adapted x status (inr f) u out err = absurd (failed-on-notes i text notes adapted x (u f) out err)
-
--- and what it holds then
-pub left-unwritten : {R S U Z : Type 0} (P Q A : List ℕ → Type 0) (i : RunInput) (text notes : List ℕ) (adapted : Option Adapted) → IsAnswered i text notes adapted
-    → (R × P text × U) ⊎ (S × Q notes × (notes ≡ [] → ⊥) × A text)
-    → (R × U × (t : List ℕ) × (n : List ℕ) × (a : Option Adapted) × IsAnswered i t n a × P t)
-    ⊎ (S × (t : List ℕ) × (n : List ℕ) × (a : Option Adapted) × (n ≡ [] → ⊥) × IsAnswered i t n a × A t × Q n) ⊎ Z
-left-unwritten P Q A i text notes adapted x (inl (r, p, u)) = inl (r, u, text, notes, adapted, x, p)
-left-unwritten P Q A i text notes adapted x (inr (s, q, n, a)) = inr (inl (s, text, notes, adapted, n, x, a, q))

@@ -1,6 +1,7 @@
--- What the writes of a loop appended, one after the other, is a prefix of the text; and a refusal that counts as want of memory has no
--- text.
-use Rattle.std.proofs.Common.{◌≡◌, ℕ, ◌+◌, List, [], Option, take, drop, refl, subst, sym, ◌∙◌, take-append-drop}
+-- What the writes of a loop appended, one after the other, is a prefix of the text; of two texts the one behind the other follows the
+-- first; and a refusal that counts as want of memory has no text.
+use Rattle.std.proofs.Common.{◌≡◌, ℕ, ◌+◌, List, [], ◌++◌, Option, take, drop, refl, ap, subst, sym, ◌∙◌, append_assoc, take-append-drop}
+use Rattle.std.specs.Prelude.{Result, Ok, Err, OnOk}
 use Rattle.std.proofs.Math.Seq.{take-add}
 use Rattle.std.proofs.KnownBytes.{Appends-trans, Appends-nil}
 use Rattle.std.specs.Io.KnownBytes.{Appends}
@@ -21,8 +22,29 @@ wrote-more a b c text n m p q = subst (Appends a c) (sym (take-add n m text)) (A
 
 pub ruleset writing_rules = (wrote-front, wrote-none, wrote-more)
 
+-- two texts, one behind the other
+wrote-both : (a b c : Option (List ℕ)) (x y text more : List ℕ) → x ≡ text → y ≡ more → Appends a b x → Appends b c y → Appends a c (text ++ more)
+wrote-both a b c x y text more e f p q = subst (λ t. Appends a c (t ++ more)) e (subst (λ t. Appends a c (x ++ t)) f (Appends-trans a b c x y p q))
+
+pub first-front : (a b : Option (List ℕ)) (x text more : List ℕ) → x ≡ text → TookPrefix a b x → TookPrefix a b (text ++ more)
+first-front a b x text more e (front, rest, joined, p) =
+    (front, rest ++ more, subst (λ t. t ++ more ≡ front ++ (rest ++ more)) e (ap (λ t. t ++ more) joined ∙ append_assoc front rest more), p)
+
+pub second-front : (a b c : Option (List ℕ)) (x y text more : List ℕ) → x ≡ text → y ≡ more → Appends a b x → TookPrefix b c y → TookPrefix a c (text ++ more)
+second-front a b c x y text more e f p (front, rest, joined, q) = (
+  x ++ front,
+  rest,
+  subst (λ t. t ++ more ≡ (x ++ front) ++ rest) e (subst (λ t. x ++ t ≡ (x ++ front) ++ rest) f (ap (λ t. x ++ t) joined ∙ sym (append_assoc x front rest))),
+  Appends-trans a b c x front p q,
+)
+
+pub both-whole : {A E : Type 0} (r : Result A E) (a b c : Option (List ℕ)) (x y text more : List ℕ) → x ≡ text → y ≡ more → Appends a b x
+    → OnOk r (Appends b c y) → OnOk r (Appends a c (text ++ more))
+both-whole (Ok u) a b c x y text more e f p q = wrote-both a b c x y text more e f p q
+both-whole (Err u) a b c x y text more e f p q = tt
+
 silent : (r : Refusal) → status_of r ≡ 5 → text_of r ≡ []
-silent refusal.Usage e = cc
+silent (refusal.Usage known) e = cc
 silent refusal.Source e = cc
 silent (refusal.Bundle bundle.TooLong) e = cc
 silent (refusal.Bundle (bundle.NotUtf8 at)) e = cc

@@ -1,5 +1,5 @@
--- When a run refuses or has its output, and what the bytes of its source say then, where these are told.
-use Rattle.std.specs.Prelude.{◌≡◌, ℕ, ◌^◌, ◌<◌, List, [], ◌∷◌, All, Option, None, Some, Result, Ok, Err}
+-- Why there is no bundle, and what each command writes over the files of one, by what the bytes say where these are told.
+use Rattle.std.specs.Prelude.{◌≡◌, ℕ, true, ◌^◌, ◌<◌, List, [], ◌∷◌, All, Option, None, Some, Result, Ok, Err}
 use Rattle.witx_base.specs.Paths.{Path}
 use Rattle.witx_files.specs.Files.{Files}
 use Rattle.witx_bundle.specs.Bundles.{IsRead}
@@ -18,16 +18,14 @@ use Rattle.witx_commands.specs.Adapting.{IsAdapted, Parses, defined}
 use Rattle.witx_docs.specs.LaidOut.{document_refusal}
 use Rattle.witx_commands.specs.MeantPages.{IsPage}
 use Rattle.witx_commands.specs.Mappings.{IsPolyfillText, MeansBoth, mapping_of, module_names}
-use Rattle.witx_commands.specs.Reports.{CommandRefuses}
 use Rattle.witx_commands.specs.declared.words.Command.{Command}
 use Rattle.witx_commands.specs.declared.words.Command.TheVariants as command
 use Rattle.witx_commands.specs.declared.input.InputError.{InputError}
 use Rattle.witx_commands.specs.declared.input.InputError.TheVariants as input
-use Rattle.witx_commands.specs.Streams.{BrokeOff, FailedWithin, Finished, NoFault, SourceSeen, source_seen}
-use Rattle.witx_commands.specs.Words.{IsReading, arguments_of, bundle_bytes, command_of, paths_of}
+use Rattle.witx_commands.specs.Streams.{BrokeOff, FailedWithin, NoFault, SourceSeen}
+use Rattle.witx_commands.specs.Words.{bundle_bytes, paths_of, reads_source}
 use Rattle.witx_commands.specs.declared.refusal.Stop.{Stop}
 use Rattle.witx_commands.specs.declared.refusal.Stop.TheVariants as stop
-use Rattle.witx_commands.specs.declared.refusal.Refusal.{Refusal}
 use Rattle.witx_commands.specs.declared.refusal.Refusal.TheVariants as refusal
 
 -- what reading the bytes as a bundle answers, where they are told
@@ -52,45 +50,16 @@ InputCause s (input.Bundle e) = NoFault s × IsCause e × Reads s.left (Err e)
 InputCause s input.OutOfMemory = NoFault s
 
 -- why there are no files for a command: only one that works on its source's bundle has a cause in it
-abbrev pub FilesCause : Option Command → SourceSeen → InputError → Type 0
-FilesCause form s input.Source = IsReading form × BrokeOff s
-FilesCause form s (input.Bundle e) = IsReading form × NoFault s × IsCause e × Reads (bundle_bytes form s.left) (Err e)
-FilesCause form s input.OutOfMemory = NoFault s
+abbrev pub FilesCause : Command → SourceSeen → InputError → Type 0
+FilesCause c s input.Source = (reads_source (Some c) ≡ true) × BrokeOff s
+FilesCause c s (input.Bundle e) = (reads_source (Some c) ≡ true) × NoFault s × IsCause e × Reads (bundle_bytes (Some c) s.left) (Err e)
+FilesCause c s input.OutOfMemory = NoFault s
 
--- the command of a form refuses
-abbrev pub FormRefuses : Option Command → Files → List (List ℕ) → List ℕ → Type 0
-FormRefuses None files arguments report = ⊥
-FormRefuses (Some c) files arguments report = CommandRefuses c files arguments report
-
--- what a run is given: the command of its words, where they have a form, the words behind the first, and its source
-pub record RunInput : Type 0 where
-  pub form : Option Command
-  pub arguments : List (List ℕ)
-  pub source : SourceSeen
-
--- with a source, by what is told of it
-abbrev pub run_input : {S : Type 0} → Option Command → List (List ℕ) → (S → Option (List ℕ)) → (faults reads : S → ℕ) → (old new : S) → RunInput
-run_input form arguments left faults reads old new = record { form = form; arguments = arguments; source = source_seen left faults reads old new }
-
--- with words
-abbrev pub input_of : {S : Type 0} → List (List ℕ) → (S → Option (List ℕ)) → (faults reads : S → ℕ) → (old new : S) → RunInput
-input_of words left faults reads old new = run_input (command_of words) (arguments_of words) left faults reads old new
-
--- the bytes of the bundle that it works on
-abbrev pub input_bytes : RunInput → Option (List ℕ)
-input_bytes i = bundle_bytes i.form i.source.left
-
--- what is so where a run refuses
-abbrev pub Cause : RunInput → Refusal → Type 0
-Cause i refusal.Usage = (i.form ≡ None) × NoFault i.source
-Cause i refusal.Source = IsReading i.form × BrokeOff i.source
-Cause i (refusal.Bundle e) = IsReading i.form × NoFault i.source × IsCause e × Reads (input_bytes i) (Err e)
-Cause i (refusal.Command report) = NoFault i.source × (files : Files) × Reads (input_bytes i) (Ok files) × FormRefuses i.form files i.arguments report
-
--- why a run has no output
-abbrev pub StopCause : RunInput → Stop → Type 0
-StopCause i (stop.Refused r) = Cause i r
-StopCause i stop.OutOfMemory = NoFault i.source
+-- the end of a run that has no bundle
+abbrev pub stop_of : InputError → Stop
+stop_of input.Source = stop.Refused refusal.Source
+stop_of (input.Bundle e) = stop.Refused (refusal.Bundle e)
+stop_of input.OutOfMemory = stop.OutOfMemory
 
 -- this text of the adapted document that the files at these paths mean
 abbrev pub IsAdaptedText : (Adapted → List ℕ) → Files → List Path → List ℕ → Option Adapted → Type 0
@@ -161,20 +130,7 @@ IsValidFor command.Docs files arguments = HasPage files (paths_of arguments)
 IsValidFor command.Polyfill files arguments = CanMap files arguments
 IsValidFor (command.Sample n) files arguments = CanAdapt files (sample_path ∷ [])
 
--- what is so where a run has its output: the source, if it is read, was read to its end; there is a bundle, and the output is
--- over its files
-pub record IsAnswered (i : RunInput) (text notes : List ℕ) (adapted : Option Adapted) : Type 0 where
-  pub finished : IsReading i.form → Finished i.source.left i.source.left_after
-  pub no_fault : NoFault i.source
-  pub files : Files
-  pub bundle : Reads (input_bytes i) (Ok files)
-  pub output : IsOutput i.form files i.arguments text notes adapted
-
 -- the definitions of the document that the bytes of a bundle mean, where they are told
 abbrev pub IsMeaning : (left : Option (List ℕ)) → (handed : List Path) → List DefinitionTree → Type 0
 IsMeaning None handed ds = Unit {0}
 IsMeaning (Some bytes) handed ds = (files : Files) × IsRead bytes (Ok files) × Parses files handed (Ok ds)
-
--- a status with which something is told
-abbrev pub IsTold : ℕ → Type 0
-IsTold status = (status ≡ 0 → ⊥) × (status ≡ 4 → ⊥) × (status ≡ 5 → ⊥)

@@ -9,3 +9,4 @@ pub mod Stops
 pub mod Texts
 pub mod Mappings
 pub mod MeantPages
+pub mod Runs

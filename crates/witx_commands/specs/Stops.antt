@@ -6,7 +6,7 @@ use Rattle.witx_commands.specs.declared.refusal.Refusal.TheVariants as refusal
 
 abbrev pub StopsWith : (List ℕ → Type 0) → Stop → Type 0
 StopsWith Refuses (stop.Refused (refusal.Command report)) = Refuses report
-StopsWith Refuses (stop.Refused refusal.Usage) = ⊥
+StopsWith Refuses (stop.Refused (refusal.Usage known)) = ⊥
 StopsWith Refuses (stop.Refused refusal.Source) = ⊥
 StopsWith Refuses (stop.Refused (refusal.Bundle e)) = ⊥
 StopsWith Refuses stop.OutOfMemory = Unit {0}

@@ -2,6 +2,8 @@
 use Rattle.std.specs.Prelude.{◌≡◌, ◌⊎◌, ℕ, List, [], ◌∷◌, ◌++◌, codes}
 use Rattle.std.specs.List.{flat_map}
 use Rattle.std.specs.Fmt.{decimal}
+use Rattle.witx_commands.specs.declared.forms.Forms.{Forms}
+use Rattle.witx_commands.specs.declared.forms.Forms.TheVariants as forms
 use Rattle.witx_commands.specs.declared.refusal.Refusal.{Refusal}
 use Rattle.witx_commands.specs.declared.refusal.Refusal.TheVariants as refusal
 use Rattle.witx_bundle.specs.declared.error.BundleError.{BundleError}
@@ -31,9 +33,9 @@ abbrev pub absent_text : polyfill.Refusal → List ℕ
 absent_text (no_module name) = absent_module name
 absent_text (no_function owner name) = absent_function name
 
--- a line for each command
-abbrev pub usage_lines : List (List ℕ)
-usage_lines =
+-- the table of forms: a line for each command of `run`, and one for each further command of the program
+abbrev pub command_lines : List (List ℕ)
+command_lines =
     codes "usage: witx adapt PATH.."
     ∷ codes "       witx print PATH.."
     ∷ codes "       witx layouts PATH.."
@@ -42,8 +44,31 @@ usage_lines =
     ∷ codes "       witx sample N"
     ∷ []
 
+abbrev pub tool_lines : List (List ℕ)
+tool_lines =
+    codes "       witx shim NEW OLD [NEWMODULE OLDMODULE].."
+    ∷ codes "       witx verify LISTING PATH.."
+    ∷ codes "       witx invoke MODULE FUNC VALUES PATH.."
+    ∷ codes "       witx imports LIST PATH.."
+    ∷ []
+
+-- the lines behind those of `run`
+abbrev pub further_lines : Forms → List (List ℕ)
+further_lines forms.Commands = []
+further_lines forms.All = tool_lines
+
+unfoldable pub command_text : List ℕ
+command_text = flat_map line command_lines
+
+unfoldable pub further_text : Forms → List ℕ
+further_text known = flat_map line (further_lines known)
+
+-- what is told where the words have none of these forms
+abbrev pub usage_text : Forms → List ℕ
+usage_text known = command_text ++ further_text known
+
 abbrev pub text_of : Refusal → List ℕ
-text_of refusal.Usage = flat_map line usage_lines
+text_of (refusal.Usage known) = usage_text known
 text_of refusal.Source = line (codes "witx: cannot read input")
 text_of (refusal.Bundle e) = bundle_text e
 text_of (refusal.Command report) = line (codes "witx: " ++ report)
@@ -55,7 +80,7 @@ bundle_status _ = 6
 -- the status of a refusal
 abbrev pub status_of : Refusal → ℕ
 status_of (refusal.Command report) = 1
-status_of refusal.Usage = 2
+status_of (refusal.Usage known) = 2
 status_of refusal.Source = 3
 status_of (refusal.Bundle e) = bundle_status e
 

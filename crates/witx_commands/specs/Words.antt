@@ -61,27 +61,21 @@ reads_source (Some command.Docs) = true
 reads_source (Some command.Polyfill) = true
 reads_source (Some (command.Sample n)) = false
 
-abbrev pub IsReading : Option Command → Type 0
-IsReading form = reads_source form ≡ true
-
 -- the bytes of the bundle that a command works on, where they are told
 abbrev pub bundle_bytes : Option Command → Option (List ℕ) → Option (List ℕ)
 bundle_bytes (Some (command.Sample n)) left = Some (sample_text n)
 bundle_bytes _ left = left
 
 -- a command that notes on the second sink what its output lacks
-abbrev pub IsNoting : Option Command → Type 0
-IsNoting (Some command.Docs) = Unit {0}
-IsNoting _ = ⊥
+abbrev pub is_noting : Command → Bool
+is_noting command.Docs = true
+is_noting _ = false
 
 -- a command that writes what it makes of an adapted document
 abbrev pub is_adapting : Option Command → Bool
 is_adapting (Some command.Adapt) = true
 is_adapting (Some (command.Sample n)) = true
 is_adapting _ = false
-
-abbrev pub IsAdapting : Option Command → Type 0
-IsAdapting form = is_adapting form ≡ true
 
 -- the paths of the files that such a command adapts
 abbrev pub adapted_paths : Option Command → List (List ℕ) → List Path

@@ -5,6 +5,7 @@
 mod adapting;
 mod commands;
 mod error;
+mod forms;
 mod input;
 mod laws;
 mod output;
@@ -19,11 +20,12 @@ mod words;
 pub use adapting::adapt;
 pub use commands::{adapted_or_stop, layouts_of_files, listed, summary_of_files};
 pub use error::AdaptError;
+pub use forms::{Forms, command_lines, further_lines};
 pub use input::{InputError, read_bundle};
 pub use laws::{
     constants_have_typenames, output_or_refusal, valid_files_are_not_refused, valid_is_not_refused,
 };
-pub use output::{Output, kept, leave, let_document_go, let_go, no_notes};
+pub use output::{Output, kept, leave, let_document_go, let_go, no_notes, text_alone};
 pub use pages::page_of_files;
 pub use parsing::{parsed_or_stop, text_stop};
 pub use polyfill::{mapped_modules, module_names, new_file, old_file, polyfill_files};

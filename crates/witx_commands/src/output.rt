@@ -27,6 +27,19 @@ pub fn no_notes(alloc: Global) -> Text
     Text::from_string(String::new(alloc))
 }
 
+/// An output of a text alone.
+pub fn text_alone(alloc: Global, text: Text) -> Output
+    ensures text { result.text ≡ text }
+    ensures notes { result.notes ≡ [] }
+    ensures adapted { result.adapted ≡ None }
+{
+    Output {
+        text,
+        notes: no_notes(alloc),
+        adapted: None,
+    }
+}
+
 /// The value of an output, kept where the status says that it was written whole, and else let go.
 ///
 /// A crate that lets a large value go, or hands it to a generic call, proves anew how it is let go. So

@@ -1,9 +1,12 @@
 //! Why a run has no output, with its status and what is written of it.
 
 ghost use Rattle.std.specs.Prelude.{◌≡◌, ◌++◌, IfOk, codes};
+ghost use Rattle.witx_commands.specs.Causes.{stop_of};
 ghost use Rattle.witx_commands.specs.Stops.{StopsWith};
 ghost use Rattle.witx_commands.specs.Texts.{line, status_of, text_of};
 
+use crate::forms::{Forms, usage_text};
+use crate::input::InputError;
 use crate::status::{NO_BUNDLE, NO_FORM, NO_MEMORY, REFUSED, UNREAD};
 use std::alloc::Global;
 use witx_base::{OutOfMemory, Text};
@@ -12,8 +15,8 @@ use witx_bundle::BundleError;
 /// Why a run ends without its output, where it says so.
 #[derive(PartialEq, Eq, Debug, Drop)]
 pub enum Refusal {
-    /// The words have no form of the usage text.
-    Usage,
+    /// The words have none of these forms.
+    Usage(Forms),
     /// The source failed.
     Source,
     /// The input is no bundle, or there was no memory to tell whether it is one.
@@ -29,7 +32,7 @@ impl Refusal {
     {
         match self {
             Refusal::Command(_) => REFUSED,
-            Refusal::Usage => NO_FORM,
+            Refusal::Usage(_) => NO_FORM,
             Refusal::Source => UNREAD,
             Refusal::Bundle(BundleError::OutOfMemory) => NO_MEMORY,
             Refusal::Bundle(_) => NO_BUNDLE,
@@ -41,17 +44,7 @@ impl Refusal {
         ensures { IfOk result (λ t. t ≡ text_of self.now) }
     {
         match self {
-            Refusal::Usage => Text::new(
-                alloc,
-                "\
-usage: witx adapt PATH..
-       witx print PATH..
-       witx layouts PATH..
-       witx docs PATH..
-       witx polyfill NEW OLD [NEWMODULE OLDMODULE]..
-       witx sample N
-",
-            ),
+            Refusal::Usage(known) => usage_text(alloc, *known),
             Refusal::Source => Text::new(alloc, "witx: cannot read input\n"),
             Refusal::Bundle(error) => bundle_text(alloc, *error),
             Refusal::Command(report) => command_text(alloc, report.as_str()),
@@ -96,6 +89,18 @@ impl From<OutOfMemory> for Stop {
 
     fn from(_: OutOfMemory) -> Stop {
         Stop::OutOfMemory
+    }
+}
+
+impl From<InputError> for Stop {
+    ghost from_gives = { λ e s. s ≡ stop_of e };
+
+    fn from(error: InputError) -> Stop {
+        match error {
+            InputError::Source => Stop::Refused(Refusal::Source),
+            InputError::Bundle(error) => Stop::Refused(Refusal::Bundle(error)),
+            InputError::OutOfMemory => Stop::OutOfMemory,
+        }
     }
 }
 

@@ -1,5 +1,5 @@
 -- The laws of samples, of what their bundles mean.
-use Rattle.std.proofs.Common.{◌≡◌, ℕ, ◌+◌, ◌*◌, ◌%◌, ◌≤◌, Bool, true, false, ◌&&◌, ◌==◌, nat_le, if◌then◌else◌, List, [], ◌∷◌, ◌++◌, length, map, sum_by, Option, Some, None, Result, Ok, refl, sym, ap, ◌∙◌, subst, arith, codes, decimal}
+use Rattle.std.proofs.Common.{◌≡◌, ℕ, ◌+◌, ◌*◌, ◌%◌, ◌≤◌, Bool, true, false, ◌&&◌, ◌==◌, nat_le, if◌then◌else◌, List, [], ◌∷◌, ◌++◌, length, map, sum_by, Option, Some, None, Result, Ok, refl, ap, ◌∙◌, subst, arith, codes, decimal}
 use Rattle.std.specs.Str.Parse.{digits_value}
 use Rattle.std.proofs.lemmas.Bool.{and_parts, leb-true}
 use Rattle.std.proofs.lemmas.List.{length-map}
@@ -21,10 +21,10 @@ use Rattle.witx_sample.specs.Summaries.{event_count, size_in_bytes, summary_text
 use Rattle.witx_commands.specs.declared.words.Command.{Command}
 use Rattle.witx_commands.specs.declared.words.Command.TheVariants as command
 use Rattle.witx_commands.specs.declared.refusal.Refusal.TheVariants as refusal
-use Rattle.witx_commands.specs.Words.{is_printed_size, sample_of, polyfill_of, bundle_bytes, reads_source}
+use Rattle.witx_commands.specs.Words.{is_printed_size, sample_of, polyfill_of}
 use Rattle.witx_commands.specs.Adapting.{IsAdapted, IsParsed, Parses, defined}
 use Rattle.witx_commands.specs.Laws.{ValidIsNotRefused}
-use Rattle.witx_commands.specs.Causes.{FormRefuses, IsAdaptedText, IsOutput, Reads}
+use Rattle.witx_commands.specs.Causes.{IsAdaptedText, IsOutput}
 use Rattle.witx_sample_laws.specs.SampleLaws.{SamplesAreBundles, SamplesAreValid, SampleWordsHaveASize, SamplesAreNotRefused, SamplesAreSummedUp, sample_summary}
 use Rattle.witx_sample_laws.proofs.Counts.{IsSample, sample_adaptable, sample_layouts}
 use Rattle.witx_sample_laws.proofs.SampleFiles.{sample_read}
@@ -120,20 +120,12 @@ words-have-a-size (word ∷ arguments) n e =
 no_true : false ≡ true → ⊥
 no_true e = cc
 
-not_reading : (n : ℕ) → reads_source (Some (command.Sample n)) ≡ true → ⊥
-not_reading n e = no_true e
-
--- the bundle of a run of the command is the sample's
-bundle_of : (form : Option Command) (n : ℕ) (left : Option (List ℕ)) (files : Files) → form ≡ Some (command.Sample n) → Reads (bundle_bytes form left) (Ok files) → IsRead (sample_text n) (Ok files)
-bundle_of form n left files e r = subst (λ (f : Option Command). Reads (bundle_bytes f left) (Ok files)) e r
-
 pub samples-are-not-refused : ValidIsNotRefused → SamplesAreNotRefused
-samples-are-not-refused law i n e s refusal.Usage c = none_some (command.Sample n) (sym c.0 ∙ e)
-samples-are-not-refused law i n e s refusal.Source c = not_reading n (subst (λ (f : Option Command). reads_source f ≡ true) e c.0)
-samples-are-not-refused law i n e s (refusal.Bundle b) c = not_reading n (subst (λ (f : Option Command). reads_source f ≡ true) e c.0)
-samples-are-not-refused law i n e s (refusal.Command report) c =
-    let r = bundle_of i.form n _ c.1 e c.2 in
-    law (sample_text n) c.1 c.1 r r i.arguments (command.Sample n) report (samples-are-valid n s c.1 r i.arguments) (subst (λ (f : Option Command). FormRefuses f c.1 i.arguments report) e c.3)
+samples-are-not-refused law arguments source n s (refusal.Usage known) c = none_some known c.0
+samples-are-not-refused law arguments source n s refusal.Source c = no_true c.0
+samples-are-not-refused law arguments source n s (refusal.Bundle b) c = no_true c.0
+samples-are-not-refused law arguments source n s (refusal.Command report) c =
+    law (sample_text n) c.1 c.1 c.2 c.2 arguments (command.Sample n) report (samples-are-valid n s c.1 c.2 arguments) c.3
 
 -- ---- the summary
 
@@ -170,8 +162,6 @@ text_summed law n e files r text (Some a) o =
 
 pub samples-are-summed-up : OneAnswer → SamplesAreSummedUp
 unfolding IsOutput
-samples-are-summed-up law i n e s text notes adapted h =
-    let files = h.files in
-    let read = bundle_of i.form n _ files e h.bundle in
-    let output : IsOutput (Some (command.Sample n)) files i.arguments text notes adapted = subst (λ (f : Option Command). IsOutput f files i.arguments text notes adapted) e h.output in
-    (text_summed law n s files read text adapted output.1, output.0)
+samples-are-summed-up law arguments source n s text notes adapted h =
+    let output : IsOutput (Some (command.Sample n)) h.files arguments text notes adapted = h.output in
+    (text_summed law n s h.files h.bundle text adapted output.1, output.0)

@@ -9,7 +9,9 @@ use Rattle.witx_sample.specs.Samples.{is_size, sample_text}
 use Rattle.witx_commands.specs.declared.words.Command.TheVariants as command
 use Rattle.witx_commands.specs.declared.refusal.Refusal.{Refusal}
 use Rattle.witx_commands.specs.Words.{command_of}
-use Rattle.witx_commands.specs.Causes.{Cause, IsAnswered, IsValidFor, RunInput}
+use Rattle.witx_commands.specs.Causes.{IsValidFor}
+use Rattle.witx_commands.specs.Runs.{Cause, IsAnswered, RunInput, command_task}
+use Rattle.witx_commands.specs.Streams.{SourceSeen}
 
 -- its bytes are a bundle
 abbrev pub SamplesAreBundles : Type 0
@@ -24,9 +26,14 @@ SamplesAreValid = (n : ℕ) → is_size n ≡ true → (files : Files) → IsRea
 abbrev pub SampleWordsHaveASize : Type 0
 SampleWordsHaveASize = (words : List (List ℕ)) (n : ℕ) → command_of words ≡ Some (command.Sample n) → is_size n ≡ true
 
--- in a run of such a command no refusal has its cause
+-- what a run of such a command is given
+abbrev pub sample_input : ℕ → List (List ℕ) → SourceSeen → RunInput
+sample_input n arguments source = record { task = command_task (command.Sample n) arguments; source = source }
+
+-- in it no refusal has its cause
 abbrev pub SamplesAreNotRefused : Type 0
-SamplesAreNotRefused = (i : RunInput) (n : ℕ) → i.form ≡ Some (command.Sample n) → is_size n ≡ true → (r : Refusal) → Cause i r → ⊥
+SamplesAreNotRefused = (arguments : List (List ℕ)) (source : SourceSeen) (n : ℕ) → is_size n ≡ true
+    → (r : Refusal) → Cause (sample_input n arguments source) r → ⊥
 
 -- the summary: 2n + 1 typenames, n functions, 42n events and 40n + 2 bytes
 abbrev pub sample_summary : ℕ → List ℕ
@@ -36,5 +43,6 @@ sample_summary n =
 
 -- where such a run is answered, this is its text
 abbrev pub SamplesAreSummedUp : Type 0
-SamplesAreSummedUp = (i : RunInput) (n : ℕ) → i.form ≡ Some (command.Sample n) → is_size n ≡ true
-    → (text notes : List ℕ) (adapted : Option Adapted) → IsAnswered i text notes adapted → (text ≡ sample_summary n) × (notes ≡ [])
+SamplesAreSummedUp = (arguments : List (List ℕ)) (source : SourceSeen) (n : ℕ) → is_size n ≡ true
+    → (text notes : List ℕ) (adapted : Option Adapted) → IsAnswered (sample_input n arguments source) text notes adapted
+    → (text ≡ sample_summary n) × (notes ≡ [])

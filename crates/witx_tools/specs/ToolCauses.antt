@@ -1,7 +1,6 @@
 -- What a tool tells over the files of a bundle, and when it refuses them: where the file of its own is missing, else as `adapt`
 -- refuses the first document that can't be adapted, else by the tool's own refusals, a row for each tool.
-use Rattle.std.specs.Prelude.{◌≡◌, ◌⊎◌, ℕ, List, [], ◌∷◌, ◌++◌, map, Option, Some, None, Ok, Err, codes}
-use Rattle.std.specs.List.{flat_map}
+use Rattle.std.specs.Prelude.{◌≡◌, ◌⊎◌, ℕ, List, [], ◌∷◌, map, Option, Some, None, Ok}
 use Rattle.witx_base.specs.Paths.{Path}
 use Rattle.witx_files.specs.Files.{Files, held}
 use Rattle.witx_files.specs.declared.fault.IoFault.TheVariants.{NotFound}
@@ -15,16 +14,10 @@ use Rattle.witx_imports.specs.Faults.{offered}
 use Rattle.witx_imports.specs.Reads as list
 use Rattle.witx_imports.specs.declared.import.WasmImport.{WasmImport}
 use Rattle.witx_commands.specs.Adapting.{IsAdapted, Parses, defined}
-use Rattle.witx_commands.specs.Causes.{CanAdapt, CanMap, IsCause, Reads}
+use Rattle.witx_commands.specs.Causes.{CanAdapt, CanMap}
 use Rattle.witx_commands.specs.Mappings.{MeansBoth, mapping_of, module_names}
 use Rattle.witx_commands.specs.Reports.{AdaptingFails, MappingFails}
-use Rattle.witx_commands.specs.Streams.{BrokeOff, Finished, NoFault, SourceSeen, source_seen}
-use Rattle.witx_commands.specs.Texts.{line, usage_lines}
 use Rattle.witx_commands.specs.Words.{arguments_of, paths_of}
-use Rattle.witx_commands.specs.declared.refusal.Refusal.{Refusal}
-use Rattle.witx_commands.specs.declared.refusal.Refusal.TheVariants as refusal
-use Rattle.witx_commands.specs.declared.refusal.Stop.{Stop}
-use Rattle.witx_commands.specs.declared.refusal.Stop.TheVariants as stop
 use Rattle.witx_tools.specs.Calls.{CanCall, IsNamedText, NamedFails, entries_of, first_named}
 use Rattle.witx_tools.specs.ImportTexts.{IsBadList, faults_text}
 use Rattle.witx_tools.specs.ShimTexts.{shims_text}
@@ -32,19 +25,6 @@ use Rattle.witx_tools.specs.ToolWords.{adapted_files, behind_names, first_path, 
 use Rattle.witx_tools.specs.VerdictTexts.{IsUnfitListing, listed_for, verdicts_text}
 use Rattle.witx_tools.specs.declared.tool.Tool.{Tool}
 use Rattle.witx_tools.specs.declared.tool.Tool.TheVariants as tool
-
--- a line for each tool, behind those of the commands
-abbrev pub tool_lines : List (List ℕ)
-tool_lines =
-    codes "       witx shim NEW OLD [NEWMODULE OLDMODULE].."
-    ∷ codes "       witx verify LISTING PATH.."
-    ∷ codes "       witx invoke MODULE FUNC VALUES PATH.."
-    ∷ codes "       witx imports LIST PATH.."
-    ∷ []
-
--- what is told where the words have no form
-abbrev pub usage_text : List ℕ
-usage_text = flat_map line (usage_lines ++ tool_lines)
 
 -- the bundle holds a tool's own file, if it has one
 abbrev pub HoldsOwn : Option Path → Files → Type 0
@@ -160,33 +140,3 @@ IsOwnValid tool.Imports files arguments = (imports : List WasmImport) × ListRea
 unfoldable pub IsValidForTool : Tool → Files → List (List ℕ) → Type 0
 IsValidForTool t files arguments =
     HoldsOwn (own_file t arguments) files × CanAdaptAll files (adapted_files t arguments) × IsOwnValid t files arguments
-
--- what a run of a tool is given: the words behind the first, and its source
-pub record ToolInput : Type 0 where
-  pub tool : Tool
-  pub arguments : List (List ℕ)
-  pub source : SourceSeen
-
--- with a source, by what is told of it
-abbrev pub tool_input : {S : Type 0} → Tool → List (List ℕ) → (S → Option (List ℕ)) → (faults reads : S → ℕ) → (old new : S) → ToolInput
-tool_input t arguments left faults reads old new = record { tool = t; arguments = arguments; source = source_seen left faults reads old new }
-
--- what is so where a run of a tool refuses
-abbrev pub ToolCause : ToolInput → Refusal → Type 0
-ToolCause i refusal.Usage = ⊥
-ToolCause i refusal.Source = BrokeOff i.source
-ToolCause i (refusal.Bundle e) = NoFault i.source × IsCause e × Reads i.source.left (Err e)
-ToolCause i (refusal.Command report) = NoFault i.source × (files : Files) × Reads i.source.left (Ok files) × ToolRefuses i.tool files i.arguments report
-
--- why it has no text
-abbrev pub ToolStop : ToolInput → Stop → Type 0
-ToolStop i (stop.Refused r) = ToolCause i r
-ToolStop i stop.OutOfMemory = NoFault i.source
-
--- what is so where it has its text: the source was read to its end, there is a bundle, and the text is over its files
-pub record IsToolAnswered (i : ToolInput) (text : List ℕ) : Type 0 where
-  pub finished : Finished i.source.left i.source.left_after
-  pub no_fault : NoFault i.source
-  pub files : Files
-  pub bundle : Reads i.source.left (Ok files)
-  pub output : IsToolOutput i.tool files i.arguments text

@@ -1,52 +1,39 @@
--- What is so of a run of a tool: when it ends with which status, and what it has written then.
-use Rattle.std.specs.Prelude.{◌≡◌, ◌⊎◌, ℕ, List, [], Option, Some, Ok, Err}
-use Rattle.std.specs.Io.KnownBytes.{Appends}
-use Rattle.witx_base.specs.Causes.{Rose}
-use Rattle.witx_files.specs.Files.{Files}
-use Rattle.witx_bundle.specs.Bundles.{IsRead}
-use Rattle.witx_bundle.specs.declared.error.BundleError.{BundleError}
-use Rattle.witx_commands.specs.Causes.{IsCause, IsTold}
-use Rattle.witx_commands.specs.Streams.{BrokeOff, TookPrefix}
-use Rattle.witx_commands.specs.Texts.{IsRefused, status_of, text_of}
-use Rattle.witx_commands.specs.declared.refusal.Refusal.{Refusal}
-use Rattle.witx_tools.specs.ToolCauses.{IsToolAnswered, IsValidForTool, ToolCause, ToolInput, ToolRefuses}
+-- What the words of a tool ask for, and what all words ask of the program's top call: those of a command, those of a tool,
+-- and those of no form.
+use Rattle.std.specs.Prelude.{◌≡◌, ℕ, List, [], true, false, Option, Some, None}
+use Rattle.witx_commands.specs.Runs.{RunInput, Task, command_task, formless, run_input}
+use Rattle.witx_commands.specs.Words.{arguments_of, command_of}
+use Rattle.witx_commands.specs.declared.forms.Forms.TheVariants as forms
+use Rattle.witx_commands.specs.declared.words.Command.{Command}
+use Rattle.witx_tools.specs.ToolCauses.{IsToolOutput, IsValidForTool, ToolRefuses}
+use Rattle.witx_tools.specs.ToolWords.{tool_of}
+use Rattle.witx_tools.specs.declared.tool.Tool.{Tool}
 
--- a sink before and after a run: which bytes it has taken, where it tells them, and its count of faults
-pub record SinkSeen : Type 0 where
-  pub taken : Option (List ℕ)
-  pub taken_after : Option (List ℕ)
-  pub before : ℕ
-  pub now : ℕ
+-- it reads its source, notes nothing, and lists no adapted document
+abbrev pub tool_task : Tool → List (List ℕ) → Task
+tool_task t arguments = record {
+  no_form = None;
+  reading = true;
+  noting = false;
+  adapting = false;
+  adapted_paths = [];
+  adapted_text = λ a. [];
+  bundle = λ left. left;
+  Tells = λ files text notes adapted. (notes ≡ []) × (adapted ≡ None) × IsToolOutput t files arguments text;
+  Refuses = λ files report. ToolRefuses t files arguments report;
+  IsValid = λ files. IsValidForTool t files arguments;
+}
 
--- by what is told of it
-abbrev pub seen : {K : Type 0} → (K → Option (List ℕ)) → (K → ℕ) → (old new : K) → SinkSeen
-seen taken faults old new = record { taken = taken old; taken_after = taken new; before = faults old; now = faults new }
+abbrev pub any_task : Option Command → Option Tool → List (List ℕ) → Task
+any_task (Some c) t arguments = command_task c arguments
+any_task None (Some t) arguments = tool_task t arguments
+any_task None None arguments = formless forms.All
 
--- it took this whole text, and a part of it from its front
-abbrev pub Took : SinkSeen → List ℕ → Type 0
-Took s text = Appends s.taken s.taken_after text
+-- WHAT WORDS ASK OF `run_all`
+abbrev pub task_of_all : List (List ℕ) → Task
+task_of_all words = any_task (command_of words) (tool_of words) (arguments_of words)
 
-abbrev pub TookFront : SinkSeen → List ℕ → Type 0
-TookFront s text = TookPrefix s.taken s.taken_after text
-
--- The status and the two sinks of a run; `out_kept` and `err_kept` say that a sink wasn't touched.
-pub record IsToolRun (i : ToolInput) (status : ℕ) (out err : SinkSeen) (out_kept err_kept : Type 0) : Type 0 where
-  -- 0: it has read the source to its end, and written the tool's whole text
-  pub done : status ≡ 0 → (text : List ℕ) × IsToolAnswered i text × Took out text × err_kept
-  -- a status with which something is told: its refusal has its cause, and its text is written
-  pub told : IsTold status → (r : Refusal) × (status_of r ≡ status) × ToolCause i r × Took err (text_of r) × out_kept
-  -- the bytes are no bundle
-  pub no_bundle : (bytes : List ℕ) (e : BundleError) → i.source.left ≡ Some bytes → IsCause e → IsRead bytes (Err e) → (BrokeOff i.source → ⊥)
-      → IsRefused 6 status
-  -- the tool refuses the files
-  pub refused : (bytes : List ℕ) (files : Files) (report : List ℕ) → i.source.left ≡ Some bytes → IsRead bytes (Ok files)
-      → ToolRefuses i.tool files i.arguments report → (BrokeOff i.source → ⊥) → IsRefused 1 status
-  -- the files are valid, and no device fails
-  pub complete : (bytes : List ℕ) (files : Files) → i.source.left ≡ Some bytes → IsRead bytes (Ok files) → IsValidForTool i.tool files i.arguments
-      → (BrokeOff i.source → ⊥) → (Rose out.before out.now → ⊥) → (status ≡ 0) ⊎ (status ≡ 5)
-  -- none of the refusals has its cause, and no device fails
-  pub unrefused : ((r : Refusal) → ToolCause i r → ⊥) → (Rose out.before out.now → ⊥) → (status ≡ 0) ⊎ (status ≡ 5)
-  -- 4: the one sink for which there is a text holds a prefix of it
-  pub unwritten : status ≡ 4 →
-      (Rose out.before out.now × err_kept × (text : List ℕ) × IsToolAnswered i text × TookFront out text × (text ≡ [] → ⊥))
-      ⊎ (Rose err.before err.now × out_kept × (r : Refusal) × ToolCause i r × TookFront err (text_of r))
+-- with a source, by what is told of it
+abbrev pub input_of_all : {S : Type 0} → List (List ℕ) → (S → Option (List ℕ)) → (faults reads : S → ℕ) → (old new : S)
+    → RunInput
+input_of_all words left faults reads old new = run_input (task_of_all words) left faults reads old new

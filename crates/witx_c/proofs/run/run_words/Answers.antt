@@ -4,30 +4,11 @@ use Rattle.witx_c.proofs.run.run_words.Goals as goal
 
 pub returns : goal.returns
 returns c =
-    let e = c.run_all-ran.ensures in
     let new = c.run_all-ran.new in
     run-kept c.args.words.now c.args.input.now c.run_all-ran.result.status c.run_all-ran.result.adapted c.new-source.result.rest.now (Some new.source.rest.now) c.new-source.result.reads new.source.reads
     c.new-out.result.bytes.items new.out.bytes.items c.new-err.result.bytes.items new.err.bytes.items
     c.new-out.result.faults new.out.faults c.new-err.result.faults new.err.faults
-    (new.out ≡ c.new-out.result) (new.err ≡ c.new-err.result) c.into_bytes.result.items c.into_bytes-2.result.items
+    (new.source ≡ c.new-source.result) (new.out ≡ c.new-out.result) (new.err ≡ c.new-err.result) c.into_bytes.result.items c.into_bytes-2.result.items
     c.new-source.ensures.bytes c.new-source.ensures.reads c.new-out.ensures.bytes c.new-err.ensures.bytes c.new-out.ensures.faults c.new-err.ensures.faults
-    (record {
-      done = e.done;
-      listing = e.listing;
-      document = e.document;
-      functions = e.functions;
-      layouts = e.layouts;
-      faithful = e.faithful;
-      listed = e.listed;
-      told = e.told;
-      no_bundle = e.no_bundle;
-      complete = e.complete;
-      refused = e.refused;
-      tool = e.tool;
-      usage = e.usage;
-      usage_told = e.usage_told;
-      out_failed = e.out_failed;
-      err_failed = e.err_failed;
-      no_memory = e.no_memory;
-    })
-    (λ k. ap (λ s. s.bytes.items) k) (λ k. ap (λ s. s.bytes.items) k) c.if-status-eq-UNWRITTEN.false c.into_bytes.ensures c.into_bytes-2.ensures
+    c.run_all-ran.ensures
+    (λ k. ap (λ s. s.reads) k) (λ k. ap (λ s. s.bytes.items) k) (λ k. ap (λ s. s.bytes.items) k) c.if-status-eq-UNWRITTEN.false c.into_bytes.ensures c.into_bytes-2.ensures

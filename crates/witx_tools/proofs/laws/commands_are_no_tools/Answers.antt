@@ -1,4 +1,4 @@
-use Rattle.witx_tools.proofs.Words.{commands-are-no-tools}
+use Rattle.witx_tools.proofs.NoTools.{commands-are-no-tools}
 use Rattle.witx_tools.proofs.laws.commands_are_no_tools.Goals as goal
 
 pub returns : goal.returns

@@ -1,6 +1,6 @@
 -- No words are both a command's and a tool's.
-use Rattle.std.specs.Prelude.{◌≡◌, ℕ, List, [], ◌∷◌, Bool, true, false, Option, Some, None, codes, is_some, if◌then◌else◌}
-use Rattle.std.proofs.Common.{refl, sym, ap, ◌∙◌, subst}
+use Rattle.std.specs.Prelude.{◌≡◌, ℕ, List, [], ◌∷◌, Bool, true, false, Option, Some, None, codes, if◌then◌else◌}
+use Rattle.std.proofs.Common.{refl, subst}
 use Rattle.witx_base.proofs.Names.{same-equal}
 use Rattle.witx_base.specs.Texts.{same_text}
 use Rattle.witx_commands.specs.Words.{command_called, command_of}
@@ -43,17 +43,3 @@ commands-are-no-tools (word ∷ arguments) c e =
     (past word (codes "verify") arguments c (with_own_file tool.Verify arguments) _ e (no-verify arguments c)
     (past word (codes "invoke") arguments c (invoke_of arguments) _ e (no-invoke arguments c)
     (past word (codes "imports") arguments c (with_own_file tool.Imports arguments) None e (no-imports arguments c) refl)))
-
--- where the words have the form of a command they have none of a tool
-no-tool-of : (words : List (List ℕ)) (form : Option Command) (t : Tool) → command_of words ≡ form → is_some form ≡ true → tool_of words ≡ Some t → ⊥
-no-tool-of words None t e i h = cc
-no-tool-of words (Some c) t e i h = let none : tool_of words ≡ None = commands-are-no-tools words c e in cc
-
-pub no-tool : (words : List (List ℕ)) (t : Tool) → is_some (command_of words) ≡ true → tool_of words ≡ Some t → ⊥
-no-tool words t i h = no-tool-of words (command_of words) t refl i h
-
--- where the words have no form of a command
-pub no-command : (words : List (List ℕ)) (c : Command) → is_some (command_of words) ≡ false → command_of words ≡ Some c → ⊥
-no-command words c i h = let none : is_some (Some c) ≡ false = ap is_some (sym h) ∙ i in cc
-
-pub ruleset word_rules = (no-tool, no-command)
