@@ -130,7 +130,7 @@ impl Domain for ByteDomain {
         ty: &Rc<NamedType>,
         value: Value,
     ) -> Result<Option<Word>, OutOfMemory> {
-        let given = put(memory, ty, &value);
+        let given = put(memory, self.alloc, ty, &value);
         drop(value);
         match given? {
             Some(at) => Ok(Some(i32_word(at))),
@@ -154,9 +154,9 @@ impl Domain for ByteDomain {
         word: &Word,
         value: Value,
     ) -> Result<bool, OutOfMemory> {
-        let stored = store(memory, ty, *word, &value);
+        let stored = store(memory, self.alloc, ty, *word, &value);
         drop(value);
-        Ok(stored)
+        stored
     }
 
     fn picks(

@@ -14,7 +14,7 @@ use crate::error::ValuesError;
 use crate::line::read_line;
 use std::alloc::Global;
 use witx_ast::{InterfaceFunc, InterfaceFuncParam, TypeRef};
-use witx_bytes::{ReadError, Value, Values};
+use witx_bytes::{ReadError, Value, Values, is_within_reach};
 
 /// The values of one call.
 #[derive(PartialEq, Eq, Debug, Drop)]
@@ -29,7 +29,8 @@ pub struct GivenValues {
 /// the text of a value of its type, ended by a line feed.
 ///
 /// Asked of a function with at most one result, whose types fit their tags. Refused as `Line` for the first
-/// line that isn't the text of a value of its type, or is one too many or missing.
+/// line that isn't the text of a value of its type, or is one too many or missing. Want of memory also where the
+/// function's types go beyond reach (`is_within_reach`).
 pub fn read_values(
     alloc: Global,
     func: &InterfaceFunc,
@@ -40,6 +41,9 @@ pub fn read_values(
     ensures given { IfOk result (λ given. Gives (function_of (func_tree func.now)) text.now (map seen given.args) (option_map seen given.reply)) }
     ensures line { (n : ℕ) → result ≡ Err (ValuesError.Line n) → FirstFault 1 (types_of (function_of (func_tree func.now))) text.now n }
 {
+    if !is_within_reach(func) {
+        return Err(ValuesError::OutOfMemory);
+    }
     let params = func.params.as_slice();
     let (args, rest) = read_lines(alloc, params, 0, text.as_bytes())?;
     let (replies, rest) = read_lines(alloc, func.results.as_slice(), params.len(), rest)?;

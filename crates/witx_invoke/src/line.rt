@@ -10,7 +10,7 @@ ghost use Rattle.witx_call.specs.Lines.{IsLine, NoLine};
 use crate::read::read_type;
 use std::alloc::Global;
 use witx_ast::TypeRef;
-use witx_bytes::{ReadError, Value};
+use witx_bytes::{DEEPEST, ReadError, Value};
 use witx_call::behind_line;
 
 /// The value whose line the text begins with, and what follows the line.
@@ -23,7 +23,7 @@ pub(crate) fn read_line<'a>(
     ensures read { IfOk result (λ p. IsLine (tree_of ty.now) text.now (seen p.0) p.1.now) }
     ensures none { result ≡ Err ReadError.NoValue → NoLine (tree_of ty.now) text.now }
 {
-    let (value, _behind) = read_type(alloc, ty, text)?;
+    let (value, _behind) = read_type(alloc, ty, text, DEEPEST)?;
     match behind_line(alloc, ty, &value, text)? {
         Some(rest) => Ok((value, rest)),
         None => {

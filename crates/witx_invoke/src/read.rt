@@ -20,20 +20,21 @@ use witx_ast::{
 };
 use witx_bytes::{ReadError, Value, Values, are_bare, boxed};
 
-/// The value at the head, and what follows it.
+/// The value at the head, and what follows it, where the type has at most so many levels; else want of memory.
 #[cycle(reading)]
 #[tactic(auto, using(crate::proofs::ReadTypes::type_rules))]
 pub(crate) fn read_type<'a>(
     alloc: Global,
     ty: &TypeRef,
     text: &'a [u8],
+    deep: u32,
 ) -> Result<(Value, &'a [u8]), ReadError>
     ensures { Reads (taken seen) (type_at (plain (tree_of ty.now)) text.now) result }
 {
-    match ty {
-        TypeRef::Name(named) => read_type(alloc, &named.tref, text),
-        TypeRef::Value(datatype) => read_datatype(alloc, datatype, text),
+    if deep == 0 {
+        return Err(ReadError::OutOfMemory);
     }
+    read_datatype(alloc, ty.type_(), text, deep - 1)
 }
 
 #[cycle(reading)]
@@ -42,12 +43,13 @@ fn read_datatype<'a>(
     alloc: Global,
     datatype: &Datatype,
     text: &'a [u8],
+    deep: u32,
 ) -> Result<(Value, &'a [u8]), ReadError>
     ensures { Reads (taken seen) (type_at (plain (datatype_tree datatype.now)) text.now) result }
 {
     match datatype {
-        Datatype::Record(record) => read_record(alloc, record, text),
-        Datatype::Variant(variant) => read_variant(alloc, variant, text),
+        Datatype::Record(record) => read_record(alloc, record, text, deep),
+        Datatype::Variant(variant) => read_variant(alloc, variant, text, deep),
         Datatype::Handle(_) => read_handle(text),
         Datatype::List(target) => read_list(target, text),
         Datatype::Pointer(target) => read_pointer(target, text),
@@ -62,14 +64,15 @@ fn read_record<'a>(
     alloc: Global,
     record_type: &RecordDatatype,
     text: &'a [u8],
+    deep: u32,
 ) -> Result<(Value, &'a [u8]), ReadError>
     ensures { Reads (taken seen) (type_at (plain (record_tree record_type.now)) text.now) result }
 {
     let members = record_type.members.as_slice();
     match record_type.kind {
         RecordKind::Bitflags(_) => read_bits(alloc, members, text),
-        RecordKind::Tuple => read_tuple(alloc, members, text),
-        RecordKind::Other => read_other(alloc, members, text),
+        RecordKind::Tuple => read_tuple(alloc, members, text, deep),
+        RecordKind::Other => read_other(alloc, members, text, deep),
     }
 }
 
@@ -90,10 +93,11 @@ fn read_tuple<'a>(
     alloc: Global,
     members: &[RecordMember],
     text: &'a [u8],
+    deep: u32,
 ) -> Result<(Value, &'a [u8]), ReadError>
     ensures { Reads (taken seen) (type_at (record_of RecordKind.Tuple (members_plain members.now)) text.now) result }
 {
-    let (values, rest) = read_enclosed(alloc, members, text)?;
+    let (values, rest) = read_enclosed(alloc, members, text, deep)?;
     Ok((Value::Tuple(values), rest))
 }
 
@@ -103,10 +107,11 @@ fn read_other<'a>(
     alloc: Global,
     members: &[RecordMember],
     text: &'a [u8],
+    deep: u32,
 ) -> Result<(Value, &'a [u8]), ReadError>
     ensures { Reads (taken seen) (type_at (record_of RecordKind.Other (members_plain members.now)) text.now) result }
 {
-    let (values, rest) = read_enclosed(alloc, members, text)?;
+    let (values, rest) = read_enclosed(alloc, members, text, deep)?;
     Ok((Value::Rec(values), rest))
 }
 
@@ -117,13 +122,14 @@ fn read_enclosed<'a>(
     alloc: Global,
     members: &[RecordMember],
     text: &'a [u8],
+    deep: u32,
 ) -> Result<(Values, &'a [u8]), ReadError>
     ensures { Reads (taken values_seen) (option_and_then (closed 41) (option_and_then (members_at 0 (members_plain members.now)) (after 40 text.now))) result }
 {
     let Some(inside) = after(b'(', text) else {
         return Err(ReadError::NoValue);
     };
-    let (values, rest) = read_members(alloc, members, inside)?;
+    let (values, rest) = read_members(alloc, members, inside, deep)?;
     let Some(rest) = after(b')', rest) else {
         drop(values);
         return Err(ReadError::NoValue);
@@ -138,13 +144,14 @@ fn read_members<'a>(
     alloc: Global,
     members: &[RecordMember],
     text: &'a [u8],
+    deep: u32,
 ) -> Result<(Values, &'a [u8]), ReadError>
     ensures { Reads (taken values_seen) (members_at 0 (members_plain members.now) text.now) result }
 {
     let mut values = Values::new(alloc);
     let mut rest = text;
     for i in 0..members.len() {
-        let (value, more) = read_member(alloc, i, &members[i].tref, rest)?;
+        let (value, more) = read_member(alloc, i, &members[i].tref, rest, deep)?;
         values.push(value)?;
         rest = more;
     }
@@ -159,13 +166,14 @@ fn read_member<'a>(
     item: usize,
     ty: &TypeRef,
     text: &'a [u8],
+    deep: u32,
 ) -> Result<(Value, &'a [u8]), ReadError>
     ensures { Reads (taken seen) (option_and_then (type_at (plain (tree_of ty.now))) (item_at item text.now)) result }
 {
     let Some(start) = item_start(item, text) else {
         return Err(ReadError::NoValue);
     };
-    read_type(alloc, ty, start)
+    read_type(alloc, ty, start, deep)
 }
 
 #[cycle(reading)]
@@ -174,10 +182,11 @@ fn read_variant<'a>(
     alloc: Global,
     variant: &Variant,
     text: &'a [u8],
+    deep: u32,
 ) -> Result<(Value, &'a [u8]), ReadError>
     ensures { Reads (taken seen) (type_at (plain (variant_tree variant.now)) text.now) result }
 {
-    read_cases(alloc, variant.cases.as_slice(), text)
+    read_cases(alloc, variant.cases.as_slice(), text, deep)
 }
 
 /// A case: `#` and its number, and in parentheses with its payload if it has one.
@@ -187,6 +196,7 @@ fn read_cases<'a>(
     alloc: Global,
     cases: &[Case],
     text: &'a [u8],
+    deep: u32,
 ) -> Result<(Value, &'a [u8]), ReadError>
     ensures { Reads (taken seen) (cases_at (all_bare (cases_plain cases.now)) (payload_at (cases_plain cases.now)) text.now) result }
 {
@@ -194,7 +204,7 @@ fn read_cases<'a>(
         return read_enum(text);
     }
     match after(b'(', text) {
-        Some(inside) => read_carrying(alloc, cases, inside),
+        Some(inside) => read_carrying(alloc, cases, inside, deep),
         None => read_bare(text),
     }
 }
@@ -206,6 +216,7 @@ fn read_carrying<'a>(
     alloc: Global,
     cases: &[Case],
     text: &'a [u8],
+    deep: u32,
 ) -> Result<(Value, &'a [u8]), ReadError>
     ensures { (s : List ℕ) → Reads (taken seen) (case_behind (Some text.now) (payload_at (cases_plain cases.now)) s) result }
 {
@@ -215,7 +226,7 @@ fn read_carrying<'a>(
     let Some(start) = after(b' ', behind) else {
         return Err(ReadError::NoValue);
     };
-    let (payload, rest) = read_payload(alloc, cases, case, start)?;
+    let (payload, rest) = read_payload(alloc, cases, case, start, deep)?;
     let boxed = boxed(alloc, payload)?;
     let Some(rest) = after(b')', rest) else {
         drop(boxed);
@@ -232,6 +243,7 @@ fn read_payload<'a>(
     cases: &[Case],
     case: u32,
     text: &'a [u8],
+    deep: u32,
 ) -> Result<(Value, &'a [u8]), ReadError>
     ensures { Reads (taken seen) (payload_at (cases_plain cases.now) case text.now) result }
 {
@@ -239,7 +251,7 @@ fn read_payload<'a>(
         return Err(ReadError::NoValue);
     }
     match &cases[case as usize].tref {
-        Some(ty) => read_type(alloc, ty, text),
+        Some(ty) => read_type(alloc, ty, text, deep),
         None => Err(ReadError::NoValue),
     }
 }

@@ -6,6 +6,7 @@ ghost use Rattle.witx_ast.specs.Views.{tree_of, named_tree};
 ghost use Rattle.witx_machine.specs.Words.{i32 as word_i32, when};
 ghost use Rattle.witx_bytes.specs.ByteMachine.{has_room as is_room};
 ghost use Rattle.witx_bytes.specs.Bytes.{held};
+ghost use Rattle.witx_bytes.specs.Laids.{IsLaid};
 ghost use Rattle.witx_bytes.specs.Seen.{seen};
 ghost use Rattle.witx_invoke.specs.Placing.{is_writable as fits_there, placing};
 ghost use Rattle.witx_call.specs.PlacementViews.{room_of};
@@ -13,29 +14,49 @@ ghost use Rattle.witx_call.specs.WordViews.{word_of};
 
 use crate::kinds::is_by_address;
 use crate::word_parts::i32_number;
+use std::alloc::Global;
 use std::rc::Rc;
 use witx_ast::{NamedType, TypeRef};
 use witx_base::OutOfMemory;
-use witx_bytes::{ByteMemory, Value, is_value, writable, write_value};
+use witx_bytes::{ByteMemory, Laid, Value, is_value, lay_out, writable, write_laid};
 use witx_call::{Placement, Word};
 use witx_layout::Layout;
 
 /// Puts a value of a type at an address where there is room for it, and answers whether it did.
 #[tactic(auto, using(crate::proofs::StoreLemmas::storing_rules))]
-pub(crate) fn store(placement: &mut Placement, ty: &NamedType, word: Word, value: &Value) -> bool
-    ensures { when result (Some (room_of placement.new)) ≡ placing.set (named_tree ty.now) (word_of word) (seen value.now) (room_of placement.old) }
+pub(crate) fn store(
+    placement: &mut Placement,
+    alloc: Global,
+    ty: &NamedType,
+    word: Word,
+    value: &Value,
+) -> Result<bool, OutOfMemory>
+    ensures { IfOk result (λ stored. when stored (Some (room_of placement.new))
+        ≡ placing.set (named_tree ty.now) (word_of word) (seen value.now) (room_of placement.old)) }
 {
     let Some(at) = i32_number(word) else {
-        return false;
+        return Ok(false);
     };
     if !has_room(&placement.bytes, at, &ty.tref) {
-        return false;
+        return Ok(false);
     }
     if !is_writable(&ty.tref, value) {
-        return false;
+        return Ok(false);
     }
-    write_value(&mut placement.bytes, at, &ty.tref, value);
-    true
+    let laid = layout_of(alloc, &ty.tref)?;
+    write_laid(&mut placement.bytes, at, &ty.tref, &laid, value);
+    drop(laid);
+    Ok(true)
+}
+
+/// The layout of a type that has room, which isn't too large then, with those of its parts.
+fn layout_of(alloc: Global, ty: &TypeRef) -> Result<Laid, OutOfMemory>
+    ensures { IfOk result (λ laid. IsLaid (plain (tree_of ty.now)) laid) }
+{
+    match lay_out(alloc, ty) {
+        Ok(laid) => Ok(laid),
+        Err(_) => Err(OutOfMemory),
+    }
 }
 
 /// Whether it is a value of the type, which fits its tags.
@@ -60,6 +81,7 @@ fn has_room(memory: &ByteMemory, at: u32, ty: &TypeRef) -> bool
 /// it isn't a value of the type, and where there is no room.
 pub(crate) fn put(
     placement: &mut Placement,
+    alloc: Global,
     ty: &Rc<NamedType>,
     value: &Value,
 ) -> Result<Option<u32>, OutOfMemory>
@@ -74,7 +96,10 @@ pub(crate) fn put(
     }
     match placement.give(ty)? {
         Some(at) => {
-            write_value(&mut placement.bytes, at, &ty.tref, value);
+            let tref = &ty.tref;
+            let laid = layout_of(alloc, tref)?;
+            write_laid(&mut placement.bytes, at, tref, &laid, value);
+            drop(laid);
             Ok(Some(at))
         }
         None => Ok(None),

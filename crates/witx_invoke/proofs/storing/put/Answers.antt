@@ -24,25 +24,25 @@ returns-then-not-is_writable c =
     let refused : is_writable (plain (tree_of c.args.ty.now.value.tref)) (seen c.args.value.now) ≡ false = search rules in
     not-fit c.args.ty.now.value (seen c.args.value.now) (room_of c.args.placement.now) passed refused
 
-pub write_value-requires-clause-value : goal.write_value-requires-clause-value
-write_value-requires-clause-value c =
+pub write_laid-requires-clause-value : goal.write_laid-requires-clause-value
+write_laid-requires-clause-value c =
     let fine : is_writable (plain (tree_of c.deref-in-Some.result.now.tref)) (seen c.args.value.now) ≡ true = search rules in
     is-one (plain (tree_of c.deref-in-Some.result.now.tref)) (seen c.args.value.now) fine
 
-pub write_value-requires-clause-room : goal.write_value-requires-clause-room
-write_value-requires-clause-room c =
+pub write_laid-requires-clause-room : goal.write_laid-requires-clause-room
+write_laid-requires-clause-room c =
     let got : Some (i32 c.in-Some.at, room_of c.give.new.self) ≡ given (named_tree c.args.ty.now.value) (room_of c.args.placement.now) = search rules in
     let room = room-named c.args.ty.now.value (room_of c.args.placement.now) c.in-Some.at (room_of c.give.new.self) got in
     search (rules, room)
 
-pub returns-in-Some : goal.returns-in-Some
-returns-in-Some c =
+pub returns-in_ok-laid-in-Some : goal.returns-in_ok-laid-in-Some
+returns-in_ok-laid-in-Some c =
     let passed : by_address (plain (tree_of c.args.ty.now.value.tref)) ≡ true = search rules in
     let fine : is_writable (plain (tree_of c.args.ty.now.value.tref)) (seen c.args.value.now) ≡ true = search rules in
     let got : Some (i32 c.in-Some.at, room_of c.give.new.self) ≡ given (named_tree c.args.ty.now.value) (room_of c.args.placement.now) = search rules in
     let same : c.deref-in-Some.result.now ≡ c.args.ty.now.value = search rules in
-    put-there c.args.ty.now.value (seen c.args.value.now) (room_of c.args.placement.now) passed fine c.in-Some.at (room_of c.give.new.self) (held c.write_value.new.memory) got
-    (λ x. c.write_value.ensures x ∙ ap (λ n. written c.in-Some.at (image (plain (tree_of n.tref)) (seen c.args.value.now)) (held c.give.new.self.bytes) x) same)
+    put-there c.args.ty.now.value (seen c.args.value.now) (room_of c.args.placement.now) passed fine c.in-Some.at (room_of c.give.new.self) (held c.write_laid.new.memory) got
+    (λ x. c.write_laid.ensures x ∙ ap (λ n. written c.in-Some.at (image (plain (tree_of n.tref)) (seen c.args.value.now)) (held c.give.new.self.bytes) x) same)
 
 pub returns-in-None : goal.returns-in-None
 returns-in-None c =

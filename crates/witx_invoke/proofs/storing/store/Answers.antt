@@ -23,8 +23,8 @@ returns-then-not-is_writable c =
     let refused : is_writable (plain (tree_of c.args.ty.now.tref)) (seen c.args.value.now) ≡ false = search rules in
     unfit c.args.ty.now (word_of c.args.word) (seen c.args.value.now) (room_of c.args.placement.now) c.in-Some.at number room refused
 
-pub write_value-requires-clause-writable : goal.write_value-requires-clause-writable
-write_value-requires-clause-writable c =
+pub write_laid-requires-clause-writable : goal.write_laid-requires-clause-writable
+write_laid-requires-clause-writable c =
     let fine : is_writable (plain (tree_of c.args.ty.now.tref)) (seen c.args.value.now) ≡ true = search rules in
     is-fit (plain (tree_of c.args.ty.now.tref)) (seen c.args.value.now) fine
 
@@ -33,4 +33,4 @@ returns c =
     let number : Some c.in-Some.at ≡ u32_in (word_of c.args.word) = search rules in
     let room : has_room (plain (tree_of c.args.ty.now.tref)) c.in-Some.at (held c.args.placement.now.bytes) ≡ true = search rules in
     let fine : is_writable (plain (tree_of c.args.ty.now.tref)) (seen c.args.value.now) ≡ true = search rules in
-    stored c.args.ty.now (word_of c.args.word) (seen c.args.value.now) (room_of c.args.placement.now) c.in-Some.at number (held c.write_value.new.memory) room fine c.write_value.ensures
+    stored c.args.ty.now (word_of c.args.word) (seen c.args.value.now) (room_of c.args.placement.now) c.in-Some.at number (held c.write_laid.new.memory) room fine c.write_laid.ensures
