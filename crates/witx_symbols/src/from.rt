@@ -2,8 +2,8 @@
 
 ghost use Rattle.std.specs.Prelude.{◌≡◌, IfOk, map};
 ghost use Rattle.witx_ast.specs.Plain.{plain};
-ghost use Rattle.witx_ast.specs.Views.{tree_of, members_plain};
-ghost use Rattle.witx_symbols.specs.Symbols.{argument, atom, part, symbol_from, parts_from};
+ghost use Rattle.witx_ast.specs.Views.{tree_of, datatype_tree, members_plain};
+ghost use Rattle.witx_symbols.specs.Symbols.{argument, atom, part, tuple, symbol_from, parts_from};
 ghost use Rattle.witx_symbols.specs.Verdicts.{arguments_from};
 ghost use Rattle.witx_symbols.specs.SymbolViews.{source_of, symbols_read};
 ghost use Rattle.witx_symbols.specs.WordViews.{shared_of, shared_symbols};
@@ -24,32 +24,53 @@ pub fn symbol_from(
 ) -> Result<Rc<Symbol>, OutOfMemory>
     ensures { IfOk result (λ made. shared_of made ≡ symbol_from (plain (tree_of ty.now)) (source_of source.now.value)) }
 {
-    match ty {
-        TypeRef::Name(named) => symbol_from(alloc, &named.tref, source),
-        TypeRef::Value(datatype) => match &**datatype {
-            Datatype::Record(members) => {
-                if members.is_tuple() {
-                    let parts = parts_from(alloc, members.members.as_slice(), source)?;
-                    Ok(Rc::new(alloc, Symbol::Tuple(parts))?)
-                } else {
-                    atom_from(alloc, ty, source)
-                }
-            }
-            Datatype::Variant(_)
-            | Datatype::Handle(_)
-            | Datatype::List(_)
-            | Datatype::Pointer(_)
-            | Datatype::ConstPointer(_)
-            | Datatype::Builtin(_) => atom_from(alloc, ty, source),
-        },
+    let mut tref = ty;
+    loop {
+        match tref {
+            TypeRef::Name(named) => tref = &named.tref,
+            TypeRef::Value(datatype) => return written_from(alloc, datatype, source),
+        }
     }
 }
 
+/// The same of a type that is written out.
+#[cycle(from)]
 #[tactic(auto, using(crate::proofs::FromLemmas::from_rules))]
-fn atom_from(alloc: Global, ty: &TypeRef, source: &Rc<Source>) -> Result<Rc<Symbol>, OutOfMemory>
-    ensures { IfOk result (λ made. shared_of made ≡ atom (source_of source.now.value) (plain (tree_of ty.now))) }
+fn written_from(
+    alloc: Global,
+    datatype: &Rc<Datatype>,
+    source: &Rc<Source>,
+) -> Result<Rc<Symbol>, OutOfMemory>
+    ensures { IfOk result (λ made. shared_of made ≡ symbol_from (plain (datatype_tree datatype.now.value)) (source_of source.now.value)) }
 {
-    let ty = ty.clone()?;
+    match &**datatype {
+        Datatype::Record(members) => {
+            if members.is_tuple() {
+                let parts = parts_from(alloc, members.members.as_slice(), source)?;
+                tuple_of(alloc, parts)
+            } else {
+                atom_from(alloc, datatype, source)
+            }
+        }
+        Datatype::Variant(_)
+        | Datatype::Handle(_)
+        | Datatype::List(_)
+        | Datatype::Pointer(_)
+        | Datatype::ConstPointer(_)
+        | Datatype::Builtin(_) => atom_from(alloc, datatype, source),
+    }
+}
+
+#[inline(never)]
+#[tactic(auto, using(crate::proofs::FromLemmas::from_rules))]
+fn atom_from(
+    alloc: Global,
+    datatype: &Rc<Datatype>,
+    source: &Rc<Source>,
+) -> Result<Rc<Symbol>, OutOfMemory>
+    ensures { IfOk result (λ made. shared_of made ≡ atom (source_of source.now.value) (plain (datatype_tree datatype.now.value))) }
+{
+    let ty = TypeRef::Value(Rc::clone(datatype)?);
     let source = Rc::clone(source)?;
     Ok(Rc::new(alloc, Symbol::Atom { source, ty })?)
 }
@@ -80,9 +101,26 @@ fn part_from(
 ) -> Result<Rc<Symbol>, OutOfMemory>
     ensures { IfOk result (λ made. shared_of made ≡ symbol_from (plain (tree_of member.now.tref)) (part (source_of whole.now.value) place)) }
 {
-    let whole = Rc::clone(whole)?;
-    let source = Rc::new(alloc, Source::Part { whole, place })?;
+    let source = part_source(alloc, whole, place)?;
     symbol_from(alloc, &member.tref, &source)
+}
+
+// What needs room on the stack but once stands apart from what recurses.
+#[inline(never)]
+#[tactic(auto, using(crate::proofs::FromLemmas::from_rules))]
+fn tuple_of(alloc: Global, parts: Symbols) -> Result<Rc<Symbol>, OutOfMemory>
+    ensures { IfOk result (λ made. shared_of made ≡ tuple (symbols_read parts)) }
+{
+    Ok(Rc::new(alloc, Symbol::Tuple(parts))?)
+}
+
+#[inline(never)]
+#[tactic(auto, using(crate::proofs::FromLemmas::from_rules))]
+fn part_source(alloc: Global, whole: &Rc<Source>, place: usize) -> Result<Rc<Source>, OutOfMemory>
+    ensures { IfOk result (λ made. source_of made.value ≡ part (source_of whole.now.value) place) }
+{
+    let whole = Rc::clone(whole)?;
+    Ok(Rc::new(alloc, Source::Part { whole, place })?)
 }
 
 /// The symbols of the arguments of these parameters.

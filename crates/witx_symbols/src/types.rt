@@ -15,9 +15,12 @@ use witx_ast::{Case, Datatype, RecordMember, TypeRef};
 pub fn alike(a: &TypeRef, b: &TypeRef) -> bool
     ensures { result ≡ same_plain (plain (tree_of a.now)) (plain (tree_of b.now)) }
 {
-    match a {
-        TypeRef::Name(named) => alike(&named.tref, b),
-        TypeRef::Value(datatype) => datatypes_alike(datatype, b.type_()),
+    let mut tref = a;
+    loop {
+        match tref {
+            TypeRef::Name(named) => tref = &named.tref,
+            TypeRef::Value(datatype) => return datatypes_alike(datatype, b.type_()),
+        }
     }
 }
 

@@ -1,6 +1,7 @@
 //! Whether two traces are faithful to a function: the machine runs them over symbols.
 #![tactic(auto)]
 
+mod extents;
 mod going_in;
 mod judging;
 mod spaces;

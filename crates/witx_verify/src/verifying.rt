@@ -11,6 +11,7 @@ ghost use Rattle.witx_symbols.specs.Verdicts.{doubt, doubt_in, first_doubt, verd
 ghost use Rattle.witx_symbols.specs.WordViews.{option_of, world_of};
 ghost use Rattle.witx_symbols.specs.WorldViews.{AreOf, worlds_read};
 
+use crate::extents::check_types;
 use crate::judging::judged;
 use crate::worlds::worlds;
 use std::alloc::Global;
@@ -25,7 +26,8 @@ use witx_symbols::{Doubt, Verdict, World, arguments_from, misfit, run_in};
 /// type doesn't fit its tag; and then, in each world of the reply, an event that has no rule, the words at
 /// the call, what comes back, the notes, or the reply that isn't as it should be. It is yes where there is
 /// none. A yes says that the traces are faithful; not every faithful pair gets one. Parameters, results and
-/// events are numbered from 0. `OutOfMemory` is the only error.
+/// events are numbered from 0. `OutOfMemory` is the only error; it comes also where types are too deep, or where
+/// there is too much to them as they are gone through at each of their mentions.
 #[tactic(auto, using(crate::proofs::VerifyLemmas::verify_rules))]
 pub fn verify(
     alloc: Global,
@@ -41,6 +43,7 @@ pub fn verify(
     ensures adapted { IfOk result (λ found.
         AdaptedGetsYes found module_name.now (called func.now) (map event_of caller.now) (map event_of callee.now)) }
 {
+    check_types(alloc, func, caller, callee)?;
     match doubt(alloc, module_name, func, caller, callee)? {
         Some(doubt) => Ok(Verdict::No(doubt)),
         None => Ok(Verdict::Yes),

@@ -1,0 +1,123 @@
+//! How much there may be to the types that a verdict goes through.
+
+use std::alloc::Global;
+use witx_abi::{Event, Events, Step};
+use witx_ast::{InterfaceFunc, InterfaceFuncParam, TypeRef};
+use witx_base::OutOfMemory;
+use witx_extent::Allowance;
+
+/// What there may be to the types of a function, whose symbols are made part by part.
+const MOST_OF_FUNCTION: usize = 1 << 22;
+
+/// What there may be to the types that its events go through, each event anew.
+const MOST_OF_EVENTS: usize = 1 << 25;
+
+/// Want of memory where there is more to the types of a function, or to those that the events of its traces go
+/// through.
+pub(crate) fn check_types(
+    alloc: Global,
+    func: &InterfaceFunc,
+    caller: &Events,
+    callee: &Events,
+) -> Result<(), OutOfMemory> {
+    let mut function = Allowance::new(MOST_OF_FUNCTION);
+    let params = take_params(&mut function, alloc, func.params.as_slice())?;
+    let results = take_params(&mut function, alloc, func.results.as_slice())?;
+    let widest = if params > results { params } else { results };
+    let mut events = Allowance::new(MOST_OF_EVENTS);
+    take_events(&mut events, alloc, widest, caller.as_slice())?;
+    take_events(&mut events, alloc, widest, callee.as_slice())
+}
+
+// What there is to the widest type of some parameters or results.
+fn take_params(
+    allowance: &mut Allowance,
+    alloc: Global,
+    params: &[InterfaceFuncParam],
+) -> Result<usize, OutOfMemory> {
+    let mut widest = 0;
+    for param in params {
+        let before = allowance.left();
+        allowance.take(alloc, &param.tref)?;
+        let extent = before.saturating_sub(allowance.left());
+        widest = if extent > widest { extent } else { widest };
+    }
+    Ok(widest)
+}
+
+fn take_events(
+    allowance: &mut Allowance,
+    alloc: Global,
+    widest: usize,
+    events: &[Event],
+) -> Result<(), OutOfMemory> {
+    for event in events {
+        match event {
+            Event::Emit(step) => take_step(allowance, alloc, widest, step)?,
+            Event::Space { slot: _, ty } => allowance.take(alloc, &ty.tref)?,
+            Event::Push | Event::Finish { value: _ } => {}
+        }
+    }
+    Ok(())
+}
+
+// What goes through a value takes that of the widest type.
+fn take_step(
+    allowance: &mut Allowance,
+    alloc: Global,
+    widest: usize,
+    step: &Step,
+) -> Result<(), OutOfMemory> {
+    match step {
+        Step::I32FromHandle { ty }
+        | Step::I32FromBitflags { ty }
+        | Step::I64FromBitflags { ty }
+        | Step::HandleFromI32 { ty }
+        | Step::BitflagsFromI32 { ty }
+        | Step::BitflagsFromI64 { ty }
+        | Step::Load { ty }
+        | Step::Store { ty }
+        | Step::EnumLift { ty }
+        | Step::EnumLower { ty } => allowance.take(alloc, &ty.tref),
+        Step::CallInterface {
+            params,
+            results,
+            ..
+        } => {
+            take_types(allowance, alloc, params.as_slice())?;
+            take_types(allowance, alloc, results.as_slice())
+        }
+        Step::ResultLower { ok, err } => {
+            take_payload(allowance, alloc, ok)?;
+            take_payload(allowance, alloc, err)?;
+            allowance.take_number(widest)
+        }
+        Step::ListFromPointerLength { .. }
+        | Step::TupleLift { .. }
+        | Step::TupleLower { .. }
+        | Step::ResultLift => allowance.take_number(widest),
+        _ => Ok(()),
+    }
+}
+
+fn take_types(
+    allowance: &mut Allowance,
+    alloc: Global,
+    types: &[TypeRef],
+) -> Result<(), OutOfMemory> {
+    for ty in types {
+        allowance.take(alloc, ty)?;
+    }
+    Ok(())
+}
+
+fn take_payload(
+    allowance: &mut Allowance,
+    alloc: Global,
+    payload: &Option<TypeRef>,
+) -> Result<(), OutOfMemory> {
+    match payload {
+        Some(ty) => allowance.take(alloc, ty),
+        None => Ok(()),
+    }
+}
