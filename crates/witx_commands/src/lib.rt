@@ -5,6 +5,7 @@
 mod adapting;
 mod commands;
 mod error;
+mod extents;
 mod forms;
 mod input;
 mod laws;

@@ -15,6 +15,7 @@ ghost use Rattle.witx_commands.specs.Stops.{StopsWith};
 ghost use Rattle.witx_commands.specs.declared.words.Command.{Command};
 ghost use Rattle.witx_commands.specs.Texts.{absent_function, absent_module};
 
+use crate::extents::check_modules;
 use crate::output::{Output, no_notes};
 use crate::parsing::parsed_or_stop;
 use crate::refusal::{Refusal, Stop};
@@ -92,7 +93,8 @@ fn mapped(alloc: Global, new: &Document, old: &Document, names: &[Text]) -> Resu
 }
 
 /// The modules of two documents that have these names, two by two, each old one in terms of the new; or
-/// the end of a run of which a module or a function is absent.
+/// the end of a run of which a module or a function is absent. Want of memory also where there is too much to the types
+/// of what is mapped, as it is gone through at each of its mentions.
 #[tactic(auto, using(crate::proofs::Mapping::report_rules))]
 pub fn mapped_modules(
     alloc: Global,
@@ -107,7 +109,13 @@ pub fn mapped_modules(
 {
     let mapping = mapping_of(alloc, names)?;
     match Polyfill::new(alloc, new, old, &mapping) {
-        Ok(polyfill) => Ok(polyfill),
+        Ok(polyfill) => {
+            if check_modules(alloc, polyfill.modules.as_slice()).is_err() {
+                drop(polyfill);
+                return Err(Stop::OutOfMemory);
+            }
+            Ok(polyfill)
+        }
         Err(error) => Err(absent_stop(alloc, &error)),
     }
 }
