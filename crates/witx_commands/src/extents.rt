@@ -9,9 +9,13 @@ use witx_extent::Allowance;
 /// What there may be to all types of mapped modules. So much is compared within a second.
 const MOST: usize = 1 << 25;
 
+/// How many names may stand one for the other, and how many types lie one in the other: comparing them takes 256 bytes
+/// of the stack for each type.
+const DEEPEST: usize = 20_100;
+
 /// Want of memory where there is more than that to the types of mapped modules, or where they are too deep.
 pub(crate) fn check_modules(alloc: Global, modules: &[ModulePolyfill]) -> Result<(), OutOfMemory> {
-    let mut allowance = Allowance::new(MOST);
+    let mut allowance = Allowance::new(MOST, DEEPEST);
     for module in modules {
         take_functions(&mut allowance, alloc, module.funcs.as_slice())?;
     }

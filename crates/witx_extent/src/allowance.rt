@@ -10,28 +10,27 @@ use std::alloc::Global;
 use witx_ast::TypeRef;
 use witx_base::OutOfMemory;
 
-/// How many names may stand one for the other in a type, and how many lists, pointers, records and variants may lie
-/// one in the other. What goes through a type by recursion has room for both on a stack of 8 MiB.
-pub const DEEPEST: usize = 32_768;
-
 /// How much of types may still be gone through, each name looked through wherever it is mentioned.
 #[derive(Debug, Drop)]
 pub struct Allowance {
     left: usize,
+    deepest: usize,
 }
 
 impl Allowance {
     /// So much: one for each name and for each type that is written out, at each of its mentions, and one for each
-    /// case.
-    pub fn new(extent: usize) -> Allowance
+    /// case. At most `deepest` names may stand one for the other, and as many lists, pointers, records and variants lie
+    /// one in the other.
+    pub fn new(extent: usize, deepest: usize) -> Allowance
         ensures { result.left ≡ extent }
     {
-        Allowance { left: extent }
+        Allowance {
+            left: extent,
+            deepest,
+        }
     }
 
-    /// Takes what there is to a type. Want of memory where that is more than is left, or where it is deeper than
-    /// `DEEPEST`.
-
+    /// Takes what there is to a type. Want of memory where that is more than is left, or where it is deeper.
     #[tactic(auto, using(crate::proofs::Counting::extent_rules))]
     pub fn take(&mut self, alloc: Global, tref: &TypeRef) -> Result<(), OutOfMemory>
         ensures { OnOk result (self.new.left + extent (tree_of tref.now) ≡ self.old.left) }
@@ -73,7 +72,7 @@ impl Allowance {
         ensures { OnOk result (self.new.left + own_extent (tree_of one.entry.tref.now) ≡ self.old.left) }
     {
         let own = own_extent(one.tref);
-        if one.names > DEEPEST || one.types > DEEPEST || own > self.left {
+        if one.names > self.deepest || one.types > self.deepest || own > self.left {
             return Err(OutOfMemory);
         }
         self.left -= own;

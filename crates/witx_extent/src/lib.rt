@@ -5,4 +5,4 @@
 mod allowance;
 mod parts;
 
-pub use allowance::{Allowance, DEEPEST};
+pub use allowance::Allowance;

@@ -6,6 +6,10 @@ use witx_ast::{InterfaceFunc, InterfaceFuncParam, TypeRef};
 use witx_base::OutOfMemory;
 use witx_extent::Allowance;
 
+/// How many names may stand one for the other, and how many types lie one in the other: making a symbol takes 224 bytes
+/// of the stack for each tuple, comparing types 96 for each name and for each type.
+const DEEPEST: usize = 30_100;
+
 /// What there may be to the types of a function, whose symbols are made part by part.
 const MOST_OF_FUNCTION: usize = 1 << 22;
 
@@ -20,11 +24,11 @@ pub(crate) fn check_types(
     caller: &Events,
     callee: &Events,
 ) -> Result<(), OutOfMemory> {
-    let mut function = Allowance::new(MOST_OF_FUNCTION);
+    let mut function = Allowance::new(MOST_OF_FUNCTION, DEEPEST);
     let params = take_params(&mut function, alloc, func.params.as_slice())?;
     let results = take_params(&mut function, alloc, func.results.as_slice())?;
     let widest = if params > results { params } else { results };
-    let mut events = Allowance::new(MOST_OF_EVENTS);
+    let mut events = Allowance::new(MOST_OF_EVENTS, DEEPEST);
     take_events(&mut events, alloc, widest, caller.as_slice())?;
     take_events(&mut events, alloc, widest, callee.as_slice())
 }
