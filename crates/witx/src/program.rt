@@ -16,7 +16,7 @@ use witx_adapt::Adapted;
 use witx_base::{Sink, Source, Text};
 use witx_commands::{
     Command, Forms, InputError, NO_MEMORY, Output, Refusal, Stop, arguments_of, command_of, kept,
-    output_or_refusal, read_bundle, valid_is_not_refused,
+    output_or_refusal, read_bundle, stop_of, valid_is_not_refused,
 };
 use witx_files::MockFs;
 use witx_sample::sample_files;
@@ -79,8 +79,10 @@ pub fn prepare_command<S: Source>(
     ensures { IsPrepared (run_input (command_task command arguments.now) S.left S.faults S.reads source.old source.new)
         result (source.new ≡ source.old) }
 {
-    let mut files = files_for(alloc, command, source)?;
-    perform(alloc, command, arguments, &mut files)
+    match files_for(alloc, command, source) {
+        Ok(mut files) => perform(alloc, command, arguments, &mut files),
+        Err(error) => Err(stop_of(error)),
+    }
 }
 
 /// The files that a command works on: those of its source's bundle, or those of the sample's, for which

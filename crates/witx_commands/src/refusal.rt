@@ -92,15 +92,14 @@ impl From<OutOfMemory> for Stop {
     }
 }
 
-impl From<InputError> for Stop {
-    ghost from_gives = { λ e s. s ≡ stop_of e };
-
-    fn from(error: InputError) -> Stop {
-        match error {
-            InputError::Source => Stop::Refused(Refusal::Source),
-            InputError::Bundle(error) => Stop::Refused(Refusal::Bundle(error)),
-            InputError::OutOfMemory => Stop::OutOfMemory,
-        }
+/// The end of a run that has no bundle.
+pub fn stop_of(error: InputError) -> Stop
+    ensures { result ≡ stop_of error }
+{
+    match error {
+        InputError::Source => Stop::Refused(Refusal::Source),
+        InputError::Bundle(error) => Stop::Refused(Refusal::Bundle(error)),
+        InputError::OutOfMemory => Stop::OutOfMemory,
     }
 }
 

@@ -15,7 +15,7 @@ use witx::{
     prepare_command, read_bundle, valid_is_not_refused,
 };
 use witx_base::{Sink, Source, Text};
-use witx_commands::Output;
+use witx_commands::{Output, stop_of};
 
 /// The program: reads the words, then the source where what they ask for works on it, and writes what that
 /// tells on `out` or what is refused on `err`. Words of a command end as with [`run`](witx::run); those of a
@@ -76,6 +76,8 @@ fn prepare_tool<S: Source>(
     ensures { IsPrepared (run_input (tool_task tool arguments.now) S.left S.faults S.reads source.old source.new) result
         (source.new ≡ source.old) }
 {
-    let mut files = read_bundle(alloc, source)?;
-    perform(alloc, tool, arguments, &mut files)
+    match read_bundle(alloc, source) {
+        Ok(mut files) => perform(alloc, tool, arguments, &mut files),
+        Err(error) => Err(stop_of(error)),
+    }
 }

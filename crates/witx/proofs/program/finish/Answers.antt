@@ -1,4 +1,5 @@
-use Rattle.std.proofs.Common.{refl}
+use Rattle.std.proofs.Common.{refl, ap, ◌∙◌}
+use Rattle.std.specs.Prelude.{Err}
 use Rattle.witx_commands.proofs.Written.{output-written, refusal-written, nothing-written}
 use Rattle.witx.proofs.program.finish.Goals as goal
 
@@ -8,7 +9,7 @@ returns-in-Ok g c = let e = c.put_output.ensures in
 
 pub returns-in-Err-Refused : goal.returns-in-Err-Refused
 returns-in-Err-Refused g c = let e = c.put_refusal.ensures in
-    refusal-written _ _ _ _ _ _ _ _ c.in-Err-Refused.is e.status e.usage e.told e.unwritten refl refl refl e.no_memory e.failed e.later
+    refusal-written _ _ _ _ _ _ _ _ (c.in-Err-Refused.is ∙ ap Err c.in-Err-Refused.field-0-is) e.status e.usage e.told e.unwritten refl refl refl e.no_memory e.failed e.later
 
 pub returns-in-Err-OutOfMemory : goal.returns-in-Err-OutOfMemory
-returns-in-Err-OutOfMemory g c = nothing-written _ _ _ _ _ _ _ c.in-Err-OutOfMemory.is refl refl refl refl refl refl
+returns-in-Err-OutOfMemory g c = nothing-written _ _ _ _ _ _ _ (c.in-Err-OutOfMemory.is ∙ ap Err c.in-Err-OutOfMemory.field-0-is) refl refl refl refl refl refl
