@@ -1,6 +1,6 @@
 -- A run over sinks that fail only for want of memory, by what the program's top call says of it.
-use Rattle.std.specs.Prelude.{◌≡◌, ◌⊎◌, ℕ, ◌<◌, List, [], Option, Some}
-use Rattle.std.proofs.Common.{refl, sym, ◌∙◌, subst, inl, inr}
+use Rattle.std.specs.Prelude.{◌≡◌, ℕ, List, [], Option, Some}
+use Rattle.std.proofs.Common.{sym, ◌∙◌, subst, inr}
 use Rattle.witx_bundle.specs.declared.error.BundleError.{BundleError}
 use Rattle.witx_bundle.specs.declared.error.BundleError.TheVariants as bundle
 use Rattle.witx_adapt.specs.declared.adapted.Adapted.{Adapted}

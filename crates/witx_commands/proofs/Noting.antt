@@ -3,7 +3,6 @@ use Rattle.std.specs.Prelude.{◌≡◌, ◌⊎◌, ℕ, ◌+◌, ◌<◌, ◌�
 use Rattle.std.specs.List.{flat_map}
 use Rattle.std.proofs.Common.{refl, sym, ap, ◌∙◌, subst, inl, inr, get_or, append_assoc, append-nil}
 use Rattle.std.proofs.lemmas.List.{drop_more, drop_all}
-use Rattle.witx_base.specs.Paths.{Path}
 use Rattle.witx_files.specs.Files.{Files}
 use Rattle.witx_ast.specs.Definitions.{DefinitionTree}
 use Rattle.witx_adapt.specs.declared.adapted.Adapted.{Adapted}

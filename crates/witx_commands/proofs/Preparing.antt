@@ -1,10 +1,10 @@
 -- The files that a command works on, or why there are none, by those of its source's bundle; of a source that isn't read nothing is
 -- taken. And what a run is to write, by what whatever its words ask for says of the files.
-use Rattle.std.specs.Prelude.{◌≡◌, ℕ, ◌≤◌, ◌+◌, List, Bool, true, false, Option, None, Some, Result, Ok, Err, IfErr, IfOk}
+use Rattle.std.specs.Prelude.{◌≡◌, ℕ, ◌≤◌, ◌+◌, List, true, false, Option, None, Some, Result, Ok, Err, IfErr, IfOk}
 use Rattle.std.proofs.Common.{refl, subst, sym, ◌∙◌}
 use Rattle.witx_files.specs.Files.{Files}
 use Rattle.witx_commands.specs.Causes.{FilesCause, InputCause, Reads, stop_of}
-use Rattle.witx_commands.specs.Runs.{AnswerCause, IsAnswered, IsPrepared, RunInput, StopCause, command_task, form_task, formless, input_bytes}
+use Rattle.witx_commands.specs.Runs.{AnswerCause, IsPrepared, RunInput, StopCause, command_task, form_task, formless, input_bytes}
 use Rattle.witx_commands.specs.Stops.{StopsWith}
 use Rattle.witx_commands.specs.Streams.{Finished, NoFault, SourceSeen, TookInput}
 use Rattle.witx_commands.specs.Words.{bundle_bytes, reads_source}

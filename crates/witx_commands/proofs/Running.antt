@@ -1,6 +1,6 @@
 -- What each command asks for is lawful, by the laws of commands: its output is never refused, nor are valid files, and each value of an
 -- output is listed in it.
-use Rattle.std.specs.Prelude.{◌≡◌, ℕ, List, [], true, Option, Some, None, Ok, IsSome}
+use Rattle.std.specs.Prelude.{◌≡◌, ℕ, List, [], true, Option, Some, None, IsSome}
 use Rattle.std.proofs.Common.{refl}
 use Rattle.witx_files.specs.Files.{Files}
 use Rattle.witx_adapt.specs.declared.adapted.Adapted.{Adapted}

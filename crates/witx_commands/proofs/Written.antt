@@ -1,5 +1,5 @@
 -- What is written of an answer, by how it was written: an output, what is told of a refusal, or nothing.
-use Rattle.std.specs.Prelude.{◌≡◌, ◌==◌, ◌<◌, ◌≤◌, ◌⊎◌, ℕ, List, [], Option, None, Result, Ok, Err, if◌then◌else◌}
+use Rattle.std.specs.Prelude.{◌≡◌, ◌==◌, ◌<◌, ◌≤◌, ◌⊎◌, ℕ, [], Option, None, Result, Ok, Err, if◌then◌else◌}
 use Rattle.std.proofs.Common.{sym, subst, inl, inr, arith}
 use Rattle.witx_adapt.specs.declared.adapted.Adapted.{Adapted}
 use Rattle.witx_commands.specs.Runs.{Failed, IsUsage, IsWritten, SinkSeen, Took, TookFront}

@@ -1,6 +1,6 @@
 -- What is so of a run: what its words ask for, when it refuses or has its output, with which status it ends, and what it has
 -- written then. It is said once, of whatever the words ask for: the commands are told here, the others above.
-use Rattle.std.specs.Prelude.{◌≡◌, ◌==◌, ◌<◌, ◌≤◌, ◌+◌, ◌⊎◌, ℕ, List, [], ◌∷◌, map, All, Bool, true, false, Option, None, Some, Result, Ok, Err, IfSome, IsSome, if◌then◌else◌}
+use Rattle.std.specs.Prelude.{◌≡◌, ◌==◌, ◌<◌, ◌≤◌, ◌+◌, ◌⊎◌, ℕ, List, [], map, All, Bool, true, false, Option, None, Some, Result, Ok, Err, IfSome, IsSome, if◌then◌else◌}
 use Rattle.std.specs.Io.KnownBytes.{Appends}
 use Rattle.witx_base.specs.Causes.{Rose}
 use Rattle.witx_base.specs.Paths.{Path}

@@ -1,7 +1,7 @@
 -- The forms of a command line that are built, each with what stands behind its first word: `adapt`, `print`, `layouts` and
 -- `docs` with any number of paths; `polyfill` with a new file, an old one, and any number of pairs of names of modules; and `sample` with a
 -- number from 1 to 4096, written in decimal without a sign and without a zero in front.
-use Rattle.std.specs.Prelude.{◌≡◌, ◌==◌, ℕ, ◌≤◌, ◌%◌, List, [], ◌∷◌, map, length, Bool, true, false, ◌&&◌, nat_le, Option, Some, None, codes, if◌then◌else◌}
+use Rattle.std.specs.Prelude.{◌==◌, ℕ, ◌≤◌, ◌%◌, List, [], ◌∷◌, map, length, Bool, true, false, ◌&&◌, nat_le, Option, Some, None, codes, if◌then◌else◌}
 use Rattle.std.specs.Fmt.{decimal}
 use Rattle.std.specs.Str.Parse.{digits_value}
 use Rattle.witx_base.specs.Paths.{Path, path_of}

@@ -3,10 +3,10 @@ use Rattle.std.specs.Prelude.{◌≡◌, ℕ, List, [], ◌∷◌, Bool, true, f
 use Rattle.std.proofs.Common.{refl, subst}
 use Rattle.witx_base.proofs.Names.{same-equal}
 use Rattle.witx_base.specs.Texts.{same_text}
-use Rattle.witx_commands.specs.Words.{command_called, command_of}
+use Rattle.witx_commands.specs.Words.{command_called}
 use Rattle.witx_commands.specs.declared.words.Command.{Command}
 use Rattle.witx_tools.specs.ToolLaws.{CommandsAreNoTools}
-use Rattle.witx_tools.specs.ToolWords.{invoke_of, shim_of, tool_of, with_own_file}
+use Rattle.witx_tools.specs.ToolWords.{invoke_of, shim_of, with_own_file}
 use Rattle.witx_tools.specs.declared.tool.Tool.{Tool}
 use Rattle.witx_tools.specs.declared.tool.Tool.TheVariants as tool
 

@@ -1,5 +1,5 @@
 -- What a tool asks for is lawful, and so is what all words ask for; and what a run is to write, by the form that its words have.
-use Rattle.std.specs.Prelude.{◌≡◌, ℕ, ◌≤◌, ◌+◌, List, [], true, false, Option, Some, None, Result, Ok, Err}
+use Rattle.std.specs.Prelude.{◌≡◌, ℕ, ◌≤◌, ◌+◌, List, Option, Some, None, Result, Err}
 use Rattle.std.proofs.Common.{refl, sym, ◌∙◌, subst}
 use Rattle.witx_commands.specs.Causes.{InputCause, stop_of}
 use Rattle.witx_commands.specs.Laws.{OutputOrRefusal, ValidIsNotRefused}
