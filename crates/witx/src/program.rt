@@ -68,7 +68,8 @@ fn prepare<S: Source>(alloc: Global, words: &[Text], source: &mut S) -> Result<O
     }
 }
 
-/// What a command is to write, by the words behind its own and its source.
+/// What a command is to write, by the words behind its own and its source; a sample has at most 4,096
+/// functions. Refused with the cause and the report of a run, or for want of memory.
 pub fn prepare_command<S: Source>(
     alloc: Global,
     command: Command,

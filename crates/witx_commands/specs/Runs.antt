@@ -77,6 +77,7 @@ formless known = record {
   IsValid = λ files. ⊥;
 }
 
+-- the task of a command, or that of words that have no form of one
 abbrev pub form_task : Option Command → List (List ℕ) → Task
 form_task None arguments = formless forms.Commands
 form_task (Some c) arguments = command_task c arguments

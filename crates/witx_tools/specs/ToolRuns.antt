@@ -24,6 +24,7 @@ tool_task t arguments = record {
   IsValid = λ files. IsValidForTool t files arguments;
 }
 
+-- the task of a command, or else of a tool, or that of words that have no form
 abbrev pub any_task : Option Command → Option Tool → List (List ℕ) → Task
 any_task (Some c) t arguments = command_task c arguments
 any_task None (Some t) arguments = tool_task t arguments
