@@ -1,0 +1,104 @@
+//! The text of a list of imports, a line for each.
+
+ghost use Rattle.std.specs.Prelude.{◌≡◌, ◌++◌, IfOk, OnOk, string_bytes, codes};
+ghost use Rattle.std.specs.List.{flat_map};
+ghost use Rattle.witx_adapt.specs.Names.{quoted, spaced};
+ghost use Rattle.witx_import_list.specs.ListTexts.{two_names, group, line, line_of, list_text};
+
+use std::alloc::{AllocError, Global};
+use witx_adapt::put_quoted;
+use witx_base::{OutOfMemory, Text};
+use witx_imports::{WasmImport, WasmImports};
+use witx_machine::WasmType;
+
+/// The list of the imports, in their order: a line `(import "m" "f" (func (param ..) (result ..)))` for
+/// each, without the groups that would be empty. `read_imports` gives the imports back.
+#[tactic(auto, using(witx_adapt::proofs::Appending::appending_rules))]
+pub fn import_list_text(alloc: Global, imports: &WasmImports) -> Result<Text, OutOfMemory>
+    ensures text { IfOk result (λ t. t ≡ list_text imports.now) }
+{
+    let mut text = String::new(alloc);
+    for import in imports.as_slice() {
+        put_import(&mut text, import)?;
+    }
+    Ok(Text::from_string(text))
+}
+
+/// Appends the line of an import.
+fn put_import(text: &mut String, import: &WasmImport) -> Result<(), AllocError>
+    ensures { OnOk result (string_bytes text.new ≡ string_bytes text.old ++ line_of import.now) }
+{
+    put_line(
+        text,
+        import.module.as_str(),
+        import.name.as_str(),
+        import.params.as_slice(),
+        import.results.as_slice(),
+    )
+}
+
+/// Appends the line of an import with these names and words.
+#[tactic(auto, using(crate::proofs::Appending::joining_rules))]
+pub fn put_line(
+    text: &mut String,
+    module: &str,
+    name: &str,
+    params: &[WasmType],
+    results: &[WasmType],
+) -> Result<(), AllocError>
+    ensures { OnOk result (string_bytes text.new ≡ string_bytes text.old ++ line «module».now name.now params.now results.now) }
+{
+    text.push_str("(import ")?;
+    put_names(text, module, name)?;
+    text.push_str(" (func")?;
+    put_group(text, "param", params)?;
+    put_group(text, "result", results)?;
+    text.push_str("))\n")
+}
+
+/// Appends the names of an import.
+#[tactic(auto, using(crate::proofs::Appending::joining_rules))]
+fn put_names(text: &mut String, module: &str, name: &str) -> Result<(), AllocError>
+    ensures { OnOk result (string_bytes text.new ≡ string_bytes text.old ++ two_names «module».now name.now) }
+{
+    put_quoted(text, module)?;
+    text.push_str(" ")?;
+    put_quoted(text, name)
+}
+
+/// Appends a group of words with this head, or nothing where there are none.
+#[tactic(auto, using(crate::proofs::Appending::joining_rules))]
+fn put_group(text: &mut String, head: &str, types: &[WasmType]) -> Result<(), AllocError>
+    ensures { OnOk result (string_bytes text.new ≡ string_bytes text.old ++ group head.now types.now) }
+{
+    if types.is_empty() {
+        return Ok(());
+    }
+    text.push_str(" (")?;
+    text.push_str(head)?;
+    put_words(text, types)?;
+    text.push_str(")")
+}
+
+/// Appends words, each behind a blank.
+#[tactic(auto, using(witx_adapt::proofs::Appending::appending_rules))]
+fn put_words(text: &mut String, types: &[WasmType]) -> Result<(), AllocError>
+    ensures { OnOk result (string_bytes text.new ≡ string_bytes text.old ++ flat_map spaced types.now) }
+{
+    for word in types {
+        put_word(text, *word)?;
+    }
+    Ok(())
+}
+
+/// Appends a word behind a blank.
+fn put_word(text: &mut String, word: WasmType) -> Result<(), AllocError>
+    ensures { OnOk result (string_bytes text.new ≡ string_bytes text.old ++ spaced word) }
+{
+    text.push_str(match word {
+        WasmType::I32 => " i32",
+        WasmType::I64 => " i64",
+        WasmType::F32 => " f32",
+        WasmType::F64 => " f64",
+    })
+}
