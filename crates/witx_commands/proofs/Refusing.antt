@@ -98,7 +98,7 @@ unadapted-told files handed (unadapted.Document r) report h k = document-told fi
 
 -- what ends a run, by its report
 pub stops-as : (P Q : List ℕ → Type 0) → ((report : List ℕ) → P report → Q report) → (s : Stop) → StopsWith P s → StopsWith Q s
-stops-as P Q f (stop.Refused refusal.Usage) k = k
+stops-as P Q f (stop.Refused (refusal.Usage known)) k = k
 stops-as P Q f (stop.Refused refusal.Source) k = k
 stops-as P Q f (stop.Refused (refusal.Bundle b)) k = k
 stops-as P Q f (stop.Refused (refusal.Command report)) k = f report k
