@@ -15,8 +15,7 @@ use witx_values::top;
 pub fn push<'a>(stack: &mut Stack<'a>, value: Value<'a>) -> Done
     ensures { IfOk result (λ _. IsOnTop value_view (value_view value.entry) stack.old.items stack.new.items) }
 {
-    stack.push(value)?;
-    Ok(())
+    Ok(stack.push(value)?)
 }
 
 /// Takes the top value off.
