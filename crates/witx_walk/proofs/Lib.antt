@@ -1,6 +1,7 @@
 pub mod Declarations
 pub mod Starting
 pub mod PathSets
+pub mod Uses
 pub mod Reached
 pub mod Items
 pub mod Whole

@@ -6,7 +6,7 @@ use Rattle.witx_base.specs.PathOrder.{same_path}
 use Rattle.witx_order.specs.Walks.{is_taken}
 use Rattle.witx_order.specs.Items.{Declared}
 use Rattle.witx_walk.specs.Steps.{has_path, HasPaths, Tracks}
-use Rattle.witx_walk.specs.declared.taken.TakenPaths.{TakenPaths}
+use Rattle.witx_walk.specs.declared.path_set.PathSet.{PathSet}
 use Rattle.witx_walk.specs.declared.walking.Walking.{Walking}
 
 exchange : (a b c : Bool) → cond a true (cond b true c) ≡ cond b true (cond a true c)
@@ -36,10 +36,10 @@ pub insert-count : (paths paths' : BTreeSet Path) (p q : Path) (added : Bool) �
     → btree_set_len paths' ≡ btree_set_len paths + (if added then 1 else 0) → has_path paths p ≡ false → btree_set_len paths' ≡ btree_set_len paths + 1
 insert-count paths paths' p q added e a l f = l ∙ ap (λ b. btree_set_len paths + (if b then 1 else 0)) (a ∙ ap not (ap (has_path paths) e ∙ f))
 
-pub paths-kept : (t t' : TakenPaths) (taken : List Path) → t' ≡ t → HasPaths t.paths taken → HasPaths t'.paths taken
-paths-kept t t' taken e h = let P : TakenPaths → Type 0 = λ x. HasPaths x.paths taken in subst P (sym e) h
+pub paths-kept : (t t' : PathSet) (taken : List Path) → t' ≡ t → HasPaths t.paths taken → HasPaths t'.paths taken
+paths-kept t t' taken e h = let P : PathSet → Type 0 = λ x. HasPaths x.paths taken in subst P (sym e) h
 
-pub tracks-more : (walk : Walking) (taken : List Path) (ds : List Declared) (t : TakenPaths) (p : Path) → Tracks walk taken ds → HasPaths t.paths (taken ++ p ∷ [])
+pub tracks-more : (walk : Walking) (taken : List Path) (ds : List Declared) (t : PathSet) (p : Path) → Tracks walk taken ds → HasPaths t.paths (taken ++ p ∷ [])
     → Tracks (record walk { taken = t }) (taken ++ p ∷ []) ds
 tracks-more walk taken ds t p h paths = record {
   paths = paths;

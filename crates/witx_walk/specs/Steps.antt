@@ -1,11 +1,11 @@
 -- For proofs between code and definitions: what the steps of reading answer, and what the code keeps.
-use Rattle.std.specs.Prelude.{◌≡◌, ◌≤◌, ◌++◌, ◌∷◌, [], ℕ, List, map, length, Option, Some, None, Result, Ok, Err, Bool}
+use Rattle.std.specs.Prelude.{◌≡◌, ◌≤◌, ◌++◌, ◌∷◌, [], ℕ, List, map, length, Option, Some, None, Result, Ok, Err, Bool, true}
 use Rattle.std.specs.Ordering.{nat_cmp}
 use Rattle.std.specs.Cmp.Lexicographic.{slice_cmp}
 use Rattle.std.specs.BTreeSet.{BTreeSet, contains, btree_set_len}
 use Rattle.witx_base.specs.Causes.{Rose}
-use Rattle.witx_base.specs.Paths.{Path}
-use Rattle.witx_files.specs.Files.{Files, Aliases}
+use Rattle.witx_base.specs.Paths.{Path, join}
+use Rattle.witx_files.specs.Files.{Files, Aliases, canonical}
 use Rattle.witx_files.specs.Answers.{Holds, Lacks, StandsFor}
 use Rattle.witx_files.specs.declared.fault.IoFault.TheVariants.{NotFound, LineNotFound, Failed}
 use Rattle.witx_ast.specs.Definitions.{definition_tree, DefinitionsFit}
@@ -26,6 +26,7 @@ use Rattle.witx_walk.specs.Meaning.{past_of, definitions_of}
 use Rattle.witx_walk.specs.Answers.{Refuses}
 use Rattle.witx_walk.specs.declared.error.WitxError.{WitxError}
 use Rattle.witx_walk.specs.declared.error.WitxError.TheVariants.{Io, Parse, Validation, BadPath, TooManyFiles, OutOfMemory}
+use Rattle.witx_walk.specs.declared.path_set.PathSet.{PathSet}
 use Rattle.witx_walk.specs.declared.walking.Walking.{Walking}
 
 -- whether a set of paths has a path
@@ -36,6 +37,18 @@ has_path paths path = contains (slice_cmp (slice_cmp nat_cmp)) paths path
 pub record HasPaths (paths : BTreeSet Path) (taken : List Path) : Type 0 where
   pub known : (path : Path) → has_path paths path ≡ is_taken taken path
   pub count : btree_set_len paths ≡ length taken
+
+-- what was taken in stays so
+abbrev pub StayTaken : PathSet → PathSet → Type 0
+StayTaken old new = (path : Path) → has_path old.paths path ≡ true → has_path new.paths path ≡ true
+
+-- where aliases are told, the path that this one stands for was taken in
+abbrev pub IsTakenIn : Option Aliases → Path → PathSet → Type 0
+IsTakenIn aliases joined taken = (links : Aliases) → aliases ≡ Some links → has_path taken.paths (canonical links joined) ≡ true
+
+-- each path that was used from the folder was taken in
+abbrev pub AreTakenIn : Option Aliases → Path → PathSet → PathSet → Type 0
+AreTakenIn aliases folder uses taken = (used : Path) → has_path uses.paths used ≡ true → IsTakenIn aliases (join folder used) taken
 
 -- the checker and the definitions are what these declarations leave
 pub record Holding (walk : Walking) (declared : List Declared) : Type 0 where

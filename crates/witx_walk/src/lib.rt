@@ -3,10 +3,10 @@
 
 mod error;
 mod laws;
+mod path_set;
 mod report;
 mod source;
 mod steps;
-mod taken;
 mod walk;
 mod walking;
 

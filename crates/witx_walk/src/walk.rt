@@ -11,16 +11,16 @@ ghost use Rattle.witx_ast.specs.Closed.{IsClosed};
 ghost use Rattle.witx_order.specs.Items.{Declared, Item, items_of, item_of};
 ghost use Rattle.witx_order.specs.Walks.{OpenFile, Place, open_file, place, reach, wish};
 ghost use Rattle.witx_walk.specs.Answers.{Caused, IsAnswer, answer_of, IsVerdictOf, Told};
-ghost use Rattle.witx_walk.specs.Steps.{IsWell, Never, Outcome, Tracks};
+ghost use Rattle.witx_walk.specs.Steps.{AreTakenIn, IsTakenIn, IsWell, Never, Outcome, StayTaken, Tracks};
 
 use crate::error::WitxError;
+use crate::path_set::PathSet;
 use crate::steps::{canonical_path, declare, folder_of, shared_path, text_at, unread};
-use crate::taken::TakenPaths;
-use crate::walking::Walking;
+use crate::walking::{FileProgress, Walking};
 use std::alloc::Global;
 use witx_ast::{Definitions, Document};
 use witx_base::{Duplicate, WitxPath};
-use witx_check::{DocValidation, LineCursor, SharedPath};
+use witx_check::{DocValidation, SharedPath};
 use witx_files::WitxIo;
 use witx_syntax::{SyntaxError, parse_document};
 use witx_syntax_tree::{Documented, TopLevelSyntax};
@@ -40,6 +40,8 @@ fn take_in<I: WitxIo>(
     ensures files { I.files io.new ≡ I.files io.old }
     ensures aliases { I.aliases io.new ≡ I.aliases io.old }
     ensures grows { OnOk result (btree_set_len walk.old.taken.paths ≤ btree_set_len walk.new.taken.paths) }
+    ensures keeps { OnOk result (StayTaken walk.old.taken walk.new.taken) }
+    ensures reached { OnOk result (IsTakenIn (I.aliases io.old) joined walk.new.taken) }
     ensures cause { Caused Never (I.files io.old) (I.faults io.old) (I.faults io.new) result }
     ensures well { IsWell walk.old → OnOk result (IsWell walk.new) }
     ensures told { Told (I.files io.old) (I.aliases io.old) (λ w.
@@ -91,6 +93,7 @@ fn take_items<I: WitxIo>(
     ensures files { I.files io.new ≡ I.files io.old }
     ensures aliases { I.aliases io.new ≡ I.aliases io.old }
     ensures grows { OnOk result (btree_set_len walk.old.taken.paths ≤ btree_set_len walk.new.taken.paths) }
+    ensures keeps { OnOk result (StayTaken walk.old.taken walk.new.taken) }
     ensures cause { Caused Never (I.files io.old) (I.faults io.old) (I.faults io.new) result }
     ensures well { IsWell walk.old → OnOk result (IsWell walk.new) }
     ensures told { Told (I.files io.old) (I.aliases io.old) (λ w.
@@ -100,42 +103,55 @@ fn take_items<I: WitxIo>(
         (place (open_file path.now.path.now text.now folder.now (Ok (items_of (map noted_item items.now))) ∷ open_files) handed taken declared)
         (place open_files handed) walk.new (I.faults io.old) (I.faults io.new) result) }
 {
-    let mut lines = LineCursor::new(text);
+    let mut progress = FileProgress::new(alloc, text);
     for item in items {
-        take_item(alloc, walk, path, folder, &mut lines, item, io)?;
+        take_item(alloc, walk, path, folder, &mut progress, item, io)?;
     }
     Ok(())
 }
 
-/// Takes in one item of an open file, whose text `lines` goes through.
+/// Takes in one item of an open file. A path that the file has used before is skipped, and neither
+/// joined nor made canonical again.
 #[cycle(walk)]
 fn take_item<I: WitxIo>(
     alloc: Global,
     walk: &mut Walking,
     path: &SharedPath<'_>,
     folder: &WitxPath,
-    lines: &mut LineCursor<'_>,
+    progress: &mut FileProgress<'_>,
     item: &Documented<'_, TopLevelSyntax<'_>>,
     io: &mut I,
 ) -> Result<(), WitxError>
     ensures files { I.files io.new ≡ I.files io.old }
     ensures aliases { I.aliases io.new ≡ I.aliases io.old }
     ensures grows { OnOk result (btree_set_len walk.old.taken.paths ≤ btree_set_len walk.new.taken.paths) }
+    ensures keeps { OnOk result (StayTaken walk.old.taken walk.new.taken) }
+    ensures uses { AreTakenIn (I.aliases io.old) folder.now progress.old.uses walk.old.taken
+        → OnOk result (AreTakenIn (I.aliases io.old) folder.now progress.new.uses walk.new.taken) }
     ensures cause { Caused Never (I.files io.old) (I.faults io.old) (I.faults io.new) result }
     ensures well { IsWell walk.old → OnOk result (IsWell walk.new) }
     ensures told { Told (I.files io.old) (I.aliases io.old) (λ w.
         (left : List Item) (open_files : List OpenFile) (handed taken : List Path) (declared : List Declared)
         → Tracks walk.old taken declared
+        → AreTakenIn (I.aliases io.old) folder.now progress.old.uses walk.old.taken
         → Outcome w
-        (place (open_file path.now.path.now lines.old.text.now folder.now (Ok (item_of (noted_item item.now) ∷ left)) ∷ open_files) handed taken declared)
-        (place (open_file path.now.path.now lines.old.text.now folder.now (Ok left) ∷ open_files) handed) walk.new (I.faults io.old) (I.faults io.new) result) }
-    ensures text { lines.new.text.now ≡ lines.old.text.now }
+        (place (open_file path.now.path.now progress.old.lines.text.now folder.now (Ok (item_of (noted_item item.now) ∷ left)) ∷ open_files)
+        handed taken declared)
+        (place (open_file path.now.path.now progress.old.lines.text.now folder.now (Ok left) ∷ open_files) handed)
+        walk.new (I.faults io.old) (I.faults io.new) result) }
+    ensures text { progress.new.lines.text.now ≡ progress.old.lines.text.now }
 {
-    let comments = &item.comments;
     match &item.item {
-        TopLevelSyntax::Decl(declaration) => declare(walk, path, lines, declaration, comments),
-        TopLevelSyntax::Use(used) => {
-            let joined = folder.join(&WitxPath::new(alloc, used.as_str())?)?;
+        TopLevelSyntax::Decl(declaration) => {
+            declare(walk, path, &mut progress.lines, declaration, &item.comments)
+        }
+        TopLevelSyntax::Use(text) => {
+            let used = WitxPath::new(alloc, text.as_str())?;
+            if progress.uses.contains(&used) {
+                return Ok(());
+            }
+            progress.uses.insert(&used)?;
+            let joined = folder.join(&used)?;
             take_in(alloc, walk, joined, folder, io)
         }
     }
@@ -197,7 +213,7 @@ fn new_walk(alloc: Global) -> Result<Walking, WitxError>
     Ok(Walking {
         validation: DocValidation::new(alloc)?,
         definitions: Definitions::new(alloc),
-        taken: TakenPaths::new(alloc),
+        taken: PathSet::new(alloc),
     })
 }
 

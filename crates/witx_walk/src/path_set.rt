@@ -1,4 +1,4 @@
-//! The paths of the files that were taken in.
+//! A set of paths.
 
 ghost use Rattle.std.specs.Prelude.{◌≡◌, ◌+◌, [], cond, true, false, OnOk};
 ghost use Rattle.std.specs.BTreeSet.{btree_set_len};
@@ -10,30 +10,30 @@ use std::alloc::Global;
 use std::collections::BTreeSet;
 use witx_base::{Duplicate, OutOfMemory, WitxPath};
 
-/// The canonical paths of the files that were taken in.
+/// Paths, each once.
 #[derive(Drop)]
-pub struct TakenPaths {
+pub struct PathSet {
     paths: BTreeSet<WitxPath>,
 }
 
-impl TakenPaths {
+impl PathSet {
     /// No path; takes no memory.
-    pub fn new(alloc: Global) -> TakenPaths
+    pub fn new(alloc: Global) -> PathSet
         ensures { HasPaths result.paths [] }
     {
-        TakenPaths {
+        PathSet {
             paths: BTreeSet::new(alloc),
         }
     }
 
-    /// How many files were taken in.
+    /// How many paths there are.
     pub fn len(&self) -> usize
         ensures { result ≡ btree_set_len self.now.paths }
     {
         self.paths.len()
     }
 
-    /// Whether the file at the path was taken in.
+    /// Whether the path is there.
     pub fn contains(&self, path: &WitxPath) -> bool
         ensures { result ≡ has_path self.now.paths path.now }
     {
