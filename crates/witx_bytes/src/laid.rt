@@ -9,7 +9,6 @@ ghost use Rattle.witx_layout.specs.declared.members.LayoutError.{LayoutError};
 ghost use Rattle.witx_bytes.specs.Laids.{Numbers, IsLaid, Lays, LaysMembers, LaysCase, LaysCases, MemberAdded, CaseAdded};
 ghost use Rattle.witx_bytes.specs.declared.laid.Laid.{out-Laid};
 
-use crate::extent::{DEEPEST, MOST_TYPES};
 use crate::fitting::{bits, count_fits};
 use std::alloc::Global;
 use witx_ast::{
@@ -18,6 +17,13 @@ use witx_ast::{
 };
 use witx_base::{Items, OutOfMemory};
 use witx_layout::{Layout, LayoutError, SizeAlign, TooLarge, behind, greater, padded};
+
+/// How many types may lie one in the other where their values are read or written: what goes through the values recurses
+/// once for each type, and takes up to 580 bytes of the stack, where they are read from bytes.
+pub const DEEPEST: u32 = 13_333;
+
+/// How many types a layout may have in all, each counted as often as it is reached.
+pub const MOST_TYPES: u32 = 1 << 20;
 
 /// The layout of a type, whether all of it fits its tags, and the same of its parts.
 #[cycle(laid)]

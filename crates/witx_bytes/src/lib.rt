@@ -2,7 +2,6 @@
 #![tactic(auto)]
 
 mod block;
-mod extent;
 mod fitting;
 mod laid;
 mod laws;
@@ -16,9 +15,8 @@ mod scalars;
 mod value;
 mod write;
 
-pub use extent::{DEEPEST, MOST_TYPES, is_within_reach};
 pub use fitting::writable;
-pub use laid::{Laid, lay_out};
+pub use laid::{DEEPEST, Laid, MOST_TYPES, lay_out};
 pub use laws::{
     alike_images, at_most_one_value, bytes_follow_cells, image_has_the_size, reading_is_spelling,
     traces_run_over_bytes, traces_take_writable, writing_is_spelling,

@@ -184,6 +184,8 @@ fn write_members(
     }
 }
 
+// Apart, as what has no parts is below: so what recurses through records takes little of the stack.
+#[inline(never)]
 #[cycle(writing)]
 #[tactic(auto, using(crate::proofs::Members::write_rules))]
 fn write_variant(
@@ -275,6 +277,7 @@ fn write_case(memory: &mut ByteMemory, at: u64, case: &Case, known: Option<&Laid
 }
 
 /// Flags, as one number.
+#[inline(never)]
 #[tactic(auto, using(crate::proofs::Parts::scalar_rules))]
 fn write_flags(
     memory: &mut ByteMemory,
@@ -299,6 +302,7 @@ fn write_flags(
 }
 
 /// A builtin's number.
+#[inline(never)]
 #[tactic(auto, using(crate::proofs::Parts::scalar_rules))]
 fn write_builtin(memory: &mut ByteMemory, at: u64, ty: BuiltinType, value: &Value)
     requires value { CanWrite (builtin ty) (seen value.now) }
@@ -317,6 +321,7 @@ fn write_builtin(memory: &mut ByteMemory, at: u64, ty: BuiltinType, value: &Valu
 }
 
 /// A handle.
+#[inline(never)]
 #[tactic(auto, using(crate::proofs::Parts::scalar_rules))]
 fn write_handle(memory: &mut ByteMemory, at: u64, value: &Value)
     requires value { CanWrite handle (seen value.now) }
@@ -330,6 +335,7 @@ fn write_handle(memory: &mut ByteMemory, at: u64, value: &Value)
 }
 
 /// A list's address, and its length behind it.
+#[inline(never)]
 #[tactic(auto, using(crate::proofs::Parts::scalar_rules))]
 fn write_list(memory: &mut ByteMemory, at: u64, target: &TypeRef, value: &Value)
     requires value { CanWrite (list_of (plain (tree_of target.now))) (seen value.now) }
@@ -345,6 +351,7 @@ fn write_list(memory: &mut ByteMemory, at: u64, target: &TypeRef, value: &Value)
     }
 }
 
+#[inline(never)]
 #[tactic(auto, using(crate::proofs::Parts::scalar_rules))]
 fn write_pointer(memory: &mut ByteMemory, at: u64, target: &TypeRef, value: &Value)
     requires value { CanWrite (pointer_to (plain (tree_of target.now))) (seen value.now) }
@@ -357,6 +364,7 @@ fn write_pointer(memory: &mut ByteMemory, at: u64, target: &TypeRef, value: &Val
     }
 }
 
+#[inline(never)]
 #[tactic(auto, using(crate::proofs::Parts::scalar_rules))]
 fn write_const_pointer(memory: &mut ByteMemory, at: u64, target: &TypeRef, value: &Value)
     requires value { CanWrite (const_pointer_to (plain (tree_of target.now))) (seen value.now) }

@@ -77,7 +77,9 @@ fn put_case(text: &mut String, case: u32, payload: &Option<Box<Value>>) -> Resul
     }
 }
 
+// Apart, as what has no parts is below: so what recurses through records takes little of the stack.
 /// Appends a case and its payload.
+#[inline(never)]
 #[cycle(texts)]
 #[tactic(auto, using(crate::proofs::Texts::text_rules))]
 fn put_case_with(text: &mut String, case: u32, value: &Value) -> Result<(), OutOfMemory>
@@ -89,6 +91,7 @@ fn put_case_with(text: &mut String, case: u32, value: &Value) -> Result<(), OutO
     Ok(())
 }
 
+#[inline(never)]
 fn put_signed(text: &mut String, number: i128) -> Result<(), OutOfMemory>
     ensures { OnOk result (string_bytes text.new ≡ string_bytes text.old ++ signed_decimal number) }
 {
@@ -96,6 +99,7 @@ fn put_signed(text: &mut String, number: i128) -> Result<(), OutOfMemory>
     Ok(())
 }
 
+#[inline(never)]
 fn put_number(text: &mut String, number: u32) -> Result<(), OutOfMemory>
     ensures { OnOk result (string_bytes text.new ≡ string_bytes text.old ++ decimal number) }
 {
@@ -103,6 +107,7 @@ fn put_number(text: &mut String, number: u32) -> Result<(), OutOfMemory>
     Ok(())
 }
 
+#[inline(never)]
 fn put_list(text: &mut String, address: u32, length: u32) -> Result<(), OutOfMemory>
     ensures { OnOk result (string_bytes text.new ≡ string_bytes text.old ++ (codes "@" ++ decimal address ++ codes "+" ++ decimal length)) }
 {
@@ -110,6 +115,7 @@ fn put_list(text: &mut String, address: u32, length: u32) -> Result<(), OutOfMem
     Ok(())
 }
 
+#[inline(never)]
 fn put_index(text: &mut String, case: u32) -> Result<(), OutOfMemory>
     ensures { OnOk result (string_bytes text.new ≡ string_bytes text.old ++ (codes "#" ++ decimal case)) }
 {
@@ -118,6 +124,7 @@ fn put_index(text: &mut String, case: u32) -> Result<(), OutOfMemory>
 }
 
 /// Appends flags in brackets.
+#[inline(never)]
 fn put_flags(text: &mut String, flags: &[bool]) -> Result<(), OutOfMemory>
     ensures { OnOk result (string_bytes text.new ≡ string_bytes text.old ++ (codes "[" ++ flags_text 0 flags.now ++ codes "]")) }
 {

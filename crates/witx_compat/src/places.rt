@@ -1,4 +1,5 @@
-//! Where the last case of each name stands.
+//! Where the last case of each name stands. What is called from outside isn't inlined: the room that it needs on the stack
+//! would else be taken at each level of types that are compared.
 
 ghost use Rattle.std.specs.Prelude.{◌≡◌, ℕ, List, IfOk, IfSome, ◌<◌, length};
 ghost use Rattle.witx_ast.specs.Views.{cases_plain};
@@ -16,6 +17,7 @@ pub type Places = Option<NameMap<usize>>;
 const MANY: usize = 16;
 
 /// The last place of each name, where a table is worth its memory.
+#[inline(never)]
 pub fn places_of(alloc: Global, cases: &[Case]) -> Places
     ensures { IfSome result (λ places. (name : List ℕ) → found places name ≡ last_place name (cases_plain cases.now)) }
 {
@@ -38,6 +40,7 @@ fn last_places(alloc: Global, cases: &[Case]) -> Result<NameMap<usize>, OutOfMem
 }
 
 /// The last place of a name, by the table; without one the cases are gone through.
+#[inline(never)]
 #[tactic(auto, using(crate::proofs::Steps::place_rules))]
 pub fn place_of(places: &Places, cases: &[Case], name: &Id) -> Option<usize>
     requires { IfSome places.now (λ table. (name : List ℕ) → found table name ≡ last_place name (cases_plain cases.now)) }

@@ -144,6 +144,8 @@ impl Representable for Variant {
 
     ghost is_alike = { λ a b. plain (variant_tree a) ≡ plain (variant_tree b) };
 
+    // Apart, as `members_same` is, so that each level takes only the room on the stack that its own kind of type needs.
+    #[inline(never)]
     #[cycle(compat)]
     #[tactic(auto, using(crate::proofs::Steps::compat_rules))]
     fn representable(&self, by: &Self) -> RepEquality {
@@ -173,6 +175,7 @@ fn counted(cases: usize, by: usize) -> RepEquality
 }
 
 /// Whether the members are as many, and member by member their names are equal and their types `Eq`.
+#[inline(never)]
 #[cycle(compat)]
 #[tactic(auto, using(crate::proofs::Steps::compat_rules))]
 fn members_same(members: &[RecordMember], by: &[RecordMember]) -> bool

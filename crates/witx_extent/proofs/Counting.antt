@@ -5,6 +5,7 @@ use Rattle.std.specs.declared.alloc.Global.{Global}
 use Rattle.std.specs.declared.rc.Rc.{Rc}
 use Rattle.witx_ast.specs.Tree.{Tree, Fields, Arms, arms_of, arm}
 use Rattle.witx_ast.specs.Views.{tree_of, datatype_tree, case_arm}
+use Rattle.witx_ast.specs.declared.function.InterfaceFuncParam.{InterfaceFuncParam}
 use Rattle.witx_ast.specs.declared.types.Case.{Case}
 use Rattle.witx_ast.specs.declared.types.Datatype.{Datatype}
 use Rattle.witx_ast.specs.declared.types.Datatype.TheVariants as datatype
@@ -18,7 +19,7 @@ use Rattle.witx_ast.specs.declared.types.TypeRef.TheVariants as tref
 use Rattle.witx_ast.specs.declared.types.Variant.{Variant, out-Variant}
 use Rattle.witx_ast.proofs.Trees.{tree_rules, tree-Name, tree-Value, tree-NamedType, tree-Record, tree-Variant, tree-Handle, tree-List, tree-Pointer, tree-ConstPointer, tree-Builtin, tree-RecordDatatype, tree-VariantDatatype, tree-RecordMember, tree-Case}
 use Rattle.witx_extent.specs.declared.parts.Waiting.{Waiting}
-use Rattle.witx_extent.specs.Extents.{extent, fields_extent, arms_extent}
+use Rattle.witx_extent.specs.Extents.{extent, fields_extent, arms_extent, params_extent}
 use Rattle.witx_extent.specs.Waiting.{waiting_extent, own_extent, members_extent, payloads_extent, payload_extent, case_extent, arm_count}
 
 waiting-append : (xs ys : List Waiting) → waiting_extent (xs ++ ys) ≡ waiting_extent xs + waiting_extent ys
@@ -122,7 +123,15 @@ pub taken : (left now whole start : ℕ) (all rest new : List Waiting) (x : Wait
     → left + whole ≡ start + waiting_extent all → now + whole ≡ start + waiting_extent new
 taken left now whole start all rest new x e h k s = let a = one-more rest all x e in omega (arith, h, k, s, a)
 
+-- one parameter after the other
+pub next-param : (left now all start : ℕ) (ps : List InterfaceFuncParam) (i : ℕ) (p : InterfaceFuncParam) → i < length ps → p ≡ get_or ps i p
+    → now + extent (tree_of p.tref) ≡ left → left + all ≡ start + params_extent (drop i ps) → now + all ≡ start + params_extent (drop (i + 1) ps)
+next-param left now all start ps i p l e h k = let q = rw (drop_more ps i p l, ← e) at k in omega (arith, h, q)
+
+pub all-params : (left all start : ℕ) (ps : List InterfaceFuncParam) (i : ℕ) → length ps ≤ i → left + all ≡ start + params_extent (drop i ps) → left + all ≡ start
+all-params left all start ps i l k = let q = rw (drop_all i ps l) at k in omega (arith, q)
+
 pub fewer : (left now : ℕ) (x : Waiting) → now + own_extent (tree_of x.tref.now) ≡ left → now < left
 fewer left now x h = let a = own-some (tree_of x.tref.now) in omega (arith, h, a)
 
-pub ruleset extent_rules = (tree_rules, one-more, own-name, own-value, own-variant, name-parts, value-parts, record-parts, variant-parts, list-parts, pointer-parts, const-pointer-parts, next-member, all-members, next-case, all-payloads, carried, bare, taken, fewer)
+pub ruleset extent_rules = (tree_rules, one-more, own-name, own-value, own-variant, name-parts, value-parts, record-parts, variant-parts, list-parts, pointer-parts, const-pointer-parts, next-member, all-members, next-case, all-payloads, carried, bare, taken, fewer, next-param, all-params)

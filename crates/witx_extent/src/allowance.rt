@@ -2,19 +2,20 @@
 
 ghost use Rattle.std.specs.Prelude.{◌≡◌, ◌+◌, OnOk};
 ghost use Rattle.witx_ast.specs.Views.{tree_of};
-ghost use Rattle.witx_extent.specs.Extents.{extent};
+ghost use Rattle.witx_extent.specs.Extents.{extent, params_extent};
 ghost use Rattle.witx_extent.specs.Waiting.{own_extent};
 
 use crate::parts::{Waiting, own_extent, put_parts};
 use std::alloc::Global;
-use witx_ast::TypeRef;
+use witx_ast::{InterfaceFuncParam, TypeRef};
 use witx_base::OutOfMemory;
 
 /// How much of types may still be gone through, each name looked through wherever it is mentioned.
 #[derive(Debug, Drop)]
 pub struct Allowance {
     left: usize,
-    deepest: usize,
+    names: usize,
+    types: usize,
 }
 
 impl Allowance {
@@ -24,9 +25,18 @@ impl Allowance {
     pub fn new(extent: usize, deepest: usize) -> Allowance
         ensures { result.left ≡ extent }
     {
+        Allowance::with_depths(extent, deepest, deepest)
+    }
+
+    /// The same, where so many names may stand one for the other, and so many lists, pointers, records and variants lie
+    /// one in the other.
+    pub fn with_depths(extent: usize, names: usize, types: usize) -> Allowance
+        ensures { result.left ≡ extent }
+    {
         Allowance {
             left: extent,
-            deepest,
+            names,
+            types,
         }
     }
 
@@ -44,6 +54,21 @@ impl Allowance {
         while let Some(next) = waiting.pop() {
             self.take_one(next)?;
             put_parts(&mut waiting, next)?;
+        }
+        Ok(())
+    }
+
+    /// Takes what there is to the types of parameters, or of results.
+    #[tactic(auto, using(crate::proofs::Counting::extent_rules))]
+    pub fn take_params(
+        &mut self,
+        alloc: Global,
+        params: &[InterfaceFuncParam],
+    ) -> Result<(), OutOfMemory>
+        ensures { OnOk result (self.new.left + params_extent params.now ≡ self.old.left) }
+    {
+        for param in params {
+            self.take(alloc, &param.tref)?;
         }
         Ok(())
     }
@@ -72,7 +97,7 @@ impl Allowance {
         ensures { OnOk result (self.new.left + own_extent (tree_of one.entry.tref.now) ≡ self.old.left) }
     {
         let own = own_extent(one.tref);
-        if one.names > self.deepest || one.types > self.deepest || own > self.left {
+        if one.names > self.names || one.types > self.types || own > self.left {
             return Err(OutOfMemory);
         }
         self.left -= own;

@@ -11,10 +11,11 @@ ghost use Rattle.witx_machine.specs.Functions.{function_of};
 ghost use Rattle.witx_call.specs.Lines.{AreLines, FirstFault, Gives, IsLine, NoLine, param_types, types_of};
 
 use crate::error::ValuesError;
+use crate::extents::check_types;
 use crate::line::read_line;
 use std::alloc::Global;
 use witx_ast::{InterfaceFunc, InterfaceFuncParam, TypeRef};
-use witx_bytes::{ReadError, Value, Values, is_within_reach};
+use witx_bytes::{ReadError, Value, Values};
 
 /// The values of one call.
 #[derive(PartialEq, Eq, Debug, Drop)]
@@ -29,8 +30,8 @@ pub struct GivenValues {
 /// the text of a value of its type, ended by a line feed.
 ///
 /// Asked of a function with at most one result, whose types fit their tags. Refused as `Line` for the first
-/// line that isn't the text of a value of its type, or is one too many or missing. Want of memory also where the
-/// function's types go beyond reach (`is_within_reach`).
+/// line that isn't the text of a value of its type, or is one too many or missing. Want of memory also where there is
+/// too much to the function's types, or where they are too deep.
 pub fn read_values(
     alloc: Global,
     func: &InterfaceFunc,
@@ -41,9 +42,7 @@ pub fn read_values(
     ensures given { IfOk result (λ given. Gives (function_of (func_tree func.now)) text.now (map seen given.args) (option_map seen given.reply)) }
     ensures line { (n : ℕ) → result ≡ Err (ValuesError.Line n) → FirstFault 1 (types_of (function_of (func_tree func.now))) text.now n }
 {
-    if !is_within_reach(func) {
-        return Err(ValuesError::OutOfMemory);
-    }
+    check_types(alloc, func)?;
     let params = func.params.as_slice();
     let (args, rest) = read_lines(alloc, params, 0, text.as_bytes())?;
     let (replies, rest) = read_lines(alloc, func.results.as_slice(), params.len(), rest)?;

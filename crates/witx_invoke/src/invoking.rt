@@ -14,12 +14,13 @@ use crate::answering::answer;
 use crate::byte_domain::ByteDomain;
 use crate::error::InvokeError;
 use crate::excepting::is_excepted;
+use crate::extents::check_types;
 use std::alloc::Global;
 use witx_abi::Events;
 use witx_adapt::AdaptedFunc;
 use witx_ast::InterfaceFunc;
 use witx_base::{Id, OutOfMemory};
-use witx_bytes::{Value, Values, is_within_reach};
+use witx_bytes::{Value, Values};
 use witx_call::{Invoked, Placement, Word};
 use witx_run::{Run, run_traces};
 
@@ -35,8 +36,8 @@ const MOST_EVENTS: u128 = 1 << 30;
 ///
 /// Refused as `ZeroError` where the reply is an error that is passed as the word 0, which the function's ABI
 /// can't tell from ok; else as `NoRoom` where the traces together have more than 2^30 events, or where no
-/// run at these addresses keeps all its ranges within the first 2^20 bytes. Want of memory also where the function's
-/// types go beyond reach (`is_within_reach`).
+/// run at these addresses keeps all its ranges within the first 2^20 bytes. Want of memory also where there is too much
+/// to the function's types, or where they are too deep.
 pub fn invoke(
     alloc: Global,
     entry: &AdaptedFunc,
@@ -77,9 +78,7 @@ fn invoke_traces(
     ensures refused { IfErr result
         (Refuses owner.now (called func.now) (map event_of caller.now) (map event_of callee.now) (map seen args.now) (reply_of seen reply.entry)) }
 {
-    if !is_within_reach(func) {
-        return Err(InvokeError::OutOfMemory);
-    }
+    check_types(alloc, func)?;
     if is_excepted(func.abi, reply) {
         return Err(InvokeError::ZeroError);
     }

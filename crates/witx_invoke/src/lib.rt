@@ -8,6 +8,7 @@ mod byte_domain;
 mod copies;
 mod error;
 mod excepting;
+mod extents;
 mod fitting;
 mod flags;
 mod given;
