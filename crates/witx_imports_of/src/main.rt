@@ -1,4 +1,4 @@
-//! The program behind `./imports-of`: a WebAssembly module in binary form on standard input, the list of its
+//! The program behind `tools/imports-of`: a WebAssembly module in binary form on standard input, the list of its
 //! function imports on standard output, as `read_imports` reads it.
 //!
 //! Status 0: done; each import that is no function is left out, with a line on standard error. Else one line
@@ -48,7 +48,7 @@ fn main(rt: HostRuntime) -> ExitCode {
         Err(Stop::Usage) => told(
             &rt,
             2,
-            "usage: ./imports-of FILE.wasm, or with the module on standard input\n",
+            "usage: tools/imports-of FILE.wasm, or with the module on standard input\n",
         ),
         Err(Stop::Refused(why)) => told(&rt, 1, why.as_str()),
         Err(Stop::Unread) => told(&rt, 3, "imports-of: cannot read input\n"),

@@ -9,7 +9,7 @@ use witx_wasm::{FaultKind, Import, ImportDescription, WasmModule};
 pub fn reason(kind: FaultKind) -> &'static str {
     match kind {
         FaultKind::Magic => "no WebAssembly module begins so",
-        FaultKind::Version => "not version 1 of the binary format",
+        FaultKind::Version => "not version 1 of the binary format (components are not read)",
         FaultKind::End => "the module, a section or a name ends too soon",
         FaultKind::Excess => "a section is longer than its contents",
         FaultKind::Number => "a number of more than 32 bits",
@@ -17,14 +17,17 @@ pub fn reason(kind: FaultKind) -> &'static str {
         FaultKind::SectionOrder => "a section out of order",
         FaultKind::NotUtf8 => "a name is not UTF-8",
         FaultKind::FunctionForm => "no type of a function",
+        FaultKind::CompositeType => "types of garbage collection are not read",
         FaultKind::ValueType => "no type of a value",
         FaultKind::Vector => "vectors (v128) are not read",
         FaultKind::ReferenceType => "no type of a reference",
+        FaultKind::HeapType => "references other than funcref and externref are not read",
         FaultKind::ImportKind => "no kind of import",
         FaultKind::Tag => "tags are not read",
         FaultKind::Limits => "no limits begin so",
-        FaultKind::Shared => "shared memories are not read",
+        FaultKind::Shared => "shared memories and tables are not read",
         FaultKind::Wide => "memories and tables of 64 bits are not read",
+        FaultKind::PageSize => "memories with pages of another size are not read",
         FaultKind::Mutability => "a global is neither constant nor variable",
         FaultKind::UnknownType => "no type has this number",
     }

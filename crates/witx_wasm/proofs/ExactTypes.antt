@@ -7,7 +7,7 @@ use Rattle.witx_wasm.specs.Codes.{reference_code, value_code, mutability_code}
 use Rattle.witx_wasm.specs.Forms.{byte, ◌before◌, IsU32, IsVector, IsName}
 use Rattle.witx_wasm.specs.Modules.{HasType}
 use Rattle.witx_wasm.specs.Readers.{Reading, ◌>>=◌, stop, byte_at, u32_at, vector_at, name_at}
-use Rattle.witx_wasm.specs.Reading.{reference_of, value_of_reference, value_of, value_fault, decoded, reference_at, value_at, function_type_at, limits_fault, limits_at, table_at, mutability_at, global_at, type_number_at, described, kind_fault, description_at, import_at}
+use Rattle.witx_wasm.specs.Reading.{reference_of, value_of_reference, value_of, reference_fault, value_fault, form_fault, decoded, reference_at, value_at, function_type_at, limits_fault, limits_at, table_at, mutability_at, global_at, type_number_at, described, kind_fault, description_at, import_at}
 use Rattle.witx_wasm.specs.declared.fault.FaultKind.{FaultKind}
 use Rattle.witx_wasm.specs.declared.fault.FaultKind.TheVariants as kinds
 use Rattle.witx_wasm.specs.declared.module.FunctionType.{FunctionType}
@@ -105,7 +105,7 @@ module _ {A : Type 0} (of_byte : ℕ → Option A) (code : A → ℕ) (fault : �
 
 pub reference-exact : IsExact reference_at (λ r. byte (reference_code r))
 unfolding reference_at
-reference-exact = coded-exact reference_of reference_code (λ _. kinds.ReferenceType) reference-is reference-code
+reference-exact = coded-exact reference_of reference_code (reference_fault kinds.ReferenceType) reference-is reference-code
 
 pub value-exact : IsExact value_at IsValueType
 unfolding value_at
@@ -130,8 +130,8 @@ with_params params = vector_at value_at params.1 >>= with_results params.0
 function-sound : (bytes : List ℕ) (t : FunctionType) (rest : List ℕ) → function_type_at bytes ≡ Ok (t, rest) → Takes (IsFunctionType t) bytes rest
 unfolding function_type_at
 function-sound bytes t rest e =
-    let a = bind_ok (byte_at bytes) (λ form. cond (eqb form.0 0x60) (vector_at value_at form.1 >>= with_params) (Err (stop kinds.FunctionForm bytes))) (t, rest) e in
-    let h = hold_ok (eqb a.0.0 0x60) (stop kinds.FunctionForm bytes) (vector_at value_at a.0.1 >>= with_params) (t, rest) a.2 in
+    let a = bind_ok (byte_at bytes) (λ form. cond (eqb form.0 0x60) (vector_at value_at form.1 >>= with_params) (Err (stop (form_fault form.0) bytes))) (t, rest) e in
+    let h = hold_ok (eqb a.0.0 0x60) (stop (form_fault a.0.0) bytes) (vector_at value_at a.0.1 >>= with_params) (t, rest) a.2 in
     let b = bind_ok (vector_at value_at a.0.1) with_params (t, rest) h.1 in
     let c = bind_ok (vector_at value_at b.0.1) (with_results b.0.0) (t, rest) b.2 in
     let vectors = vector-exact value_at IsValueType value-exact in

@@ -24,29 +24,37 @@ pub enum FaultKind {
     SectionId,
     /// A section stands behind one that it has to precede, or twice.
     SectionOrder,
-    /// A name is no UTF-8.
+    /// A name is no UTF-8. Told is where the first bytes begin that are no character.
     NotUtf8,
     /// A type is none of a function.
     FunctionForm,
+    /// A group of types, a subtype, or the type of an array or a structure, of garbage collection, which
+    /// aren't read.
+    CompositeType,
     /// No type of values.
     ValueType,
     /// The type of vectors, `v128`, which isn't read.
     Vector,
     /// No type of references.
     ReferenceType,
+    /// A type of references other than `funcref` and `externref`, of typed references, of garbage
+    /// collection or of exceptions, which isn't read.
+    HeapType,
     /// What is imported is no function, table, memory, global.
     ImportKind,
     /// A section or an import of tags, of exception handling, which isn't read.
     Tag,
     /// No limits begin so.
     Limits,
-    /// Limits of a memory that is shared, which aren't read.
+    /// Limits of a memory or a table that is shared, which aren't read.
     Shared,
     /// Limits of a memory or a table with addresses of 64 bits, which aren't read.
     Wide,
+    /// Limits of a memory with pages of another size, which aren't read.
+    PageSize,
     /// A global is neither constant nor variable.
     Mutability,
-    /// The module has no type with this number.
+    /// The module has no type with this number. Told is where the number begins.
     UnknownType,
 }
 

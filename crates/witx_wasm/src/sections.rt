@@ -214,8 +214,9 @@ fn behind_version(bytes: &[u8]) -> Result<&[u8], ReadError>
 ///
 /// Read are the core specification's version 1 with multiple values, reference types, bulk memory,
 /// sign extension and mutable globals. Of other sections than those of types and imports nothing but
-/// number and size is read, of custom ones the name too. What later versions brought is refused:
-/// vectors, tags, shared memories, addresses of 64 bits.
+/// number and size is read, of custom ones the name too. What later versions brought is refused by name:
+/// vectors, tags, further types of references, types of garbage collection, and memories and tables that
+/// are shared, have addresses of 64 bits or pages of another size.
 ///
 /// A refusal tells the first fault from left to right, part by part. A section or a name that is longer
 /// than what it stands in ends too soon, whatever is in it.

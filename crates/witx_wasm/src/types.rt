@@ -2,7 +2,7 @@
 
 ghost use Rattle.std.specs.Prelude.{◌≡◌, ◌<◌};
 ghost use Rattle.witx_wasm.specs.Readers.{Reads};
-ghost use Rattle.witx_wasm.specs.Reading.{reference_of, value_of, value_fault, limits_fault, reference_at, value_at, function_type_at, limits_at, table_at, mutability_at, global_at};
+ghost use Rattle.witx_wasm.specs.Reading.{reference_of, value_of, reference_fault, value_fault, form_fault, limits_fault, reference_at, value_at, function_type_at, limits_at, table_at, mutability_at, global_at};
 
 use crate::fault::{FaultKind, ReadError};
 use crate::module::{FunctionType, GlobalType, Limits, ReferenceType, TableType, ValueType};
@@ -34,13 +34,48 @@ fn value_of(byte: u8) -> Option<ValueType>
     }
 }
 
+/// What is wrong with a byte that stands for no type of references: the other fault, unless it is one
+/// that isn't read.
+fn reference_fault(other: FaultKind, byte: u8) -> FaultKind
+    ensures { result ≡ reference_fault other byte }
+{
+    if byte < 0x63 {
+        other
+    } else if byte < 0x65 {
+        FaultKind::HeapType
+    } else if byte < 0x69 {
+        other
+    } else if byte < 0x75 {
+        FaultKind::HeapType
+    } else {
+        other
+    }
+}
+
 /// What is wrong with a byte that stands for no type of values.
 fn value_fault(byte: u8) -> FaultKind
     ensures { result ≡ value_fault byte }
 {
     match byte {
         0x7B => FaultKind::Vector,
-        _ => FaultKind::ValueType,
+        _ => reference_fault(FaultKind::ValueType, byte),
+    }
+}
+
+/// What is wrong with a byte that begins no type of functions.
+fn form_fault(byte: u8) -> FaultKind
+    ensures { result ≡ form_fault byte }
+{
+    if byte < 0x4E {
+        FaultKind::FunctionForm
+    } else if byte < 0x51 {
+        FaultKind::CompositeType
+    } else if byte < 0x5E {
+        FaultKind::FunctionForm
+    } else if byte < 0x60 {
+        FaultKind::CompositeType
+    } else {
+        FaultKind::FunctionForm
     }
 }
 
@@ -52,7 +87,10 @@ fn reference(bytes: &[u8]) -> Result<(ReferenceType, &[u8]), ReadError>
     let (code, rest) = byte(bytes)?;
     match reference_of(code) {
         Some(reference) => Ok((reference, rest)),
-        None => Err(stopped(FaultKind::ReferenceType, bytes)),
+        None => {
+            let kind = reference_fault(FaultKind::ReferenceType, code);
+            Err(stopped(kind, bytes))
+        }
     }
 }
 
@@ -105,7 +143,7 @@ fn function_type(alloc: Global, bytes: &[u8]) -> Result<(FunctionType, &[u8]), R
 {
     let (form, rest) = byte(bytes)?;
     if form != 0x60 {
-        return Err(stopped(FaultKind::FunctionForm, bytes));
+        return Err(stopped(form_fault(form), bytes));
     }
     let (params, rest) = vector(alloc, &Values, rest)?;
     let (results, rest) = vector(alloc, &Values, rest)?;
@@ -120,6 +158,8 @@ fn limits_fault(flag: u8) -> FaultKind
         FaultKind::Shared
     } else if flag < 8 {
         FaultKind::Wide
+    } else if flag < 16 {
+        FaultKind::PageSize
     } else {
         FaultKind::Limits
     }

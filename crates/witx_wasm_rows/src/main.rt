@@ -1,19 +1,41 @@
-//! Reads modules that are written as bytes in hexadecimal, and writes what each imports or what is wrong with it.
+//! Reads modules that are written as bytes in hexadecimal or stand in files, and writes what each imports or
+//! what is wrong with it.
 //!
-//! On standard input stands a row a line: a name, a colon, and the bytes, with blanks where one likes; other
-//! lines are passed over. For each row a line is written, with the name, and `module`, or the fault and its
-//! offset; behind `module` the lines of the list of its function imports.
+//! On standard input stands a row a line: a name, a colon, and the bytes, with blanks where one likes, or the
+//! word `file` and a path; other lines are passed over. For each row a line is written, with the name, and
+//! `module`, or the fault and its offset; behind `module` the lines of the list of its function imports.
 #![tactic(auto)]
 
 use std::alloc::{AllocError, Global};
+use std::fs;
 use std::io::{Read, Write as _};
 use std::process::ExitCode;
 use witx_base::OutOfMemory;
 use witx_import_list::{ListError, function_imports, import_list_text};
 use witx_wasm::{FaultKind, ModuleError, WasmModule, read_module};
 
-/// Status 0 where each row was answered, 3 and 4 where standard input can't be read or the answers can't be
-/// written, 5 without memory.
+/// Why a row isn't answered.
+#[derive(Clone, Copy)]
+pub enum Stop {
+    /// Its file can't be read.
+    NoFile,
+    OutOfMemory,
+}
+
+impl From<OutOfMemory> for Stop {
+    fn from(_: OutOfMemory) -> Stop {
+        Stop::OutOfMemory
+    }
+}
+
+impl From<AllocError> for Stop {
+    fn from(_: AllocError) -> Stop {
+        Stop::OutOfMemory
+    }
+}
+
+/// Status 0 where each row was answered, 3 and 4 where standard input or a file can't be read or the answers
+/// can't be written, 5 without memory.
 fn main(rt: HostRuntime) -> ExitCode {
     let alloc = rt.alloc();
     let mut input = Vec::new(alloc);
@@ -24,8 +46,10 @@ fn main(rt: HostRuntime) -> ExitCode {
         return ExitCode::from(3);
     };
     let mut answers = String::new(alloc);
-    if put_answers(alloc, text, &mut answers).is_err() {
-        return ExitCode::from(5);
+    match put_answers(&rt, alloc, text, &mut answers) {
+        Ok(()) => {}
+        Err(Stop::NoFile) => return ExitCode::from(3),
+        Err(Stop::OutOfMemory) => return ExitCode::from(5),
     }
     match rt.stdout().write_all(answers.as_bytes()) {
         Ok(()) => ExitCode::from(0),
@@ -34,10 +58,16 @@ fn main(rt: HostRuntime) -> ExitCode {
 }
 
 /// Appends what each row gives.
-fn put_answers(alloc: Global, text: &str, answers: &mut String) -> Result<(), OutOfMemory> {
+fn put_answers(
+    rt: &HostRuntime,
+    alloc: Global,
+    text: &str,
+    answers: &mut String,
+) -> Result<(), Stop> {
     for line in text.lines() {
-        if let Some((name, digits)) = line.split_once(':') {
-            put_answer(alloc, name, digits, answers)?;
+        if let Some((name, row)) = line.split_once(':') {
+            let bytes = bytes_of(rt, alloc, row)?;
+            put_answer(alloc, name, bytes.as_slice(), answers)?;
         }
     }
     Ok(())
@@ -47,12 +77,11 @@ fn put_answers(alloc: Global, text: &str, answers: &mut String) -> Result<(), Ou
 fn put_answer(
     alloc: Global,
     name: &str,
-    digits: &str,
+    bytes: &[u8],
     answers: &mut String,
 ) -> Result<(), OutOfMemory> {
     answers.push_str(name)?;
-    let bytes = bytes_of(alloc, digits)?;
-    match read_module(alloc, bytes.as_slice()) {
+    match read_module(alloc, bytes) {
         Ok(module) => put_module(alloc, &module, answers),
         Err(ModuleError::Fault(fault)) => {
             let kind = kind_name(fault.kind);
@@ -83,8 +112,19 @@ fn put_module(alloc: Global, module: &WasmModule, answers: &mut String) -> Resul
     }
 }
 
+/// The bytes of a row: those of the file behind the word `file`, or those that are written.
+fn bytes_of(rt: &HostRuntime, alloc: Global, row: &str) -> Result<Vec<u8>, Stop> {
+    let Some(path) = row.strip_prefix(" file ") else {
+        return Ok(written(alloc, row)?);
+    };
+    match fs::read(rt, path) {
+        Ok(bytes) => Ok(bytes),
+        Err(_) => Err(Stop::NoFile),
+    }
+}
+
 /// The bytes that are written in hexadecimal, with capitals; other characters are passed over.
-fn bytes_of(alloc: Global, digits: &str) -> Result<Vec<u8>, AllocError> {
+fn written(alloc: Global, digits: &str) -> Result<Vec<u8>, AllocError> {
     let mut bytes = Vec::new(alloc);
     let mut high = None;
     for digit in digits.as_bytes() {
@@ -122,14 +162,17 @@ fn kind_name(kind: FaultKind) -> &'static str {
         FaultKind::SectionOrder => "SectionOrder",
         FaultKind::NotUtf8 => "NotUtf8",
         FaultKind::FunctionForm => "FunctionForm",
+        FaultKind::CompositeType => "CompositeType",
         FaultKind::ValueType => "ValueType",
         FaultKind::Vector => "Vector",
         FaultKind::ReferenceType => "ReferenceType",
+        FaultKind::HeapType => "HeapType",
         FaultKind::ImportKind => "ImportKind",
         FaultKind::Tag => "Tag",
         FaultKind::Limits => "Limits",
         FaultKind::Shared => "Shared",
         FaultKind::Wide => "Wide",
+        FaultKind::PageSize => "PageSize",
         FaultKind::Mutability => "Mutability",
         FaultKind::UnknownType => "UnknownType",
     }
