@@ -1,11 +1,13 @@
-//! The output of each command over the files of a bundle.
+//! The output of each command of `run` over the files of a bundle.
 
-ghost use Rattle.std.specs.Prelude.{◌≡◌, [], IfErr, IfOk, None, Some, map};
+ghost use Rattle.std.specs.Prelude.{◌≡◌, [], IfErr, IfOk, None, Some, map, true};
 ghost use Rattle.witx_ast.specs.Definitions.{definition_tree};
 ghost use Rattle.witx_render.specs.DocumentTexts.{document_text};
 ghost use Rattle.witx_commands.specs.Causes.{IsOutput};
 ghost use Rattle.witx_commands.specs.Reports.{CommandRefuses};
 ghost use Rattle.witx_commands.specs.Stops.{StopsWith};
+ghost use Rattle.witx_commands.specs.Words as asked;
+ghost use Rattle.witx_commands.specs.Words.{asked_by, is_of_run};
 
 use std::alloc::Global;
 use witx_ast::Document;
@@ -17,34 +19,32 @@ use witx_commands::{
 use witx_files::MockFs;
 use witx_render::document_text;
 
-/// The output of a command over the files of a bundle, by the words behind its own: a row for each
-/// command.
-pub fn perform(
-    alloc: Global,
-    command: Command,
-    arguments: &[Text],
-    files: &mut MockFs,
-) -> Result<Output, Stop>
-    ensures output { IfOk result (λ o. IsOutput (Some command) files.old arguments.now o.text o.notes o.adapted) }
-    ensures stopped { IfErr result (StopsWith (CommandRefuses command files.old arguments.now)) }
+/// The output of a command of `run` over the files of a bundle: a row for each command. Refused with the report
+/// of the files that it refuses, and for want of memory.
+pub fn perform(alloc: Global, command: &Command<'_>, files: &mut MockFs) -> Result<Output, Stop>
+    requires { is_of_run (asked_by command.now) ≡ true }
+    ensures output { IfOk result (λ o. IsOutput (asked_by command.now) files.old o.text o.notes o.adapted) }
+    ensures stopped { IfErr result (StopsWith (CommandRefuses (asked_by command.now) files.old)) }
 {
     match command {
-        Command::Adapt => adapt_files(alloc, arguments, files),
-        Command::Print => print_files(alloc, arguments, files),
-        Command::Layouts => layouts_of_files(alloc, arguments, files),
-        Command::Docs => page_of_files(alloc, arguments, files),
-        Command::Polyfill => polyfill_files(alloc, arguments, files),
-        Command::Sample { functions } => summary_of_files(alloc, functions, arguments, files),
+        Command::Adapt { paths } => adapt_files(alloc, paths, files),
+        Command::Print { paths } => print_files(alloc, paths, files),
+        Command::Layouts { paths } => layouts_of_files(alloc, paths, files),
+        Command::Docs { paths } => page_of_files(alloc, paths, files),
+        Command::Polyfill(two) => polyfill_files(alloc, two, files),
+        Command::Sample { functions } => summary_of_files(alloc, *functions, files),
+        Command::Shim(_) | Command::Verify(_) | Command::Invoke { .. } | Command::Imports(_) =>
+            unreachable!(),
     }
 }
 
 /// The listing of the document that the files at these paths mean.
 #[tactic(auto, using(witx_commands::proofs::Refusing::command_rules))]
-fn adapt_files(alloc: Global, arguments: &[Text], files: &mut MockFs) -> Result<Output, Stop>
-    ensures output { IfOk result (λ o. IsOutput (Some Command.Adapt) files.old arguments.now o.text o.notes o.adapted) }
-    ensures stopped { IfErr result (StopsWith (CommandRefuses Command.Adapt files.old arguments.now)) }
+fn adapt_files(alloc: Global, words: &[Text], files: &mut MockFs) -> Result<Output, Stop>
+    ensures output { IfOk result (λ o. IsOutput (asked.adapt words.now) files.old o.text o.notes o.adapted) }
+    ensures stopped { IfErr result (StopsWith (CommandRefuses (asked.adapt words.now) files.old)) }
 {
-    let paths = paths_of(alloc, arguments)?;
+    let paths = paths_of(alloc, words)?;
     match adapted_or_stop(alloc, paths.as_slice(), files) {
         Ok(adapted) => listed(alloc, adapted),
         Err(stop) => Err(stop),
@@ -53,11 +53,11 @@ fn adapt_files(alloc: Global, arguments: &[Text], files: &mut MockFs) -> Result<
 
 /// The printed document that the files at these paths mean.
 #[tactic(auto, using(witx_commands::proofs::Refusing::command_rules))]
-fn print_files(alloc: Global, arguments: &[Text], files: &mut MockFs) -> Result<Output, Stop>
-    ensures output { IfOk result (λ o. IsOutput (Some Command.Print) files.old arguments.now o.text o.notes o.adapted) }
-    ensures stopped { IfErr result (StopsWith (CommandRefuses Command.Print files.old arguments.now)) }
+fn print_files(alloc: Global, words: &[Text], files: &mut MockFs) -> Result<Output, Stop>
+    ensures output { IfOk result (λ o. IsOutput (asked.print words.now) files.old o.text o.notes o.adapted) }
+    ensures stopped { IfErr result (StopsWith (CommandRefuses (asked.print words.now) files.old)) }
 {
-    match parsed_or_stop(alloc, arguments, files) {
+    match parsed_or_stop(alloc, words, files) {
         Ok(document) => {
             let output = printed(alloc, &document);
             let_document_go(document);

@@ -1,7 +1,7 @@
 //! The front door: `run`, which reads a bundle of interface texts and writes what its command asks for; `adapt`,
 //! the call behind the first command; and again, under their own names, the calls and types that a caller of
 //! these needs of the crates below. Not here: the laws of those crates about their definitions; calls that they
-//! have for each other; and the calls of the tools, which `witx_tools` gives on.
+//! have for each other; and those of the further commands, which `witx_tools` gives on.
 #![tactic(auto)]
 
 mod commands;
@@ -9,15 +9,15 @@ mod output;
 mod program;
 mod refused;
 
+pub use commands::perform;
 pub use output::{put_text, put_whole};
-pub use program::{Ran, finish, prepare_command, run};
+pub use program::{Ran, files_for, finish, run};
 pub use refused::put_refusal;
 pub use witx_commands::{
-    AdaptError, Command, DONE, Forms, InputError, NO_BUNDLE, NO_FORM, NO_MEMORY, Output, REFUSED,
-    Refusal, Stop, UNREAD, UNWRITTEN, adapt, adapted_or_stop, arguments_of, command_of,
-    constants_have_typenames, has_form, mapped_modules, module_names, new_file, old_file,
-    output_or_refusal, paths_of, read_bundle, text_stop, valid_files_are_not_refused,
-    valid_is_not_refused,
+    AdaptError, Command, DONE, Forms, InputError, NO_BUNDLE, NO_FORM, NO_MEMORY, Output, OwnFile,
+    REFUSED, Refusal, Stop, TwoFiles, UNREAD, UNWRITTEN, adapt, adapted_or_stop, command_of,
+    constants_have_typenames, has_form, mapped_modules, output_or_refusal, paths_of, read_bundle,
+    text_stop, valid_files_are_not_refused, valid_is_not_refused,
 };
 // By hand, since more than a hundred names would be laid out one a line.
 #[rattlefmt::skip]

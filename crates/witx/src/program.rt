@@ -4,9 +4,9 @@ ghost use Rattle.std.specs.Prelude.{◌≡◌, ◌<◌, ◌≤◌, ◌+◌, ◌�
 ghost use Rattle.std.specs.Io.KnownBytes.{Appends};
 ghost use Rattle.witx_base.specs.Causes.{Rose};
 ghost use Rattle.witx_commands.specs.Causes.{FilesCause, Reads};
-ghost use Rattle.witx_commands.specs.Runs.{IsPrepared, IsRun, IsWritten, command_task, input_of, run_input, seen};
+ghost use Rattle.witx_commands.specs.Runs.{IsPrepared, IsRun, IsWritten, command_task, run_input, seen, task_of};
 ghost use Rattle.witx_commands.specs.Streams.{Finished, TookInput, TookPrefix, source_seen};
-ghost use Rattle.witx_commands.specs.Words.{IsBounded, bundle_bytes, reads_source};
+ghost use Rattle.witx_commands.specs.Words.{IsBounded, asked_by, bundle_bytes, is_of_run, reads_source};
 
 use crate::commands::perform;
 use crate::output::put_both;
@@ -15,7 +15,7 @@ use std::alloc::Global;
 use witx_adapt::Adapted;
 use witx_base::{Sink, Source, Text};
 use witx_commands::{
-    Command, Forms, InputError, NO_MEMORY, Output, Refusal, Stop, arguments_of, command_of, kept,
+    Command, Forms, InputError, NO_MEMORY, Output, Refusal, Stop, command_of, kept,
     output_or_refusal, read_bundle, stop_of, valid_is_not_refused,
 };
 use witx_files::MockFs;
@@ -47,7 +47,7 @@ pub fn run<S: Source, O: Sink, E: Sink>(
     out: &mut O,
     err: &mut E,
 ) -> Ran
-    ensures { IsRun (input_of words.now S.left S.faults S.reads source.old source.new) result.status result.adapted
+    ensures { IsRun (run_input (task_of words.now) S.left S.faults S.reads source.old source.new) result.status result.adapted
         (seen O.taken O.faults out.old out.new) (seen E.taken E.faults err.old err.new)
         (source.new ≡ source.old) (out.new ≡ out.old) (err.new ≡ err.old) }
 {
@@ -59,62 +59,65 @@ pub fn run<S: Source, O: Sink, E: Sink>(
 /// What a run is to write, by its words and its source.
 #[tactic(auto, using(witx_commands::proofs::Preparing::form_rules))]
 fn prepare<S: Source>(alloc: Global, words: &[Text], source: &mut S) -> Result<Output, Stop>
-    ensures { IsPrepared (input_of words.now S.left S.faults S.reads source.old source.new) result
+    ensures { IsPrepared (run_input (task_of words.now) S.left S.faults S.reads source.old source.new) result
         (source.new ≡ source.old) }
 {
-    match command_of(words) {
-        Some(command) => prepare_command(alloc, command, arguments_of(words), source),
+    match command_of(Forms::Commands, words) {
+        Some(command) => prepare_command(alloc, &command, source),
         None => Err(Stop::Refused(Refusal::Usage(Forms::Commands))),
     }
 }
 
-/// What a command is to write, by the words behind its own and its source; a sample has at most 4,096
-/// functions. Refused with the cause and the report of a run, or for want of memory.
-pub fn prepare_command<S: Source>(
+/// What a command is to write, by its source: its output, its refusal of the files, or why there are none.
+fn prepare_command<S: Source>(
     alloc: Global,
-    command: Command,
-    arguments: &[Text],
+    command: &Command<'_>,
     source: &mut S,
 ) -> Result<Output, Stop>
-    requires { IsBounded command }
-    ensures { IsPrepared (run_input (command_task command arguments.now) S.left S.faults S.reads source.old source.new)
-        result (source.new ≡ source.old) }
+    requires of_run { is_of_run (asked_by command.now) ≡ true }
+    requires bounded { IsBounded (asked_by command.now) }
+    ensures { IsPrepared (run_input (command_task (asked_by command.now)) S.left S.faults S.reads source.old source.new) result
+        (source.new ≡ source.old) }
 {
     match files_for(alloc, command, source) {
-        Ok(mut files) => perform(alloc, command, arguments, &mut files),
+        Ok(mut files) => perform(alloc, command, &mut files),
         Err(error) => Err(stop_of(error)),
     }
 }
 
 /// The files that a command works on: those of its source's bundle, or those of the sample's, for which
-/// the source isn't read.
+/// the source isn't read. Refused with what the source or its bytes cause, and for want of memory.
 #[tactic(auto, using(witx_commands::proofs::Preparing::file_rules))]
-fn files_for<S: Source>(
+pub fn files_for<S: Source>(
     alloc: Global,
-    command: Command,
+    command: &Command<'_>,
     source: &mut S,
 ) -> Result<MockFs, InputError>
-    requires { IsBounded command }
-    ensures files { IfOk result (λ files. Reads (bundle_bytes (Some command) (S.left source.old)) (Ok files)) }
-    ensures finished { OnOk result (reads_source (Some command) ≡ true
+    requires { IsBounded (asked_by command.now) }
+    ensures files { IfOk result (λ files. Reads (bundle_bytes (asked_by command.now) (S.left source.old)) (Ok files)) }
+    ensures finished { OnOk result (reads_source (asked_by command.now) ≡ true
         → Finished (S.left source.old) (S.left source.new)) }
-    ensures nothing_read { reads_source (Some command) ≡ false → source.new ≡ source.old }
+    ensures nothing_read { reads_source (asked_by command.now) ≡ false → source.new ≡ source.old }
     ensures no_fault { OnOk result (S.faults source.new ≡ S.faults source.old) }
-    ensures refused { IfErr result (FilesCause command (source_seen S.left S.faults S.reads source.old source.new)) }
+    ensures refused { IfErr result (FilesCause (asked_by command.now) (source_seen S.left S.faults S.reads source.old source.new)) }
     ensures later { S.faults source.old ≤ S.faults source.new }
     ensures reads { S.reads source.new ≤ S.reads source.old + 4194305 }
     ensures taken { TookInput (source_seen S.left S.faults S.reads source.old source.new) }
 {
     match command {
-        Command::Adapt => read_bundle(alloc, source),
-        Command::Print => read_bundle(alloc, source),
-        Command::Layouts => read_bundle(alloc, source),
-        Command::Docs => read_bundle(alloc, source),
-        Command::Polyfill => read_bundle(alloc, source),
-        Command::Sample { functions } => match sample_files(alloc, functions) {
+        Command::Sample { functions } => match sample_files(alloc, *functions) {
             Ok(files) => Ok(files),
             Err(_) => Err(InputError::OutOfMemory),
         },
+        Command::Adapt { .. } => read_bundle(alloc, source),
+        Command::Print { .. } => read_bundle(alloc, source),
+        Command::Layouts { .. } => read_bundle(alloc, source),
+        Command::Docs { .. } => read_bundle(alloc, source),
+        Command::Polyfill(_) => read_bundle(alloc, source),
+        Command::Shim(_) => read_bundle(alloc, source),
+        Command::Verify(_) => read_bundle(alloc, source),
+        Command::Invoke { .. } => read_bundle(alloc, source),
+        Command::Imports(_) => read_bundle(alloc, source),
     }
 }
 

@@ -33,8 +33,6 @@ use Rattle.witx_adapt.specs.declared.error.DocumentError.TheVariants as document
 use Rattle.witx_adapt.specs.Adaptable.{IsAdaptable, Refuses}
 use Rattle.witx_commands.specs.declared.error.AdaptError.{AdaptError}
 use Rattle.witx_commands.specs.declared.error.AdaptError.TheVariants as adapt_error
-use Rattle.witx_commands.specs.declared.words.Command.{Command}
-use Rattle.witx_commands.specs.declared.words.Command.TheVariants as command
 use Rattle.witx_commands.specs.Adapting.{AdaptRefuses, AdaptRefusesBundle, IsParsed, IsTextRefusal, Parses, defined}
 use Rattle.witx_adapt.specs.Listings.{listing_text}
 use Rattle.witx_sample.specs.Samples.{sample_path}
@@ -42,8 +40,9 @@ use Rattle.witx_sample.specs.Summaries.{summary_text}
 use Rattle.witx_compat.specs.Polyfills.{MappedModule, polyfill_answer}
 use Rattle.witx_docs.specs.LaidOut.{document_refusal}
 use Rattle.witx_commands.specs.MeantPages.{IsPage, IsPageReport}
-use Rattle.witx_commands.specs.Mappings.{IsAbsentReport, IsPolyfillText, MeansBoth, mapping_of, module_names, new_file, old_file}
-use Rattle.witx_commands.specs.Words.{bundle_bytes, paths_of, reads_source}
+use Rattle.witx_commands.specs.Mappings.{IsAbsentReport, IsPolyfillText, MeansBoth, mapping_of}
+use Rattle.witx_commands.specs.Words as asked
+use Rattle.witx_commands.specs.Words.{Asked, TwoFiles, bundle_bytes, paths_of, reads_source}
 use Rattle.witx_commands.specs.Reports.{AdaptingFails, BothFail, CommandRefuses, IsAdaptReport, MappingFails, IsTextReport, PageFails, ParsingFails, SizesFail}
 use Rattle.witx_commands.specs.Texts.{IsRefused, bundle_status}
 use Rattle.witx_commands.specs.Causes.{IsAdaptedText, IsCause, IsMeantPage, IsOutput, IsPolyfill, IsValidFor}
@@ -175,41 +174,42 @@ module _ (reading : Reading) (is : IsReading reading) (fs gs : Files) (same : (q
   unfolding IsAbsentReport
   absent-excluded names new old modules report e (absent, h, k) = cc
 
-  mapping-excluded : (arguments : List (List ℕ)) (new old : List DefinitionTree) → MeansBoth gs arguments new old → (modules : List MappedModule)
-      → polyfill_answer new old (mapping_of (module_names arguments)) ≡ Ok modules → (report : List ℕ) → BothFail fs arguments report ⊎ MappingFails fs arguments report → ⊥
-  mapping-excluded arguments new old both modules e report (inl (inl h)) = parsing-excluded reading is fs gs same (paths_of (new_file arguments)) new both.0 report h
-  mapping-excluded arguments new old both modules e report (inl (inr (ns, p, h))) =
-      parsing-excluded reading is fs gs same (paths_of (old_file arguments)) old both.1 report h
-  mapping-excluded arguments new old both modules e report (inr (ns, os, others, k)) =
-      let n : ns ≡ new = parses-same reading is fs gs same (paths_of (new_file arguments)) new ns both.0 others.0 in
-      let o : os ≡ old = parses-same reading is fs gs same (paths_of (old_file arguments)) old os both.1 others.1 in
-      absent-excluded (module_names arguments) new old modules report e
-      (subst (λ ds. IsAbsentReport new ds (module_names arguments) report) o (subst (λ ds. IsAbsentReport ds os (module_names arguments) report) n k))
+  mapping-excluded : (two : TwoFiles) (new old : List DefinitionTree) → MeansBoth gs two new old → (modules : List MappedModule)
+      → polyfill_answer new old (mapping_of two.names) ≡ Ok modules → (report : List ℕ) → BothFail fs two report ⊎ MappingFails fs two report → ⊥
+  mapping-excluded two new old both modules e report (inl (inl h)) = parsing-excluded reading is fs gs same (paths_of (two.new ∷ [])) new both.0 report h
+  mapping-excluded two new old both modules e report (inl (inr (ns, p, h))) = parsing-excluded reading is fs gs same (paths_of (two.old ∷ [])) old both.1 report h
+  mapping-excluded two new old both modules e report (inr (ns, os, others, k)) =
+      let n : ns ≡ new = parses-same reading is fs gs same (paths_of (two.new ∷ [])) new ns both.0 others.0 in
+      let o : os ≡ old = parses-same reading is fs gs same (paths_of (two.old ∷ [])) old os both.1 others.1 in
+      absent-excluded two.names new old modules report e
+      (subst (λ ds. IsAbsentReport new ds two.names report) o (subst (λ ds. IsAbsentReport ds os two.names report) n k))
 
-  polyfill-excluded : (arguments : List (List ℕ)) (text report : List ℕ) → IsPolyfill gs arguments text → BothFail fs arguments report ⊎ MappingFails fs arguments report → ⊥
+  polyfill-excluded : (two : TwoFiles) (text report : List ℕ) → IsPolyfill gs two text → BothFail fs two report ⊎ MappingFails fs two report → ⊥
   unfolding IsPolyfillText
-  polyfill-excluded arguments text report (new, old, both, (modules, e, t)) h = mapping-excluded arguments new old both modules e report h
+  polyfill-excluded two text report (new, old, both, (modules, e, t)) h = mapping-excluded two new old both modules e report h
 
   -- a command that has its output doesn't refuse
-  pub output-excluded : (arguments : List (List ℕ)) (c : Command) (text notes : List ℕ) (adapted : Option Adapted) (report : List ℕ)
-      → IsOutput (Some c) gs arguments text notes adapted → CommandRefuses c fs arguments report → ⊥
+  pub output-excluded : (c : Asked) (text notes : List ℕ) (adapted : Option Adapted) (report : List ℕ)
+      → IsOutput c gs text notes adapted → CommandRefuses c fs report → ⊥
   unfolding IsOutput CommandRefuses
-  output-excluded arguments command.Adapt text notes adapted report (n, o) h = adapted-excluded (paths_of arguments) listing_text text adapted report o h
-  output-excluded arguments command.Print text notes adapted report (n, none, (ds, p, k)) h = parsing-excluded reading is fs gs same (paths_of arguments) ds p report h
-  output-excluded arguments command.Layouts text notes adapted report (n, none, (ds, p, all, k)) h = layouts-excluded (paths_of arguments) ds p all report h
-  output-excluded arguments command.Docs text notes adapted report (none, o) h = page-excluded (paths_of arguments) text notes report o h
-  output-excluded arguments command.Polyfill text notes adapted report (n, none, o) h = polyfill-excluded arguments text report o h
-  output-excluded arguments (command.Sample n) text notes adapted report (none, o) h = adapted-excluded (sample_path ∷ []) summary_text text adapted report o h
+  output-excluded (asked.adapt words) text notes adapted report (n, o) h = adapted-excluded (paths_of words) listing_text text adapted report o h
+  output-excluded (asked.print words) text notes adapted report (n, none, (ds, p, k)) h = parsing-excluded reading is fs gs same (paths_of words) ds p report h
+  output-excluded (asked.layouts words) text notes adapted report (n, none, (ds, p, all, k)) h = layouts-excluded (paths_of words) ds p all report h
+  output-excluded (asked.docs words) text notes adapted report (none, o) h = page-excluded (paths_of words) text notes report o h
+  output-excluded (asked.polyfill two) text notes adapted report (n, none, o) h = polyfill-excluded two text report o h
+  output-excluded (asked.sample n) text notes adapted report (none, o) h = adapted-excluded (sample_path ∷ []) summary_text text adapted report o h
+  output-excluded _ text notes adapted report o h = absurd o
 
   -- valid input isn't refused
-  pub valid-excluded : (arguments : List (List ℕ)) (c : Command) (report : List ℕ) → IsValidFor c gs arguments → CommandRefuses c fs arguments report → ⊥
+  pub valid-excluded : (c : Asked) (report : List ℕ) → IsValidFor c gs → CommandRefuses c fs report → ⊥
   unfolding CommandRefuses
-  valid-excluded arguments command.Adapt report (ds, p, a) h = adapting-excluded reading is fs gs same (paths_of arguments) ds p a report h
-  valid-excluded arguments command.Print report (ds, p) h = parsing-excluded reading is fs gs same (paths_of arguments) ds p report h
-  valid-excluded arguments command.Layouts report (ds, p, all) h = layouts-excluded (paths_of arguments) ds p all report h
-  valid-excluded arguments command.Docs report (ds, p, r) h = pages-excluded (paths_of arguments) ds p r report h
-  valid-excluded arguments command.Polyfill report (new, old, both, modules, e) h = mapping-excluded arguments new old both modules e report h
-  valid-excluded arguments (command.Sample n) report (ds, p, a) h = adapting-excluded reading is fs gs same (sample_path ∷ []) ds p a report h
+  valid-excluded (asked.adapt words) report (ds, p, a) h = adapting-excluded reading is fs gs same (paths_of words) ds p a report h
+  valid-excluded (asked.print words) report (ds, p) h = parsing-excluded reading is fs gs same (paths_of words) ds p report h
+  valid-excluded (asked.layouts words) report (ds, p, all) h = layouts-excluded (paths_of words) ds p all report h
+  valid-excluded (asked.docs words) report (ds, p, r) h = pages-excluded (paths_of words) ds p r report h
+  valid-excluded (asked.polyfill two) report (new, old, both, modules, e) h = mapping-excluded two new old both modules e report h
+  valid-excluded (asked.sample n) report (ds, p, a) h = adapting-excluded reading is fs gs same (sample_path ∷ []) ds p a report h
+  valid-excluded _ report v h = absurd v
 
 -- told files and aliases that mean a document, over any reader
 module _ (reading : Reading) (is : IsReading reading) (files : Files) (aliases : Aliases) (handed : List Path) (ds : List DefinitionTree) where
@@ -248,14 +248,9 @@ bundle-excluded bytes files (bundle.BeforeFirst at) h i k = let a = h.2 in let b
 bundle-excluded bytes files bundle.OutOfMemory h i k = absurd i
 
 -- a command that works on its source's bundle works on the bytes that are told
-pub reading-bytes : (form : Option Command) (left : Option (List ℕ)) → reads_source form ≡ true → bundle_bytes form left ≡ left
-reading-bytes None left i = absurd (cc)
-reading-bytes (Some command.Adapt) left i = refl
-reading-bytes (Some command.Print) left i = refl
-reading-bytes (Some command.Layouts) left i = refl
-reading-bytes (Some command.Docs) left i = refl
-reading-bytes (Some command.Polyfill) left i = refl
-reading-bytes (Some (command.Sample n)) left i = absurd (cc)
+pub reading-bytes : (c : Asked) (left : Option (List ℕ)) → reads_source c ≡ true → bundle_bytes c left ≡ left
+reading-bytes (asked.sample n) left i = absurd (cc)
+reading-bytes _ left i = refl
 
 -- what isn't want of memory is told with status 6
 pub told-as-none : (b : BundleError) (status : ℕ) → IsCause b → IsRefused (bundle_status b) status → IsRefused 6 status

@@ -4,6 +4,7 @@ pub mod Paths
 pub mod ConstantTypes
 pub mod Exclusion
 pub mod Ending
+pub mod Reading
 pub mod ReadThrough
 pub mod Refusing
 pub mod Preparing

@@ -21,13 +21,13 @@ use Rattle.witx_docs.specs.PolyfillTexts.{polyfill_text}
 use Rattle.witx_adapt.specs.declared.adapted.Adapted.{Adapted}
 use Rattle.witx_commands.specs.Adapting.{Parses}
 use Rattle.witx_commands.specs.Causes.{IsOutput}
-use Rattle.witx_commands.specs.Mappings.{IsAbsentReport, IsErrorText, IsPolyfillText, MeansBoth, mapping_of, module_names, new_file, old_file, pairs_of}
+use Rattle.witx_commands.specs.Mappings.{IsAbsentReport, IsErrorText, IsPolyfillText, MeansBoth, mapping_of, pairs_of}
 use Rattle.witx_commands.specs.Reports.{BothFail, CommandRefuses, MappingFails, ParsingFails}
 use Rattle.witx_commands.specs.Stops.{StopsWith}
 use Rattle.witx_commands.specs.Texts.{absent_text}
-use Rattle.witx_commands.specs.Words.{paths_of}
+use Rattle.witx_commands.specs.Words as asked
+use Rattle.witx_commands.specs.Words.{TwoFiles, paths_of}
 use Rattle.witx_commands.specs.declared.refusal.Stop.{Stop}
-use Rattle.witx_commands.specs.declared.words.Command.TheVariants as command
 use Rattle.witx_commands.proofs.Refusing.{memory-stops, stops-as}
 
 abbrev Pairs : Type 0
@@ -98,21 +98,21 @@ mapping-more (name ∷ other ∷ more) new old m next all l p q n e =
 pub ruleset mapping_rules = (mapping-ends)
 
 -- the two documents
-pub both-mean : (files mid : Files) (arguments news olds : List (List ℕ)) (new old : List DefinitionTree) → news ≡ new_file arguments → olds ≡ old_file arguments → mid ≡ files
-    → Parses files (paths_of news) (Ok new) → Parses mid (paths_of olds) (Ok old) → MeansBoth files arguments new old
-both-mean files mid arguments news olds new old n o f p q =
+pub both-mean : (files mid : Files) (two : TwoFiles) (news olds : List (List ℕ)) (new old : List DefinitionTree) → news ≡ two.new ∷ [] → olds ≡ two.old ∷ [] → mid ≡ files
+    → Parses files (paths_of news) (Ok new) → Parses mid (paths_of olds) (Ok old) → MeansBoth files two new old
+both-mean files mid two news olds new old n o f p q =
     (subst (λ ws. Parses files (paths_of ws) (Ok new)) n p, subst (λ ws. Parses files (paths_of ws) (Ok old)) o (subst (λ fs. Parses fs (paths_of olds) (Ok old)) f q))
 
-pub new-stops : (files : Files) (arguments news : List (List ℕ)) (s : Stop) → news ≡ new_file arguments → StopsWith (ParsingFails files (paths_of news)) s
-    → StopsWith (BothFail files arguments) s
-new-stops files arguments news s n k =
-    stops-as (ParsingFails files (paths_of (new_file arguments))) (BothFail files arguments) (λ report h. inl h) s
+pub new-stops : (files : Files) (two : TwoFiles) (news : List (List ℕ)) (s : Stop) → news ≡ two.new ∷ [] → StopsWith (ParsingFails files (paths_of news)) s
+    → StopsWith (BothFail files two) s
+new-stops files two news s n k =
+    stops-as (ParsingFails files (paths_of (two.new ∷ []))) (BothFail files two) (λ report h. inl h) s
     (subst (λ ws. StopsWith (ParsingFails files (paths_of ws)) s) n k)
 
-pub old-stops : (files mid : Files) (arguments news olds : List (List ℕ)) (new : List DefinitionTree) (s : Stop) → news ≡ new_file arguments → olds ≡ old_file arguments → mid ≡ files
-    → Parses files (paths_of news) (Ok new) → StopsWith (ParsingFails mid (paths_of olds)) s → StopsWith (BothFail files arguments) s
-old-stops files mid arguments news olds new s n o f p k =
-    stops-as (ParsingFails files (paths_of (old_file arguments))) (BothFail files arguments)
+pub old-stops : (files mid : Files) (two : TwoFiles) (news olds : List (List ℕ)) (new : List DefinitionTree) (s : Stop) → news ≡ two.new ∷ [] → olds ≡ two.old ∷ [] → mid ≡ files
+    → Parses files (paths_of news) (Ok new) → StopsWith (ParsingFails mid (paths_of olds)) s → StopsWith (BothFail files two) s
+old-stops files mid two news olds new s n o f p k =
+    stops-as (ParsingFails files (paths_of (two.old ∷ []))) (BothFail files two)
     (λ report h. inr (new, subst (λ ws. Parses files (paths_of ws) (Ok new)) n p, h)) s
     (subst (λ ws. StopsWith (ParsingFails files (paths_of ws)) s) o (subst (λ fs. StopsWith (ParsingFails fs (paths_of olds)) s) f k))
 
@@ -142,21 +142,23 @@ absent-stops new old names m e s n p k = stops-as (IsErrorText e) (IsAbsentRepor
 pub ruleset report_rules = (memory-stops, mapped-answer, answer-text, absent-stops)
 
 -- the command's output, and what it refuses
-pub polyfill-output : (files : Files) (arguments names : List (List ℕ)) (text notes : List ℕ) (new old : List DefinitionTree) (adapted : Option Adapted) → names ≡ module_names arguments
-    → MeansBoth files arguments new old → IsPolyfillText new old names text → (notes ≡ []) × (adapted ≡ None) → IsOutput (Some command.Polyfill) files arguments text notes adapted
+abbrev two-of : (first other : List ℕ) → List (List ℕ) → TwoFiles
+two-of first other names = record { new = first; old = other; names = names }
+
+pub polyfill-output : (files : Files) (first other : List ℕ) (names : List (List ℕ)) (text notes : List ℕ) (new old : List DefinitionTree) (adapted : Option Adapted)
+    → MeansBoth files (two-of first other names) new old → IsPolyfillText new old names text → (notes ≡ []) × (adapted ≡ None)
+    → IsOutput (asked.polyfill (two-of first other names)) files text notes adapted
 unfolding IsOutput
-polyfill-output files arguments names text notes new old adapted n both t (none, a) = (none, a, (new, old, both, subst (λ ws. IsPolyfillText new old ws text) n t))
+polyfill-output files first other names text notes new old adapted both t (none, a) = (none, a, (new, old, both, t))
 
-pub both-refused : (files : Files) (arguments : List (List ℕ)) (s : Stop) → StopsWith (BothFail files arguments) s
-    → StopsWith (CommandRefuses command.Polyfill files arguments) s
+pub both-refused : (files : Files) (two : TwoFiles) (s : Stop) → StopsWith (BothFail files two) s → StopsWith (CommandRefuses (asked.polyfill two) files) s
 unfolding CommandRefuses
-both-refused files arguments s k = stops-as (BothFail files arguments) (CommandRefuses command.Polyfill files arguments) (λ report h. inl h) s k
+both-refused files two s k = stops-as (BothFail files two) (CommandRefuses (asked.polyfill two) files) (λ report h. inl h) s k
 
-pub absent-refused : (files : Files) (arguments names : List (List ℕ)) (new old : List DefinitionTree) (s : Stop) → names ≡ module_names arguments
-    → MeansBoth files arguments new old → StopsWith (IsAbsentReport new old names) s → StopsWith (CommandRefuses command.Polyfill files arguments) s
+pub absent-refused : (files : Files) (first other : List ℕ) (names : List (List ℕ)) (new old : List DefinitionTree) (s : Stop) → MeansBoth files (two-of first other names) new old
+    → StopsWith (IsAbsentReport new old names) s → StopsWith (CommandRefuses (asked.polyfill (two-of first other names)) files) s
 unfolding CommandRefuses
-absent-refused files arguments names new old s n both k =
-    stops-as (IsAbsentReport new old (module_names arguments)) (CommandRefuses command.Polyfill files arguments) (λ report h. inr (new, old, both, h)) s
-    (subst (λ ws. StopsWith (IsAbsentReport new old ws) s) n k)
+absent-refused files first other names new old s both k =
+    stops-as (IsAbsentReport new old names) (CommandRefuses (asked.polyfill (two-of first other names)) files) (λ report h. inr (new, old, both, h)) s k
 
 pub ruleset output_rules = (polyfill-output, both-refused, absent-refused)

@@ -15,9 +15,9 @@ use Rattle.witx_commands.specs.Causes.{IsOutput}
 use Rattle.witx_commands.specs.MeantPages.{IsPage, IsPageReport, IsRefusedPage}
 use Rattle.witx_commands.specs.Reports.{CommandRefuses, PageFails, ParsingFails}
 use Rattle.witx_commands.specs.Stops.{StopsWith}
+use Rattle.witx_commands.specs.Words as asked
 use Rattle.witx_commands.specs.Words.{paths_of}
 use Rattle.witx_commands.specs.declared.refusal.Stop.{Stop}
-use Rattle.witx_commands.specs.declared.words.Command.TheVariants as command
 use Rattle.witx_commands.proofs.Refusing.{memory-stops, stops-as}
 
 -- the lines of the links that a loop has passed, with those still to come, are all lines
@@ -51,19 +51,19 @@ page-stops ds e s h k = stops-as (IsRefusedPage e) (IsPageReport ds) (λ report 
 pub ruleset page_rules = (memory-stops, page-noted, page-stops)
 
 -- the command's output, and what it refuses
-pub page-output : (files : Files) (arguments : List (List ℕ)) (text notes : List ℕ) (ds : List DefinitionTree) (adapted : Option Adapted)
-    → Parses files (paths_of arguments) (Ok ds) → IsPage ds text notes → adapted ≡ None → IsOutput (Some command.Docs) files arguments text notes adapted
+pub page-output : (files : Files) (words : List (List ℕ)) (text notes : List ℕ) (ds : List DefinitionTree) (adapted : Option Adapted)
+    → Parses files (paths_of words) (Ok ds) → IsPage ds text notes → adapted ≡ None → IsOutput (asked.docs words) files text notes adapted
 unfolding IsOutput
-page-output files arguments text notes ds adapted p k a = (a, (ds, p, k))
+page-output files words text notes ds adapted p k a = (a, (ds, p, k))
 
-pub unread-refused : (files : Files) (arguments : List (List ℕ)) (s : Stop) → StopsWith (ParsingFails files (paths_of arguments)) s
-    → StopsWith (CommandRefuses command.Docs files arguments) s
+pub unread-refused : (files : Files) (words : List (List ℕ)) (s : Stop) → StopsWith (ParsingFails files (paths_of words)) s
+    → StopsWith (CommandRefuses (asked.docs words) files) s
 unfolding CommandRefuses
-unread-refused files arguments s k = stops-as (ParsingFails files (paths_of arguments)) (CommandRefuses command.Docs files arguments) (λ report h. inl h) s k
+unread-refused files words s k = stops-as (ParsingFails files (paths_of words)) (CommandRefuses (asked.docs words) files) (λ report h. inl h) s k
 
-pub page-refused : (files : Files) (arguments : List (List ℕ)) (ds : List DefinitionTree) (s : Stop) → Parses files (paths_of arguments) (Ok ds) → StopsWith (IsPageReport ds) s
-    → StopsWith (CommandRefuses command.Docs files arguments) s
+pub page-refused : (files : Files) (words : List (List ℕ)) (ds : List DefinitionTree) (s : Stop) → Parses files (paths_of words) (Ok ds) → StopsWith (IsPageReport ds) s
+    → StopsWith (CommandRefuses (asked.docs words) files) s
 unfolding CommandRefuses
-page-refused files arguments ds s p k = stops-as (IsPageReport ds) (CommandRefuses command.Docs files arguments) (λ report h. inr (ds, p, h)) s k
+page-refused files words ds s p k = stops-as (IsPageReport ds) (CommandRefuses (asked.docs words) files) (λ report h. inr (ds, p, h)) s k
 
 pub ruleset output_rules = (page-output, unread-refused, page-refused)

@@ -1,13 +1,13 @@
 -- The files that a command works on, or why there are none, by those of its source's bundle; of a source that isn't read nothing is
 -- taken. And what a run is to write, by what whatever its words ask for says of the files.
-use Rattle.std.specs.Prelude.{◌≡◌, ℕ, ◌≤◌, ◌+◌, List, true, false, Option, None, Some, Result, Ok, Err, IfErr, IfOk}
-use Rattle.std.proofs.Common.{refl, subst, sym, ◌∙◌}
+use Rattle.std.specs.Prelude.{◌≡◌, ℕ, ◌≤◌, ◌+◌, List, true, false, Option, None, Some, Result, Ok, Err, IfErr, IfOk, option_map}
+use Rattle.std.proofs.Common.{refl, subst, sym, ap, ◌∙◌}
 use Rattle.witx_files.specs.Files.{Files}
 use Rattle.witx_commands.specs.Causes.{FilesCause, InputCause, Reads, stop_of}
-use Rattle.witx_commands.specs.Runs.{AnswerCause, IsPrepared, RunInput, StopCause, command_task, form_task, formless, input_bytes}
+use Rattle.witx_commands.specs.Runs.{AnswerCause, IsPrepared, RunInput, StopCause, Task, command_task, form_task, formless, input_bytes, task_of}
 use Rattle.witx_commands.specs.Stops.{StopsWith}
 use Rattle.witx_commands.specs.Streams.{Finished, NoFault, SourceSeen, TookInput}
-use Rattle.witx_commands.specs.Words.{bundle_bytes, reads_source}
+use Rattle.witx_commands.specs.Words.{Asked, asked_by, bundle_bytes, command_of, reads_source}
 use Rattle.witx_commands.specs.declared.forms.Forms.{Forms}
 use Rattle.witx_commands.specs.declared.forms.Forms.TheVariants as forms
 use Rattle.witx_commands.specs.declared.words.Command.{Command}
@@ -19,7 +19,7 @@ use Rattle.witx_commands.specs.declared.refusal.Stop.TheVariants as stop
 use Rattle.witx_commands.specs.declared.refusal.Refusal.TheVariants as refusal
 use Rattle.witx_commands.proofs.ReadThrough.{took-nothing}
 
-pub files-caused : (c : Command) (s : SourceSeen) (e : InputError) → reads_source (Some c) ≡ true → bundle_bytes (Some c) s.left ≡ s.left
+pub files-caused : (c : Asked) (s : SourceSeen) (e : InputError) → reads_source c ≡ true → bundle_bytes c s.left ≡ s.left
     → InputCause s e → FilesCause c s e
 files-caused c s input.Source reads same h = (reads, h)
 files-caused c s (input.Bundle b) reads same h = (reads, h.0, h.1, subst (λ l. Reads l (Err b)) (sym same) h.2)
@@ -84,31 +84,33 @@ formless-prepared known s source_kept k n later reads taken = record {
 
 -- ---- commands
 
-pub command-unread : (c : Command) (arguments : List (List ℕ)) (s : SourceSeen) (e : InputError) (end : Stop) (source_kept : Type 0) → end ≡ stop_of e
-    → FilesCause c s e → (reads_source (Some c) ≡ false → source_kept) → s.before ≤ s.now → s.asked_after ≤ s.asked + 4194305 → TookInput s
-    → IsPrepared (record { task = command_task c arguments; source = s }) (Err end) source_kept
-command-unread c arguments s e end source_kept same h kept later reads taken =
-    unread-prepared (record { task = command_task c arguments; source = s }) source_kept refl kept later reads taken end
-    (subst (StopCause (record { task = command_task c arguments; source = s })) (sym same) (by-error e h))
+-- a command for which there are no files, whatever it asks for beside them
+pub command-unread : (i : RunInput) (c : Asked) (source_kept : Type 0) → i.task.no_form ≡ None → i.task.reading ≡ reads_source c → i.task.bundle ≡ bundle_bytes c
+    → (e : InputError) (end : Stop) → end ≡ stop_of e → FilesCause c i.source e → (reads_source c ≡ false → source_kept) → i.source.before ≤ i.source.now
+    → i.source.asked_after ≤ i.source.asked + 4194305 → TookInput i.source → IsPrepared i (Err end) source_kept
+command-unread i c source_kept formed reading bundle e end same h kept later reads taken =
+    unread-prepared i source_kept formed (λ none. kept (sym reading ∙ none)) later reads taken end (subst (StopCause i) (sym same) (by-error e h))
   where
-    by-error : (e : InputError) → FilesCause c s e → StopCause (record { task = command_task c arguments; source = s }) (stop_of e)
-    by-error input.Source h = h
-    by-error (input.Bundle b) h = h
+    by-error : (e : InputError) → FilesCause c i.source e → StopCause i (stop_of e)
+    by-error input.Source h = (reading ∙ h.0, h.1)
+    by-error (input.Bundle b) h = (reading ∙ h.0, h.1, h.2, subst (λ (f : Option (List ℕ) → Option (List ℕ)). Reads (f i.source.left) (Err b)) (sym bundle) h.3)
     by-error input.OutOfMemory h = h
 
 -- words that have the form of a command, as it was read, and words of none
-pub of-command : (read form : Option Command) (c : Command) (handed arguments : List (List ℕ)) (s : SourceSeen) (answer : Result Output Stop)
-    (source_kept : Type 0) → read ≡ form → read ≡ Some c → handed ≡ arguments
-    → IsPrepared (record { task = command_task c handed; source = s }) answer source_kept
-    → IsPrepared (record { task = form_task form arguments; source = s }) answer source_kept
-of-command read form c handed arguments s answer source_kept f is a p =
-    subst (λ (o : Option Command). IsPrepared (record { task = form_task o arguments; source = s }) answer source_kept) (sym is ∙ f)
-    (subst (λ (ws : List (List ℕ)). IsPrepared (record { task = command_task c ws; source = s }) answer source_kept) a p)
+module _ (known : Forms) (task : Asked → Task) (form : Option Asked) (s : SourceSeen) (answer : Result Output Stop) (source_kept : Type 0) where
+  pub of-read : (read : Option Command) (c : Command) → read ≡ Some c → option_map asked_by read ≡ form
+      → IsPrepared (record { task = task (asked_by c); source = s }) answer source_kept
+      → IsPrepared (record { task = form_task known task form; source = s }) answer source_kept
+  of-read read c is same p =
+      subst (λ (o : Option Asked). IsPrepared (record { task = form_task known task o; source = s }) answer source_kept) (sym (ap (option_map asked_by) is) ∙ same) p
+
+  pub of-none : None ≡ form → IsPrepared (record { task = formless known; source = s }) answer source_kept
+      → IsPrepared (record { task = form_task known task form; source = s }) answer source_kept
+  of-none is p = subst (λ (o : Option Asked). IsPrepared (record { task = form_task known task o; source = s }) answer source_kept) is p
+
+pub of-command : (words : List (List ℕ)) (s : SourceSeen) (answer : Result Output Stop) (source_kept : Type 0) (read : Option Command) (c : Command)
+    → read ≡ Some c → option_map asked_by read ≡ command_of forms.Commands words → IsPrepared (record { task = command_task (asked_by c); source = s }) answer source_kept
+    → IsPrepared (record { task = task_of words; source = s }) answer source_kept
+of-command words s answer source_kept read c is same p = of-read forms.Commands command_task (command_of forms.Commands words) s answer source_kept read c is same p
 
 pub ruleset form_rules = (of-command)
-
-pub of-none : (form : Option Command) (arguments : List (List ℕ)) (s : SourceSeen) (answer : Result Output Stop) (source_kept : Type 0)
-    → form ≡ None → IsPrepared (record { task = formless forms.Commands; source = s }) answer source_kept
-    → IsPrepared (record { task = form_task form arguments; source = s }) answer source_kept
-of-none form arguments s answer source_kept f p =
-    subst (λ (o : Option Command). IsPrepared (record { task = form_task o arguments; source = s }) answer source_kept) (sym f) p

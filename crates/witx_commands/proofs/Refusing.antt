@@ -17,7 +17,6 @@ use Rattle.witx_adapt.specs.Entries.{IsFaithful, all_functions, entry_for, entry
 use Rattle.witx_adapt.specs.Listings.{listing_text}
 use Rattle.witx_render.specs.DocumentTexts.{document_text}
 use Rattle.witx_layout.specs.LayoutsText.{layouts_text, typename_sizes}
-use Rattle.witx_commands.specs.declared.words.Command.TheVariants as command
 use Rattle.witx_sample.specs.Samples.{sample_path}
 use Rattle.witx_sample.specs.Summaries.{summary_text}
 use Rattle.witx_commands.specs.Causes.{IsAdaptedText, IsOutput}
@@ -26,6 +25,7 @@ use Rattle.witx_commands.specs.declared.output.Output.{Output}
 use Rattle.witx_commands.specs.declared.refusal.Stop.{Stop}
 use Rattle.witx_commands.specs.declared.refusal.Stop.TheVariants as stop
 use Rattle.witx_commands.specs.declared.refusal.Refusal.TheVariants as refusal
+use Rattle.witx_commands.specs.Words as asked
 use Rattle.witx_commands.specs.Words.{paths_of}
 use Rattle.witx_commands.specs.Reports.{AdaptingFails, CommandRefuses, ParsingFails, IsAdaptReport, IsDocumentReport, IsSizeReport, IsTextReport, IsUnadaptedReport}
 use Rattle.witx_commands.specs.declared.error.Unadapted.{Unadapted}
@@ -125,66 +125,66 @@ parsed-paths files handed paths ds same h = subst (λ ps. Parses files ps (Ok ds
 pub ruleset stop_rules = (memory-stops, parsing-stops, adapting-stops, parsed-paths)
 
 -- the output of each command
-pub adapt-output : (files : Files) (handed : List Path) (arguments : List (List ℕ)) (text notes : List ℕ) (a : Adapted) (adapted : Option Adapted)
-    → handed ≡ paths_of arguments → Parses files handed (Ok (defined a)) → IsAdapted a → text ≡ listing_text a → (notes ≡ []) × (adapted ≡ Some a)
-    → IsOutput (Some command.Adapt) files arguments text notes adapted
+pub adapt-output : (files : Files) (handed : List Path) (words : List (List ℕ)) (text notes : List ℕ) (a : Adapted) (adapted : Option Adapted)
+    → handed ≡ paths_of words → Parses files handed (Ok (defined a)) → IsAdapted a → text ≡ listing_text a → (notes ≡ []) × (adapted ≡ Some a)
+    → IsOutput (asked.adapt words) files text notes adapted
 unfolding IsOutput
-adapt-output files handed arguments text notes a adapted same p k e (n, v) =
-    (n, subst (IsAdaptedText listing_text files (paths_of arguments) text) (sym v) (subst (λ ps. Parses files ps (Ok (defined a))) same p, k, e))
+adapt-output files handed words text notes a adapted same p k e (n, v) =
+    (n, subst (IsAdaptedText listing_text files (paths_of words) text) (sym v) (subst (λ ps. Parses files ps (Ok (defined a))) same p, k, e))
 
-pub summary-output : (n : ℕ) (files : Files) (path : Path) (arguments : List (List ℕ)) (text notes : List ℕ) (a : Adapted) (adapted : Option Adapted)
+pub summary-output : (n : ℕ) (files : Files) (path : Path) (text notes : List ℕ) (a : Adapted) (adapted : Option Adapted)
     → path ≡ sample_path → Parses files (path ∷ []) (Ok (defined a)) → IsAdapted a → text ≡ summary_text a → (notes ≡ []) × (adapted ≡ Some a)
-    → IsOutput (Some (command.Sample n)) files arguments text notes adapted
+    → IsOutput (asked.sample n) files text notes adapted
 unfolding IsOutput
-summary-output n files path arguments text notes a adapted same p k e (none, v) =
+summary-output n files path text notes a adapted same p k e (none, v) =
     (none, subst (IsAdaptedText summary_text files (sample_path ∷ []) text) (sym v) (subst (λ q. Parses files (q ∷ []) (Ok (defined a))) same p, k, e))
 
-pub summary-told : (n : ℕ) (files : Files) (path : Path) (arguments : List (List ℕ)) (a : Adapted) (r : Result Output Stop) → path ≡ sample_path
+pub summary-told : (n : ℕ) (files : Files) (path : Path) (a : Adapted) (r : Result Output Stop) → path ≡ sample_path
     → Parses files (path ∷ []) (Ok (defined a)) → IsAdapted a → IfOk r (λ o. o.text ≡ summary_text a) → IfOk r (λ o. (o.notes ≡ []) × (o.adapted ≡ Some a))
-    → IfOk r (λ o. IsOutput (Some (command.Sample n)) files arguments o.text o.notes o.adapted)
-summary-told n files path arguments a (Ok o) same p k e v = summary-output n files path arguments o.text o.notes a o.adapted same p k e v
-summary-told n files path arguments a (Err s) same p k e v = tt
+    → IfOk r (λ o. IsOutput (asked.sample n) files o.text o.notes o.adapted)
+summary-told n files path a (Ok o) same p k e v = summary-output n files path o.text o.notes a o.adapted same p k e v
+summary-told n files path a (Err s) same p k e v = tt
 
-pub print-output : (files : Files) (arguments : List (List ℕ)) (text notes : List ℕ) (ds : List DefinitionTree) (adapted : Option Adapted)
-    → Parses files (paths_of arguments) (Ok ds) → text ≡ document_text ds → (notes ≡ []) × (adapted ≡ None) → IsOutput (Some command.Print) files arguments text notes adapted
+pub print-output : (files : Files) (words : List (List ℕ)) (text notes : List ℕ) (ds : List DefinitionTree) (adapted : Option Adapted)
+    → Parses files (paths_of words) (Ok ds) → text ≡ document_text ds → (notes ≡ []) × (adapted ≡ None) → IsOutput (asked.print words) files text notes adapted
 unfolding IsOutput
-print-output files arguments text notes ds adapted p e (n, v) = (n, v, (ds, p, e))
+print-output files words text notes ds adapted p e (n, v) = (n, v, (ds, p, e))
 
-pub layouts-output : (files : Files) (arguments : List (List ℕ)) (text notes : List ℕ) (ds : List DefinitionTree) (adapted : Option Adapted)
-    → Parses files (paths_of arguments) (Ok ds) → All (λ size. size < 2 ^ 64) (typename_sizes ds) → text ≡ layouts_text ds → (notes ≡ []) × (adapted ≡ None)
-    → IsOutput (Some command.Layouts) files arguments text notes adapted
+pub layouts-output : (files : Files) (words : List (List ℕ)) (text notes : List ℕ) (ds : List DefinitionTree) (adapted : Option Adapted)
+    → Parses files (paths_of words) (Ok ds) → All (λ size. size < 2 ^ 64) (typename_sizes ds) → text ≡ layouts_text ds → (notes ≡ []) × (adapted ≡ None)
+    → IsOutput (asked.layouts words) files text notes adapted
 unfolding IsOutput
-layouts-output files arguments text notes ds adapted p l e (n, v) = (n, v, (ds, p, l, e))
+layouts-output files words text notes ds adapted p l e (n, v) = (n, v, (ds, p, l, e))
 
 -- and what each refuses
-pub adapt-refused : (files : Files) (handed : List Path) (arguments : List (List ℕ)) (s : Stop) → handed ≡ paths_of arguments → StopsWith (AdaptingFails files handed) s
-    → StopsWith (CommandRefuses command.Adapt files arguments) s
+pub adapt-refused : (files : Files) (handed : List Path) (words : List (List ℕ)) (s : Stop) → handed ≡ paths_of words → StopsWith (AdaptingFails files handed) s
+    → StopsWith (CommandRefuses (asked.adapt words) files) s
 unfolding CommandRefuses
-adapt-refused files handed arguments s same k =
-    stops-as (AdaptingFails files (paths_of arguments)) (CommandRefuses command.Adapt files arguments) (λ report h. h) s
+adapt-refused files handed words s same k =
+    stops-as (AdaptingFails files (paths_of words)) (CommandRefuses (asked.adapt words) files) (λ report h. h) s
     (subst (λ ps. StopsWith (AdaptingFails files ps) s) same k)
 
-pub summary-refused : (n : ℕ) (files : Files) (path : Path) (arguments : List (List ℕ)) (s : Stop) → path ≡ sample_path → StopsWith (AdaptingFails files (path ∷ [])) s
-    → StopsWith (CommandRefuses (command.Sample n) files arguments) s
+pub summary-refused : (n : ℕ) (files : Files) (path : Path) (s : Stop) → path ≡ sample_path → StopsWith (AdaptingFails files (path ∷ [])) s
+    → StopsWith (CommandRefuses (asked.sample n) files) s
 unfolding CommandRefuses
-summary-refused n files path arguments s same k =
-    stops-as (AdaptingFails files (sample_path ∷ [])) (CommandRefuses (command.Sample n) files arguments) (λ report h. h) s
+summary-refused n files path s same k =
+    stops-as (AdaptingFails files (sample_path ∷ [])) (CommandRefuses (asked.sample n) files) (λ report h. h) s
     (subst (λ q. StopsWith (AdaptingFails files (q ∷ [])) s) same k)
 
-pub print-refused : (files : Files) (arguments : List (List ℕ)) (s : Stop) → StopsWith (ParsingFails files (paths_of arguments)) s
-    → StopsWith (CommandRefuses command.Print files arguments) s
+pub print-refused : (files : Files) (words : List (List ℕ)) (s : Stop) → StopsWith (ParsingFails files (paths_of words)) s
+    → StopsWith (CommandRefuses (asked.print words) files) s
 unfolding CommandRefuses
-print-refused files arguments s k = stops-as (ParsingFails files (paths_of arguments)) (CommandRefuses command.Print files arguments) (λ report h. h) s k
+print-refused files words s k = stops-as (ParsingFails files (paths_of words)) (CommandRefuses (asked.print words) files) (λ report h. h) s k
 
-pub layouts-refused : (files : Files) (arguments : List (List ℕ)) (s : Stop) → StopsWith (ParsingFails files (paths_of arguments)) s
-    → StopsWith (CommandRefuses command.Layouts files arguments) s
+pub layouts-refused : (files : Files) (words : List (List ℕ)) (s : Stop) → StopsWith (ParsingFails files (paths_of words)) s
+    → StopsWith (CommandRefuses (asked.layouts words) files) s
 unfolding CommandRefuses
-layouts-refused files arguments s k = stops-as (ParsingFails files (paths_of arguments)) (CommandRefuses command.Layouts files arguments) (λ report h. inl h) s k
+layouts-refused files words s k = stops-as (ParsingFails files (paths_of words)) (CommandRefuses (asked.layouts words) files) (λ report h. inl h) s k
 
-pub layouts-large : (files : Files) (arguments : List (List ℕ)) (ds : List DefinitionTree) (s : Stop) → Parses files (paths_of arguments) (Ok ds) → StopsWith (IsSizeReport ds) s
-    → StopsWith (CommandRefuses command.Layouts files arguments) s
+pub layouts-large : (files : Files) (words : List (List ℕ)) (ds : List DefinitionTree) (s : Stop) → Parses files (paths_of words) (Ok ds) → StopsWith (IsSizeReport ds) s
+    → StopsWith (CommandRefuses (asked.layouts words) files) s
 unfolding CommandRefuses
-layouts-large files arguments ds s p k = stops-as (IsSizeReport ds) (CommandRefuses command.Layouts files arguments) (λ report h. inr (ds, p, h)) s k
+layouts-large files words ds s p k = stops-as (IsSizeReport ds) (CommandRefuses (asked.layouts words) files) (λ report h. inr (ds, p, h)) s k
 
 pub ruleset command_rules = (memory-stops, adapt-output, summary-output, print-output, layouts-output, adapt-refused, summary-refused, print-refused, layouts-refused, layouts-large)
 

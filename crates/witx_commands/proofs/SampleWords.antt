@@ -10,26 +10,24 @@ use Rattle.std.proofs.lemmas.Fmt.{decimal-digits_value, decimal_is_IsNumeral, fi
 use Rattle.std.proofs.lemmas.Str.Parse.{IsNumeralModel, digit_at, numerals_by_value, tells_digits, without_leading_plus_none}
 use Rattle.witx_base.proofs.Names.{same-equal}
 use Rattle.witx_sample.specs.declared.sample.TheConstants.{LARGEST_SAMPLE}
-use Rattle.witx_commands.specs.declared.words.Command.{Command}
-use Rattle.witx_commands.specs.declared.words.Command.TheVariants as command
-use Rattle.witx_commands.specs.Words.{is_printed_size, sample_called}
+use Rattle.witx_commands.specs.Words.{is_printed_size, sample_size}
 
 -- what a test decides
-yes-when : (t : Bool) (c : Command) → t ≡ true → Some c ≡ (if t then Some c else None)
-yes-when true c e = refl
-yes-when false c e = absurd (cc)
+yes-when : (t : Bool) (n : ℕ) → t ≡ true → Some n ≡ (if t then Some n else None)
+yes-when true n e = refl
+yes-when false n e = absurd (cc)
 
-no-when : (t : Bool) (c : Command) → (t ≡ true → ⊥) → None ≡ (if t then Some c else None)
-no-when true c e = absurd (e refl)
-no-when false c e = refl
+no-when : (t : Bool) (n : ℕ) → (t ≡ true → ⊥) → None ≡ (if t then Some n else None)
+no-when true n e = absurd (e refl)
+no-when false n e = refl
 
 -- what a printed size is
-record Printed (word : List ℕ) : Type 0 where
-  least : 1 ≤ digits_value 10 word
-  most : digits_value 10 word ≤ LARGEST_SAMPLE
-  same : word ≡ decimal (digits_value 10 word)
+pub record Printed (word : List ℕ) : Type 0 where
+  pub least : 1 ≤ digits_value 10 word
+  pub most : digits_value 10 word ≤ LARGEST_SAMPLE
+  pub same : word ≡ decimal (digits_value 10 word)
 
-printed-parts : (word : List ℕ) → is_printed_size word ≡ true → Printed word
+pub printed-parts : (word : List ℕ) → is_printed_size word ≡ true → Printed word
 printed-parts word h =
     let p = and_parts _ _ h in
     let q = and_parts _ _ p.0 in
@@ -46,13 +44,13 @@ first-digit n l h =
     let first = first_decimal n (omega (arith, l)) h in
     (omega (arith, first), digit.1)
 
-pub other-first : (word : List ℕ) → (IsInRange 49 57 (slice_index word 0) → ⊥) → None ≡ sample_called word
+pub other-first : (word : List ℕ) → (IsInRange 49 57 (slice_index word 0) → ⊥) → None ≡ sample_size word
 other-first word h = no-when (is_printed_size word) _ (λ t.
     let p = printed-parts word t in
     let small : digits_value 10 word < 2 ^ 64 = let m = p.most in omega (arith, m) in
     h (subst (λ w. IsInRange 49 57 (slice_index w 0)) (sym p.same) (first-digit (digits_value 10 word) p.least small)))
 
-pub unread-word : {E : Type 0} (word : List ℕ) (e : E) → ParsesUnsigned 64 10 word (Err e) → None ≡ sample_called word
+pub unread-word : {E : Type 0} (word : List ℕ) (e : E) → ParsesUnsigned 64 10 word (Err e) → None ≡ sample_size word
 unread-word {E} word e h = no-when (is_printed_size word) _ (λ t.
     let p = printed-parts word t in
     let small : digits_value 10 word < 2 ^ 64 = let m = p.most in omega (arith, m) in
@@ -90,15 +88,14 @@ not-zero word first same = positive (digits_value 10 word) refl
         absurd (omega (arith, first.0, z, zero-glyph))
     positive (suc v) e = omega arith
 
-pub read-sample : (word : List ℕ) (n : ℕ) → IsInRange 49 57 (slice_index word 0) → ReadAs word n → n ≤ LARGEST_SAMPLE → Some (command.Sample n) ≡ sample_called word
+pub read-sample : (word : List ℕ) (n : ℕ) → IsInRange 49 57 (slice_index word 0) → ReadAs word n → n ≤ LARGEST_SAMPLE → Some n ≡ sample_size word
 read-sample word n first h most =
     let r = read-number word n first h in
     let same = printed-again word first r.0 r.1 in
     let n-is = r.2 in
-    ap (λ m. Some (command.Sample m)) n-is
-    ∙ yes-when (is_printed_size word) (command.Sample (digits_value 10 word)) (printed-whole word (not-zero word first same) (omega (arith, most, n-is)) same)
+    ap Some n-is ∙ yes-when (is_printed_size word) (digits_value 10 word) (printed-whole word (not-zero word first same) (omega (arith, most, n-is)) same)
 
-pub large-number : (word : List ℕ) (n : ℕ) → IsInRange 49 57 (slice_index word 0) → ReadAs word n → LARGEST_SAMPLE < n → None ≡ sample_called word
+pub large-number : (word : List ℕ) (n : ℕ) → IsInRange 49 57 (slice_index word 0) → ReadAs word n → LARGEST_SAMPLE < n → None ≡ sample_size word
 large-number word n first h more = no-when (is_printed_size word) _ (λ t.
     let p = printed-parts word t in
     let n-is = (read-number word n first h).2 in

@@ -17,13 +17,12 @@ use Rattle.witx_sample.specs.Summaries.{summary_text}
 use Rattle.witx_commands.specs.Adapting.{IsAdapted, Parses, defined}
 use Rattle.witx_docs.specs.LaidOut.{document_refusal}
 use Rattle.witx_commands.specs.MeantPages.{IsPage}
-use Rattle.witx_commands.specs.Mappings.{IsPolyfillText, MeansBoth, mapping_of, module_names}
-use Rattle.witx_commands.specs.declared.words.Command.{Command}
-use Rattle.witx_commands.specs.declared.words.Command.TheVariants as command
+use Rattle.witx_commands.specs.Mappings.{IsPolyfillText, MeansBoth, mapping_of}
 use Rattle.witx_commands.specs.declared.input.InputError.{InputError}
 use Rattle.witx_commands.specs.declared.input.InputError.TheVariants as input
 use Rattle.witx_commands.specs.Streams.{BrokeOff, FailedWithin, NoFault, SourceSeen}
-use Rattle.witx_commands.specs.Words.{bundle_bytes, paths_of, reads_source}
+use Rattle.witx_commands.specs.Words as asked
+use Rattle.witx_commands.specs.Words.{Asked, TwoFiles, bundle_bytes, paths_of, reads_source}
 use Rattle.witx_commands.specs.declared.refusal.Stop.{Stop}
 use Rattle.witx_commands.specs.declared.refusal.Stop.TheVariants as stop
 use Rattle.witx_commands.specs.declared.refusal.Refusal.TheVariants as refusal
@@ -50,9 +49,9 @@ InputCause s (input.Bundle e) = NoFault s × IsCause e × Reads s.left (Err e)
 InputCause s input.OutOfMemory = NoFault s
 
 -- why there are no files for a command: only one that works on its source's bundle has a cause in it
-abbrev pub FilesCause : Command → SourceSeen → InputError → Type 0
-FilesCause c s input.Source = (reads_source (Some c) ≡ true) × BrokeOff s
-FilesCause c s (input.Bundle e) = (reads_source (Some c) ≡ true) × NoFault s × IsCause e × Reads (bundle_bytes (Some c) s.left) (Err e)
+abbrev pub FilesCause : Asked → SourceSeen → InputError → Type 0
+FilesCause c s input.Source = (reads_source c ≡ true) × BrokeOff s
+FilesCause c s (input.Bundle e) = (reads_source c ≡ true) × NoFault s × IsCause e × Reads (bundle_bytes c s.left) (Err e)
 FilesCause c s input.OutOfMemory = NoFault s
 
 -- the end of a run that has no bundle
@@ -80,24 +79,27 @@ abbrev pub IsMeantPage : Files → List Path → (text notes : List ℕ) → Typ
 IsMeantPage files handed text notes = (ds : List DefinitionTree) × Parses files handed (Ok ds) × IsPage ds text notes
 
 -- the report on the modules of the old file in terms of those of the new one
-abbrev pub IsPolyfill : Files → List (List ℕ) → List ℕ → Type 0
-IsPolyfill files arguments text =
-    (new : List DefinitionTree) × (old : List DefinitionTree) × MeansBoth files arguments new old × IsPolyfillText new old (module_names arguments) text
+abbrev pub IsPolyfill : Files → TwoFiles → List ℕ → Type 0
+IsPolyfill files two text =
+    (new : List DefinitionTree) × (old : List DefinitionTree) × MeansBoth files two new old × IsPolyfillText new old two.names text
 
--- the text that a command writes over the files of a bundle, its notes, and the value that it lists: a row for each command, by
--- what stands behind its word
-unfoldable pub IsOutput : Option Command → Files → List (List ℕ) → (text notes : List ℕ) → Option Adapted → Type 0
-IsOutput None files arguments text notes adapted = ⊥
-IsOutput (Some command.Adapt) files arguments text notes adapted = (notes ≡ []) × IsAdaptedText listing_text files (paths_of arguments) text adapted
-IsOutput (Some command.Print) files arguments text notes adapted = (notes ≡ []) × (adapted ≡ None) × IsPrinted files (paths_of arguments) text
-IsOutput (Some command.Layouts) files arguments text notes adapted = (notes ≡ []) × (adapted ≡ None) × IsLayoutsText files (paths_of arguments) text
-IsOutput (Some command.Docs) files arguments text notes adapted = (adapted ≡ None) × IsMeantPage files (paths_of arguments) text notes
-IsOutput (Some command.Polyfill) files arguments text notes adapted = (notes ≡ []) × (adapted ≡ None) × IsPolyfill files arguments text
-IsOutput (Some (command.Sample n)) files arguments text notes adapted = (notes ≡ []) × IsAdaptedText summary_text files (sample_path ∷ []) text adapted
+-- the text that a command of `run` writes over the files of a bundle, its notes, and the value that it lists: a row for each; nothing
+-- is told of the others here
+unfoldable pub IsOutput : Asked → Files → (text notes : List ℕ) → Option Adapted → Type 0
+IsOutput (asked.adapt paths) files text notes adapted = (notes ≡ []) × IsAdaptedText listing_text files (paths_of paths) text adapted
+IsOutput (asked.print paths) files text notes adapted = (notes ≡ []) × (adapted ≡ None) × IsPrinted files (paths_of paths) text
+IsOutput (asked.layouts paths) files text notes adapted = (notes ≡ []) × (adapted ≡ None) × IsLayoutsText files (paths_of paths) text
+IsOutput (asked.docs paths) files text notes adapted = (adapted ≡ None) × IsMeantPage files (paths_of paths) text notes
+IsOutput (asked.polyfill two) files text notes adapted = (notes ≡ []) × (adapted ≡ None) × IsPolyfill files two text
+IsOutput (asked.sample n) files text notes adapted = (notes ≡ []) × IsAdaptedText summary_text files (sample_path ∷ []) text adapted
+IsOutput (asked.shim two) files text notes adapted = ⊥
+IsOutput (asked.verify own) files text notes adapted = ⊥
+IsOutput (asked.invoke names own) files text notes adapted = ⊥
+IsOutput (asked.imports own) files text notes adapted = ⊥
 
 -- what is written of an adapted document
-abbrev pub adapted_text : Option Command → Adapted → List ℕ
-adapted_text (Some (command.Sample n)) a = summary_text a
+abbrev pub adapted_text : Asked → Adapted → List ℕ
+adapted_text (asked.sample n) a = summary_text a
 adapted_text _ a = listing_text a
 
 -- the files at these paths mean a document
@@ -117,18 +119,22 @@ abbrev pub HasPage : Files → List Path → Type 0
 HasPage files handed = (ds : List DefinitionTree) × Parses files handed (Ok ds) × (document_refusal ds ≡ None)
 
 -- the new file and the old one mean documents whose modules and functions are all there
-abbrev pub CanMap : Files → List (List ℕ) → Type 0
-CanMap files arguments = (new : List DefinitionTree) × (old : List DefinitionTree) × MeansBoth files arguments new old
-    × (modules : List MappedModule) × (polyfill_answer new old (mapping_of (module_names arguments)) ≡ Ok modules)
+abbrev pub CanMap : Files → TwoFiles → Type 0
+CanMap files two = (new : List DefinitionTree) × (old : List DefinitionTree) × MeansBoth files two new old
+    × (modules : List MappedModule) × (polyfill_answer new old (mapping_of two.names) ≡ Ok modules)
 
 -- the files mean a document of which the command tells everything
-abbrev pub IsValidFor : Command → Files → List (List ℕ) → Type 0
-IsValidFor command.Adapt files arguments = CanAdapt files (paths_of arguments)
-IsValidFor command.Print files arguments = HasMeaning files (paths_of arguments)
-IsValidFor command.Layouts files arguments = HasSizes files (paths_of arguments)
-IsValidFor command.Docs files arguments = HasPage files (paths_of arguments)
-IsValidFor command.Polyfill files arguments = CanMap files arguments
-IsValidFor (command.Sample n) files arguments = CanAdapt files (sample_path ∷ [])
+abbrev pub IsValidFor : Asked → Files → Type 0
+IsValidFor (asked.adapt paths) files = CanAdapt files (paths_of paths)
+IsValidFor (asked.print paths) files = HasMeaning files (paths_of paths)
+IsValidFor (asked.layouts paths) files = HasSizes files (paths_of paths)
+IsValidFor (asked.docs paths) files = HasPage files (paths_of paths)
+IsValidFor (asked.polyfill two) files = CanMap files two
+IsValidFor (asked.sample n) files = CanAdapt files (sample_path ∷ [])
+IsValidFor (asked.shim two) files = ⊥
+IsValidFor (asked.verify own) files = ⊥
+IsValidFor (asked.invoke names own) files = ⊥
+IsValidFor (asked.imports own) files = ⊥
 
 -- the definitions of the document that the bytes of a bundle mean, where they are told
 abbrev pub IsMeaning : (left : Option (List ℕ)) → (handed : List Path) → List DefinitionTree → Type 0

@@ -12,20 +12,20 @@ use Rattle.witx_adapt.specs.Adaptable.{IsAdaptable}
 use Rattle.witx_commands.specs.declared.error.AdaptError.{AdaptError}
 use Rattle.witx_commands.specs.declared.error.AdaptError.TheVariants as adapt_error
 use Rattle.witx_commands.specs.Adapting.{AdaptRefuses, IsParsed}
-use Rattle.witx_commands.specs.declared.words.Command.{Command}
+use Rattle.witx_commands.specs.Words.{Asked}
 use Rattle.witx_commands.specs.Reports.{CommandRefuses}
 use Rattle.witx_commands.specs.Causes.{IsOutput, IsValidFor}
 
 -- two readings of one bundle never give an output and a refusal
 abbrev pub OutputOrRefusal : Type 0
 OutputOrRefusal = (bytes : List ℕ) (files others : Files) → IsRead bytes (Ok files) → IsRead bytes (Ok others)
-    → (arguments : List (List ℕ)) (c : Command) (text notes report : List ℕ) (adapted : Option Adapted)
-    → IsOutput (Some c) others arguments text notes adapted → CommandRefuses c files arguments report → ⊥
+    → (c : Asked) (text notes report : List ℕ) (adapted : Option Adapted) → IsOutput c others text notes adapted
+    → CommandRefuses c files report → ⊥
 
 -- a bundle whose files are valid for a command isn't refused by it
 abbrev pub ValidIsNotRefused : Type 0
 ValidIsNotRefused = (bytes : List ℕ) (files others : Files) → IsRead bytes (Ok files) → IsRead bytes (Ok others)
-    → (arguments : List (List ℕ)) (c : Command) (report : List ℕ) → IsValidFor c others arguments → CommandRefuses c files arguments report → ⊥
+    → (c : Asked) (report : List ℕ) → IsValidFor c others → CommandRefuses c files report → ⊥
 
 -- told files that are valid are refused only for want of memory, where no call failed
 abbrev pub ValidFilesAreNotRefused : Type 0

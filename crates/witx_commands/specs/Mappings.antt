@@ -1,6 +1,6 @@
--- What stands behind `polyfill`: the new file, the old one, and names of modules two by two, each a new one and the old one
--- that it stands in for. And what is told of the modules of the two documents, or of a module or a function that is absent.
-use Rattle.std.specs.Prelude.{◌≡◌, ◌⊎◌, ℕ, List, [], ◌∷◌, take, reverse, Ok, Err}
+-- The documents that a new file and an old one mean, and the modules whose names stand behind them. And what is told of these
+-- modules, or of a module or a function that is absent.
+use Rattle.std.specs.Prelude.{◌≡◌, ◌⊎◌, ℕ, List, [], ◌∷◌, reverse, Ok, Err}
 use Rattle.std.specs.FinMap.{entries, from_entries}
 use Rattle.std.specs.Ordering.{nat_cmp}
 use Rattle.std.specs.Cmp.Lexicographic.{slice_cmp}
@@ -12,17 +12,7 @@ use Rattle.witx_compat.specs.declared.error.PolyfillError.TheVariants as polyfil
 use Rattle.witx_docs.specs.PolyfillTexts.{polyfill_text}
 use Rattle.witx_commands.specs.Adapting.{Parses}
 use Rattle.witx_commands.specs.Texts.{absent_module, absent_function, absent_text}
-use Rattle.witx_commands.specs.Words.{arguments_of, paths_of}
-
--- the word of the new file, that of the old one, and the names
-abbrev pub new_file : List (List ℕ) → List (List ℕ)
-new_file arguments = take 1 arguments
-
-abbrev pub old_file : List (List ℕ) → List (List ℕ)
-old_file arguments = take 1 (arguments_of arguments)
-
-abbrev pub module_names : List (List ℕ) → List (List ℕ)
-module_names arguments = arguments_of (arguments_of arguments)
+use Rattle.witx_commands.specs.Words.{TwoFiles, paths_of}
 
 -- two by two
 abbrev pub pairs_of : List (List ℕ) → List (List ℕ × List ℕ)
@@ -35,8 +25,8 @@ unfoldable pub mapping_of : List (List ℕ) → List (List ℕ × List ℕ)
 mapping_of names = entries (from_entries {R = slice_cmp nat_cmp} (reverse (pairs_of names)))
 
 -- the new file means the one document, the old file the other
-abbrev pub MeansBoth : Files → List (List ℕ) → (new old : List DefinitionTree) → Type 0
-MeansBoth files arguments new old = Parses files (paths_of (new_file arguments)) (Ok new) × Parses files (paths_of (old_file arguments)) (Ok old)
+abbrev pub MeansBoth : Files → TwoFiles → (new old : List DefinitionTree) → Type 0
+MeansBoth files two new old = Parses files (paths_of (two.new ∷ [])) (Ok new) × Parses files (paths_of (two.old ∷ [])) (Ok old)
 
 -- the report on the modules of the two
 unfoldable pub IsPolyfillText : (new old : List DefinitionTree) → List (List ℕ) → List ℕ → Type 0

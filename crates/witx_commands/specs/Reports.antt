@@ -16,16 +16,15 @@ use Rattle.witx_adapt.specs.declared.error.DocumentError.TheVariants as document
 use Rattle.witx_sample.specs.Samples.{sample_path}
 use Rattle.witx_walk.specs.declared.error.WitxError.{WitxError}
 use Rattle.witx_walk.specs.ErrorReports.{IsErrorReport}
-use Rattle.witx_commands.specs.declared.words.Command.{Command}
-use Rattle.witx_commands.specs.declared.words.Command.TheVariants as command
 use Rattle.witx_commands.specs.declared.error.AdaptError.{AdaptError}
 use Rattle.witx_commands.specs.declared.error.AdaptError.TheVariants as adapt_error
 use Rattle.witx_commands.specs.declared.error.Unadapted.{Unadapted}
 use Rattle.witx_commands.specs.declared.error.Unadapted.TheVariants as unadapted
 use Rattle.witx_commands.specs.Adapting.{AdaptRefusesBundle, IsTextRefusal, Parses}
 use Rattle.witx_commands.specs.MeantPages.{IsPageReport}
-use Rattle.witx_commands.specs.Mappings.{IsAbsentReport, MeansBoth, module_names, new_file, old_file}
-use Rattle.witx_commands.specs.Words.{paths_of}
+use Rattle.witx_commands.specs.Mappings.{IsAbsentReport, MeansBoth}
+use Rattle.witx_commands.specs.Words as asked
+use Rattle.witx_commands.specs.Words.{Asked, TwoFiles, paths_of}
 
 abbrev pub definition_name : DefinitionTree → List ℕ
 definition_name (typename_of name t docs) = name
@@ -131,24 +130,28 @@ abbrev pub SizesFail : Files → List Path → List ℕ → Type 0
 SizesFail files handed report = (ds : List DefinitionTree) × Parses files handed (Ok ds) × IsSizeReport ds report
 
 -- the new file means no document, or it does and the old file doesn't, and this is the report
-abbrev pub BothFail : Files → List (List ℕ) → List ℕ → Type 0
-BothFail files arguments report = ParsingFails files (paths_of (new_file arguments)) report
-    ⊎ ((new : List DefinitionTree) × Parses files (paths_of (new_file arguments)) (Ok new) × ParsingFails files (paths_of (old_file arguments)) report)
+abbrev pub BothFail : Files → TwoFiles → List ℕ → Type 0
+BothFail files two report = ParsingFails files (paths_of (two.new ∷ [])) report
+    ⊎ ((new : List DefinitionTree) × Parses files (paths_of (two.new ∷ [])) (Ok new) × ParsingFails files (paths_of (two.old ∷ [])) report)
 
 -- both do, a module or a function is absent, and this is the report
-abbrev pub MappingFails : Files → List (List ℕ) → List ℕ → Type 0
-MappingFails files arguments report =
-    (new : List DefinitionTree) × (old : List DefinitionTree) × MeansBoth files arguments new old × IsAbsentReport new old (module_names arguments) report
+abbrev pub MappingFails : Files → TwoFiles → List ℕ → Type 0
+MappingFails files two report =
+    (new : List DefinitionTree) × (old : List DefinitionTree) × MeansBoth files two new old × IsAbsentReport new old two.names report
 
 -- they mean a document that has no page, and this is the report
 abbrev pub PageFails : Files → List Path → List ℕ → Type 0
 PageFails files handed report = (ds : List DefinitionTree) × Parses files handed (Ok ds) × IsPageReport ds report
 
--- the command's call refuses the files of a bundle, with this report: a row for each command, by what stands behind its word
-unfoldable pub CommandRefuses : Command → Files → List (List ℕ) → List ℕ → Type 0
-CommandRefuses command.Adapt files arguments report = AdaptingFails files (paths_of arguments) report
-CommandRefuses command.Print files arguments report = ParsingFails files (paths_of arguments) report
-CommandRefuses command.Layouts files arguments report = ParsingFails files (paths_of arguments) report ⊎ SizesFail files (paths_of arguments) report
-CommandRefuses command.Docs files arguments report = ParsingFails files (paths_of arguments) report ⊎ PageFails files (paths_of arguments) report
-CommandRefuses command.Polyfill files arguments report = BothFail files arguments report ⊎ MappingFails files arguments report
-CommandRefuses (command.Sample n) files arguments report = AdaptingFails files (sample_path ∷ []) report
+-- the call of a command of `run` refuses the files of a bundle, with this report: a row for each; nothing is told of the others here
+unfoldable pub CommandRefuses : Asked → Files → List ℕ → Type 0
+CommandRefuses (asked.adapt paths) files report = AdaptingFails files (paths_of paths) report
+CommandRefuses (asked.print paths) files report = ParsingFails files (paths_of paths) report
+CommandRefuses (asked.layouts paths) files report = ParsingFails files (paths_of paths) report ⊎ SizesFail files (paths_of paths) report
+CommandRefuses (asked.docs paths) files report = ParsingFails files (paths_of paths) report ⊎ PageFails files (paths_of paths) report
+CommandRefuses (asked.polyfill two) files report = BothFail files two report ⊎ MappingFails files two report
+CommandRefuses (asked.sample n) files report = AdaptingFails files (sample_path ∷ []) report
+CommandRefuses (asked.shim two) files report = ⊥
+CommandRefuses (asked.verify own) files report = ⊥
+CommandRefuses (asked.invoke names own) files report = ⊥
+CommandRefuses (asked.imports own) files report = ⊥

@@ -1,5 +1,5 @@
 -- What is so of a run: what its words ask for, when it refuses or has its output, with which status it ends, and what it has
--- written then. It is said once, of whatever the words ask for: the commands are told here, the others above.
+-- written then. It is said once, of whatever the words ask for: what the commands of `run` tell stands here, what the others tell above.
 use Rattle.std.specs.Prelude.{◌≡◌, ◌==◌, ◌<◌, ◌≤◌, ◌+◌, ◌⊎◌, ℕ, List, [], map, All, Bool, true, false, Option, None, Some, Result, Ok, Err, IfSome, IsSome, if◌then◌else◌}
 use Rattle.std.specs.Io.KnownBytes.{Appends}
 use Rattle.witx_base.specs.Causes.{Rose}
@@ -15,7 +15,7 @@ use Rattle.witx_commands.specs.Causes.{IsCause, IsMeaning, IsOutput, IsValidFor,
 use Rattle.witx_commands.specs.Reports.{CommandRefuses}
 use Rattle.witx_commands.specs.Streams.{BrokeOff, Finished, NoFault, SourceSeen, TookInput, TookPrefix, source_seen}
 use Rattle.witx_commands.specs.Texts.{IsRefused, status_of, text_of}
-use Rattle.witx_commands.specs.Words.{adapted_paths, arguments_of, bundle_bytes, command_of, is_adapting, is_noting, reads_source}
+use Rattle.witx_commands.specs.Words.{Asked, adapted_paths, bundle_bytes, command_of, is_adapting, is_noting, reads_source}
 use Rattle.witx_commands.specs.declared.forms.Forms.{Forms}
 use Rattle.witx_commands.specs.declared.forms.Forms.TheVariants as forms
 use Rattle.witx_commands.specs.declared.output.Output.{Output}
@@ -23,7 +23,6 @@ use Rattle.witx_commands.specs.declared.refusal.Refusal.{Refusal}
 use Rattle.witx_commands.specs.declared.refusal.Refusal.TheVariants as refusal
 use Rattle.witx_commands.specs.declared.refusal.Stop.{Stop}
 use Rattle.witx_commands.specs.declared.refusal.Stop.TheVariants as stop
-use Rattle.witx_commands.specs.declared.words.Command.{Command}
 
 -- ---- what words ask for
 
@@ -47,20 +46,25 @@ pub record Task : Type 1 where
   -- that they are valid for it
   pub IsValid : Files → Type 0
 
--- what the words of a command ask for, by what stands behind its word
-abbrev pub command_task : Command → List (List ℕ) → Task
-command_task c arguments = record {
+-- that of a command, by what it tells over files, when it refuses them, and which are valid for it
+abbrev pub task_with : (Asked → Files → (text notes : List ℕ) → Option Adapted → Type 0) → (Asked → Files → List ℕ → Type 0) → (Asked → Files → Type 0)
+    → Asked → Task
+task_with Tells Refuses IsValid c = record {
   no_form = None;
-  reading = reads_source (Some c);
+  reading = reads_source c;
   noting = is_noting c;
-  adapting = is_adapting (Some c);
-  adapted_paths = adapted_paths (Some c) arguments;
-  adapted_text = adapted_text (Some c);
-  bundle = bundle_bytes (Some c);
-  Tells = λ files text notes adapted. IsOutput (Some c) files arguments text notes adapted;
-  Refuses = λ files report. CommandRefuses c files arguments report;
-  IsValid = λ files. IsValidFor c files arguments;
+  adapting = is_adapting c;
+  adapted_paths = adapted_paths c;
+  adapted_text = adapted_text c;
+  bundle = bundle_bytes c;
+  Tells = λ files text notes adapted. Tells c files text notes adapted;
+  Refuses = λ files report. Refuses c files report;
+  IsValid = λ files. IsValid c files;
 }
+
+-- that of a command of `run`
+abbrev pub command_task : Asked → Task
+command_task c = task_with IsOutput CommandRefuses IsValidFor c
 
 -- words without a form
 abbrev pub formless : Forms → Task
@@ -77,14 +81,14 @@ formless known = record {
   IsValid = λ files. ⊥;
 }
 
--- the task of a command, or that of words that have no form of one
-abbrev pub form_task : Option Command → List (List ℕ) → Task
-form_task None arguments = formless forms.Commands
-form_task (Some c) arguments = command_task c arguments
+-- that of a command, or that of words that have none of the forms that are known
+abbrev pub form_task : Forms → (Asked → Task) → Option Asked → Task
+form_task known task None = formless known
+form_task known task (Some c) = task c
 
 -- WHAT WORDS ASK OF `run`
 abbrev pub task_of : List (List ℕ) → Task
-task_of words = form_task (command_of words) (arguments_of words)
+task_of words = form_task forms.Commands command_task (command_of forms.Commands words)
 
 -- ---- what a run is given, and why it refuses
 
@@ -96,11 +100,6 @@ pub record RunInput : Type 1 where
 -- with a source, by what is told of it
 abbrev pub run_input : {S : Type 0} → Task → (S → Option (List ℕ)) → (faults reads : S → ℕ) → (old new : S) → RunInput
 run_input task left faults reads old new = record { task = task; source = source_seen left faults reads old new }
-
--- with words
-abbrev pub input_of : {S : Type 0} → List (List ℕ) → (S → Option (List ℕ)) → (faults reads : S → ℕ) → (old new : S)
-    → RunInput
-input_of words left faults reads old new = run_input (task_of words) left faults reads old new
 
 -- the bytes of the bundle that it works on
 abbrev pub input_bytes : RunInput → Option (List ℕ)

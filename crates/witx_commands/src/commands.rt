@@ -10,6 +10,7 @@ ghost use Rattle.witx_commands.specs.Adapting.{IsAdapted, Parses, RefusesBundle,
 ghost use Rattle.witx_commands.specs.Causes.{IsOutput};
 ghost use Rattle.witx_commands.specs.Reports.{AdaptingFails, CommandRefuses, IsSizeReport, IsUnadaptedReport};
 ghost use Rattle.witx_commands.specs.Stops.{StopsWith};
+ghost use Rattle.witx_commands.specs.Words as asked;
 
 use crate::adapting::adapted;
 use crate::error::Unadapted;
@@ -17,7 +18,6 @@ use crate::output::{Output, no_notes};
 use crate::parsing::parsed_or_stop;
 use crate::refusal::{Refusal, Stop, too_large};
 use crate::report::adapt_report;
-use crate::words::Command;
 use std::alloc::Global;
 use witx_adapt::{Adapted, listing};
 use witx_ast::Document;
@@ -28,15 +28,11 @@ use witx_sample::summary;
 
 /// The layouts of the typenames of the document that the files at these paths mean.
 #[tactic(auto, using(crate::proofs::Refusing::command_rules))]
-pub fn layouts_of_files(
-    alloc: Global,
-    arguments: &[Text],
-    files: &mut MockFs,
-) -> Result<Output, Stop>
-    ensures output { IfOk result (λ o. IsOutput (Some Command.Layouts) files.old arguments.now o.text o.notes o.adapted) }
-    ensures stopped { IfErr result (StopsWith (CommandRefuses Command.Layouts files.old arguments.now)) }
+pub fn layouts_of_files(alloc: Global, words: &[Text], files: &mut MockFs) -> Result<Output, Stop>
+    ensures output { IfOk result (λ o. IsOutput (asked.layouts words.now) files.old o.text o.notes o.adapted) }
+    ensures stopped { IfErr result (StopsWith (CommandRefuses (asked.layouts words.now) files.old)) }
 {
-    match parsed_or_stop(alloc, arguments, files) {
+    match parsed_or_stop(alloc, words, files) {
         Ok(document) => document_layouts(alloc, &document),
         Err(stop) => Err(stop),
     }
@@ -44,14 +40,9 @@ pub fn layouts_of_files(
 
 /// The summary of the document that the file of the sample means.
 #[tactic(auto, using(crate::proofs::Refusing::command_rules))]
-pub fn summary_of_files(
-    alloc: Global,
-    functions: usize,
-    arguments: &[Text],
-    files: &mut MockFs,
-) -> Result<Output, Stop>
-    ensures output { IfOk result (λ o. IsOutput (Some (Command.Sample functions)) files.old arguments.now o.text o.notes o.adapted) }
-    ensures stopped { IfErr result (StopsWith (CommandRefuses (Command.Sample functions) files.old arguments.now)) }
+pub fn summary_of_files(alloc: Global, functions: usize, files: &mut MockFs) -> Result<Output, Stop>
+    ensures output { IfOk result (λ o. IsOutput (asked.sample functions) files.old o.text o.notes o.adapted) }
+    ensures stopped { IfErr result (StopsWith (CommandRefuses (asked.sample functions) files.old)) }
 {
     let path = WitxPath::new(alloc, "/sample.witx")?;
     match adapted_or_stop(alloc, &[path], files) {

@@ -9,9 +9,9 @@ use witx_extent::Allowance;
 /// What there may be to all types of mapped modules. So much is compared within a second.
 const MOST: usize = 1 << 25;
 
-/// How many names may stand one for the other, and how many types lie one in the other: comparing them takes 256 bytes
-/// of the stack for each type.
-const DEEPEST: usize = 20_100;
+/// How many names may stand one for the other, and how many types lie one in the other: how one type is represented by
+/// another takes at most 192 bytes of the stack for each type, `==` 96 for each name and 128 for each type.
+const DEEPEST: usize = 30_100;
 
 /// Want of memory where there is more than that to the types of mapped modules, or where they are too deep.
 pub(crate) fn check_modules(alloc: Global, modules: &[ModulePolyfill]) -> Result<(), OutOfMemory> {

@@ -29,7 +29,7 @@ pub use laws::{
 pub use output::{Output, kept, leave, let_document_go, let_go, no_notes, text_alone};
 pub use pages::page_of_files;
 pub use parsing::{parsed_or_stop, text_stop};
-pub use polyfill::{mapped_modules, module_names, new_file, old_file, polyfill_files};
+pub use polyfill::{mapped_modules, polyfill_files};
 pub use refusal::{Refusal, Stop, stop_of, too_large};
 pub use status::{DONE, NO_BUNDLE, NO_FORM, NO_MEMORY, REFUSED, UNREAD, UNWRITTEN};
-pub use words::{Command, arguments_of, command_of, has_form, paths_of};
+pub use words::{Command, OwnFile, TwoFiles, command_of, has_form, paths_of};

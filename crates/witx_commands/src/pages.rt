@@ -8,7 +8,7 @@ ghost use Rattle.witx_commands.specs.Causes.{IsOutput};
 ghost use Rattle.witx_commands.specs.MeantPages.{IsPage, IsPageReport, IsRefusedPage};
 ghost use Rattle.witx_commands.specs.Reports.{CommandRefuses};
 ghost use Rattle.witx_commands.specs.Stops.{StopsWith};
-ghost use Rattle.witx_commands.specs.declared.words.Command.{Command};
+ghost use Rattle.witx_commands.specs.Words as asked;
 
 use crate::output::Output;
 use crate::parsing::parsed_or_stop;
@@ -22,11 +22,11 @@ use witx_files::MockFs;
 
 /// The page of the document that the files at these paths mean, with a note for each missing link.
 #[tactic(auto, using(crate::proofs::Noting::output_rules))]
-pub fn page_of_files(alloc: Global, arguments: &[Text], files: &mut MockFs) -> Result<Output, Stop>
-    ensures output { IfOk result (λ o. IsOutput (Some Command.Docs) files.old arguments.now o.text o.notes o.adapted) }
-    ensures stopped { IfErr result (StopsWith (CommandRefuses Command.Docs files.old arguments.now)) }
+pub fn page_of_files(alloc: Global, words: &[Text], files: &mut MockFs) -> Result<Output, Stop>
+    ensures output { IfOk result (λ o. IsOutput (asked.docs words.now) files.old o.text o.notes o.adapted) }
+    ensures stopped { IfErr result (StopsWith (CommandRefuses (asked.docs words.now) files.old)) }
 {
-    match parsed_or_stop(alloc, arguments, files) {
+    match parsed_or_stop(alloc, words, files) {
         Ok(document) => document_page(alloc, &document),
         Err(stop) => Err(stop),
     }

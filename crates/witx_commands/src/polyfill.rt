@@ -1,6 +1,6 @@
 //! The report on the modules of an old file in terms of those of a new one.
 
-ghost use Rattle.std.specs.Prelude.{◌≡◌, [], IfErr, IfOk, None, Ok, OnOk, Some, map};
+ghost use Rattle.std.specs.Prelude.{◌≡◌, [], IfErr, IfOk, None, Ok, OnOk, map};
 ghost use Rattle.std.specs.BTreeMap.{insert_entry};
 ghost use Rattle.std.specs.Cmp.Lexicographic.{slice_cmp};
 ghost use Rattle.std.specs.Ordering.{nat_cmp};
@@ -9,33 +9,34 @@ ghost use Rattle.witx_compat.specs.Polyfills.{polyfill_answer};
 ghost use Rattle.witx_compat.specs.Views.{module_view};
 ghost use Rattle.witx_docs.specs.PolyfillTexts.{polyfill_text};
 ghost use Rattle.witx_commands.specs.Causes.{IsOutput};
-ghost use Rattle.witx_commands.specs.Mappings.{IsAbsentReport, IsErrorText, IsPolyfillText, MeansBoth, mapping_of, module_names, new_file, old_file};
+ghost use Rattle.witx_commands.specs.Mappings.{IsAbsentReport, IsErrorText, IsPolyfillText, MeansBoth, mapping_of};
 ghost use Rattle.witx_commands.specs.Reports.{BothFail, CommandRefuses};
 ghost use Rattle.witx_commands.specs.Stops.{StopsWith};
-ghost use Rattle.witx_commands.specs.declared.words.Command.{Command};
 ghost use Rattle.witx_commands.specs.Texts.{absent_function, absent_module};
+ghost use Rattle.witx_commands.specs.Words as asked;
+ghost use Rattle.witx_commands.specs.Words.{two_files};
 
 use crate::extents::check_modules;
 use crate::output::{Output, no_notes};
 use crate::parsing::parsed_or_stop;
 use crate::refusal::{Refusal, Stop};
-use crate::words::{arguments_of, first_of};
+use crate::words::TwoFiles;
 use std::alloc::Global;
+use std::slice::from_ref;
 use witx_ast::Document;
 use witx_base::{Id, OutOfMemory, Text};
 use witx_compat::{ModuleMap, Polyfill, PolyfillError};
 use witx_docs::Documentation;
 use witx_files::MockFs;
 
-/// The report on the modules of the old file in terms of those of the new one. The new file is the
-/// first of the words, the old one the second, and names of modules stand behind them, two by two.
+/// The report on the modules of the old file in terms of those of the new one.
 #[tactic(auto, using(crate::proofs::Mapping::output_rules))]
-pub fn polyfill_files(alloc: Global, arguments: &[Text], files: &mut MockFs) -> Result<Output, Stop>
-    ensures output { IfOk result (λ o. IsOutput (Some Command.Polyfill) files.old arguments.now o.text o.notes o.adapted) }
-    ensures stopped { IfErr result (StopsWith (CommandRefuses Command.Polyfill files.old arguments.now)) }
+pub fn polyfill_files(alloc: Global, two: &TwoFiles<'_>, files: &mut MockFs) -> Result<Output, Stop>
+    ensures output { IfOk result (λ o. IsOutput (asked.polyfill (two_files two.now)) files.old o.text o.notes o.adapted) }
+    ensures stopped { IfErr result (StopsWith (CommandRefuses (asked.polyfill (two_files two.now)) files.old)) }
 {
-    match both_or_stop(alloc, arguments, files) {
-        Ok((new, old)) => mapped(alloc, &new, &old, module_names(arguments)),
+    match both_or_stop(alloc, two, files) {
+        Ok((new, old)) => mapped(alloc, &new, &old, two.names),
         Err(stop) => Err(stop),
     }
 }
@@ -45,37 +46,16 @@ pub fn polyfill_files(alloc: Global, arguments: &[Text], files: &mut MockFs) -> 
 #[tactic(auto, using(crate::proofs::Mapping::document_rules))]
 fn both_or_stop(
     alloc: Global,
-    arguments: &[Text],
+    two: &TwoFiles<'_>,
     files: &mut MockFs,
 ) -> Result<(Document, Document), Stop>
     ensures documents { IfOk result (λ both.
-        MeansBoth files.old arguments.now (map definition_tree both.0.definitions) (map definition_tree both.1.definitions)) }
-    ensures stopped { IfErr result (StopsWith (BothFail files.old arguments.now)) }
+        MeansBoth files.old (two_files two.now) (map definition_tree both.0.definitions) (map definition_tree both.1.definitions)) }
+    ensures stopped { IfErr result (StopsWith (BothFail files.old (two_files two.now))) }
 {
-    let new = parsed_or_stop(alloc, new_file(arguments), files)?;
-    let old = parsed_or_stop(alloc, old_file(arguments), files)?;
+    let new = parsed_or_stop(alloc, from_ref(two.new), files)?;
+    let old = parsed_or_stop(alloc, from_ref(two.old), files)?;
     Ok((new, old))
-}
-
-/// The word of the new file, where there is one.
-pub fn new_file(arguments: &[Text]) -> &[Text]
-    ensures { result.now ≡ new_file arguments.now }
-{
-    first_of(arguments)
-}
-
-/// The word of the old file, where there is one.
-pub fn old_file(arguments: &[Text]) -> &[Text]
-    ensures { result.now ≡ old_file arguments.now }
-{
-    first_of(arguments_of(arguments))
-}
-
-/// The names of modules behind the two files.
-pub fn module_names(arguments: &[Text]) -> &[Text]
-    ensures { result.now ≡ module_names arguments.now }
-{
-    arguments_of(arguments_of(arguments))
 }
 
 /// The report on the modules of two documents that have these names, two by two.

@@ -1,5 +1,5 @@
 //! Runs the program `witx` in memory: the cases of each topic that a word names, and then the batch of
-//! inputs on standard input, which `./fuzz` makes.
+//! inputs on standard input, which `tools/fuzz` makes.
 //!
 //! A topic is a folder of two files, `cases` and `gives`; the head of `rows.rt` has their form. For each
 //! topic a line is written, with the number of its cases; before it stand those that gave something else

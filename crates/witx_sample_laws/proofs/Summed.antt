@@ -1,5 +1,6 @@
 -- The laws of samples, of what their bundles mean.
-use Rattle.std.proofs.Common.{◌≡◌, ℕ, ◌+◌, ◌*◌, ◌%◌, ◌≤◌, Bool, true, false, ◌&&◌, ◌==◌, nat_le, if◌then◌else◌, List, [], ◌∷◌, ◌++◌, length, map, sum_by, Option, Some, None, Result, Ok, refl, ap, ◌∙◌, subst, arith, codes, decimal}
+use Rattle.std.proofs.Common.{◌≡◌, ℕ, ◌+◌, ◌*◌, ◌≤◌, Bool, true, false, nat_le, if◌then◌else◌, List, [], ◌∷◌, ◌++◌, length, map, sum_by, Option, Some, None, Result, Ok, refl, ap, ◌∙◌, subst, arith, codes, decimal}
+use Rattle.std.specs.Prelude.{IfSome}
 use Rattle.std.specs.Str.Parse.{digits_value}
 use Rattle.std.proofs.lemmas.Bool.{and_parts, leb-true}
 use Rattle.std.proofs.lemmas.List.{length-map}
@@ -18,10 +19,11 @@ use Rattle.witx_walk.specs.Meaning.{world, MeansDocument}
 use Rattle.witx_walk.specs.Answers.{OneAnswer}
 use Rattle.witx_sample.specs.Samples.{is_size, sample_path, sample_text}
 use Rattle.witx_sample.specs.Summaries.{event_count, size_in_bytes, summary_text}
-use Rattle.witx_commands.specs.declared.words.Command.{Command}
-use Rattle.witx_commands.specs.declared.words.Command.TheVariants as command
+use Rattle.witx_commands.specs.declared.forms.Forms.{Forms}
 use Rattle.witx_commands.specs.declared.refusal.Refusal.TheVariants as refusal
-use Rattle.witx_commands.specs.Words.{is_printed_size, sample_of, polyfill_of}
+use Rattle.witx_commands.specs.Words as asked
+use Rattle.witx_commands.specs.Words.{Asked, asked_of, if_known, is_known, is_printed_size}
+use Rattle.witx_commands.proofs.Reading.{OfSample, asked-sample}
 use Rattle.witx_commands.specs.Adapting.{IsAdapted, IsParsed, Parses, defined}
 use Rattle.witx_commands.specs.Laws.{ValidIsNotRefused}
 use Rattle.witx_commands.specs.Causes.{IsAdaptedText, IsOutput}
@@ -53,67 +55,26 @@ pub samples-are-bundles : SamplesAreBundles
 samples-are-bundles n e = sample_read n (few n e)
 
 pub samples-are-valid : SamplesAreValid
-samples-are-valid n e files r arguments =
+samples-are-valid n e files r =
     let m = sample_meant n (few n e) files r in
     (m.definitions, parsed n files m, sample_adaptable n m.definitions m.sample)
 
 -- ---- words
 
-is_some : {A : Type 0} (x y : A) → Some x ≡ Some y → x ≡ y
-is_some x y e = cc
+-- a word that is read as a number has its size
+printed_size : (word : List ℕ) → is_printed_size word ≡ true → is_size (digits_value 10 word) ≡ true
+printed_size word h = (and_parts (is_size (digits_value 10 word)) (same_text word (decimal (digits_value 10 word))) h).0
 
-none_some : {A : Type 0} (x : A) → None ≡ Some x → ⊥
-none_some x e = cc
+kept_size : (t : Bool) (c : Asked) (n : ℕ) → OfSample (λ m. is_size m ≡ true) c → (if t then Some c else None) ≡ Some (asked.sample n) → is_size n ≡ true
+kept_size true c n h e = let same : c ≡ asked.sample n = cc in subst (OfSample (λ m. is_size m ≡ true)) same h
+kept_size false c n h e = absurd (cc)
 
-same_sample : (m n : ℕ) → command.Sample m ≡ command.Sample n → m ≡ n
-same_sample m n e = cc
-
-called_size : (t : Bool) (m n : ℕ) → is_size m ≡ true → (if t then Some (command.Sample m) else None) ≡ Some (command.Sample n) → is_size n ≡ true
-called_size true m n h e = subst (λ (k : ℕ). is_size k ≡ true) (same_sample m n (is_some (command.Sample m) (command.Sample n) e)) h
-called_size false m n h e = absurd (none_some (command.Sample n) e)
-
-printed_size : (word : List ℕ) (n : ℕ) (t : Bool) → is_printed_size word ≡ t → (if t then Some (command.Sample (digits_value 10 word)) else None) ≡ Some (command.Sample n) → is_size n ≡ true
-printed_size word n true h e = called_size true (digits_value 10 word) n (and_parts (is_size (digits_value 10 word)) (same_text word (decimal (digits_value 10 word))) h).0 e
-printed_size word n false h e = absurd (none_some (command.Sample n) e)
-
-sample_size : (arguments : List (List ℕ)) (n : ℕ) → sample_of arguments ≡ Some (command.Sample n) → is_size n ≡ true
-sample_size [] n e = absurd (none_some (command.Sample n) e)
-sample_size (word ∷ []) n e = printed_size word n (is_printed_size word) refl e
-sample_size (word ∷ other ∷ more) n e = absurd (none_some (command.Sample n) e)
-
--- another command
-abbrev NoSample : Option Command → Type 0
-NoSample o = (n : ℕ) → o ≡ Some (command.Sample n) → ⊥
-
-passed_over : (t : Bool) (o p : Option Command) (n : ℕ) → NoSample o → (if t then o else p) ≡ Some (command.Sample n) → p ≡ Some (command.Sample n)
-passed_over true o p n h e = absurd (h n e)
-passed_over false o p n h e = e
-
-no_polyfill : (t : Bool) → NoSample (if t then Some command.Polyfill else None)
-no_polyfill true n e = cc
-no_polyfill false n e = cc
-
-taken_sample : (t : Bool) (o : Option Command) (n : ℕ) → (if t then o else None) ≡ Some (command.Sample n) → o ≡ Some (command.Sample n)
-taken_sample true o n e = e
-taken_sample false o n e = absurd (none_some (command.Sample n) e)
+known_size : (known : Forms) (o : Option Asked) (n : ℕ) → IfSome o (OfSample (λ m. is_size m ≡ true)) → if_known known o ≡ Some (asked.sample n) → is_size n ≡ true
+known_size known None n h e = absurd (cc)
+known_size known (Some c) n h e = kept_size (is_known known c) c n h e
 
 pub words-have-a-size : SampleWordsHaveASize
-words-have-a-size [] n e = absurd (none_some (command.Sample n) e)
-words-have-a-size (word ∷ arguments) n e =
-    let s = sample_of arguments in
-    let p = polyfill_of arguments in
-    let is : List ℕ → Bool = λ w. same_text word w in
-    let five = if is (codes "sample") then s else None in
-    let four = if is (codes "polyfill") then p else five in
-    let three = if is (codes "docs") then Some command.Docs else four in
-    let two = if is (codes "layouts") then Some command.Layouts else three in
-    let one = if is (codes "print") then Some command.Print else two in
-    let e1 = passed_over (is (codes "adapt")) (Some command.Adapt) one n (λ m f. cc) e in
-    let e2 = passed_over (is (codes "print")) (Some command.Print) two n (λ m f. cc) e1 in
-    let e3 = passed_over (is (codes "layouts")) (Some command.Layouts) three n (λ m f. cc) e2 in
-    let e4 = passed_over (is (codes "docs")) (Some command.Docs) four n (λ m f. cc) e3 in
-    let e5 = passed_over (is (codes "polyfill")) p five n (no_polyfill (nat_le 2 (length arguments) && (length arguments % 2 == 0))) e4 in
-    sample_size arguments n (taken_sample (is (codes "sample")) s n e5)
+words-have-a-size known words n e = known_size known (asked_of words) n (asked-sample (λ m. is_size m ≡ true) printed_size words) e
 
 -- ---- refusals
 
@@ -121,11 +82,11 @@ no_true : false ≡ true → ⊥
 no_true e = cc
 
 pub samples-are-not-refused : ValidIsNotRefused → SamplesAreNotRefused
-samples-are-not-refused law arguments source n s (refusal.Usage known) c = none_some known c.0
-samples-are-not-refused law arguments source n s refusal.Source c = no_true c.0
-samples-are-not-refused law arguments source n s (refusal.Bundle b) c = no_true c.0
-samples-are-not-refused law arguments source n s (refusal.Command report) c =
-    law (sample_text n) c.1 c.1 c.2 c.2 arguments (command.Sample n) report (samples-are-valid n s c.1 c.2 arguments) c.3
+samples-are-not-refused law source n s (refusal.Usage known) c = let none : None ≡ Some known = c.0 in absurd (cc)
+samples-are-not-refused law source n s refusal.Source c = no_true c.0
+samples-are-not-refused law source n s (refusal.Bundle b) c = no_true c.0
+samples-are-not-refused law source n s (refusal.Command report) c =
+    law (sample_text n) c.1 c.1 c.2 c.2 (asked.sample n) report (samples-are-valid n s c.1 c.2) c.3
 
 -- ---- the summary
 
@@ -162,6 +123,6 @@ text_summed law n e files r text (Some a) o =
 
 pub samples-are-summed-up : OneAnswer → SamplesAreSummedUp
 unfolding IsOutput
-samples-are-summed-up law arguments source n s text notes adapted h =
-    let output : IsOutput (Some (command.Sample n)) h.files arguments text notes adapted = h.output in
+samples-are-summed-up law source n s text notes adapted h =
+    let output : IsOutput (asked.sample n) h.files text notes adapted = h.output in
     (text_summed law n s h.files h.bundle text adapted output.1, output.0)

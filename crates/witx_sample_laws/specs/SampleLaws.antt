@@ -6,9 +6,10 @@ use Rattle.witx_files.specs.Files.{Files}
 use Rattle.witx_bundle.specs.Bundles.{IsRead}
 use Rattle.witx_adapt.specs.declared.adapted.Adapted.{Adapted}
 use Rattle.witx_sample.specs.Samples.{is_size, sample_text}
-use Rattle.witx_commands.specs.declared.words.Command.TheVariants as command
+use Rattle.witx_commands.specs.Words as asked
 use Rattle.witx_commands.specs.declared.refusal.Refusal.{Refusal}
 use Rattle.witx_commands.specs.Words.{command_of}
+use Rattle.witx_commands.specs.declared.forms.Forms.{Forms}
 use Rattle.witx_commands.specs.Causes.{IsValidFor}
 use Rattle.witx_commands.specs.Runs.{Cause, IsAnswered, RunInput, command_task}
 use Rattle.witx_commands.specs.Streams.{SourceSeen}
@@ -19,21 +20,19 @@ SamplesAreBundles = (n : ℕ) → is_size n ≡ true → (files : Files) × IsRe
 
 -- the files of that bundle mean a document that can be adapted
 abbrev pub SamplesAreValid : Type 0
-SamplesAreValid = (n : ℕ) → is_size n ≡ true → (files : Files) → IsRead (sample_text n) (Ok files) → (arguments : List (List ℕ))
-    → IsValidFor (command.Sample n) files arguments
+SamplesAreValid = (n : ℕ) → is_size n ≡ true → (files : Files) → IsRead (sample_text n) (Ok files) → IsValidFor (asked.sample n) files
 
 -- words that have the form of a sample name one that can be made
 abbrev pub SampleWordsHaveASize : Type 0
-SampleWordsHaveASize = (words : List (List ℕ)) (n : ℕ) → command_of words ≡ Some (command.Sample n) → is_size n ≡ true
+SampleWordsHaveASize = (known : Forms) (words : List (List ℕ)) (n : ℕ) → command_of known words ≡ Some (asked.sample n) → is_size n ≡ true
 
 -- what a run of such a command is given
-abbrev pub sample_input : ℕ → List (List ℕ) → SourceSeen → RunInput
-sample_input n arguments source = record { task = command_task (command.Sample n) arguments; source = source }
+abbrev pub sample_input : ℕ → SourceSeen → RunInput
+sample_input n source = record { task = command_task (asked.sample n); source = source }
 
 -- in it no refusal has its cause
 abbrev pub SamplesAreNotRefused : Type 0
-SamplesAreNotRefused = (arguments : List (List ℕ)) (source : SourceSeen) (n : ℕ) → is_size n ≡ true
-    → (r : Refusal) → Cause (sample_input n arguments source) r → ⊥
+SamplesAreNotRefused = (source : SourceSeen) (n : ℕ) → is_size n ≡ true → (r : Refusal) → Cause (sample_input n source) r → ⊥
 
 -- the summary: 2n + 1 typenames, n functions, 42n events and 40n + 2 bytes
 abbrev pub sample_summary : ℕ → List ℕ
@@ -43,6 +42,6 @@ sample_summary n =
 
 -- where such a run is answered, this is its text
 abbrev pub SamplesAreSummedUp : Type 0
-SamplesAreSummedUp = (arguments : List (List ℕ)) (source : SourceSeen) (n : ℕ) → is_size n ≡ true
-    → (text notes : List ℕ) (adapted : Option Adapted) → IsAnswered (sample_input n arguments source) text notes adapted
+SamplesAreSummedUp = (source : SourceSeen) (n : ℕ) → is_size n ≡ true
+    → (text notes : List ℕ) (adapted : Option Adapted) → IsAnswered (sample_input n source) text notes adapted
     → (text ≡ sample_summary n) × (notes ≡ [])

@@ -1,9 +1,10 @@
-//! The program's top call: tools over devices that fail, and which words are those of a tool.
+//! The program's top call: tools over devices that fail, and which words ask for which command.
 
 use std::alloc::Global;
-use witx_base::{MemSink, MemSource, OutOfMemory};
+use witx::{Command, Forms, command_of};
+use witx_base::{MemSink, MemSource, OutOfMemory, Text};
 use witx_fixtures_run::{Case, Gave, sink_of, source_of, words_of};
-use witx_tools::{Tool, run_all, tool_of};
+use witx_tools::run_all;
 
 /// Parameters in another order.
 const TURNED: &str = r#";;;; file /n
@@ -105,25 +106,49 @@ fn failing_devices(rt: HostRuntime) {
     assert!(rt; all_fail(rt.alloc(), FAILING));
 }
 
-/// Whether a line has this tool.
-fn is_tool(alloc: Global, line: &str, tool: Option<Tool>) -> bool {
-    words_of(alloc, line).is_ok_and(|words| tool_of(words.as_slice()) == tool)
+/// The name of a command.
+fn name_of(command: &Command<'_>) -> &'static str {
+    match command {
+        Command::Adapt { .. } => "adapt",
+        Command::Print { .. } => "print",
+        Command::Layouts { .. } => "layouts",
+        Command::Docs { .. } => "docs",
+        Command::Polyfill(_) => "polyfill",
+        Command::Sample { .. } => "sample",
+        Command::Shim(_) => "shim",
+        Command::Verify(_) => "verify",
+        Command::Invoke { .. } => "invoke",
+        Command::Imports(_) => "imports",
+    }
 }
 
-fn all_are_tools(alloc: Global) -> bool {
-    is_tool(alloc, "shim a b", Some(Tool::Shim))
-        && is_tool(alloc, "shim a b c d e", None)
-        && is_tool(alloc, "verify a b c", Some(Tool::Verify))
-        && is_tool(alloc, "verify", None)
-        && is_tool(alloc, "invoke m f v", Some(Tool::Invoke))
-        && is_tool(alloc, "invoke m f", None)
-        && is_tool(alloc, "imports a", Some(Tool::Imports))
-        && is_tool(alloc, "imports", None)
-        && is_tool(alloc, "adapt a", None)
-        && is_tool(alloc, "", None)
+/// Whether words ask for the command of this name, or for none.
+fn have_command(words: &[Text], name: &str) -> bool {
+    match command_of(Forms::All, words) {
+        Some(command) => name_of(&command) == name,
+        None => name.is_empty(),
+    }
+}
+
+/// Whether a line asks for the command of this name, or for none.
+fn asks_for(alloc: Global, line: &str, name: &str) -> bool {
+    words_of(alloc, line).is_ok_and(|words| have_command(words.as_slice(), name))
+}
+
+fn all_are_known(alloc: Global) -> bool {
+    asks_for(alloc, "shim a b", "shim")
+        && asks_for(alloc, "shim a b c d e", "")
+        && asks_for(alloc, "verify a b c", "verify")
+        && asks_for(alloc, "verify", "")
+        && asks_for(alloc, "invoke m f v", "invoke")
+        && asks_for(alloc, "invoke m f", "")
+        && asks_for(alloc, "imports a", "imports")
+        && asks_for(alloc, "imports", "")
+        && asks_for(alloc, "adapt a", "adapt")
+        && asks_for(alloc, "", "")
 }
 
 #[test]
-fn tools_of_words(rt: HostRuntime) {
-    assert!(rt; all_are_tools(rt.alloc()));
+fn commands_of_words(rt: HostRuntime) {
+    assert!(rt; all_are_known(rt.alloc()));
 }

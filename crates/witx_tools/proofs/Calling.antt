@@ -37,11 +37,10 @@ use Rattle.witx_commands.specs.Stops.{StopsWith}
 use Rattle.witx_commands.specs.declared.refusal.Stop.{Stop}
 use Rattle.witx_commands.proofs.Refusing.{memory-stops, stops-as}
 use Rattle.witx_tools.specs.Callable.{AreFor, IsCallable}
-use Rattle.witx_tools.specs.Calls.{CallFails, GivesValues, Handed, HandedFails, IsCallText, IsHandedText, IsNamedText, LineFails, Names, NamedFails, absent_report, first_named, has_names, line_report}
+use Rattle.witx_tools.specs.Calls.{CallFails, GivesValues, Handed, HandedFails, IsCallText, IsHandedText, IsNamedText, LineFails, NamedFails, absent_report, first_named, has_names, line_report}
 use Rattle.witx_tools.specs.InvokeTexts.{call_text}
-use Rattle.witx_tools.specs.ToolWords.{first_word, named_by}
 use Rattle.witx_tools.proofs.Ranges.{IsWithin, all-within}
-use Rattle.witx_commands.specs.Words.{arguments_of}
+use Rattle.witx_commands.specs.Words.{Names}
 
 -- ---- the first function with the names
 
@@ -78,44 +77,25 @@ module _ (q : Entry → Bool) where
     found-at i f p is =
         let h = position-Some passes fs i f p in first-passes fs i f h.0 h.1 h.2 ∙ ap (λ (f : AdaptedFunc). Some (entry_of f)) (sym is)
 
--- the names that the words say
-abbrev names : List ℕ → List ℕ → Names
-names owner function = record { owner = owner; function = function }
-
-same-names : (arguments words : List (List ℕ)) (owner function : List ℕ) → owner ≡ first_word arguments → words ≡ arguments_of arguments → function ≡ first_word words
-    → names owner function ≡ named_by arguments
-same-names arguments words owner function o w f = cc
-
-pub absent-named : (fs : List AdaptedFunc) (arguments words : List (List ℕ)) (owner function values : List ℕ) (s : Stop) → owner ≡ first_word arguments
-    → words ≡ arguments_of arguments → function ≡ first_word words → None ≡ position (λ f. has_names (names owner function) (entry_of f)) fs
-    → StopsWith (λ report. report ≡ absent_report (names owner function)) s
-    → StopsWith (NamedFails (named_by arguments) (first_named (named_by arguments) (map entry_of fs)) values) s
+pub absent-named : (fs : List AdaptedFunc) (n : Names) (values : List ℕ) (s : Stop) → None ≡ position (λ f. has_names n (entry_of f)) fs
+    → StopsWith (λ report. report ≡ absent_report n) s → StopsWith (NamedFails n (first_named n (map entry_of fs)) values) s
 unfolding NamedFails
-absent-named fs arguments words owner function values s o w f p k =
-    let n = names owner function in
+absent-named fs n values s p k =
     let none : first_named n (map entry_of fs) ≡ None = found-none (has_names n) fs (sym p) in
     let told : StopsWith (NamedFails n None values) s = stops-as (λ report. report ≡ absent_report n) (NamedFails n None values) (λ report r. r) s k in
-    subst (λ n. StopsWith (NamedFails n (first_named n (map entry_of fs)) values) s) (same-names arguments words owner function o w f)
-    (subst (λ e. StopsWith (NamedFails n e values) s) (sym none) told)
+    subst (λ e. StopsWith (NamedFails n e values) s) (sym none) told
 
-pub named-fails : (fs : List AdaptedFunc) (arguments words : List (List ℕ)) (owner function values : List ℕ) (i : ℕ) (f : AdaptedFunc) (s : Stop) → owner ≡ first_word arguments
-    → words ≡ arguments_of arguments → function ≡ first_word words → Some i ≡ position (λ f. has_names (names owner function) (entry_of f)) fs
-    → f ≡ get_or fs i f → StopsWith (CallFails (entry_of f) values) s
-    → StopsWith (NamedFails (named_by arguments) (first_named (named_by arguments) (map entry_of fs)) values) s
+pub named-fails : (fs : List AdaptedFunc) (n : Names) (values : List ℕ) (i : ℕ) (f : AdaptedFunc) (s : Stop) → Some i ≡ position (λ f. has_names n (entry_of f)) fs
+    → f ≡ get_or fs i f → StopsWith (CallFails (entry_of f) values) s → StopsWith (NamedFails n (first_named n (map entry_of fs)) values) s
 unfolding NamedFails
-named-fails fs arguments words owner function values i f s o w g p is k =
-    let n = names owner function in
+named-fails fs n values i f s p is k =
     let some : first_named n (map entry_of fs) ≡ Some (entry_of f) = found-at (has_names n) fs i f (sym p) is in
     let told : StopsWith (NamedFails n (Some (entry_of f)) values) s = stops-as (CallFails (entry_of f) values) (NamedFails n (Some (entry_of f)) values) (λ report r. r) s k in
-    subst (λ n. StopsWith (NamedFails n (first_named n (map entry_of fs)) values) s) (same-names arguments words owner function o w g)
-    (subst (λ e. StopsWith (NamedFails n e values) s) (sym some) told)
+    subst (λ e. StopsWith (NamedFails n e values) s) (sym some) told
 
-pub named-told : (fs : List AdaptedFunc) (arguments words : List (List ℕ)) (owner function values text : List ℕ) (i : ℕ) (f : AdaptedFunc) → owner ≡ first_word arguments
-    → words ≡ arguments_of arguments → function ≡ first_word words → Some i ≡ position (λ f. has_names (names owner function) (entry_of f)) fs
-    → f ≡ get_or fs i f → IsCallText (entry_of f) values text → IsNamedText (named_by arguments) (map entry_of fs) values text
-named-told fs arguments words owner function values text i f o w g p is k =
-    subst (λ n. IsNamedText n (map entry_of fs) values text) (same-names arguments words owner function o w g)
-    (record { entry = entry_of f; named = found-at (has_names (names owner function)) fs i f (sym p) is; called = k })
+pub named-told : (fs : List AdaptedFunc) (n : Names) (values text : List ℕ) (i : ℕ) (f : AdaptedFunc) → Some i ≡ position (λ f. has_names n (entry_of f)) fs
+    → f ≡ get_or fs i f → IsCallText (entry_of f) values text → IsNamedText n (map entry_of fs) values text
+named-told fs n values text i f p is k = record { entry = entry_of f; named = found-at (has_names n) fs i f (sym p) is; called = k }
 
 -- ---- entries can be called
 

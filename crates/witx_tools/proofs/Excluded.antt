@@ -2,7 +2,7 @@
 use Rattle.std.specs.Prelude.{◌≡◌, ◌⊎◌, ℕ, List, [], ◌∷◌, true, Option, Some, None, Ok}
 use Rattle.std.proofs.Common.{refl, sym, ap, ◌∙◌, subst, inl, inr}
 use mathlib.Core.Path.{fun_ext}
-use Rattle.witx_base.specs.Paths.{Path}
+use Rattle.witx_base.specs.Paths.{Path, path_of}
 use Rattle.witx_files.specs.Files.{Files, canonical, held}
 use Rattle.witx_bundle.specs.Bundles.{IsRead}
 use Rattle.witx_ast.specs.Definitions.{DefinitionTree}
@@ -25,16 +25,13 @@ use Rattle.witx_commands.specs.Causes.{CanAdapt}
 use Rattle.witx_commands.specs.Laws.{ValidIsNotRefused}
 use Rattle.witx_commands.specs.Reports.{AdaptingFails, CommandRefuses, MappingFails}
 use Rattle.witx_commands.specs.Causes.{CanMap}
-use Rattle.witx_commands.specs.Words.{arguments_of, paths_of}
-use Rattle.witx_commands.specs.declared.words.Command.TheVariants as command
-use Rattle.witx_tools.specs.Calls.{CallFails, CanCall, IsCallText, NamedFails, Names, entries_of, first_named, has_names}
+use Rattle.witx_commands.specs.Words as asked
+use Rattle.witx_commands.specs.Words.{Asked, Names, OwnFile, TwoFiles, paths_of}
+use Rattle.witx_tools.specs.Calls.{CallFails, CanCall, IsCallText, NamedFails, entries_of, first_named, has_names}
 use Rattle.witx_tools.specs.ImportTexts.{IsBadList}
-use Rattle.witx_tools.specs.ToolCauses.{CallReads, CallRefuses, CanAdaptAll, HoldsOwn, IsOwnValid, IsToolOutput, IsToolText, IsValidForTool, LacksOwn, ListFails, ListReads, ListingFails, ListingReads, OneIsUnadapted, OwnRefuses, ToolRefuses}
+use Rattle.witx_tools.specs.ToolCauses.{CallReads, CallRefuses, CanAdaptAll, HoldsOwn, IsOwnValid, IsToolOutput, IsToolText, IsValidForTool, LacksOwn, ListFails, ListReads, ListingFails, ListingReads, OneIsUnadapted, OwnRefuses, ToolRefuses, adapted_files, own_path}
 use Rattle.witx_tools.specs.ToolLaws.{ValidIsNotRefusedByTools}
-use Rattle.witx_tools.specs.ToolWords.{adapted_files, behind_names, first_path, named_by, own_file}
 use Rattle.witx_tools.specs.VerdictTexts.{IsUnfitListing, listed_for}
-use Rattle.witx_tools.specs.declared.tool.Tool.{Tool}
-use Rattle.witx_tools.specs.declared.tool.Tool.TheVariants as tool
 use Rattle.witx_tools.proofs.Closing.{parsed-closed}
 use Rattle.witx_tools.proofs.Handing.{call-excluded, found-fits}
 
@@ -53,16 +50,16 @@ module _ (valid : ValidIsNotRefused) (no_fault : ListsHaveNoFault) (one_answer :
 
   adapt-excluded : (words : List (List ℕ)) (report : List ℕ) → CanAdapt others (paths_of words) → AdaptingFails files (paths_of words) report → ⊥
   unfolding CommandRefuses
-  adapt-excluded words report v h = valid bytes files others here there words command.Adapt report v h
+  adapt-excluded words report v h = valid bytes files others here there (asked.adapt words) report v h
 
   unadapted-excluded : (all : List (List (List ℕ))) (report : List ℕ) → CanAdaptAll others all → OneIsUnadapted files all report → ⊥
   unadapted-excluded [] report v h = h
   unadapted-excluded (words ∷ more) report v (inl h) = adapt-excluded words report v.0 h
   unadapted-excluded (words ∷ more) report v (inr h) = unadapted-excluded more report v.1 h.1
 
-  mapping-excluded : (arguments : List (List ℕ)) (report : List ℕ) → CanMap others arguments → MappingFails files arguments report → ⊥
+  mapping-excluded : (two : TwoFiles) (report : List ℕ) → CanMap others two → MappingFails files two report → ⊥
   unfolding CommandRefuses
-  mapping-excluded arguments report v h = valid bytes files others here there arguments command.Polyfill report v (inr h)
+  mapping-excluded two report v h = valid bytes files others here there (asked.polyfill two) report v (inr h)
 
   list-excluded : (path : Path) (imports : List WasmImport) (report : List ℕ) → ListReads others path imports → ListFails files path report → ⊥
   unfolding IsBadList
@@ -98,13 +95,13 @@ module _ (valid : ValidIsNotRefused) (no_fault : ListsHaveNoFault) (one_answer :
       let same : Ok es ≡ Ok ds = one_answer others [] handed 0 0 0 0 (Ok es) (Ok ds) (Ok es) (Ok ds) q p refl refl in
       cc
 
-  listing-excluded : (arguments : List (List ℕ)) (ds : List DefinitionTree) (sides : List Sides) (report : List ℕ) → ListingReads others arguments ds sides
-      → ListingFails files arguments report → ⊥
+  listing-excluded : (own : OwnFile) (ds : List DefinitionTree) (sides : List Sides) (report : List ℕ) → ListingReads others own ds sides
+      → ListingFails files own report → ⊥
   unfolding IsUnfitListing
-  listing-excluded arguments ds sides report (listing, (k, p), gives) (es, text, (h, q), (number, unfit, r)) =
-      let same : held files (first_path arguments) ≡ held others (first_path arguments) = same-held (first_path arguments) in
+  listing-excluded own ds sides report (listing, (k, p), gives) (es, text, (h, q), (number, unfit, r)) =
+      let same : held files (path_of own.file) ≡ held others (path_of own.file) = same-held (path_of own.file) in
       let equal : text ≡ listing = cc in
-      let document : es ≡ ds = same-document (paths_of (arguments_of arguments)) ds es p q in
+      let document : es ≡ ds = same-document (paths_of own.paths) ds es p q in
       no_unfit (listed_for ds) listing number sides gives
       (subst (λ t. IsUnfit (listed_for ds) t number) equal (subst (λ xs. IsUnfit (listed_for xs) text number) document unfit))
 
@@ -115,55 +112,52 @@ module _ (valid : ValidIsNotRefused) (no_fault : ListsHaveNoFault) (one_answer :
   named-excluded n values e (Some x) report fit can same h =
       let here : x ≡ e = cc in call-excluded one_line e fit values report can (subst (λ e. CallFails e values report) here h)
 
-  refused-excluded : (arguments : List (List ℕ)) (report : List ℕ) → CanAdaptAll others (adapted_files tool.Invoke arguments) → CallReads others arguments
-      → CallRefuses files arguments report → ⊥
-  refused-excluded arguments report ((bs, r, able), rest) (ds, values, (k, p), e, named, can) (es, text, (h, q), fails) =
-      let words = behind_names arguments in
-      let same : held files (first_path words) ≡ held others (first_path words) = same-held (first_path words) in
+  refused-excluded : (n : Names) (own : OwnFile) (report : List ℕ) → CanAdaptAll others (own.paths ∷ []) → CallReads others n own → CallRefuses files n own report → ⊥
+  refused-excluded n own report ((bs, r, able), rest) (ds, values, (k, p), e, named, can) (es, text, (h, q), fails) =
+      let same : held files (path_of own.file) ≡ held others (path_of own.file) = same-held (path_of own.file) in
       let equal : text ≡ values = cc in
-      let document : es ≡ ds = same-document (paths_of (arguments_of words)) ds es p q in
-      let adapted : bs ≡ ds = one-document (paths_of (arguments_of words)) ds bs p r in
-      let closed : IsClosed ds = parsed-closed one_reading others (paths_of (arguments_of words)) ds p in
-      let fit = found-fits (has_names (named_by arguments)) (all_functions ds) e (functions-fit ds closed (subst (λ xs. first_misfit xs ≡ None) adapted able.fits)) named in
-      let fails_there = subst (λ xs. NamedFails (named_by arguments) (first_named (named_by arguments) (entries_of xs)) text report) document fails in
-      named-excluded (named_by arguments) values e (first_named (named_by arguments) (entries_of ds)) report fit can named
-      (subst (λ t. NamedFails (named_by arguments) (first_named (named_by arguments) (entries_of ds)) t report) equal fails_there)
+      let document : es ≡ ds = same-document (paths_of own.paths) ds es p q in
+      let adapted : bs ≡ ds = one-document (paths_of own.paths) ds bs p r in
+      let closed : IsClosed ds = parsed-closed one_reading others (paths_of own.paths) ds p in
+      let fit = found-fits (has_names n) (all_functions ds) e (functions-fit ds closed (subst (λ xs. first_misfit xs ≡ None) adapted able.fits)) named in
+      let fails_there = subst (λ xs. NamedFails n (first_named n (entries_of xs)) text report) document fails in
+      named-excluded n values e (first_named n (entries_of ds)) report fit can named
+      (subst (λ t. NamedFails n (first_named n (entries_of ds)) t report) equal fails_there)
 
-  tool-excluded : (t : Tool) (arguments : List (List ℕ)) (report : List ℕ) → CanAdaptAll others (adapted_files t arguments) → IsOwnValid t others arguments
-      → OwnRefuses t files arguments report → ⊥
-  tool-excluded tool.Shim arguments report all v h = mapping-excluded arguments report v h
-  tool-excluded tool.Verify arguments report all v h = listing-excluded arguments v.0 v.1 report v.2 h
-  tool-excluded tool.Invoke arguments report all v h = refused-excluded arguments report all v h
-  tool-excluded tool.Imports arguments report all v h = list-excluded (first_path arguments) v.0 report v.1 h
+  tool-excluded : (c : Asked) (report : List ℕ) → CanAdaptAll others (adapted_files c) → IsOwnValid c others → OwnRefuses c files report → ⊥
+  tool-excluded (asked.shim two) report all v h = mapping-excluded two report v h
+  tool-excluded (asked.verify own) report all v h = listing-excluded own v.0 v.1 report v.2 h
+  tool-excluded (asked.invoke n own) report all v h = refused-excluded n own report all v h
+  tool-excluded (asked.imports own) report all v h = list-excluded (path_of own.file) v.0 report v.1 h
+  tool-excluded _ report all v h = absurd v
 
-  by-part : (t : Tool) (arguments : List (List ℕ)) (report : List ℕ) → HoldsOwn (own_file t arguments) others → CanAdaptAll others (adapted_files t arguments)
-      → IsOwnValid t others arguments
-      → LacksOwn (own_file t arguments) files report
-      ⊎ (HoldsOwn (own_file t arguments) files × (OneIsUnadapted files (adapted_files t arguments) report
-      ⊎ (CanAdaptAll files (adapted_files t arguments) × OwnRefuses t files arguments report)))
+  by-part : (c : Asked) (report : List ℕ) → HoldsOwn (own_path c) others → CanAdaptAll others (adapted_files c) → IsOwnValid c others
+      → LacksOwn (own_path c) files report
+      ⊎ (HoldsOwn (own_path c) files × (OneIsUnadapted files (adapted_files c) report ⊎ (CanAdaptAll files (adapted_files c) × OwnRefuses c files report)))
       → ⊥
-  by-part t arguments report own all valid_for (inl h) = own-excluded (own_file t arguments) report own h
-  by-part t arguments report own all valid_for (inr (k, inl h)) = unadapted-excluded (adapted_files t arguments) report all h
-  by-part t arguments report own all valid_for (inr (k, inr h)) = tool-excluded t arguments report all valid_for h.1
+  by-part c report own all valid_for (inl h) = own-excluded (own_path c) report own h
+  by-part c report own all valid_for (inr (k, inl h)) = unadapted-excluded (adapted_files c) report all h
+  by-part c report own all valid_for (inr (k, inr h)) = tool-excluded c report all valid_for h.1
 
-  valid-excluded : (t : Tool) (arguments : List (List ℕ)) (report : List ℕ) → IsValidForTool t others arguments → ToolRefuses t files arguments report → ⊥
+  valid-excluded : (c : Asked) (report : List ℕ) → IsValidForTool c others → ToolRefuses c files report → ⊥
   unfolding IsValidForTool ToolRefuses
-  valid-excluded t arguments report v h = by-part t arguments report v.0 v.1 v.2 h
+  valid-excluded c report v h = by-part c report v.0 v.1 v.2 h
 
 pub valid-is-not-refused : ValidIsNotRefused → ListsHaveNoFault → OneAnswer → TracesLeaveNoneUnfit → OneReading → AtMostOneLine → ValidIsNotRefusedByTools
-valid-is-not-refused valid no_fault one_answer no_unfit one_reading one_line = λ bytes files others here there arguments t report v h.
-    valid-excluded valid no_fault one_answer no_unfit one_reading one_line bytes files others here there t arguments report v h
+valid-is-not-refused valid no_fault one_answer no_unfit one_reading one_line = λ bytes files others here there c report v h.
+    valid-excluded valid no_fault one_answer no_unfit one_reading one_line bytes files others here there c report v h
 
 call-valid : (e : Entry) (values text : List ℕ) → IsCallText e values text → CanCall e values
 call-valid e values text c = record { handed = c.handed; given = c.given; kept = c.answered.kept; room = c.answered.room }
 
-text-valid : (t : Tool) (files : Files) (arguments : List (List ℕ)) (text : List ℕ) → IsToolText t files arguments text → IsOwnValid t files arguments
-text-valid tool.Shim files arguments text (new, old, both, modules, e, k) = (new, old, both, modules, e)
-text-valid tool.Verify files arguments text (ds, sides, reads, k) = (ds, sides, reads)
-text-valid tool.Invoke files arguments text (ds, values, own, told) = (ds, values, own, told.entry, told.named, call-valid told.entry values text told.called)
-text-valid tool.Imports files arguments text h = (h.0, h.1)
+text-valid : (c : Asked) (files : Files) (text : List ℕ) → IsToolText c files text → IsOwnValid c files
+text-valid (asked.shim two) files text (new, old, both, modules, e, k) = (new, old, both, modules, e)
+text-valid (asked.verify own) files text (ds, sides, reads, k) = (ds, sides, reads)
+text-valid (asked.invoke n own) files text (ds, values, held, told) = (ds, values, held, told.entry, told.named, call-valid told.entry values text told.called)
+text-valid (asked.imports own) files text h = (h.0, h.1)
+text-valid _ files text h = absurd h
 
 -- what a tool tells
-pub output-valid : (t : Tool) (files : Files) (arguments : List (List ℕ)) (text : List ℕ) → IsToolOutput t files arguments text → IsValidForTool t files arguments
+pub output-valid : (c : Asked) (files : Files) (text : List ℕ) → IsToolOutput c files text → IsValidForTool c files
 unfolding IsToolOutput IsValidForTool
-output-valid t files arguments text h = (h.0, h.1, text-valid t files arguments text h.2)
+output-valid c files text h = (h.0, h.1, text-valid c files text h.2)

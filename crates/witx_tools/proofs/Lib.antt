@@ -7,6 +7,5 @@ pub mod Telling
 pub mod Runs
 pub mod Shims
 pub mod ToldShims
-pub mod NoTools
 pub mod Verdicts
 pub mod Examples

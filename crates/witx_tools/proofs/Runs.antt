@@ -1,81 +1,124 @@
--- What a tool asks for is lawful, and so is what all words ask for; and what a run is to write, by the form that its words have.
-use Rattle.std.specs.Prelude.{◌≡◌, ℕ, ◌≤◌, ◌+◌, List, Option, Some, None, Result, Err}
-use Rattle.std.proofs.Common.{refl, sym, ◌∙◌, subst}
-use Rattle.witx_commands.specs.Causes.{InputCause, stop_of}
+-- What a command asks for is lawful, be it one of `run` or a tool; and what words that have a form of `run` ask of both calls.
+use Rattle.std.specs.Prelude.{◌≡◌, ℕ, List, [], Bool, true, false, Option, Some, None, Result, IfErr, IfOk, IsTrue, option_map, if◌then◌else◌}
+use Rattle.std.proofs.Common.{refl, sym, subst}
+use Rattle.witx_files.specs.Files.{Files}
+use Rattle.witx_adapt.specs.declared.adapted.Adapted.{Adapted}
+use Rattle.witx_commands.specs.Causes.{IsOutput, IsValidFor}
 use Rattle.witx_commands.specs.Laws.{OutputOrRefusal, ValidIsNotRefused}
-use Rattle.witx_commands.specs.Runs.{IsPrepared, StopCause, command_task, formless}
-use Rattle.witx_commands.specs.Streams.{SourceSeen, TookInput}
+use Rattle.witx_commands.specs.Reports.{CommandRefuses}
+use Rattle.witx_commands.specs.Runs.{IsPrepared, IsRun, SinkSeen, Task, command_task, form_task, task_of, task_with}
+use Rattle.witx_commands.specs.Stops.{StopsWith}
+use Rattle.witx_commands.specs.Words as asked
+use Rattle.witx_commands.specs.Streams.{SourceSeen}
+use Rattle.witx_commands.specs.Words.{Asked, asked_by, asked_of, command_of, if_known, is_adapting, is_known, is_of_run}
 use Rattle.witx_commands.specs.declared.forms.Forms.TheVariants as forms
-use Rattle.witx_commands.specs.declared.input.InputError.{InputError}
-use Rattle.witx_commands.specs.declared.input.InputError.TheVariants as input
 use Rattle.witx_commands.specs.declared.output.Output.{Output}
 use Rattle.witx_commands.specs.declared.refusal.Stop.{Stop}
 use Rattle.witx_commands.specs.declared.words.Command.{Command}
 use Rattle.witx_commands.proofs.Ending.{IsLawful}
-use Rattle.witx_commands.proofs.Preparing.{unread-prepared}
-use Rattle.witx_commands.proofs.Running.{commands-lawful, formless-lawful}
-use Rattle.witx_tools.specs.ToolLaws.{ValidIsNotRefusedByTools}
-use Rattle.witx_tools.specs.ToolRuns.{any_task, tool_task}
-use Rattle.witx_tools.specs.declared.tool.Tool.{Tool}
+use Rattle.witx_commands.proofs.Exclusion.{reading-bytes}
+use Rattle.witx_commands.proofs.Preparing.{of-read}
+use Rattle.witx_commands.proofs.Running.{commands-lawful}
+use Rattle.witx_tools.specs.ToolCauses.{IsValidForTool, ToolRefuses}
+use Rattle.witx_tools.specs.ToolLaws.{AllKnowCommands, OthersAreTools, RunsAlike, ValidIsNotRefusedByTools}
+use Rattle.witx_tools.specs.ToolRuns.{AnyRefuses, AnyTells, OfEither, ToolTells, any_task, task_of_all}
 use Rattle.witx_tools.proofs.Excluded.{output-valid}
 
-tools-lawful : ValidIsNotRefusedByTools → (t : Tool) (arguments : List (List ℕ)) → IsLawful (tool_task t arguments)
-tools-lawful law t arguments = record {
+-- ---- what either tells and refuses
+
+module _ (c : Asked) (files : Files) (r : Result Output Stop) where
+  abbrev tells-at : Bool → Type 0
+  tells-at b = IfOk r (λ o. OfEither b (IsOutput c files o.text o.notes o.adapted) (ToolTells c files o.text o.notes o.adapted))
+
+  abbrev refuses-at : Bool → Type 0
+  refuses-at b = IfErr r (StopsWith (λ report. OfEither b (CommandRefuses c files report) (ToolRefuses c files report)))
+
+  pub run-tells : is_of_run c ≡ true → IfOk r (λ o. IsOutput c files o.text o.notes o.adapted) → IfOk r (λ o. AnyTells c files o.text o.notes o.adapted)
+  run-tells e h = subst tells-at (sym e) h
+
+  pub tool-tells : is_of_run c ≡ false → IfOk r (λ o. ToolTells c files o.text o.notes o.adapted) → IfOk r (λ o. AnyTells c files o.text o.notes o.adapted)
+  tool-tells e h = subst tells-at (sym e) h
+
+  pub run-refuses : is_of_run c ≡ true → IfErr r (StopsWith (CommandRefuses c files)) → IfErr r (StopsWith (AnyRefuses c files))
+  run-refuses e h = subst refuses-at (sym e) h
+
+  pub tool-refuses : is_of_run c ≡ false → IfErr r (StopsWith (ToolRefuses c files)) → IfErr r (StopsWith (AnyRefuses c files))
+  tool-refuses e h = subst refuses-at (sym e) h
+
+pub ruleset either_rules = (run-tells, tool-tells, run-refuses, tool-refuses)
+
+-- ---- words that have a form, as it was read
+
+pub of-any : (words : List (List ℕ)) (s : SourceSeen) (answer : Result Output Stop) (source_kept : Type 0) (read : Option Command) (c : Command)
+    → read ≡ Some c → option_map asked_by read ≡ command_of forms.All words → IsPrepared (record { task = any_task (asked_by c); source = s }) answer source_kept
+    → IsPrepared (record { task = task_of_all words; source = s }) answer source_kept
+of-any words s answer source_kept read c is same p = of-read forms.All any_task (command_of forms.All words) s answer source_kept read c is same p
+
+pub ruleset form_rules = (of-any)
+
+-- ---- what either asks for is lawful
+
+tool-lists-none : (c : Asked) → is_of_run c ≡ false → is_adapting c ≡ true → ⊥
+tool-lists-none (asked.adapt words) e i = absurd (cc)
+tool-lists-none (asked.sample n) e i = absurd (cc)
+tool-lists-none _ e i = absurd (cc)
+
+abbrev task-at : Bool → Asked → Task
+task-at b c = task_with (λ d files text notes adapted. OfEither b (IsOutput d files text notes adapted) (ToolTells d files text notes adapted))
+    (λ d files report. OfEither b (CommandRefuses d files report) (ToolRefuses d files report)) (λ d files. OfEither b (IsValidFor d files) (IsValidForTool d files)) c
+
+lawful-at : OutputOrRefusal → ValidIsNotRefused → ValidIsNotRefusedByTools → (c : Asked) (b : Bool) → is_of_run c ≡ b → IsLawful (task-at b c)
+lawful-at output valid law c true e = commands-lawful output valid c
+lawful-at output valid law c false e = record {
   silent = λ known h. absurd (cc);
-  read = λ reads left. refl;
+  read = λ reads left. reading-bytes c left reads;
   quiet = λ files text notes adapted o n. absurd (n o.0);
   value = λ files text notes a o. let none : Some a ≡ None = o.1 in absurd (cc);
-  valued = λ files text notes adapted adapts o. absurd (cc);
-  excluded = λ bytes files others here there text notes report adapted o h.
-      law bytes files others here there arguments t report (output-valid t others arguments text o.2) h;
-  valid = λ bytes files others here there report v h. law bytes files others here there arguments t report v h;
+  valued = λ files text notes adapted adapts o. absurd (tool-lists-none c e adapts);
+  excluded = λ bytes files others here there text notes report adapted o h. law bytes files others here there c report (output-valid c others text o.2) h;
+  valid = λ bytes files others here there report v h. law bytes files others here there c report v h;
 }
 
-pub all-lawful : OutputOrRefusal → ValidIsNotRefused → ValidIsNotRefusedByTools → (form : Option Command) (tool : Option Tool) (arguments : List (List ℕ))
-    → IsLawful (any_task form tool arguments)
-all-lawful output valid law (Some c) tool arguments = commands-lawful output valid c arguments
-all-lawful output valid law None (Some t) arguments = tools-lawful law t arguments
-all-lawful output valid law None None arguments = formless-lawful forms.All
+pub any-lawful : OutputOrRefusal → ValidIsNotRefused → ValidIsNotRefusedByTools → (c : Asked) → IsLawful (any_task c)
+any-lawful output valid law c = lawful-at output valid law c (is_of_run c) refl
 
--- without a bundle
-pub tool-unread : (t : Tool) (arguments : List (List ℕ)) (s : SourceSeen) (e : InputError) (end : Stop) (source_kept : Type 0) → end ≡ stop_of e
-    → InputCause s e → s.before ≤ s.now → s.asked_after ≤ s.asked + 4194305 → TookInput s
-    → IsPrepared (record { task = tool_task t arguments; source = s }) (Err end) source_kept
-tool-unread t arguments s e end source_kept same h later reads taken =
-    unread-prepared (record { task = tool_task t arguments; source = s }) source_kept refl (λ no. absurd (cc)) later reads taken end
-    (subst (StopCause (record { task = tool_task t arguments; source = s })) (sym same) (by-error e h))
-  where
-    by-error : (e : InputError) → InputCause s e → StopCause (record { task = tool_task t arguments; source = s }) (stop_of e)
-    by-error input.Source h = (refl, h)
-    by-error (input.Bundle b) h = (refl, h.0, h.1, h.2)
-    by-error input.OutOfMemory h = h
+-- ---- words that have a form of `run`
 
--- words that have the form of a command, as it was read, of a tool, and of none
-pub of-command : (read form : Option Command) (tool : Option Tool) (c : Command) (handed arguments : List (List ℕ)) (s : SourceSeen)
-    (answer : Result Output Stop) (source_kept : Type 0) → read ≡ form → read ≡ Some c → handed ≡ arguments
-    → IsPrepared (record { task = command_task c handed; source = s }) answer source_kept
-    → IsPrepared (record { task = any_task form tool arguments; source = s }) answer source_kept
-of-command read form tool c handed arguments s answer source_kept f is a p =
-    subst (λ (o : Option Command). IsPrepared (record { task = any_task o tool arguments; source = s }) answer source_kept) (sym is ∙ f)
-    (subst (λ (ws : List (List ℕ)). IsPrepared (record { task = command_task c ws; source = s }) answer source_kept) a p)
+known-of : (b : Bool) (d c : Asked) → is_of_run d ≡ b → (if b then Some d else None) ≡ Some c → (Some d ≡ Some c) × (is_of_run c ≡ true)
+known-of true d c h e = let same : d ≡ c = cc in (e, subst (λ (x : Asked). is_of_run x ≡ true) same h)
+known-of false d c h e = absurd (cc)
 
-pub ruleset form_rules = (of-command)
+known-both : (o : Option Asked) (c : Asked) → if_known forms.Commands o ≡ Some c → (if_known forms.All o ≡ Some c) × (is_of_run c ≡ true)
+known-both None c e = absurd (cc)
+known-both (Some d) c e = known-of (is_of_run d) d c refl e
 
-pub of-further : (form : Option Command) (tool : Option Tool) (arguments : List (List ℕ)) (s : SourceSeen) (answer : Result Output Stop)
-    (source_kept : Type 0) → form ≡ None → IsPrepared (record { task = any_task None tool arguments; source = s }) answer source_kept
-    → IsPrepared (record { task = any_task form tool arguments; source = s }) answer source_kept
-of-further form tool arguments s answer source_kept f p =
-    subst (λ (o : Option Command). IsPrepared (record { task = any_task o tool arguments; source = s }) answer source_kept) (sym f) p
+pub all-know-commands : AllKnowCommands
+all-know-commands words c e = known-both (asked_of words) c e
 
-pub of-tool : (tool : Option Tool) (t : Tool) (handed arguments : List (List ℕ)) (s : SourceSeen) (answer : Result Output Stop) (source_kept : Type 0)
-    → tool ≡ Some t → handed ≡ arguments → IsPrepared (record { task = tool_task t handed; source = s }) answer source_kept
-    → IsPrepared (record { task = any_task None tool arguments; source = s }) answer source_kept
-of-tool tool t handed arguments s answer source_kept f a p =
-    subst (λ (o : Option Tool). IsPrepared (record { task = any_task None o arguments; source = s }) answer source_kept) (sym f)
-    (subst (λ (ws : List (List ℕ)). IsPrepared (record { task = tool_task t ws; source = s }) answer source_kept) a p)
+unknown-of : (b : Bool) (d c : Asked) → is_of_run d ≡ b → Some d ≡ Some c → (if b then Some d else None) ≡ None → is_of_run c ≡ false
+unknown-of true d c h s e = absurd (cc)
+unknown-of false d c h s e = let same : d ≡ c = cc in subst (λ (x : Asked). is_of_run x ≡ false) same h
 
-pub of-none : (tool : Option Tool) (arguments : List (List ℕ)) (s : SourceSeen) (answer : Result Output Stop) (source_kept : Type 0)
-    → tool ≡ None → IsPrepared (record { task = formless forms.All; source = s }) answer source_kept
-    → IsPrepared (record { task = any_task None tool arguments; source = s }) answer source_kept
-of-none tool arguments s answer source_kept f p =
-    subst (λ (o : Option Tool). IsPrepared (record { task = any_task None o arguments; source = s }) answer source_kept) (sym f) p
+known-alone : (o : Option Asked) (c : Asked) → if_known forms.All o ≡ Some c → if_known forms.Commands o ≡ None → is_of_run c ≡ false
+known-alone None c s e = absurd (cc)
+known-alone (Some d) c s e = unknown-of (is_of_run d) d c refl s e
+
+pub others-are-tools : OthersAreTools
+others-are-tools words c s e = known-alone (asked_of words) c s e
+
+-- a command of `run` asks the same of both
+alike : (c : Asked) → is_of_run c ≡ true → (source : SourceSeen) (status : ℕ) (value : Option Adapted) (out err : SinkSeen) (k l m : Bool)
+    → IsRun (record { task = any_task c; source = source }) status value out err (IsTrue k) (IsTrue l) (IsTrue m)
+    → IsRun (record { task = command_task c; source = source }) status value out err (IsTrue k) (IsTrue l) (IsTrue m)
+alike (asked.shim two) e source status value out err k l m h = absurd (cc)
+alike (asked.verify own) e source status value out err k l m h = absurd (cc)
+alike (asked.invoke n own) e source status value out err k l m h = absurd (cc)
+alike (asked.imports own) e source status value out err k l m h = absurd (cc)
+alike _ e source status value out err k l m h = h
+
+pub runs-alike : RunsAlike
+runs-alike words c e source status value out err k l m h =
+    let both = known-both (asked_of words) c e in
+    let Ran : Task → Type 0 = λ t. IsRun (record { task = t; source = source }) status value out err (IsTrue k) (IsTrue l) (IsTrue m) in
+    let there : Ran (any_task c) = subst (λ (o : Option Asked). Ran (form_task forms.All any_task o)) both.0 h in
+    subst (λ (o : Option Asked). Ran (form_task forms.Commands command_task o)) (sym e) (alike c both.1 source status value out err k l m there)

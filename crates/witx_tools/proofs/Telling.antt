@@ -1,7 +1,7 @@
 -- What a tool tells over the files of a bundle, and why it has no text, by what its calls answer.
 use Rattle.std.specs.Prelude.{◌≡◌, ◌⊎◌, ℕ, List, [], ◌∷◌, All, Some, Ok, Err, map}
 use Rattle.std.proofs.Common.{refl, sym, ap, ◌∙◌, subst, inl, inr, arith}
-use Rattle.witx_base.specs.Paths.{Path}
+use Rattle.witx_base.specs.Paths.{Path, path_of}
 use Rattle.witx_files.specs.Answers.{IsText}
 use Rattle.witx_files.specs.Files.{Files, held}
 use Rattle.witx_files.specs.declared.fault.IoError.TheVariants.{Fault}
@@ -28,10 +28,11 @@ use Rattle.witx_imports.specs.Reads as list
 use Rattle.witx_imports.specs.declared.import.WasmImport.{WasmImport}
 use Rattle.witx_commands.specs.Adapting.{IsAdapted, Parses, defined}
 use Rattle.witx_commands.specs.Causes.{CanAdapt}
-use Rattle.witx_commands.specs.Mappings.{IsAbsentReport, mapping_of, module_names, new_file, old_file}
+use Rattle.witx_commands.specs.Mappings.{IsAbsentReport, mapping_of}
 use Rattle.witx_commands.specs.Reports.{AdaptingFails, IsTextReport}
 use Rattle.witx_commands.specs.Stops.{StopsWith}
-use Rattle.witx_commands.specs.Words.{arguments_of, paths_of}
+use Rattle.witx_commands.specs.Words as asked
+use Rattle.witx_commands.specs.Words.{Names, OwnFile, TwoFiles, paths_of}
 use Rattle.witx_commands.specs.declared.refusal.Stop.{Stop}
 use Rattle.witx_commands.proofs.Refusing.{memory-stops, stops-as}
 use Rattle.witx_tools.specs.Callable.{IsCallable}
@@ -39,9 +40,7 @@ use Rattle.witx_tools.specs.Calls.{IsNamedText, NamedFails, entries_of, first_na
 use Rattle.witx_tools.specs.ImportTexts.{IsBadList, bad_report, faults_text}
 use Rattle.witx_tools.specs.ShimTexts.{shims_text}
 use Rattle.witx_tools.specs.ToolCauses.{CanAdaptAll, HoldsOwn, IsToolOutput, LacksOwn, OneIsUnadapted, OwnRefuses, ToolRefuses}
-use Rattle.witx_tools.specs.ToolWords.{behind_names, first_path, named_by}
 use Rattle.witx_tools.specs.VerdictTexts.{IsUnfitListing, listed_for, owned_of, unfit_report, verdicts_text}
-use Rattle.witx_tools.specs.declared.tool.Tool.TheVariants as tool
 use Rattle.witx_tools.proofs.Calling.{entries-callable}
 use Rattle.witx_tools.proofs.Closing.{parsed-closed}
 use Rattle.witx_tools.proofs.Shims.{answers-mapped}
@@ -99,81 +98,79 @@ pub ruleset error_rules = (memory-stops, error-stops)
 
 -- ---- shims
 
-pub new-stops : (files : Files) (arguments news : List (List ℕ)) (s : Stop) → news ≡ new_file arguments → StopsWith (AdaptingFails files (paths_of news)) s
-    → StopsWith (ToolRefuses tool.Shim files arguments) s
+pub new-stops : (files : Files) (two : TwoFiles) (news : List (List ℕ)) (s : Stop) → news ≡ two.new ∷ [] → StopsWith (AdaptingFails files (paths_of news)) s
+    → StopsWith (ToolRefuses (asked.shim two) files) s
 unfolding ToolRefuses
-new-stops files arguments news s n k =
-    stops-as (AdaptingFails files (paths_of (new_file arguments))) (ToolRefuses tool.Shim files arguments) (λ report h. inr (tt, inl (inl h))) s
-    (failed files files news (new_file arguments) s n refl k)
+new-stops files two news s n k =
+    stops-as (AdaptingFails files (paths_of (two.new ∷ []))) (ToolRefuses (asked.shim two) files) (λ report h. inr (tt, inl (inl h))) s
+    (failed files files news (two.new ∷ []) s n refl k)
 
-pub old-stops : (files mid : Files) (arguments news olds : List (List ℕ)) (a : Adapted) (s : Stop) → news ≡ new_file arguments → olds ≡ old_file arguments → mid ≡ files
-    → Parses files (paths_of news) (Ok (defined a)) → IsAdapted a → StopsWith (AdaptingFails mid (paths_of olds)) s → StopsWith (ToolRefuses tool.Shim files arguments) s
+pub old-stops : (files mid : Files) (two : TwoFiles) (news olds : List (List ℕ)) (a : Adapted) (s : Stop) → news ≡ two.new ∷ [] → olds ≡ two.old ∷ [] → mid ≡ files
+    → Parses files (paths_of news) (Ok (defined a)) → IsAdapted a → StopsWith (AdaptingFails mid (paths_of olds)) s → StopsWith (ToolRefuses (asked.shim two) files) s
 unfolding ToolRefuses
-old-stops files mid arguments news olds a s n o f p q k =
-    stops-as (AdaptingFails files (paths_of (old_file arguments))) (ToolRefuses tool.Shim files arguments)
-    (λ report h. inr (tt, inl (inr (can-adapt files (new_file arguments) a (said files files news (new_file arguments) a n refl p) q, inl h)))) s
-    (failed files mid olds (old_file arguments) s o f k)
+old-stops files mid two news olds a s n o f p q k =
+    stops-as (AdaptingFails files (paths_of (two.old ∷ []))) (ToolRefuses (asked.shim two) files)
+    (λ report h. inr (tt, inl (inr (can-adapt files (two.new ∷ []) a (said files files news (two.new ∷ []) a n refl p) q, inl h)))) s
+    (failed files mid olds (two.old ∷ []) s o f k)
 
-pub absent-stops : (files mid : Files) (arguments news olds names : List (List ℕ)) (a b : Adapted) (s : Stop) → news ≡ new_file arguments → olds ≡ old_file arguments
-    → names ≡ module_names arguments → mid ≡ files → Parses files (paths_of news) (Ok (defined a)) → IsAdapted a → Parses mid (paths_of olds) (Ok (defined b)) → IsAdapted b
-    → StopsWith (IsAbsentReport (defined a) (defined b) names) s → StopsWith (ToolRefuses tool.Shim files arguments) s
+pub absent-stops : (files mid : Files) (two : TwoFiles) (news olds : List (List ℕ)) (a b : Adapted) (s : Stop) → news ≡ two.new ∷ [] → olds ≡ two.old ∷ [] → mid ≡ files
+    → Parses files (paths_of news) (Ok (defined a)) → IsAdapted a → Parses mid (paths_of olds) (Ok (defined b)) → IsAdapted b
+    → StopsWith (IsAbsentReport (defined a) (defined b) two.names) s → StopsWith (ToolRefuses (asked.shim two) files) s
 unfolding ToolRefuses
-absent-stops files mid arguments news olds names a b s n o m f p q r t k =
-    let new = said files files news (new_file arguments) a n refl p in
-    let old = said files mid olds (old_file arguments) b o f r in
-    stops-as (IsAbsentReport (defined a) (defined b) (module_names arguments)) (ToolRefuses tool.Shim files arguments)
-    (λ report h. inr (tt, inr ((can-adapt files (new_file arguments) a new q, (can-adapt files (old_file arguments) b old t, tt)), (defined a, defined b, (new, old), h)))) s
-    (subst (λ ws. StopsWith (IsAbsentReport (defined a) (defined b) ws) s) m k)
+absent-stops files mid two news olds a b s n o f p q r t k =
+    let new = said files files news (two.new ∷ []) a n refl p in
+    let old = said files mid olds (two.old ∷ []) b o f r in
+    stops-as (IsAbsentReport (defined a) (defined b) two.names) (ToolRefuses (asked.shim two) files)
+    (λ report h. inr (tt, inr ((can-adapt files (two.new ∷ []) a new q, (can-adapt files (two.old ∷ []) b old t, tt)), (defined a, defined b, (new, old), h)))) s k
 
-pub shims-told : (files mid : Files) (arguments news olds names : List (List ℕ)) (a b : Adapted) (ms : List ModulePolyfill) (text : List ℕ) → news ≡ new_file arguments
-    → olds ≡ old_file arguments → names ≡ module_names arguments → mid ≡ files → Parses files (paths_of news) (Ok (defined a)) → IsAdapted a
-    → Parses mid (paths_of olds) (Ok (defined b)) → IsAdapted b → polyfill_answer (defined a) (defined b) (mapping_of names) ≡ Ok (map module_view ms)
-    → text ≡ shims_text (map module_view ms) → IsToolOutput tool.Shim files arguments text
+pub shims-told : (files mid : Files) (two : TwoFiles) (news olds : List (List ℕ)) (a b : Adapted) (ms : List ModulePolyfill) (text made : List ℕ) → news ≡ two.new ∷ []
+    → olds ≡ two.old ∷ [] → mid ≡ files → Parses files (paths_of news) (Ok (defined a)) → IsAdapted a → Parses mid (paths_of olds) (Ok (defined b)) → IsAdapted b
+    → polyfill_answer (defined a) (defined b) (mapping_of two.names) ≡ Ok (map module_view ms) → text ≡ shims_text (map module_view ms) → made ≡ text
+    → IsToolOutput (asked.shim two) files made
 unfolding IsToolOutput
-shims-told files mid arguments news olds names a b ms text n o m f p q r t e k =
-    let new = said files files news (new_file arguments) a n refl p in
-    let old = said files mid olds (old_file arguments) b o f r in (
+shims-told files mid two news olds a b ms text made n o f p q r t e k m =
+    let new = said files files news (two.new ∷ []) a n refl p in
+    let old = said files mid olds (two.old ∷ []) b o f r in (
       tt,
-      (can-adapt files (new_file arguments) a new q, (can-adapt files (old_file arguments) b old t, tt)),
-      (defined a, defined b, (new, old), map module_view ms, subst (λ ws. polyfill_answer (defined a) (defined b) (mapping_of ws) ≡ Ok (map module_view ms)) m e, k),
+      (can-adapt files (two.new ∷ []) a new q, (can-adapt files (two.old ∷ []) b old t, tt)),
+      (defined a, defined b, (new, old), map module_view ms, e, m ∙ k),
     )
 
 pub ruleset shim_rules = (memory-stops, new-stops, old-stops, absent-stops, shims-told, answers-mapped)
 
 -- ---- a tool with a file of its own and one document behind it
 
+abbrev own-of : List ℕ → List (List ℕ) → OwnFile
+own-of file paths = record { file = file; paths = paths }
+
 -- what else it refuses is R
-abbrev Refused : (List ℕ → Type 0) → Files → List (List ℕ) → List ℕ → Type 0
-Refused R files arguments report =
-    LacksOwn (Some (first_path arguments)) files report
-    ⊎ (HoldsOwn (Some (first_path arguments)) files × (OneIsUnadapted files (arguments_of arguments ∷ []) report
-    ⊎ (CanAdaptAll files (arguments_of arguments ∷ []) × R report)))
+abbrev Refused : (List ℕ → Type 0) → Files → OwnFile → List ℕ → Type 0
+Refused R files own report =
+    LacksOwn (Some (path_of own.file)) files report
+    ⊎ (HoldsOwn (Some (path_of own.file)) files × (OneIsUnadapted files (own.paths ∷ []) report ⊎ (CanAdaptAll files (own.paths ∷ []) × R report)))
 
-own-held : (files : Files) (arguments : List (List ℕ)) (path : Path) (text : List ℕ) → path ≡ first_path arguments → held files path ≡ Some text
-    → held files (first_path arguments) ≡ Some text
-own-held files arguments path text e h = subst (λ p. held files p ≡ Some text) e h
+own-held : (files : Files) (own : OwnFile) (path : Path) (text : List ℕ) → path ≡ path_of own.file → held files path ≡ Some text → held files (path_of own.file) ≡ Some text
+own-held files own path text e h = subst (λ p. held files p ≡ Some text) e h
 
-lacking : (R : List ℕ → Type 0) (files : Files) (arguments : List (List ℕ)) (path : Path) (s : Stop) → path ≡ first_path arguments
-    → StopsWith (LacksOwn (Some path) files) s → StopsWith (Refused R files arguments) s
-lacking R files arguments path s e k =
-    stops-as (LacksOwn (Some (first_path arguments)) files) (Refused R files arguments) (λ report h. inl h) s
-    (subst (λ p. StopsWith (LacksOwn (Some p) files) s) e k)
+lacking : (R : List ℕ → Type 0) (files : Files) (own : OwnFile) (path : Path) (s : Stop) → path ≡ path_of own.file → StopsWith (LacksOwn (Some path) files) s
+    → StopsWith (Refused R files own) s
+lacking R files own path s e k =
+    stops-as (LacksOwn (Some (path_of own.file)) files) (Refused R files own) (λ report h. inl h) s (subst (λ p. StopsWith (LacksOwn (Some p) files) s) e k)
 
-unadapted : (R : List ℕ → Type 0) (files mid : Files) (arguments words : List (List ℕ)) (path : Path) (text : List ℕ) (s : Stop) → path ≡ first_path arguments
-    → words ≡ arguments_of arguments → mid ≡ files → held files path ≡ Some text → StopsWith (AdaptingFails mid (paths_of words)) s → StopsWith (Refused R files arguments) s
-unadapted R files mid arguments words path text s e w f h k =
-    stops-as (AdaptingFails files (paths_of (arguments_of arguments))) (Refused R files arguments)
-    (λ report r. inr ((text, own-held files arguments path text e h), inl (inl r))) s
-    (failed files mid words (arguments_of arguments) s w f k)
+unadapted : (R : List ℕ → Type 0) (files mid : Files) (own : OwnFile) (path : Path) (text : List ℕ) (s : Stop) → path ≡ path_of own.file → mid ≡ files
+    → held files path ≡ Some text → StopsWith (AdaptingFails mid (paths_of own.paths)) s → StopsWith (Refused R files own) s
+unadapted R files mid own path text s e f h k =
+    stops-as (AdaptingFails files (paths_of own.paths)) (Refused R files own) (λ report r. inr ((text, own-held files own path text e h), inl (inl r))) s
+    (failed files mid own.paths own.paths s refl f k)
 
-refusing : (R Q : List ℕ → Type 0) (files mid : Files) (arguments words : List (List ℕ)) (path : Path) (text : List ℕ) (a : Adapted) (s : Stop) → path ≡ first_path arguments
-    → words ≡ arguments_of arguments → mid ≡ files → held files path ≡ Some text → Parses mid (paths_of words) (Ok (defined a)) → IsAdapted a
-    → ((report : List ℕ) → Q report → R report) → StopsWith Q s → StopsWith (Refused R files arguments) s
-refusing R Q files mid arguments words path text a s e w f h p q why k =
-    stops-as Q (Refused R files arguments)
+refusing : (R Q : List ℕ → Type 0) (files mid : Files) (own : OwnFile) (path : Path) (text : List ℕ) (a : Adapted) (s : Stop) → path ≡ path_of own.file → mid ≡ files
+    → held files path ≡ Some text → Parses mid (paths_of own.paths) (Ok (defined a)) → IsAdapted a → ((report : List ℕ) → Q report → R report) → StopsWith Q s
+    → StopsWith (Refused R files own) s
+refusing R Q files mid own path text a s e f h p q why k =
+    stops-as Q (Refused R files own)
     (λ report r. inr (
-      (text, own-held files arguments path text e h),
-      inr ((can-adapt files (arguments_of arguments) a (said files mid words (arguments_of arguments) a w f p) q, tt), why report r),
+      (text, own-held files own path text e h),
+      inr ((can-adapt files own.paths a (said files mid own.paths own.paths a refl f p) q, tt), why report r),
     )) s k
 
 -- ---- imports
@@ -188,34 +185,34 @@ bad-stops path text place s h k = stops-as (λ report. report ≡ bad_report pat
 
 pub ruleset list_rules = (memory-stops, bad-stops)
 
-pub lacking-stops : (files : Files) (arguments : List (List ℕ)) (path : Path) (s : Stop) → path ≡ first_path arguments → StopsWith (LacksOwn (Some path) files) s
-    → StopsWith (ToolRefuses tool.Imports files arguments) s
+pub lacking-stops : (files : Files) (own : OwnFile) (path : Path) (s : Stop) → path ≡ path_of own.file → StopsWith (LacksOwn (Some path) files) s
+    → StopsWith (ToolRefuses (asked.imports own) files) s
 unfolding ToolRefuses
-lacking-stops files arguments path s e k = lacking (OwnRefuses tool.Imports files arguments) files arguments path s e k
+lacking-stops files own path s e k = lacking (OwnRefuses (asked.imports own) files) files own path s e k
 
-pub document-stops : (files mid : Files) (arguments words : List (List ℕ)) (path : Path) (text : List ℕ) (s : Stop) → path ≡ first_path arguments
-    → words ≡ arguments_of arguments → mid ≡ files → held files path ≡ Some text → StopsWith (AdaptingFails mid (paths_of words)) s
-    → StopsWith (ToolRefuses tool.Imports files arguments) s
+pub document-stops : (files mid : Files) (own : OwnFile) (path : Path) (text : List ℕ) (s : Stop) → path ≡ path_of own.file → mid ≡ files → held files path ≡ Some text
+    → StopsWith (AdaptingFails mid (paths_of own.paths)) s → StopsWith (ToolRefuses (asked.imports own) files) s
 unfolding ToolRefuses
-document-stops files mid arguments words path text s e w f h k = unadapted (OwnRefuses tool.Imports files arguments) files mid arguments words path text s e w f h k
+document-stops files mid own path text s e f h k = unadapted (OwnRefuses (asked.imports own) files) files mid own path text s e f h k
 
-pub list-stops : (files mid : Files) (arguments words : List (List ℕ)) (path : Path) (text : List ℕ) (a : Adapted) (s : Stop) → path ≡ first_path arguments
-    → words ≡ arguments_of arguments → mid ≡ files → held files path ≡ Some text → Parses mid (paths_of words) (Ok (defined a)) → IsAdapted a
-    → StopsWith (IsBadList path text) s → StopsWith (ToolRefuses tool.Imports files arguments) s
+pub list-stops : (files mid : Files) (file : List ℕ) (paths : List (List ℕ)) (path : Path) (text : List ℕ) (a : Adapted) (s : Stop) → path ≡ path_of file → mid ≡ files → held files path ≡ Some text
+    → Parses mid (paths_of paths) (Ok (defined a)) → IsAdapted a → StopsWith (IsBadList path text) s → StopsWith (ToolRefuses (asked.imports (own-of file paths)) files) s
 unfolding ToolRefuses
-list-stops files mid arguments words path text a s e w f h p q k =
-    refusing (OwnRefuses tool.Imports files arguments) (IsBadList (first_path arguments) text) files mid arguments words path text a s e w f h p q
-    (λ report r. (text, own-held files arguments path text e h, r))
+list-stops files mid file paths path text a s e f h p q k =
+    let own = own-of file paths in
+    refusing (OwnRefuses (asked.imports own) files) (IsBadList (path_of own.file) text) files mid own path text a s e f h p q
+    (λ report r. (text, own-held files own path text e h, r))
     (subst (λ p. StopsWith (IsBadList p text) s) e k)
 
-pub faults-told : (files mid : Files) (arguments words : List (List ℕ)) (path : Path) (text made : List ℕ) (a : Adapted) (imports : List WasmImport)
-    → path ≡ first_path arguments → words ≡ arguments_of arguments → mid ≡ files → held files path ≡ Some text → Parses mid (paths_of words) (Ok (defined a)) → IsAdapted a
-    → list.Reads text imports → made ≡ faults_text (map offered a.functions) imports → IsToolOutput tool.Imports files arguments made
+pub faults-told : (files mid : Files) (file : List ℕ) (paths : List (List ℕ)) (path : Path) (text told made : List ℕ) (a : Adapted) (imports : List WasmImport) → path ≡ path_of file → mid ≡ files
+    → held files path ≡ Some text → Parses mid (paths_of paths) (Ok (defined a)) → IsAdapted a → list.Reads text imports
+    → told ≡ faults_text (map offered a.functions) imports → made ≡ told → IsToolOutput (asked.imports (own-of file paths)) files made
 unfolding IsToolOutput
-faults-told files mid arguments words path text made a imports e w f h p q r k =
-    let holds = own-held files arguments path text e h in
-    let means = said files mid words (arguments_of arguments) a w f p in
-    ((text, holds), (can-adapt files (arguments_of arguments) a means q, tt), (imports, (text, holds, r), a, means, q, k))
+faults-told files mid file paths path text told made a imports e f h p q r k m =
+    let own = own-of file paths in
+    let holds = own-held files own path text e h in
+    let means = said files mid own.paths own.paths a refl f p in
+    ((text, holds), (can-adapt files own.paths a means q, tt), (imports, (text, holds, r), a, means, q, m ∙ k))
 
 pub ruleset import_rules = (memory-stops, lacking-stops, document-stops, list-stops, faults-told)
 
@@ -228,40 +225,37 @@ all-callable one law files handed a fs e p k =
     (entries-callable law a.functions (all_functions (defined a)) k.functions
     (functions-fit (defined a) (parsed-closed one files handed (defined a) p) k.adaptable.fits) k.adaptable.lowerable k.faithful)
 
-pub lacking-values : (files : Files) (arguments words : List (List ℕ)) (path : Path) (s : Stop) → words ≡ behind_names arguments → path ≡ first_path words
-    → StopsWith (LacksOwn (Some path) files) s → StopsWith (ToolRefuses tool.Invoke files arguments) s
+pub lacking-values : (files : Files) (n : Names) (own : OwnFile) (path : Path) (s : Stop) → path ≡ path_of own.file → StopsWith (LacksOwn (Some path) files) s
+    → StopsWith (ToolRefuses (asked.invoke n own) files) s
 unfolding ToolRefuses
-lacking-values files arguments words path s n e k =
-    lacking (OwnRefuses tool.Invoke files arguments) files (behind_names arguments) path s (e ∙ ap first_path n) k
+lacking-values files n own path s e k = lacking (OwnRefuses (asked.invoke n own) files) files own path s e k
 
-pub unadapted-values : (files mid : Files) (arguments words behind : List (List ℕ)) (path : Path) (text : List ℕ) (s : Stop) → words ≡ behind_names arguments
-    → path ≡ first_path words → behind ≡ arguments_of words → mid ≡ files → held files path ≡ Some text → StopsWith (AdaptingFails mid (paths_of behind)) s
-    → StopsWith (ToolRefuses tool.Invoke files arguments) s
+pub unadapted-values : (files mid : Files) (n : Names) (own : OwnFile) (path : Path) (text : List ℕ) (s : Stop) → path ≡ path_of own.file → mid ≡ files
+    → held files path ≡ Some text → StopsWith (AdaptingFails mid (paths_of own.paths)) s → StopsWith (ToolRefuses (asked.invoke n own) files) s
 unfolding ToolRefuses
-unadapted-values files mid arguments words behind path text s n e b f h k =
-    unadapted (OwnRefuses tool.Invoke files arguments) files mid (behind_names arguments) behind path text s (e ∙ ap first_path n) (b ∙ ap arguments_of n) f h k
+unadapted-values files mid n own path text s e f h k = unadapted (OwnRefuses (asked.invoke n own) files) files mid own path text s e f h k
 
-pub call-stops : (files mid : Files) (arguments words behind : List (List ℕ)) (path : Path) (text : List ℕ) (a : Adapted) (s : Stop) → words ≡ behind_names arguments
-    → path ≡ first_path words → behind ≡ arguments_of words → mid ≡ files → held files path ≡ Some text → Parses mid (paths_of behind) (Ok (defined a)) → IsAdapted a
-    → StopsWith (NamedFails (named_by arguments) (first_named (named_by arguments) (map entry_of a.functions)) text) s → StopsWith (ToolRefuses tool.Invoke files arguments) s
+pub call-stops : (files mid : Files) (n : Names) (file : List ℕ) (paths : List (List ℕ)) (path : Path) (text : List ℕ) (a : Adapted) (s : Stop) → path ≡ path_of file → mid ≡ files
+    → held files path ≡ Some text → Parses mid (paths_of paths) (Ok (defined a)) → IsAdapted a
+    → StopsWith (NamedFails n (first_named n (map entry_of a.functions)) text) s → StopsWith (ToolRefuses (asked.invoke n (own-of file paths)) files) s
 unfolding ToolRefuses
-call-stops files mid arguments words behind path text a s n e b f h p q k =
-    let own = e ∙ ap first_path n in
-    let more = b ∙ ap arguments_of n in
-    let fails : List Entry → List ℕ → Type 0 = λ es. NamedFails (named_by arguments) (first_named (named_by arguments) es) text in
-    refusing (OwnRefuses tool.Invoke files arguments) (fails (entries_of (defined a))) files mid (behind_names arguments) behind path text a s own more f h p q
-    (λ report r. (defined a, text, (own-held files (behind_names arguments) path text own h, said files mid behind (arguments_of (behind_names arguments)) a more f p), r))
+call-stops files mid n file paths path text a s e f h p q k =
+    let own = own-of file paths in
+    let fails : List Entry → List ℕ → Type 0 = λ es. NamedFails n (first_named n es) text in
+    refusing (OwnRefuses (asked.invoke n own) files) (fails (entries_of (defined a))) files mid own path text a s e f h p q
+    (λ report r. (defined a, text, (own-held files own path text e h, said files mid own.paths own.paths a refl f p), r))
     (subst (λ es. StopsWith (fails es) s) q.functions k)
 
-pub call-told : (files mid : Files) (arguments words behind : List (List ℕ)) (path : Path) (text made : List ℕ) (a : Adapted) → words ≡ behind_names arguments
-    → path ≡ first_path words → behind ≡ arguments_of words → mid ≡ files → held files path ≡ Some text → Parses mid (paths_of behind) (Ok (defined a)) → IsAdapted a
-    → IsNamedText (named_by arguments) (map entry_of a.functions) text made → IsToolOutput tool.Invoke files arguments made
+pub call-told : (files mid : Files) (n : Names) (file : List ℕ) (paths : List (List ℕ)) (path : Path) (text told made : List ℕ) (a : Adapted) → path ≡ path_of file → mid ≡ files
+    → held files path ≡ Some text → Parses mid (paths_of paths) (Ok (defined a)) → IsAdapted a → IsNamedText n (map entry_of a.functions) text told → made ≡ told
+    → IsToolOutput (asked.invoke n (own-of file paths)) files made
 unfolding IsToolOutput
-call-told files mid arguments words behind path text made a n e b f h p q k =
-    let holds = own-held files (behind_names arguments) path text (e ∙ ap first_path n) h in
-    let means = said files mid behind (arguments_of (behind_names arguments)) a (b ∙ ap arguments_of n) f p in
-    let tells : IsNamedText (named_by arguments) (entries_of (defined a)) text made = subst (λ es. IsNamedText (named_by arguments) es text made) q.functions k in
-    ((text, holds), (can-adapt files (arguments_of (behind_names arguments)) a means q, tt), (defined a, text, (holds, means), tells))
+call-told files mid n file paths path text told made a e f h p q k m =
+    let own = own-of file paths in
+    let holds = own-held files own path text e h in
+    let means = said files mid own.paths own.paths a refl f p in
+    let tells : IsNamedText n (entries_of (defined a)) text told = subst (λ es. IsNamedText n es text told) q.functions k in
+    ((text, holds), (can-adapt files own.paths a means q, tt), (defined a, text, (holds, means), subst (IsNamedText n (entries_of (defined a)) text) (sym m) tells))
 
 pub ruleset call_rules = (memory-stops, lacking-values, unadapted-values, call-stops, call-told)
 
@@ -279,37 +273,37 @@ unfit-stops shown text line s h k =
 
 pub ruleset listing_rules = (memory-stops, unfit-stops, each-entry)
 
-pub lacking-listing : (files : Files) (arguments : List (List ℕ)) (path : Path) (s : Stop) → path ≡ first_path arguments → StopsWith (LacksOwn (Some path) files) s
-    → StopsWith (ToolRefuses tool.Verify files arguments) s
+pub lacking-listing : (files : Files) (own : OwnFile) (path : Path) (s : Stop) → path ≡ path_of own.file → StopsWith (LacksOwn (Some path) files) s
+    → StopsWith (ToolRefuses (asked.verify own) files) s
 unfolding ToolRefuses
-lacking-listing files arguments path s e k = lacking (OwnRefuses tool.Verify files arguments) files arguments path s e k
+lacking-listing files own path s e k = lacking (OwnRefuses (asked.verify own) files) files own path s e k
 
-pub unadapted-listing : (files mid : Files) (arguments words : List (List ℕ)) (path : Path) (text : List ℕ) (s : Stop) → path ≡ first_path arguments
-    → words ≡ arguments_of arguments → mid ≡ files → held files path ≡ Some text → StopsWith (AdaptingFails mid (paths_of words)) s
-    → StopsWith (ToolRefuses tool.Verify files arguments) s
+pub unadapted-listing : (files mid : Files) (own : OwnFile) (path : Path) (text : List ℕ) (s : Stop) → path ≡ path_of own.file → mid ≡ files → held files path ≡ Some text
+    → StopsWith (AdaptingFails mid (paths_of own.paths)) s → StopsWith (ToolRefuses (asked.verify own) files) s
 unfolding ToolRefuses
-unadapted-listing files mid arguments words path text s e w f h k = unadapted (OwnRefuses tool.Verify files arguments) files mid arguments words path text s e w f h k
+unadapted-listing files mid own path text s e f h k = unadapted (OwnRefuses (asked.verify own) files) files mid own path text s e f h k
 
-pub listing-stops : (files mid : Files) (arguments words : List (List ℕ)) (path : Path) (text : List ℕ) (a : Adapted) (s : Stop) → ReadAsTrees → path ≡ first_path arguments
-    → words ≡ arguments_of arguments → mid ≡ files → held files path ≡ Some text → Parses mid (paths_of words) (Ok (defined a)) → IsAdapted a
-    → StopsWith (IsUnfitListing (listed a) text) s → StopsWith (ToolRefuses tool.Verify files arguments) s
+pub listing-stops : (files mid : Files) (file : List ℕ) (paths : List (List ℕ)) (path : Path) (text : List ℕ) (a : Adapted) (s : Stop) → ReadAsTrees → path ≡ path_of file → mid ≡ files
+    → held files path ≡ Some text → Parses mid (paths_of paths) (Ok (defined a)) → IsAdapted a → StopsWith (IsUnfitListing (listed a) text) s
+    → StopsWith (ToolRefuses (asked.verify (own-of file paths)) files) s
 unfolding ToolRefuses
-listing-stops files mid arguments words path text a s law e w f h p q k =
-    refusing (OwnRefuses tool.Verify files arguments) (IsUnfitListing (listed_for (defined a)) text) files mid arguments words path text a s e w f h p q
-    (λ report r. (defined a, text, (own-held files arguments path text e h, said files mid words (arguments_of arguments) a w f p), r))
+listing-stops files mid file paths path text a s law e f h p q k =
+    let own = own-of file paths in
+    refusing (OwnRefuses (asked.verify own) files) (IsUnfitListing (listed_for (defined a)) text) files mid own path text a s e f h p q
+    (λ report r. (defined a, text, (own-held files own path text e h, said files mid own.paths own.paths a refl f p), r))
     (subst (λ l. StopsWith (IsUnfitListing l text) s) (listed-for law a q) k)
 
-pub verdicts-told : (files mid : Files) (arguments words : List (List ℕ)) (path : Path) (text made : List ℕ) (a : Adapted) (pairs : List TracePair) → ReadAsTrees
-    → path ≡ first_path arguments → words ≡ arguments_of arguments → mid ≡ files → held files path ≡ Some text → Parses mid (paths_of words) (Ok (defined a)) → IsAdapted a
-    → GivesTraces (listed a) text (map sides_of pairs) → made ≡ verdicts_text (map owned_of a.functions) (map sides_of pairs)
-    → IsToolOutput tool.Verify files arguments made
+pub verdicts-told : (files mid : Files) (file : List ℕ) (paths : List (List ℕ)) (path : Path) (text told made : List ℕ) (a : Adapted) (pairs : List TracePair) → ReadAsTrees → path ≡ path_of file
+    → mid ≡ files → held files path ≡ Some text → Parses mid (paths_of paths) (Ok (defined a)) → IsAdapted a → GivesTraces (listed a) text (map sides_of pairs)
+    → told ≡ verdicts_text (map owned_of a.functions) (map sides_of pairs) → made ≡ told → IsToolOutput (asked.verify (own-of file paths)) files made
 unfolding IsToolOutput
-verdicts-told files mid arguments words path text made a pairs law e w f h p q g k =
-    let holds = own-held files arguments path text e h in
-    let means = said files mid words (arguments_of arguments) a w f p in
+verdicts-told files mid file paths path text told made a pairs law e f h p q g k m =
+    let own = own-of file paths in
+    let holds = own-held files own path text e h in
+    let means = said files mid own.paths own.paths a refl f p in
     let gives : GivesTraces (listed_for (defined a)) text (map sides_of pairs) = subst (λ l. GivesTraces l text (map sides_of pairs)) (listed-for law a q) g in
     let tells : made ≡ verdicts_text (all_functions (defined a)) (map sides_of pairs)
-    = subst (λ fs. made ≡ verdicts_text fs (map sides_of pairs)) (owned-for a.functions (all_functions (defined a)) q.functions) k in
-    ((text, holds), (can-adapt files (arguments_of arguments) a means q, tt), (defined a, map sides_of pairs, (text, (holds, means), gives), tells))
+    = m ∙ subst (λ fs. told ≡ verdicts_text fs (map sides_of pairs)) (owned-for a.functions (all_functions (defined a)) q.functions) k in
+    ((text, holds), (can-adapt files own.paths a means q, tt), (defined a, map sides_of pairs, (text, (holds, means), gives), tells))
 
 pub ruleset verdict_rules = (memory-stops, lacking-listing, unadapted-listing, listing-stops, verdicts-told)

@@ -13,14 +13,10 @@ use Rattle.witx_adapt.specs.Entries.{Entry, all_functions, entry_for}
 use Rattle.witx_call.specs.Lines.{FirstFault, Gives, types_of}
 use Rattle.witx_call.specs.CallSeen.{CallSeen}
 use Rattle.witx_invoke.specs.Runs.{ComesTo, NoRoom}
+use Rattle.witx_commands.specs.Words.{Names}
 use Rattle.witx_tools.specs.InvokeTexts.{call_text}
 
 -- ---- the function
-
--- the names of a module and of a function of it
-pub record Names : Type 0 where
-  pub owner : List ℕ
-  pub function : List ℕ
 
 abbrev pub has_names : Names → Entry → Bool
 has_names n e = same_text e.owned.owner.name n.owner && same_text e.owned.func.name n.function

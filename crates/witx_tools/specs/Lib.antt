@@ -7,5 +7,4 @@ pub mod ShimTexts
 pub mod ToolCauses
 pub mod ToolLaws
 pub mod ToolRuns
-pub mod ToolWords
 pub mod VerdictTexts

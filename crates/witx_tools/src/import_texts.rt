@@ -9,32 +9,36 @@ ghost use Rattle.witx_walk.specs.ErrorReports.{io_report};
 ghost use Rattle.witx_imports.specs.Faults.{offered};
 ghost use Rattle.witx_imports.specs.Reads.{Reads};
 ghost use Rattle.witx_commands.specs.Stops.{StopsWith};
+ghost use Rattle.witx_commands.specs.Words as asked;
+ghost use Rattle.witx_commands.specs.Words.{own_file};
 ghost use Rattle.witx_tools.specs.ImportTexts.{IsBadList, asked_text, bad_report, differs_line, expected_text, fault_line, faults_text, missing_line, names_text};
-ghost use Rattle.witx_tools.specs.ToolCauses.{IsToolOutput, ToolRefuses};
-ghost use Rattle.witx_tools.specs.declared.tool.Tool.{Tool};
+ghost use Rattle.witx_tools.specs.ToolCauses.{ToolRefuses};
+ghost use Rattle.witx_tools.specs.ToolRuns.{ToolTells};
 
-use crate::own::{adapted_words, first_path, own_text};
+use crate::own::{adapted_words, file_path, own_text};
 use std::alloc::{AllocError, Global};
-use witx::{Refusal, Stop, arguments_of};
+use witx::{Output, OwnFile, Refusal, Stop};
 use witx_adapt::{Adapted, AdaptedFunc, put_quoted, put_signature};
 use witx_base::{OutOfMemory, Text, WitxPath};
+use witx_commands::text_alone;
 use witx_files::MockFs;
 use witx_imports::{
     ImportFault, ImportsError, WasmImport, WasmImports, check_imports, read_imports,
 };
 
-/// A line for each fault of the imports that the file of the first word lists, held against the
-/// document of the files behind it.
+/// A line for each fault of the imports that the list says, held against the document of the files
+/// behind it.
 #[tactic(auto, using(crate::proofs::Telling::import_rules))]
-pub fn faults_of_files(alloc: Global, arguments: &[Text], files: &mut MockFs) -> Result<Text, Stop>
-    ensures text { IfOk result (λ text. IsToolOutput Tool.Imports files.old arguments.now text) }
-    ensures stopped { IfErr result (StopsWith (ToolRefuses Tool.Imports files.old arguments.now)) }
+pub fn faults_of_files(alloc: Global, own: &OwnFile<'_>, files: &mut MockFs) -> Result<Output, Stop>
+    ensures output { IfOk result (λ o. ToolTells (asked.imports (own_file own.now)) files.old o.text o.notes o.adapted) }
+    ensures stopped { IfErr result (StopsWith (ToolRefuses (asked.imports (own_file own.now)) files.old)) }
 {
-    let path = first_path(alloc, arguments)?;
+    let path = file_path(alloc, own)?;
     let list = own_text(alloc, &path, files)?;
-    let adapted = adapted_words(alloc, arguments_of(arguments), files)?;
+    let adapted = adapted_words(alloc, own.paths, files)?;
     let imports = listed_imports(alloc, &path, list.as_str())?;
-    Ok(faults_text(alloc, &adapted, &imports)?)
+    let text = faults_text(alloc, &adapted, &imports)?;
+    Ok(text_alone(alloc, text))
 }
 
 /// The imports that a text lists, or the end of a run whose text at this path is no list.

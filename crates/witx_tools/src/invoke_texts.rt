@@ -12,70 +12,72 @@ ghost use Rattle.witx_call.specs.CallSeen.{placed_of, seen_of};
 ghost use Rattle.witx_call.specs.ValueTexts.{value_text as text_of};
 ghost use Rattle.witx_call.specs.WordViews.{word_of};
 ghost use Rattle.witx_commands.specs.Stops.{StopsWith};
+ghost use Rattle.witx_commands.specs.Words as asked;
+ghost use Rattle.witx_commands.specs.Words.{names_of, own_file};
 ghost use Rattle.witx_tools.specs.Callable.{AreFor, IsCallable, handed_of};
 ghost use Rattle.witx_tools.specs.Calls.{CallFails, GivesValues, HandedFails, IsCallText, IsHandedText, IsNamedText, LineFails, NamedFails, absent_report, first_named, has_names, line_report};
 ghost use Rattle.witx_tools.specs.InvokeTexts.{byte_text, call_text, note_line, range_line, returned_line, word_text, words_line};
-ghost use Rattle.witx_tools.specs.ToolCauses.{IsToolOutput, ToolRefuses};
-ghost use Rattle.witx_tools.specs.ToolWords.{behind_names, named_by};
-ghost use Rattle.witx_tools.specs.declared.tool.Tool.{Tool};
+ghost use Rattle.witx_tools.specs.ToolCauses.{ToolRefuses};
+ghost use Rattle.witx_tools.specs.ToolRuns.{ToolTells};
 
-use crate::own::{adapted_words, first_path, own_text};
-use crate::tool::first_word;
+use crate::own::{adapted_words, file_path, own_text};
 use std::alloc::{AllocError, Global};
 use std::fmt::Write;
-use witx::{Refusal, Stop, arguments_of};
+use witx::{Output, OwnFile, Refusal, Stop};
 use witx_abi::WasmType;
 use witx_adapt::AdaptedFunc;
 use witx_base::{OutOfMemory, Text};
 use witx_bytes::{ByteMemory, Value, traces_take_writable};
+use witx_commands::text_alone;
 use witx_files::MockFs;
 use witx_invoke::{
     GivenValues, InvokeError, Invoked, Placed, ValuesError, Word, invoke, read_values, value_text,
 };
 use witx_walk::one_reading;
 
-/// The call of the function that the first two words name, in the document of the files behind the
-/// third, with the values in the file of the third.
+/// The call of the function of the module with these names, in the document of the files behind the
+/// file of its values.
 #[tactic(auto, using(crate::proofs::Telling::call_rules))]
-pub fn call_of_files(alloc: Global, arguments: &[Text], files: &mut MockFs) -> Result<Text, Stop>
-    ensures text { IfOk result (λ text. IsToolOutput Tool.Invoke files.old arguments.now text) }
-    ensures stopped { IfErr result (StopsWith (ToolRefuses Tool.Invoke files.old arguments.now)) }
+pub fn call_of_files(
+    alloc: Global,
+    owner: &Text,
+    function: &Text,
+    own: &OwnFile<'_>,
+    files: &mut MockFs,
+) -> Result<Output, Stop>
+    ensures output { let names = names_of owner.now function.now in
+        IfOk result (λ o. ToolTells (asked.invoke names (own_file own.now)) files.old o.text o.notes o.adapted) }
+    ensures stopped { let names = names_of owner.now function.now in
+        IfErr result (StopsWith (ToolRefuses (asked.invoke names (own_file own.now)) files.old)) }
 {
     one_reading();
     traces_take_writable();
-    let words = behind_names(arguments);
-    let path = first_path(alloc, words)?;
+    let path = file_path(alloc, own)?;
     let values = own_text(alloc, &path, files)?;
-    let adapted = adapted_words(alloc, arguments_of(words), files)?;
-    named_call(
+    let adapted = adapted_words(alloc, own.paths, files)?;
+    let text = named_call(
         alloc,
         adapted.functions.as_slice(),
-        arguments,
+        owner.as_str(),
+        function.as_str(),
         values.as_str(),
-    )
+    )?;
+    Ok(text_alone(alloc, text))
 }
 
-/// The words behind the names of the module and the function.
-fn behind_names(arguments: &[Text]) -> &[Text]
-    ensures { result.now ≡ behind_names arguments.now }
-{
-    arguments_of(arguments_of(arguments))
-}
-
-/// The call of the first function that the words name.
+/// The call of the first function with these names.
 fn named_call(
     alloc: Global,
     functions: &[AdaptedFunc],
-    arguments: &[Text],
+    owner: &str,
+    function: &str,
     values: &str,
 ) -> Result<Text, Stop>
     requires { All IsCallable functions.now }
-    ensures text { IfOk result (IsNamedText (named_by arguments.now) (map entry_of functions.now) values.now) }
-    ensures stopped { let names = named_by arguments.now in
+    ensures text { IfOk result (IsNamedText (names_of owner.now function.now) (map entry_of functions.now) values.now) }
+    ensures stopped { let names = names_of owner.now function.now in
         IfErr result (StopsWith (NamedFails names (first_named names (map entry_of functions.now)) values.now)) }
 {
-    let owner = first_word(arguments);
-    let function = first_word(arguments_of(arguments));
     let Some(number) = number_named(functions, owner, function) else {
         return Err(absent_stop(alloc, owner, function));
     };

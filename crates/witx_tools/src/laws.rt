@@ -1,7 +1,7 @@
 //! What the words and the bytes of a bundle decide, as functions that do nothing: each contract is a
 //! theorem.
 
-ghost use Rattle.witx_tools.specs.ToolLaws.{CommandsAreNoTools, ShimsTellTwoRefusals, ValidIsNotRefusedByTools};
+ghost use Rattle.witx_tools.specs.ToolLaws.{AllKnowCommands, OthersAreTools, RunsAlike, ShimsTellTwoRefusals, ValidIsNotRefusedByTools};
 
 use witx::valid_is_not_refused;
 use witx_imports::no_fault_where_imports_are_read;
@@ -9,9 +9,12 @@ use witx_invoke::lines_tell_values;
 use witx_traces::traces_leave_no_line_unfit;
 use witx_walk::{one_answer, one_reading};
 
-/// No words are both a command's and a tool's.
-pub fn commands_are_no_tools()
-    ensures { CommandsAreNoTools }
+/// Words that have a form of `run` ask the same of `run_all`, and a run of that is one of this; any others of which
+/// it knows the form are a tool's.
+pub fn commands_of_both()
+    ensures known { AllKnowCommands }
+    ensures tools { OthersAreTools }
+    ensures alike { RunsAlike }
 {}
 
 /// A bundle that is valid for a tool isn't refused by it.

@@ -1,5 +1,5 @@
-//! The tools of the program beside its commands, and the program's top call, which does both; and the calls of the
-//! tools under their own names.
+//! The further commands of the program, its tools, and the program's top call, which knows all commands; and the
+//! calls of the tools under their own names.
 #![tactic(auto)]
 
 mod import_texts;
@@ -9,12 +9,10 @@ mod own;
 mod performing;
 mod program;
 mod shim_texts;
-mod tool;
 mod verdict_texts;
 
-pub use laws::{commands_are_no_tools, shims_tell_two_refusals, valid_is_not_refused_by_tools};
+pub use laws::{commands_of_both, shims_tell_two_refusals, valid_is_not_refused_by_tools};
 pub use program::run_all;
-pub use tool::{Tool, tool_of};
 pub use witx_imports::{
     ImportFault, ImportFaults, ImportsError, WasmImport, WasmImports, check_imports, read_imports,
 };

@@ -1,6 +1,7 @@
-//! What tools work on: the file of their own, and adapted documents.
+//! What tools work on: the file of their own, and adapted documents. A tool is a command that `run` doesn't have.
 
 ghost use Rattle.std.specs.Prelude.{◌≡◌, IfErr, IfOk, None, OnOk, Ok, Some};
+ghost use Rattle.witx_base.specs.Paths.{path_of};
 ghost use Rattle.witx_files.specs.Files.{held};
 ghost use Rattle.witx_files.specs.declared.fault.IoFault.{IoFault};
 ghost use Rattle.witx_walk.specs.ErrorReports.{io_report};
@@ -9,11 +10,9 @@ ghost use Rattle.witx_commands.specs.Reports.{AdaptingFails, IsTextReport};
 ghost use Rattle.witx_commands.specs.Stops.{StopsWith};
 ghost use Rattle.witx_commands.specs.Words.{paths_of};
 ghost use Rattle.witx_tools.specs.ToolCauses.{LacksOwn};
-ghost use Rattle.witx_tools.specs.ToolWords.{first_path};
 
-use crate::tool::first_word;
 use std::alloc::Global;
-use witx::{Stop, adapted_or_stop, paths_of, text_stop};
+use witx::{OwnFile, Stop, adapted_or_stop, paths_of, text_stop};
 use witx_adapt::Adapted;
 use witx_base::{Duplicate, OutOfMemory, Text, WitxPath};
 use witx_files::{IoError, IoFault, MockFs, WitxIo};
@@ -33,10 +32,10 @@ pub fn adapted_words(alloc: Global, words: &[Text], files: &mut MockFs) -> Resul
 }
 
 /// The path of a tool's own file.
-pub fn first_path(alloc: Global, arguments: &[Text]) -> Result<WitxPath, OutOfMemory>
-    ensures { IfOk result (λ path. path ≡ first_path arguments.now) }
+pub fn file_path(alloc: Global, own: &OwnFile<'_>) -> Result<WitxPath, OutOfMemory>
+    ensures { IfOk result (λ path. path ≡ path_of own.now.file.now) }
 {
-    WitxPath::new(alloc, first_word(arguments))
+    WitxPath::new(alloc, own.file.as_str())
 }
 
 /// The text of a tool's own file, or the end of a run whose bundle lacks it.

@@ -1,46 +1,51 @@
-//! What each tool tells.
+//! What each command tells.
 
-ghost use Rattle.std.specs.Prelude.{◌≡◌, [], IfErr, IfOk, None};
+ghost use Rattle.std.specs.Prelude.{◌≡◌, IfErr, IfOk, false};
 ghost use Rattle.witx_commands.specs.Stops.{StopsWith};
-ghost use Rattle.witx_tools.specs.ToolCauses.{IsToolOutput, ToolRefuses};
+ghost use Rattle.witx_commands.specs.Words.{asked_by, is_of_run};
+ghost use Rattle.witx_tools.specs.ToolCauses.{ToolRefuses};
+ghost use Rattle.witx_tools.specs.ToolRuns.{AnyRefuses, AnyTells, ToolTells};
 
 use crate::import_texts::faults_of_files;
 use crate::invoke_texts::call_of_files;
 use crate::shim_texts::shims_of_files;
-use crate::tool::Tool;
 use crate::verdict_texts::verdicts_of_files;
 use std::alloc::Global;
-use witx::Stop;
-use witx_base::Text;
-use witx_commands::{Output, text_alone};
+use witx::{Command, Output, Stop, perform};
 use witx_files::MockFs;
 
-/// The output of a tool over the files of a bundle, by the words behind its own: its text alone.
-pub fn perform(
-    alloc: Global,
-    tool: Tool,
-    arguments: &[Text],
-    files: &mut MockFs,
-) -> Result<Output, Stop>
-    ensures output { IfOk result (λ o. (o.notes ≡ []) × (o.adapted ≡ None)
-        × IsToolOutput tool files.old arguments.now o.text) }
-    ensures stopped { IfErr result (StopsWith (ToolRefuses tool files.old arguments.now)) }
+/// The output of a command over the files of a bundle.
+#[tactic(auto, using(crate::proofs::Runs::either_rules))]
+pub fn perform_any(alloc: Global, command: &Command<'_>, files: &mut MockFs) -> Result<Output, Stop>
+    ensures output { IfOk result (λ o. AnyTells (asked_by command.now) files.old o.text o.notes o.adapted) }
+    ensures stopped { IfErr result (StopsWith (AnyRefuses (asked_by command.now) files.old)) }
 {
-    match told(alloc, tool, arguments, files) {
-        Ok(text) => Ok(text_alone(alloc, text)),
-        Err(stop) => Err(stop),
+    if command.is_of_run() {
+        return perform(alloc, command, files);
     }
+    perform_tool(alloc, command, files)
 }
 
-/// The text of a tool: a row for each tool.
-fn told(alloc: Global, tool: Tool, arguments: &[Text], files: &mut MockFs) -> Result<Text, Stop>
-    ensures text { IfOk result (λ text. IsToolOutput tool files.old arguments.now text) }
-    ensures stopped { IfErr result (StopsWith (ToolRefuses tool files.old arguments.now)) }
+/// The output of a tool: a row for each.
+fn perform_tool(alloc: Global, command: &Command<'_>, files: &mut MockFs) -> Result<Output, Stop>
+    requires { is_of_run (asked_by command.now) ≡ false }
+    ensures output { IfOk result (λ o. ToolTells (asked_by command.now) files.old o.text o.notes o.adapted) }
+    ensures stopped { IfErr result (StopsWith (ToolRefuses (asked_by command.now) files.old)) }
 {
-    match tool {
-        Tool::Shim => shims_of_files(alloc, arguments, files),
-        Tool::Verify => verdicts_of_files(alloc, arguments, files),
-        Tool::Invoke => call_of_files(alloc, arguments, files),
-        Tool::Imports => faults_of_files(alloc, arguments, files),
+    match command {
+        Command::Shim(two) => shims_of_files(alloc, two, files),
+        Command::Verify(listing) => verdicts_of_files(alloc, listing, files),
+        Command::Invoke {
+            module,
+            function,
+            values,
+        } => call_of_files(alloc, module, function, values, files),
+        Command::Imports(list) => faults_of_files(alloc, list, files),
+        Command::Adapt { .. }
+        | Command::Print { .. }
+        | Command::Layouts { .. }
+        | Command::Docs { .. }
+        | Command::Polyfill(_)
+        | Command::Sample { .. } => unreachable!(),
     }
 }

@@ -1,25 +1,23 @@
-//! The program's top call: commands, tools, and words of no form.
+//! The program's top call, over all commands.
 
-ghost use Rattle.std.specs.Prelude.{◌≡◌, None};
+ghost use Rattle.std.specs.Prelude.{◌≡◌};
 ghost use Rattle.witx_commands.specs.Runs.{IsPrepared, IsRun, run_input, seen};
-ghost use Rattle.witx_commands.specs.Words.{arguments_of};
-ghost use Rattle.witx_tools.specs.ToolRuns.{any_task, input_of_all, tool_task};
-ghost use Rattle.witx_tools.specs.ToolWords.{tool_of};
+ghost use Rattle.witx_commands.specs.Words.{IsBounded, asked_by};
+ghost use Rattle.witx_tools.specs.ToolRuns.{any_task, task_of_all};
 
 use crate::laws::valid_is_not_refused_by_tools;
-use crate::performing::perform;
-use crate::tool::{Tool, tool_of};
+use crate::performing::perform_any;
 use std::alloc::Global;
 use witx::{
-    Forms, Ran, Refusal, Stop, arguments_of, command_of, finish, output_or_refusal,
-    prepare_command, read_bundle, valid_is_not_refused,
+    Command, Forms, Output, Ran, Refusal, Stop, command_of, files_for, finish, output_or_refusal,
+    valid_is_not_refused,
 };
 use witx_base::{Sink, Source, Text};
-use witx_commands::{Output, stop_of};
+use witx_commands::stop_of;
 
 /// The program: reads the words, then the source where what they ask for works on it, and writes what that
-/// tells on `out` or what is refused on `err`. Words of a command end as with [`run`](witx::run); those of a
-/// tool have its text written; for any others the usage text is written on `err`.
+/// tells on `out` or what is refused on `err`. Words that have a form of [`run`](witx::run) end as there; for
+/// those of a tool its text is written; for any others the usage text is written on `err`.
 ///
 /// With `adapt` it ends with status 0 only having written the listing of the document that the texts
 /// mean and each function's caller and callee traces. On the machine, given as many distinct unused
@@ -33,7 +31,7 @@ pub fn run_all<S: Source, O: Sink, E: Sink>(
     out: &mut O,
     err: &mut E,
 ) -> Ran
-    ensures { IsRun (input_of_all words.now S.left S.faults S.reads source.old source.new) result.status result.adapted
+    ensures { IsRun (run_input (task_of_all words.now) S.left S.faults S.reads source.old source.new) result.status result.adapted
         (seen O.taken O.faults out.old out.new) (seen E.taken E.faults err.old err.new)
         (source.new ≡ source.old) (out.new ≡ out.old) (err.new ≡ err.old) }
 {
@@ -46,38 +44,27 @@ pub fn run_all<S: Source, O: Sink, E: Sink>(
 /// What a run is to write, by its words and its source.
 #[tactic(auto, using(crate::proofs::Runs::form_rules))]
 fn prepare<S: Source>(alloc: Global, words: &[Text], source: &mut S) -> Result<Output, Stop>
-    ensures { IsPrepared (input_of_all words.now S.left S.faults S.reads source.old source.new) result
+    ensures { IsPrepared (run_input (task_of_all words.now) S.left S.faults S.reads source.old source.new) result
         (source.new ≡ source.old) }
 {
-    match command_of(words) {
-        Some(command) => prepare_command(alloc, command, arguments_of(words), source),
-        None => prepare_further(alloc, words, source),
-    }
-}
-
-/// The same of words that have no command's form.
-fn prepare_further<S: Source>(alloc: Global, words: &[Text], source: &mut S) -> Result<Output, Stop>
-    ensures { let task = any_task None (tool_of words.now) (arguments_of words.now) in
-        IsPrepared (run_input task S.left S.faults S.reads source.old source.new) result (source.new ≡ source.old) }
-{
-    match tool_of(words) {
-        Some(tool) => prepare_tool(alloc, tool, arguments_of(words), source),
+    match command_of(Forms::All, words) {
+        Some(command) => prepare_command(alloc, &command, source),
         None => Err(Stop::Refused(Refusal::Usage(Forms::All))),
     }
 }
 
-/// What a tool is to write, by the words behind its own and its source.
-fn prepare_tool<S: Source>(
+/// What a command is to write, by its source: its output, its refusal of the files, or why there are none.
+fn prepare_command<S: Source>(
     alloc: Global,
-    tool: Tool,
-    arguments: &[Text],
+    command: &Command<'_>,
     source: &mut S,
 ) -> Result<Output, Stop>
-    ensures { IsPrepared (run_input (tool_task tool arguments.now) S.left S.faults S.reads source.old source.new) result
+    requires { IsBounded (asked_by command.now) }
+    ensures { IsPrepared (run_input (any_task (asked_by command.now)) S.left S.faults S.reads source.old source.new) result
         (source.new ≡ source.old) }
 {
-    match read_bundle(alloc, source) {
-        Ok(mut files) => perform(alloc, tool, arguments, &mut files),
+    match files_for(alloc, command, source) {
+        Ok(mut files) => perform_any(alloc, command, &mut files),
         Err(error) => Err(stop_of(error)),
     }
 }

@@ -6,34 +6,38 @@ ghost use Rattle.witx_compat.specs.Views.{function_view, module_view};
 ghost use Rattle.witx_ast.specs.Functions.{func_tree};
 ghost use Rattle.witx_shim.specs.Refusals.{Refusal, Says, refusal_of};
 ghost use Rattle.witx_commands.specs.Stops.{StopsWith};
+ghost use Rattle.witx_commands.specs.Words as asked;
+ghost use Rattle.witx_commands.specs.Words.{two_files};
 ghost use Rattle.witx_tools.specs.ShimTexts.{function_lines, listed_line, module_line, module_lines, pass_line, passing_line, refusal_line, shims_text, spaced_number};
-ghost use Rattle.witx_tools.specs.ToolCauses.{IsToolOutput, ToolRefuses};
+ghost use Rattle.witx_tools.specs.ToolCauses.{ToolRefuses};
 ghost use Rattle.witx_tools.specs.MappedBy.{AreMapped, IsMapped};
-ghost use Rattle.witx_tools.specs.declared.tool.Tool.{Tool};
+ghost use Rattle.witx_tools.specs.ToolRuns.{ToolTells};
 
 use crate::own::adapted_words;
 use std::alloc::{AllocError, Global};
 use std::fmt::Write;
-use witx::{Stop, mapped_modules, module_names, new_file, old_file};
+use std::slice::from_ref;
+use witx::{Output, Stop, TwoFiles, mapped_modules};
 use witx_abi::{functions_are_read_as_their_trees, words_back, words_in};
 use witx_adapt::put_func_line;
 use witx_ast::InterfaceFunc;
 use witx_base::{OutOfMemory, Text};
+use witx_commands::text_alone;
 use witx_compat::{FuncPolyfill, ModulePolyfill, Polyfill};
 use witx_files::MockFs;
 use witx_shim::{ShimError, shim};
 
-/// The shims of the modules of the old file by those of the new one, which have these names, two by two.
+/// The shims of the modules of the old file by those of the new one, by the names behind them.
 #[tactic(auto, using(crate::proofs::Telling::shim_rules))]
-pub fn shims_of_files(alloc: Global, arguments: &[Text], files: &mut MockFs) -> Result<Text, Stop>
-    ensures text { IfOk result (λ text. IsToolOutput Tool.Shim files.old arguments.now text) }
-    ensures stopped { IfErr result (StopsWith (ToolRefuses Tool.Shim files.old arguments.now)) }
+pub fn shims_of_files(alloc: Global, two: &TwoFiles<'_>, files: &mut MockFs) -> Result<Output, Stop>
+    ensures output { IfOk result (λ o. ToolTells (asked.shim (two_files two.now)) files.old o.text o.notes o.adapted) }
+    ensures stopped { IfErr result (StopsWith (ToolRefuses (asked.shim (two_files two.now)) files.old)) }
 {
-    let new = adapted_words(alloc, new_file(arguments), files)?;
-    let old = adapted_words(alloc, old_file(arguments), files)?;
-    let names = module_names(arguments);
-    let polyfill = mapped_modules(alloc, &new.document, &old.document, names)?;
-    Ok(shims_text(alloc, &polyfill)?)
+    let new = adapted_words(alloc, from_ref(two.new), files)?;
+    let old = adapted_words(alloc, from_ref(two.old), files)?;
+    let polyfill = mapped_modules(alloc, &new.document, &old.document, two.names)?;
+    let text = shims_text(alloc, &polyfill)?;
+    Ok(text_alone(alloc, text))
 }
 
 /// The shims of mapped modules.

@@ -7,38 +7,42 @@ ghost use Rattle.witx_traces.specs.Passages.{sides_of};
 ghost use Rattle.witx_traces.specs.Traces.{GivesTraces, listed};
 ghost use Rattle.witx_commands.specs.Adapting.{IsAdapted};
 ghost use Rattle.witx_commands.specs.Stops.{StopsWith};
-ghost use Rattle.witx_tools.specs.ToolCauses.{IsToolOutput, ToolRefuses};
+ghost use Rattle.witx_commands.specs.Words as asked;
+ghost use Rattle.witx_commands.specs.Words.{own_file};
+ghost use Rattle.witx_tools.specs.ToolCauses.{ToolRefuses};
+ghost use Rattle.witx_tools.specs.ToolRuns.{ToolTells};
 ghost use Rattle.witx_tools.specs.VerdictTexts.{IsUnfitListing, doubt_text, found_text, judged_line, owned_of, unfit_report, verdict_line, verdicts_text};
-ghost use Rattle.witx_tools.specs.declared.tool.Tool.{Tool};
 
-use crate::own::{adapted_words, first_path, own_text};
+use crate::own::{adapted_words, file_path, own_text};
 use std::alloc::{AllocError, Global};
 use std::fmt::Write;
-use witx::{Refusal, Stop, arguments_of};
+use witx::{Output, OwnFile, Refusal, Stop};
 use witx_abi::functions_are_read_as_their_trees;
 use witx_adapt::{Adapted, AdaptedFunc, put_quoted};
 use witx_base::{OutOfMemory, Text};
+use witx_commands::text_alone;
 use witx_files::MockFs;
 use witx_traces::{TracePair, TracePairs, TracesError, read_traces};
 use witx_verify::{Doubt, Verdict, verify};
 
-/// A line for each function of the document of the files behind the first word: the verdict on the
-/// traces that the listing in the file of the first word gives it.
+/// A line for each function of the document of the files behind the listing: the verdict on the traces
+/// that the listing gives it.
 #[tactic(auto, using(crate::proofs::Telling::verdict_rules))]
 pub fn verdicts_of_files(
     alloc: Global,
-    arguments: &[Text],
+    own: &OwnFile<'_>,
     files: &mut MockFs,
-) -> Result<Text, Stop>
-    ensures text { IfOk result (λ text. IsToolOutput Tool.Verify files.old arguments.now text) }
-    ensures stopped { IfErr result (StopsWith (ToolRefuses Tool.Verify files.old arguments.now)) }
+) -> Result<Output, Stop>
+    ensures output { IfOk result (λ o. ToolTells (asked.verify (own_file own.now)) files.old o.text o.notes o.adapted) }
+    ensures stopped { IfErr result (StopsWith (ToolRefuses (asked.verify (own_file own.now)) files.old)) }
 {
     functions_are_read_as_their_trees();
-    let path = first_path(alloc, arguments)?;
+    let path = file_path(alloc, own)?;
     let listing = own_text(alloc, &path, files)?;
-    let adapted = adapted_words(alloc, arguments_of(arguments), files)?;
+    let adapted = adapted_words(alloc, own.paths, files)?;
     let pairs = listed_traces(alloc, &adapted, listing.as_str())?;
-    Ok(verdicts_text(alloc, &adapted, pairs.as_slice())?)
+    let text = verdicts_text(alloc, &adapted, pairs.as_slice())?;
+    Ok(text_alone(alloc, text))
 }
 
 /// The traces that a listing gives an adapted document, or the end of a run with the first line that
