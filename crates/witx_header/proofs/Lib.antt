@@ -1,0 +1,7 @@
+pub mod Appending
+pub mod Commenting
+pub mod Reading
+pub mod Typing
+pub mod Numbered
+pub mod Declaring
+mod Examples

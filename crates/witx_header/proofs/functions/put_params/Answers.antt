@@ -1,0 +1,5 @@
+use Rattle.witx_header.proofs.Appending.{three}
+use Rattle.witx_header.proofs.functions.put_params.Goals as goal
+
+pub returns : goal.returns
+returns c = three _ _ _ _ _ _ _ c.in_ok-push_str.ensures.bytes c.in_ok-put_words.ensures c.in_ok-push_str-2.ensures.bytes

@@ -1,0 +1,6 @@
+use Rattle.witx_header.proofs.Appending.{three}
+use Rattle.witx_header.proofs.values.put_flag.Goals as goal
+
+pub returns : goal.returns
+returns c =
+    three _ _ _ _ _ _ _ (rw c.as_str.ensures at c.in_ok-put_comment.ensures) (rw c.as_str-2.ensures at c.in_ok-put_define.ensures) c.in_ok-put_bit.ensures

@@ -1,0 +1,4 @@
+pub mod CNames
+pub mod CTypes
+pub mod Typedefs
+pub mod Headers
