@@ -19,7 +19,7 @@ const THREE_FILES: &[(&str, &str)] = &[
     ("/files.witx", FILES),
 ];
 
-/// A file of the folder `examples`, which `./check-examples` holds against what the program writes.
+/// A file of the folder `examples`, which `tools/check-examples` holds against what the program writes.
 macro_rules! example {
     ($name:literal) => {
         include_str!(concat!("../../../examples/", $name))
