@@ -9,7 +9,7 @@ ghost use Rattle.witx_instructions.specs.Told.{told_after, is_fault, Counts};
 ghost use Rattle.witx_instructions.specs.Handed.{Call, emitted, made_room, began, ended};
 
 use crate::instruction::Instruction;
-use std::alloc::AllocError;
+use std::alloc::{AllocError, AllocFailed};
 use std::rc::Rc;
 use witx_ast::NamedType;
 use witx_base::{Failed, OutOfMemory};
@@ -38,6 +38,17 @@ impl From<AllocError> for BindgenError {
     ghost from_gives = { λ refused error. error ≡ BindgenError.OutOfMemory };
 
     fn from(_refused: AllocError) -> BindgenError {
+        BindgenError::OutOfMemory
+    }
+}
+
+// For `push(operand)?` of a generator.
+impl<T: Drop> From<AllocFailed<T>> for BindgenError {
+    ghost use Rattle.witx_instructions.specs.declared.bindgen.BindgenError.{BindgenError};
+
+    ghost from_gives = { λ refused error. error ≡ BindgenError.OutOfMemory };
+
+    fn from(_refused: AllocFailed<T>) -> BindgenError {
         BindgenError::OutOfMemory
     }
 }
