@@ -2,7 +2,7 @@
 
 ghost use Rattle.std.specs.Prelude.{◌≡◌};
 
-use std::alloc::AllocError;
+use std::alloc::{AllocError, AllocFailed};
 
 /// Why a reader of files gives no answer.
 #[derive(Clone, Copy, PartialEq, Eq, Debug)]
@@ -42,6 +42,17 @@ impl From<AllocError> for IoError {
     ghost from_gives = { λ _ e. e ≡ OutOfMemory };
 
     fn from(_error: AllocError) -> IoError {
+        IoError::OutOfMemory
+    }
+}
+
+impl<T: Drop> From<AllocFailed<T>> for IoError {
+    ghost use Rattle.std.specs.Prelude.{◌≡◌};
+    ghost use Rattle.witx_files.specs.declared.fault.IoError.TheVariants.{OutOfMemory};
+
+    ghost from_gives = { λ _ e. e ≡ OutOfMemory };
+
+    fn from(_error: AllocFailed<T>) -> IoError {
         IoError::OutOfMemory
     }
 }
