@@ -32,7 +32,9 @@ fn put_event_line(alloc: Global, text: &mut String, event: &Event) -> Result<(),
     Ok(())
 }
 
-fn put_event(alloc: Global, text: &mut String, event: &Event) -> Result<(), OutOfMemory>
+/// Appends an event as a listing has it: the name of its instruction and its fields, without the blanks before and the line
+/// feed behind it.
+pub fn put_event(alloc: Global, text: &mut String, event: &Event) -> Result<(), OutOfMemory>
     ensures { OnOk result (string_bytes text.new ≡ string_bytes text.old ++ event_text (event_of event.now)) }
 {
     match event {
@@ -201,7 +203,7 @@ fn put_payload(
 }
 
 /// The name of the instruction in snake case.
-fn step_name(step: &Step) -> &'static str
+pub fn step_name(step: &Step) -> &'static str
     ensures { result.now ≡ step_name (kept_step step.now) }
 {
     match step {

@@ -12,6 +12,7 @@ mod numbers;
 pub use adapted::{Adapted, AdaptedFunc, AdaptedFuncs};
 pub use adapting::adapt_document;
 pub use error::{DocumentError, RefusedDocument};
+pub use event_lines::{put_event, step_name};
 pub use listings::{listing, put_func_line};
-pub use names::{put_quoted, put_signature};
+pub use names::{put_quoted, put_signature, wasm_word};
 pub use witx_layout::SizeAligns;

@@ -108,7 +108,8 @@ fn put_spaced(text: &mut String, ty: WasmType) -> Result<(), AllocError>
     text.push_str(wasm_word(ty))
 }
 
-fn wasm_word(ty: WasmType) -> &'static str
+/// The word of a type of WebAssembly.
+pub fn wasm_word(ty: WasmType) -> &'static str
     ensures { result.now ≡ wasm_word ty }
 {
     match ty {
