@@ -5,8 +5,8 @@ use Rattle.witx_imports.specs.declared.value.Value.{Value}
 use Rattle.witx_imports.specs.declared.value.Value.TheVariants as value
 use Rattle.witx_imports.specs.declared.production.ProductionName.{ProductionName}
 use Rattle.witx_imports.specs.declared.production.ProductionName.TheVariants as p
-use Rattle.witx_values.specs.Language.{Holds, parts_of, stack_of}
-use Rattle.witx_imports.specs.Actions.{act, the_language, words}
+use Rattle.witx_values.specs.Language.{stack_of}
+use Rattle.witx_imports.specs.Actions.{act, words}
 use Rattle.witx_imports.specs.Values.{Val, a_name, a_type, some_types, a_signature, an_import, some_imports}
 
 -- what a value of the code stands for
@@ -17,10 +17,6 @@ value_view (value.Types ts) = some_types (reverse ts.items)
 value_view (value.Signature s) = a_signature (words (reverse s.params.items) (reverse s.results.items))
 value_view (value.Import i) = an_import i
 value_view (value.Imports is) = some_imports (reverse is.items)
-
--- what the production is made of lies on top
-abbrev pub Ready : ProductionName → List Value → Type 0
-Ready p stack = Holds the_language (parts_of the_language p) (stack_of value_view stack)
 
 -- what a production makes of its parts. Of one that isn't known this is a word alone, in which a match puts the one that it is
 abbrev pub performed : ProductionName → List Val → List Val

@@ -1,8 +1,10 @@
 //! What each production makes of its parts.
 
 ghost use Rattle.std.specs.Prelude.{◌≡◌, ◌++◌, reverse, IfOk};
+ghost use Rattle.witx_values.specs.Language.{Ready};
+ghost use Rattle.witx_imports.specs.Actions.{the_language};
 ghost use Rattle.witx_imports.specs.declared.production.ProductionName.TheVariants as production;
-ghost use Rattle.witx_imports.specs.Stack.{Made, Ready};
+ghost use Rattle.witx_imports.specs.Stack.{Made, value_view};
 
 use crate::import::WasmImport;
 use crate::stack::push;
@@ -25,7 +27,7 @@ pub fn no_words(alloc: Global, stack: &mut Vec<Value>) -> Result<(), OutOfMemory
 
 /// An import in front of those behind it.
 pub fn more_imports(stack: &mut Vec<Value>) -> Result<(), OutOfMemory>
-    requires { Ready production.MoreImports stack.old.items }
+    requires { Ready the_language value_view production.MoreImports stack.old.items }
     ensures { IfOk result (λ _. Made production.MoreImports stack.old.items stack.new.items) }
 {
     let import = held!(top!(stack), Value::Import);
@@ -35,7 +37,7 @@ pub fn more_imports(stack: &mut Vec<Value>) -> Result<(), OutOfMemory>
 
 /// `(import "m" "f" (func ..))`: its names and words.
 pub fn import(stack: &mut Vec<Value>) -> Result<(), OutOfMemory>
-    requires { Ready production.Import stack.old.items }
+    requires { Ready the_language value_view production.Import stack.old.items }
     ensures { IfOk result (λ _. Made production.Import stack.old.items stack.new.items) }
 {
     let module = held!(top!(stack), Value::Name);
@@ -52,7 +54,7 @@ pub fn import(stack: &mut Vec<Value>) -> Result<(), OutOfMemory>
 
 /// A group of parameters in front of the others.
 pub fn more_params(stack: &mut Vec<Value>) -> Result<(), OutOfMemory>
-    requires { Ready production.MoreParams stack.old.items }
+    requires { Ready the_language value_view production.MoreParams stack.old.items }
     ensures { IfOk result (λ _. Made production.MoreParams stack.old.items stack.new.items) }
 {
     let group = held!(top!(stack), Value::Types);
@@ -64,7 +66,7 @@ pub fn more_params(stack: &mut Vec<Value>) -> Result<(), OutOfMemory>
 
 /// A group of results in front of the others.
 pub fn more_results(stack: &mut Vec<Value>) -> Result<(), OutOfMemory>
-    requires { Ready production.MoreResults stack.old.items }
+    requires { Ready the_language value_view production.MoreResults stack.old.items }
     ensures { IfOk result (λ _. Made production.MoreResults stack.old.items stack.new.items) }
 {
     let group = held!(top!(stack), Value::Types);
@@ -76,7 +78,7 @@ pub fn more_results(stack: &mut Vec<Value>) -> Result<(), OutOfMemory>
 
 /// `(param $n W)`: a group of one type.
 pub fn named_param(alloc: Global, stack: &mut Vec<Value>) -> Result<(), OutOfMemory>
-    requires { Ready production.NamedParam stack.old.items }
+    requires { Ready the_language value_view production.NamedParam stack.old.items }
     ensures { IfOk result (λ _. Made production.NamedParam stack.old.items stack.new.items) }
 {
     let group = appended(Vec::new(alloc), held!(top!(stack), Value::Type))?;
@@ -85,7 +87,7 @@ pub fn named_param(alloc: Global, stack: &mut Vec<Value>) -> Result<(), OutOfMem
 
 /// A type in front of those behind it.
 pub fn more_types(stack: &mut Vec<Value>) -> Result<(), OutOfMemory>
-    requires { Ready production.MoreTypes stack.old.items }
+    requires { Ready the_language value_view production.MoreTypes stack.old.items }
     ensures { IfOk result (λ _. Made production.MoreTypes stack.old.items stack.new.items) }
 {
     let word = held!(top!(stack), Value::Type);

@@ -3,10 +3,11 @@
 ghost use Rattle.std.specs.Prelude.{IfOk};
 ghost use Rattle.witx_lex.specs.Tokens as tokens;
 ghost use Rattle.witx_lex.specs.Views.{lexed_view};
+ghost use Rattle.witx_values.specs.Language.{Ready};
 ghost use Rattle.witx_imports.specs.declared.value.Sort.{Sort};
 ghost use Rattle.witx_imports.specs.Actions.{the_language};
 ghost use Rattle.witx_imports.specs.Lawful.{lawful};
-ghost use Rattle.witx_imports.specs.Stack.{Made, Ready, value_view};
+ghost use Rattle.witx_imports.specs.Stack.{Made, value_view};
 ghost use Rattle.witx_imports.specs.Values.{Val};
 
 use crate::actions;
@@ -86,7 +87,7 @@ impl<'a> Actions for Building<'a> {
 
 /// Puts the value of a production in place of its parts.
 fn perform(alloc: Global, production: P, stack: &mut Vec<Value>) -> Result<(), OutOfMemory>
-    requires { Ready production stack.old.items }
+    requires { Ready the_language value_view production stack.old.items }
     ensures { IfOk result (λ _. Made production stack.old.items stack.new.items) }
 {
     match production {

@@ -3,14 +3,14 @@
 ghost use Rattle.std.specs.Prelude.{◌≡◌, IfOk, map};
 ghost use Rattle.witx_lex.specs.Tokens as lex;
 ghost use Rattle.witx_lex.specs.Views.{lexed_view};
-ghost use Rattle.witx_values.specs.Language.{IsOnTop};
+ghost use Rattle.witx_values.specs.Language.{IsOnTop, Ready};
 ghost use Rattle.witx_language.specs.declared.sort.Sort as sorts;
 ghost use Rattle.witx_language.specs.declared.sort.Sort.TheVariants as variants;
 ghost use Rattle.witx_language.specs.Sorts.{sort_of};
 ghost use Rattle.witx_language.specs.Actions.{the_language};
 ghost use Rattle.witx_language.specs.Values.{Val, a_builtin, a_name, a_text, a_type, an_integer, some_items};
 ghost use Rattle.witx_language.proofs.Lawful.{lawful};
-ghost use Rattle.witx_syntax.specs.Stack.{Made, Ready, quoted_view, value_view};
+ghost use Rattle.witx_syntax.specs.Stack.{Made, quoted_view, value_view};
 ghost use Rattle.witx_syntax_tree.specs.Trees as tree;
 ghost use Rattle.witx_syntax_tree.specs.Views.{name_view, noted_item};
 
@@ -73,7 +73,7 @@ fn perform<'a>(
     at: usize,
     stack: &mut Stack<'a>,
 ) -> Done
-    requires { Ready production stack.old.items }
+    requires { Ready the_language value_view production stack.old.items }
     ensures { IfOk result (λ _. Made production tokens.now at stack.old.items stack.new.items) }
 {
     match production {

@@ -96,3 +96,7 @@ stack_of v xs = map v (reverse xs)
 -- the value lies on top of the values of a stack
 abbrev pub IsOnTop : {X V : Type 0} → (X → V) → V → List X → List X → Type 0
 IsOnTop v x below xs = stack_of v xs ≡ x ∷ stack_of v below
+
+-- what the production is made of lies on top of a stack
+abbrev pub Ready : {T N P L S V X : Type 0} → Language T N P L S V → (X → V) → P → List X → Type 0
+Ready a v p stack = Holds a (parts_of a p) (stack_of v stack)

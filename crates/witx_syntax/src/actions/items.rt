@@ -1,8 +1,10 @@
 //! The values of top-level forms and of declarations of modules.
 
 ghost use Rattle.std.specs.Prelude.{IfOk};
+ghost use Rattle.witx_values.specs.Language.{Ready};
+ghost use Rattle.witx_language.specs.Actions.{the_language};
 ghost use Rattle.witx_language.specs.declared.production.ProductionName.TheVariants as production;
-ghost use Rattle.witx_syntax.specs.Stack.{Made, MadeAlone, Ready};
+ghost use Rattle.witx_syntax.specs.Stack.{Made, MadeAlone, value_view};
 
 use crate::stack::{push, take, take_three, take_two};
 use crate::value::{Decl, Done, Item, Named, Number, Quoted, Stack, Value};
@@ -26,7 +28,7 @@ pub fn no_items<'a>(alloc: Global, stack: &mut Stack<'a>) -> Done
 
 /// A top-level form, with its comments, in front of those behind it.
 pub fn more_items<'a>(alloc: Global, tokens: &[Lexed<'a>], at: usize, stack: &mut Stack<'a>) -> Done
-    requires { Ready production.MoreItems stack.old.items }
+    requires { Ready the_language value_view production.MoreItems stack.old.items }
     ensures { IfOk result (λ _. Made production.MoreItems tokens.now at stack.old.items stack.new.items) }
 {
     let comments = comments_at(alloc, tokens, at)?;
@@ -37,7 +39,7 @@ pub fn more_items<'a>(alloc: Global, tokens: &[Lexed<'a>], at: usize, stack: &mu
 
 /// `(use "path")`: the path.
 pub fn use_of<'a>(stack: &mut Stack<'a>) -> Done
-    requires { Ready production.Use stack.old.items }
+    requires { Ready the_language value_view production.Use stack.old.items }
     ensures { IfOk result (λ _. MadeAlone production.Use stack.old.items stack.new.items) }
 {
     let Quoted { text, span: _ } = take(stack);
@@ -46,7 +48,7 @@ pub fn use_of<'a>(stack: &mut Stack<'a>) -> Done
 
 /// `(typename $name TYPE)`.
 pub fn typename<'a>(stack: &mut Stack<'a>) -> Done
-    requires { Ready production.Typename stack.old.items }
+    requires { Ready the_language value_view production.Typename stack.old.items }
     ensures { IfOk result (λ _. MadeAlone production.Typename stack.old.items stack.new.items) }
 {
     let (name, def): (Named<'a>, TypedefSyntax<'a>) = take_two(stack);
@@ -62,7 +64,7 @@ pub fn typename<'a>(stack: &mut Stack<'a>) -> Done
 
 /// `(module $name DECL..)`: its declarations, in the order of the text.
 pub fn module<'a>(stack: &mut Stack<'a>) -> Done
-    requires { Ready production.Module stack.old.items }
+    requires { Ready the_language value_view production.Module stack.old.items }
     ensures { IfOk result (λ _. MadeAlone production.Module stack.old.items stack.new.items) }
 {
     let (name, decls): (Named<'a>, Vec<Decl<'a>>) = take_two(stack);
@@ -78,7 +80,7 @@ pub fn module<'a>(stack: &mut Stack<'a>) -> Done
 
 /// `(@witx const $type $name NUMBER)`, with the comments behind its parenthesis.
 pub fn constant<'a>(alloc: Global, tokens: &[Lexed<'a>], at: usize, stack: &mut Stack<'a>) -> Done
-    requires { Ready production.Const stack.old.items }
+    requires { Ready the_language value_view production.Const stack.old.items }
     ensures { IfOk result (λ _. Made production.Const tokens.now at stack.old.items stack.new.items) }
 {
     let comments = comments_behind(alloc, tokens, at)?;
@@ -96,7 +98,7 @@ pub fn constant<'a>(alloc: Global, tokens: &[Lexed<'a>], at: usize, stack: &mut 
 
 /// `(import "name" (memory))`, with its comments.
 pub fn import<'a>(alloc: Global, tokens: &[Lexed<'a>], at: usize, stack: &mut Stack<'a>) -> Done
-    requires { Ready production.Import stack.old.items }
+    requires { Ready the_language value_view production.Import stack.old.items }
     ensures { IfOk result (λ _. Made production.Import tokens.now at stack.old.items stack.new.items) }
 {
     let comments = comments_at(alloc, tokens, at)?;
@@ -111,7 +113,7 @@ pub fn import<'a>(alloc: Global, tokens: &[Lexed<'a>], at: usize, stack: &mut St
 
 /// `(@interface func (export "name") ENTRY..)`, with its comments: parameters and results in two lists.
 pub fn func<'a>(alloc: Global, tokens: &[Lexed<'a>], at: usize, stack: &mut Stack<'a>) -> Done
-    requires { Ready production.Func stack.old.items }
+    requires { Ready the_language value_view production.Func stack.old.items }
     ensures { IfOk result (λ _. Made production.Func tokens.now at stack.old.items stack.new.items) }
 {
     let comments = comments_at(alloc, tokens, at)?;
@@ -129,7 +131,7 @@ pub fn func<'a>(alloc: Global, tokens: &[Lexed<'a>], at: usize, stack: &mut Stac
 
 /// `(param $name TYPE)`, with its comments.
 pub fn param<'a>(alloc: Global, tokens: &[Lexed<'a>], at: usize, stack: &mut Stack<'a>) -> Done
-    requires { Ready production.Param stack.old.items }
+    requires { Ready the_language value_view production.Param stack.old.items }
     ensures { IfOk result (λ _. Made production.Param tokens.now at stack.old.items stack.new.items) }
 {
     let comments = comments_at(alloc, tokens, at)?;
@@ -143,7 +145,7 @@ pub fn param<'a>(alloc: Global, tokens: &[Lexed<'a>], at: usize, stack: &mut Sta
 
 /// `(result $name TYPE)`, with its comments.
 pub fn result_of<'a>(alloc: Global, tokens: &[Lexed<'a>], at: usize, stack: &mut Stack<'a>) -> Done
-    requires { Ready production.Result stack.old.items }
+    requires { Ready the_language value_view production.Result stack.old.items }
     ensures { IfOk result (λ _. Made production.Result tokens.now at stack.old.items stack.new.items) }
 {
     let comments = comments_at(alloc, tokens, at)?;
@@ -171,7 +173,7 @@ pub fn stored<'a>(stack: &mut Stack<'a>) -> Done
 
 /// An entry of a function, added to those behind it.
 pub fn more_entries<'a>(stack: &mut Stack<'a>) -> Done
-    requires { Ready production.MoreEntries stack.old.items }
+    requires { Ready the_language value_view production.MoreEntries stack.old.items }
     ensures { IfOk result (λ _. MadeAlone production.MoreEntries stack.old.items stack.new.items) }
 {
     let (first, mut entries): (Entry<'a>, Entries<'a>) = take_two(stack);

@@ -1,8 +1,10 @@
 //! The values of parts of types.
 
 ghost use Rattle.std.specs.Prelude.{IfOk};
+ghost use Rattle.witx_values.specs.Language.{Ready};
+ghost use Rattle.witx_language.specs.Actions.{the_language};
 ghost use Rattle.witx_language.specs.declared.production.ProductionName.TheVariants as production;
-ghost use Rattle.witx_syntax.specs.Stack.{Made, MadeAlone, Ready};
+ghost use Rattle.witx_syntax.specs.Stack.{Made, MadeAlone, value_view};
 
 use crate::stack::{push, take, take_two};
 use crate::value::{Case, Decl, Done, Field, Member, Named, Stack, UnionField, Value};
@@ -14,7 +16,7 @@ use witx_values::appended;
 
 /// The name of a member, with its comments.
 pub fn name<'a>(alloc: Global, tokens: &[Lexed<'a>], at: usize, stack: &mut Stack<'a>) -> Done
-    requires { Ready production.Name stack.old.items }
+    requires { Ready the_language value_view production.Name stack.old.items }
     ensures { IfOk result (λ _. Made production.Name tokens.now at stack.old.items stack.new.items) }
 {
     let comments = comments_at(alloc, tokens, at)?;
@@ -24,7 +26,7 @@ pub fn name<'a>(alloc: Global, tokens: &[Lexed<'a>], at: usize, stack: &mut Stac
 
 /// A type of a union, with its comments.
 pub fn union_type<'a>(alloc: Global, tokens: &[Lexed<'a>], at: usize, stack: &mut Stack<'a>) -> Done
-    requires { Ready production.UnionField stack.old.items }
+    requires { Ready the_language value_view production.UnionField stack.old.items }
     ensures { IfOk result (λ _. Made production.UnionField tokens.now at stack.old.items stack.new.items) }
 {
     let comments = comments_at(alloc, tokens, at)?;
@@ -34,7 +36,7 @@ pub fn union_type<'a>(alloc: Global, tokens: &[Lexed<'a>], at: usize, stack: &mu
 
 /// `(field $name TYPE)`, with its comments.
 pub fn field<'a>(alloc: Global, tokens: &[Lexed<'a>], at: usize, stack: &mut Stack<'a>) -> Done
-    requires { Ready production.Field stack.old.items }
+    requires { Ready the_language value_view production.Field stack.old.items }
     ensures { IfOk result (λ _. Made production.Field tokens.now at stack.old.items stack.new.items) }
 {
     let comments = comments_at(alloc, tokens, at)?;
@@ -45,7 +47,7 @@ pub fn field<'a>(alloc: Global, tokens: &[Lexed<'a>], at: usize, stack: &mut Sta
 
 /// `(error TYPE)`: the type.
 pub fn error<'a>(alloc: Global, stack: &mut Stack<'a>) -> Done
-    requires { Ready production.Error stack.old.items }
+    requires { Ready the_language value_view production.Error stack.old.items }
     ensures { IfOk result (λ _. MadeAlone production.Error stack.old.items stack.new.items) }
 {
     let error = take(stack);
@@ -61,7 +63,7 @@ pub fn bare_error<'a>(stack: &mut Stack<'a>) -> Done
 
 /// `(case $name)`, with its comments.
 pub fn bare_case<'a>(alloc: Global, tokens: &[Lexed<'a>], at: usize, stack: &mut Stack<'a>) -> Done
-    requires { Ready production.BareCase stack.old.items }
+    requires { Ready the_language value_view production.BareCase stack.old.items }
     ensures { IfOk result (λ _. Made production.BareCase tokens.now at stack.old.items stack.new.items) }
 {
     let comments = comments_at(alloc, tokens, at)?;
@@ -72,7 +74,7 @@ pub fn bare_case<'a>(alloc: Global, tokens: &[Lexed<'a>], at: usize, stack: &mut
 
 /// `(case $name TYPE)`, with its comments.
 pub fn case<'a>(alloc: Global, tokens: &[Lexed<'a>], at: usize, stack: &mut Stack<'a>) -> Done
-    requires { Ready production.Case stack.old.items }
+    requires { Ready the_language value_view production.Case stack.old.items }
     ensures { IfOk result (λ _. Made production.Case tokens.now at stack.old.items stack.new.items) }
 {
     let comments = comments_at(alloc, tokens, at)?;
@@ -90,7 +92,7 @@ pub fn no_names<'a>(alloc: Global, stack: &mut Stack<'a>) -> Done
 
 /// A member in front of those behind it.
 pub fn more_names<'a>(stack: &mut Stack<'a>) -> Done
-    requires { Ready production.MoreNames stack.old.items }
+    requires { Ready the_language value_view production.MoreNames stack.old.items }
     ensures { IfOk result (λ _. MadeAlone production.MoreNames stack.old.items stack.new.items) }
 {
     let (first, list): (Member<'a>, Vec<Member<'a>>) = take_two(stack);
@@ -107,7 +109,7 @@ pub fn no_types<'a>(alloc: Global, stack: &mut Stack<'a>) -> Done
 
 /// A type in front of those behind it.
 pub fn more_types<'a>(stack: &mut Stack<'a>) -> Done
-    requires { Ready production.MoreTypes stack.old.items }
+    requires { Ready the_language value_view production.MoreTypes stack.old.items }
     ensures { IfOk result (λ _. MadeAlone production.MoreTypes stack.old.items stack.new.items) }
 {
     let (first, list): (TypedefSyntax<'a>, Vec<TypedefSyntax<'a>>) = take_two(stack);
@@ -124,7 +126,7 @@ pub fn no_union_fields<'a>(alloc: Global, stack: &mut Stack<'a>) -> Done
 
 /// A type of a union in front of those behind it.
 pub fn more_union_fields<'a>(stack: &mut Stack<'a>) -> Done
-    requires { Ready production.MoreUnionFields stack.old.items }
+    requires { Ready the_language value_view production.MoreUnionFields stack.old.items }
     ensures { IfOk result (λ _. MadeAlone production.MoreUnionFields stack.old.items stack.new.items) }
 {
     let (first, list): (UnionField<'a>, Vec<UnionField<'a>>) = take_two(stack);
@@ -141,7 +143,7 @@ pub fn no_fields<'a>(alloc: Global, stack: &mut Stack<'a>) -> Done
 
 /// A field in front of those behind it.
 pub fn more_fields<'a>(stack: &mut Stack<'a>) -> Done
-    requires { Ready production.MoreFields stack.old.items }
+    requires { Ready the_language value_view production.MoreFields stack.old.items }
     ensures { IfOk result (λ _. MadeAlone production.MoreFields stack.old.items stack.new.items) }
 {
     let (first, list): (Field<'a>, Vec<Field<'a>>) = take_two(stack);
@@ -158,7 +160,7 @@ pub fn no_cases<'a>(alloc: Global, stack: &mut Stack<'a>) -> Done
 
 /// A case in front of those behind it.
 pub fn more_cases<'a>(stack: &mut Stack<'a>) -> Done
-    requires { Ready production.MoreCases stack.old.items }
+    requires { Ready the_language value_view production.MoreCases stack.old.items }
     ensures { IfOk result (λ _. MadeAlone production.MoreCases stack.old.items stack.new.items) }
 {
     let (first, list): (Case<'a>, Vec<Case<'a>>) = take_two(stack);
@@ -175,7 +177,7 @@ pub fn no_decls<'a>(alloc: Global, stack: &mut Stack<'a>) -> Done
 
 /// A declaration in front of those behind it.
 pub fn more_decls<'a>(stack: &mut Stack<'a>) -> Done
-    requires { Ready production.MoreDecls stack.old.items }
+    requires { Ready the_language value_view production.MoreDecls stack.old.items }
     ensures { IfOk result (λ _. MadeAlone production.MoreDecls stack.old.items stack.new.items) }
 {
     let (first, list): (Decl<'a>, Vec<Decl<'a>>) = take_two(stack);

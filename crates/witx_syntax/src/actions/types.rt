@@ -1,8 +1,10 @@
 //! The values of types.
 
 ghost use Rattle.std.specs.Prelude.{IfOk};
+ghost use Rattle.witx_values.specs.Language.{Ready};
+ghost use Rattle.witx_language.specs.Actions.{the_language};
 ghost use Rattle.witx_language.specs.declared.production.ProductionName.TheVariants as production;
-ghost use Rattle.witx_syntax.specs.Stack.{MadeAlone, Ready};
+ghost use Rattle.witx_syntax.specs.Stack.{MadeAlone, value_view};
 
 use crate::stack::{push, take, take_three, take_two};
 use crate::value::{BuiltinWord, Done, Field, Member, Named, Stack, UnionField, Value};
@@ -13,7 +15,7 @@ use witx_values::appended;
 
 /// `(@witx pointer TYPE)`.
 pub fn pointer<'a>(alloc: Global, stack: &mut Stack<'a>) -> Done
-    requires { Ready production.Pointer stack.old.items }
+    requires { Ready the_language value_view production.Pointer stack.old.items }
     ensures { IfOk result (λ _. MadeAlone production.Pointer stack.old.items stack.new.items) }
 {
     let target = Box::new(alloc, take(stack))?;
@@ -22,7 +24,7 @@ pub fn pointer<'a>(alloc: Global, stack: &mut Stack<'a>) -> Done
 
 /// `(@witx const_pointer TYPE)`.
 pub fn const_pointer<'a>(alloc: Global, stack: &mut Stack<'a>) -> Done
-    requires { Ready production.ConstPointer stack.old.items }
+    requires { Ready the_language value_view production.ConstPointer stack.old.items }
     ensures { IfOk result (λ _. MadeAlone production.ConstPointer stack.old.items stack.new.items) }
 {
     let target = Box::new(alloc, take(stack))?;
@@ -31,7 +33,7 @@ pub fn const_pointer<'a>(alloc: Global, stack: &mut Stack<'a>) -> Done
 
 /// `(list TYPE)`.
 pub fn list<'a>(alloc: Global, stack: &mut Stack<'a>) -> Done
-    requires { Ready production.List stack.old.items }
+    requires { Ready the_language value_view production.List stack.old.items }
     ensures { IfOk result (λ _. MadeAlone production.List stack.old.items stack.new.items) }
 {
     let element = Box::new(alloc, take(stack))?;
@@ -61,7 +63,7 @@ pub fn handle<'a>(stack: &mut Stack<'a>) -> Done
 
 /// `$name`: the type of that name.
 pub fn ident<'a>(stack: &mut Stack<'a>) -> Done
-    requires { Ready production.Ident stack.old.items }
+    requires { Ready the_language value_view production.Ident stack.old.items }
     ensures { IfOk result (λ _. MadeAlone production.Ident stack.old.items stack.new.items) }
 {
     let Named { id } = take(stack);
@@ -70,7 +72,7 @@ pub fn ident<'a>(stack: &mut Stack<'a>) -> Done
 
 /// A builtin word as a type.
 pub fn builtin_type<'a>(stack: &mut Stack<'a>) -> Done
-    requires { Ready production.BuiltinType stack.old.items }
+    requires { Ready the_language value_view production.BuiltinType stack.old.items }
     ensures { IfOk result (λ _. MadeAlone production.BuiltinType stack.old.items stack.new.items) }
 {
     let BuiltinWord { builtin } = take(stack);
@@ -79,7 +81,7 @@ pub fn builtin_type<'a>(stack: &mut Stack<'a>) -> Done
 
 /// `(enum (@witx tag WORD) $name..)`: at least one name.
 pub fn tagged_enum<'a>(stack: &mut Stack<'a>) -> Done
-    requires { Ready production.TaggedEnum stack.old.items }
+    requires { Ready the_language value_view production.TaggedEnum stack.old.items }
     ensures { IfOk result (λ _. MadeAlone production.TaggedEnum stack.old.items stack.new.items) }
 {
     let (word, first, members): (BuiltinWord, Member<'a>, Vec<Member<'a>>) = take_three(stack);
@@ -89,7 +91,7 @@ pub fn tagged_enum<'a>(stack: &mut Stack<'a>) -> Done
 
 /// `(enum $name..)`, without a tag.
 pub fn plain_enum<'a>(stack: &mut Stack<'a>) -> Done
-    requires { Ready production.Enum stack.old.items }
+    requires { Ready the_language value_view production.Enum stack.old.items }
     ensures { IfOk result (λ _. MadeAlone production.Enum stack.old.items stack.new.items) }
 {
     let (first, members): (Member<'a>, Vec<Member<'a>>) = take_two(stack);
@@ -99,7 +101,7 @@ pub fn plain_enum<'a>(stack: &mut Stack<'a>) -> Done
 
 /// `(flags (@witx repr WORD) $name..)`.
 pub fn tagged_flags<'a>(stack: &mut Stack<'a>) -> Done
-    requires { Ready production.TaggedFlags stack.old.items }
+    requires { Ready the_language value_view production.TaggedFlags stack.old.items }
     ensures { IfOk result (λ _. MadeAlone production.TaggedFlags stack.old.items stack.new.items) }
 {
     let (word, names): (BuiltinWord, Vec<Member<'a>>) = take_two(stack);
@@ -108,7 +110,7 @@ pub fn tagged_flags<'a>(stack: &mut Stack<'a>) -> Done
 
 /// `(flags $name..)`, without a representation.
 pub fn plain_flags<'a>(stack: &mut Stack<'a>) -> Done
-    requires { Ready production.Flags stack.old.items }
+    requires { Ready the_language value_view production.Flags stack.old.items }
     ensures { IfOk result (λ _. MadeAlone production.Flags stack.old.items stack.new.items) }
 {
     let names = take(stack);
@@ -117,7 +119,7 @@ pub fn plain_flags<'a>(stack: &mut Stack<'a>) -> Done
 
 /// `(record FIELD..)`: at least one field.
 pub fn record<'a>(stack: &mut Stack<'a>) -> Done
-    requires { Ready production.Record stack.old.items }
+    requires { Ready the_language value_view production.Record stack.old.items }
     ensures { IfOk result (λ _. MadeAlone production.Record stack.old.items stack.new.items) }
 {
     let (first, fields): (Field<'a>, Vec<Field<'a>>) = take_two(stack);
@@ -127,7 +129,7 @@ pub fn record<'a>(stack: &mut Stack<'a>) -> Done
 
 /// `(tuple TYPE..)`.
 pub fn tuple<'a>(stack: &mut Stack<'a>) -> Done
-    requires { Ready production.Tuple stack.old.items }
+    requires { Ready the_language value_view production.Tuple stack.old.items }
     ensures { IfOk result (λ _. MadeAlone production.Tuple stack.old.items stack.new.items) }
 {
     let types = take(stack);
@@ -136,7 +138,7 @@ pub fn tuple<'a>(stack: &mut Stack<'a>) -> Done
 
 /// `(expected ERROR)`, without an ok type.
 pub fn expected<'a>(stack: &mut Stack<'a>) -> Done
-    requires { Ready production.Expected stack.old.items }
+    requires { Ready the_language value_view production.Expected stack.old.items }
     ensures { IfOk result (λ _. MadeAlone production.Expected stack.old.items stack.new.items) }
 {
     let err = take(stack);
@@ -145,7 +147,7 @@ pub fn expected<'a>(stack: &mut Stack<'a>) -> Done
 
 /// `(expected TYPE ERROR)`.
 pub fn expected_type<'a>(alloc: Global, stack: &mut Stack<'a>) -> Done
-    requires { Ready production.ExpectedType stack.old.items }
+    requires { Ready the_language value_view production.ExpectedType stack.old.items }
     ensures { IfOk result (λ _. MadeAlone production.ExpectedType stack.old.items stack.new.items) }
 {
     let (ok, err) = take_two(stack);
@@ -155,7 +157,7 @@ pub fn expected_type<'a>(alloc: Global, stack: &mut Stack<'a>) -> Done
 
 /// `(union (@witx tag $type) TYPE..)`.
 pub fn tagged_union<'a>(alloc: Global, stack: &mut Stack<'a>) -> Done
-    requires { Ready production.TaggedUnion stack.old.items }
+    requires { Ready the_language value_view production.TaggedUnion stack.old.items }
     ensures { IfOk result (λ _. MadeAlone production.TaggedUnion stack.old.items stack.new.items) }
 {
     let (tag, fields) = take_two(stack);
@@ -172,7 +174,7 @@ pub fn empty_union<'a>(alloc: Global, stack: &mut Stack<'a>) -> Done
 
 /// `(union TYPE..)`, without a tag: at least one type.
 pub fn plain_union<'a>(stack: &mut Stack<'a>) -> Done
-    requires { Ready production.Union stack.old.items }
+    requires { Ready the_language value_view production.Union stack.old.items }
     ensures { IfOk result (λ _. MadeAlone production.Union stack.old.items stack.new.items) }
 {
     let (first, fields): (UnionField<'a>, Vec<UnionField<'a>>) = take_two(stack);
@@ -182,7 +184,7 @@ pub fn plain_union<'a>(stack: &mut Stack<'a>) -> Done
 
 /// `(variant (@witx tag $type) CASE..)`.
 pub fn tagged_variant<'a>(alloc: Global, stack: &mut Stack<'a>) -> Done
-    requires { Ready production.TaggedVariant stack.old.items }
+    requires { Ready the_language value_view production.TaggedVariant stack.old.items }
     ensures { IfOk result (λ _. MadeAlone production.TaggedVariant stack.old.items stack.new.items) }
 {
     let (tag, cases) = take_two(stack);
@@ -192,7 +194,7 @@ pub fn tagged_variant<'a>(alloc: Global, stack: &mut Stack<'a>) -> Done
 
 /// `(variant CASE..)`, without a tag.
 pub fn plain_variant<'a>(stack: &mut Stack<'a>) -> Done
-    requires { Ready production.Variant stack.old.items }
+    requires { Ready the_language value_view production.Variant stack.old.items }
     ensures { IfOk result (λ _. MadeAlone production.Variant stack.old.items stack.new.items) }
 {
     let cases = take(stack);
