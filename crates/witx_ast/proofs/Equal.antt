@@ -5,7 +5,7 @@ use Rattle.std.specs.Cmp.Lexicographic.{pointwise}
 use Rattle.witx_ast.specs.Tree.{Tree, Arms, no_arms, arm, fields_of, arms_of}
 use Rattle.witx_ast.specs.Views.{tree_of, datatype_tree, named_tree, member_field, case_arm}
 use Rattle.witx_ast.specs.Same.{same_bytes, same_tree, same_fields, same_arms}
-use Rattle.witx_ast.proofs.Trees.{tree-Name, tree-Value, tree-NamedType, tree-Record, tree-Variant, tree-Handle, tree-List, tree-Pointer, tree-ConstPointer, tree-Builtin, tree-RecordDatatype, tree-VariantDatatype, tree-RecordMember, tree-Case, tree_rules}
+use Rattle.witx_ast.proofs.Trees.{tree-Name, tree-Value, tree-NamedType, tree-Record, tree-Variant, tree-Handle, tree-List, tree-Pointer, tree-ConstPointer, tree-Builtin, tree-RecordDatatype, tree-VariantDatatype, tree-RecordMember, tree-Case}
 use Rattle.witx_ast.specs.declared.types.Datatype.{Datatype, Record, Variant, Handle, List as ListOf, Pointer, ConstPointer, Builtin}
 use Rattle.witx_ast.specs.declared.types.NamedType.{NamedType}
 use Rattle.witx_ast.specs.declared.types.RecordMember.{RecordMember}
@@ -16,11 +16,8 @@ use Rattle.witx_ast.specs.contracts.types.DatatypePartialEq.TheImpl as datatypes
 use Rattle.witx_ast.specs.contracts.types.NamedTypePartialEq.TheImpl as names
 use Rattle.witx_ast.specs.contracts.types.RecordMemberPartialEq.TheImpl as members
 use Rattle.witx_ast.specs.contracts.types.CasePartialEq.TheImpl as cases
-use Rattle.witx_ast.specs.Hashes.{shallow_hash}
-use Rattle.witx_ast.specs.Words.{kind_word}
-use Rattle.std.specs.Hash as fed
 use Rattle.witx_ast.specs.SameLaws.{same-decides}
-use Rattle.std.specs.Prelude.{IsTrue, ◌++◌}
+use Rattle.std.specs.Prelude.{IsTrue}
 use Rattle.witx_ast.specs.contracts.types.TypeRefPartialEq.TheImpl as trefs
 use Rattle.std.specs.Option.{option_eq}
 use Rattle.witx_ast.specs.declared.types.TypeRef.{TypeRef}
@@ -128,18 +125,7 @@ value-name n (Pointer t) = rw (tree-NamedType n, tree-Pointer t) refl
 value-name n (ConstPointer t) = rw (tree-NamedType n, tree-ConstPointer t) refl
 value-name n (Builtin b) = rw (tree-NamedType n, tree-Builtin b) refl
 
-pub hash-value : (d : Datatype) → shallow_hash (datatype_tree d) ≡ fed.u8 1 ++ fed.str (kind_word (datatype_tree d))
-hash-value (Record r) = rw (tree-Record r, tree-RecordDatatype r) refl
-hash-value (Variant v) = rw (tree-Variant v, tree-VariantDatatype v) refl
-hash-value (Handle h) = rw (tree-Handle h) refl
-hash-value (ListOf t) = rw (tree-List t) refl
-hash-value (Pointer t) = rw (tree-Pointer t) refl
-hash-value (ConstPointer t) = rw (tree-ConstPointer t) refl
-hash-value (Builtin b) = rw (tree-Builtin b) refl
-
 pub trefs-decide : (b : Bool) (x y : TypeRef) → b ≡ same_tree (tree_of x) (tree_of y) → (IsTrue b → tree_of x ≡ tree_of y) × (tree_of x ≡ tree_of y → IsTrue b)
 trefs-decide b x y e = same-decides b (tree_of x) (tree_of y) e
-
-pub ruleset hash_rules = (tree_rules, hash-value)
 
 pub ruleset same_rules = (tree-Name, tree-Value, named-same, datatype-same, name-value, value-name)

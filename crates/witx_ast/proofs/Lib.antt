@@ -12,6 +12,7 @@ pub mod Copied
 pub mod HeldCopies
 pub mod EntryLaws
 pub mod Equal
+pub mod Feeding
 pub mod PartCopies
 pub mod ResultLaws
 pub mod Naming

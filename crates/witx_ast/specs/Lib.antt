@@ -5,7 +5,7 @@ pub mod Words
 pub mod Same
 pub mod SameLaws
 pub mod Alike
-pub mod Hashes
+pub mod Written
 pub mod TypeNames
 pub mod Functions
 pub mod Values

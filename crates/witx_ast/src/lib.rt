@@ -17,6 +17,7 @@ mod module;
 mod names;
 mod reads;
 mod types;
+mod written;
 
 pub use copy_laws::{
     copied_case_is_equal, copied_constant_is_equal, copied_datatype_is_equal,

@@ -1,5 +1,6 @@
 //! Types: a use by name or written out, records, variants, handles, lists, pointers and builtins.
 
+use crate::written::feed_type;
 use std::hash::{Hash, Hasher};
 use std::rc::Rc;
 use witx_base::{Id, Items, Text};
@@ -83,27 +84,17 @@ impl Eq for TypeRef {
     ghost laws = { on_equiv tree_of tree_equivalence };
 }
 
-// By its name, or else by the kind of the type: equal types hash alike.
+// As it is written: equal types hash alike.
 impl Hash for TypeRef {
     ghost use Rattle.witx_ast.specs.Views.{tree_of};
-    ghost use Rattle.witx_ast.specs.Hashes.{shallow_hash, tree-alike};
+    ghost use Rattle.witx_ast.specs.Written.{type_writes, written-alike};
 
-    ghost hash_input = { λ t. shallow_hash (tree_of t) };
+    ghost hash_input = { λ t. type_writes (tree_of t) };
 
-    ghost respects_eq = { λ a b h. tree-alike (tree_of a) (tree_of b) h };
+    ghost respects_eq = { λ a b h. written-alike (tree_of a) (tree_of b) h };
 
-    #[tactic(auto, using(crate::proofs::Equal::hash_rules))]
     fn hash<H: Hasher>(&self, state: &mut H) {
-        match self {
-            TypeRef::Name(named) => {
-                state.write_u8(0);
-                named.name.hash(state);
-            }
-            TypeRef::Value(datatype) => {
-                state.write_u8(1);
-                datatype.kind().hash(state);
-            }
-        }
+        feed_type(self, state);
     }
 }
 

@@ -6,7 +6,6 @@ pub mod Steps
 pub mod Tables
 pub mod Mapping
 pub mod Gathering
-pub mod Feeding
 pub mod OnceLaws
 pub mod Copied
 pub mod Depths

@@ -7,6 +7,4 @@ pub mod Halves
 pub mod Gathered
 pub mod Once
 pub mod Views
-pub mod Written
-pub mod ConversionHashes
 pub mod Seen

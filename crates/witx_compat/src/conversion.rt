@@ -8,43 +8,16 @@ ghost use Rattle.witx_compat.specs.Views.{conversion_view, mapped_view, unknown_
 
 use crate::answer::RepEquality;
 use crate::representable::Representable;
-use crate::written::feed_type;
-use std::hash::{Hash, Hasher};
 use witx_ast::{Datatype, InterfaceFuncParam, TypeRef};
 use witx_base::{Items, OutOfMemory};
 
-/// The two types of a conversion, the one that gives values first. It is hashed by its types as they
-/// are written, so that a set tells conversions apart without going through them.
-#[derive(PartialEq, Eq, Debug, Drop)]
+/// The two types of a conversion, the one that gives values first.
+#[derive(PartialEq, Eq, Hash, Debug, Drop)]
 pub enum TypePolyfill {
     /// Values of the new type become values of the old one.
     NewToOld(TypeRef, TypeRef),
     /// Values of the old type become values of the new one.
     OldToNew(TypeRef, TypeRef),
-}
-
-impl Hash for TypePolyfill {
-    ghost use Rattle.witx_compat.specs.ConversionHashes.{conversion_writes, conversions-alike};
-
-    ghost hash_input = { λ c. conversion_writes (conversion_view c) };
-
-    ghost respects_eq = { λ a b h. conversions-alike a b h };
-
-    #[tactic(auto, using(crate::proofs::Feeding::feed_rules))]
-    fn hash<H: Hasher>(&self, state: &mut H) {
-        match self {
-            TypePolyfill::NewToOld(new, old) => {
-                state.write_u8(0);
-                feed_type(new, state);
-                feed_type(old, state);
-            }
-            TypePolyfill::OldToNew(old, new) => {
-                state.write_u8(1);
-                feed_type(old, state);
-                feed_type(new, state);
-            }
-        }
-    }
 }
 
 /// Conversions, in order.

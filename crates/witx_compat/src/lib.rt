@@ -16,7 +16,6 @@ mod part;
 mod places;
 mod representable;
 mod table;
-mod written;
 
 pub use answer::RepEquality;
 pub use conversion::{

@@ -1,15 +1,14 @@
-//! What a hasher is fed of a type: the type as it is written, part by part, and of a name its text. The
-//! hash of a type itself ends at its kind, so that all results that are written out would meet in one
-//! place, and a set would compare each with each.
+//! What a hasher is fed of a type: the type as it is written, part by part, and of a name its text, so that a set tells
+//! types apart without comparing each with each, and what a name stands for isn't gone through.
 
 ghost use Rattle.std.specs.Prelude.{◌≡◌, map, option_map};
 ghost use Rattle.std.specs.List.{fold};
 ghost use Rattle.witx_ast.specs.Tree.{fields_of, arms_of};
 ghost use Rattle.witx_ast.specs.Views.{tree_of, datatype_tree, member_field, case_arm};
-ghost use Rattle.witx_compat.specs.Written.{type_writes, member_writes, members_writes, payload_writes, case_writes, cases_writes};
+ghost use Rattle.witx_ast.specs.Written.{type_writes, member_writes, members_writes, payload_writes, case_writes, cases_writes};
 
+use crate::types::{Case, Datatype, RecordMember, TypeRef};
 use std::hash::{Hash, Hasher};
-use witx_ast::{Case, Datatype, RecordMember, TypeRef};
 
 /// A type by its name, or as it is written out.
 #[cycle(written)]

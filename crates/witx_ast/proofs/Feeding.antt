@@ -12,7 +12,7 @@ use Rattle.witx_ast.proofs.Trees.{tree_rules, tree-RecordMember, tree-Case}
 use Rattle.witx_ast.specs.declared.types.RecordMember.{RecordMember}
 use Rattle.witx_ast.specs.declared.types.Case.{Case}
 use Rattle.witx_ast.specs.declared.types.TypeRef.{TypeRef}
-use Rattle.witx_compat.specs.Written.{type_writes, member_writes, members_writes, case_writes, cases_writes}
+use Rattle.witx_ast.specs.Written.{type_writes, member_writes, members_writes, case_writes, cases_writes}
 
 more : {S : Type 0} (write : S → List ℕ → S) (s t whole : S) (us vs ws : HashWrites) → ws ≡ us ++ vs → t ≡ fold write s us → fold write s ws ≡ whole → fold write t vs ≡ whole
 more write s t whole us vs ws e f h = ap (λ z. fold write z vs) f ∙ sym (fold-append write s us vs) ∙ ap (fold write s) (sym e) ∙ h

@@ -1,8 +1,11 @@
 -- What a hasher is fed of a type: the type as it is written, part by part, and of a name its text alone, so that what stands behind it isn't gone through.
-use Rattle.std.specs.Prelude.{ℕ, List, ◌++◌, Option, Some, None}
+use Rattle.std.specs.Prelude.{◌≡◌, ℕ, List, ◌++◌, Option, Some, None, true}
+use Rattle.std.proofs.Common.{ap}
 use Rattle.std.specs.Hash as fed
 use Rattle.std.specs.Hash.{HashWrites}
 use Rattle.witx_ast.specs.Tree.{Tree, Fields, Arms}
+use Rattle.witx_ast.specs.Same.{same_tree}
+use Rattle.witx_ast.specs.SameLaws.{same-to}
 use Rattle.witx_ast.specs.contracts.types.BuiltinTypeHash.TheImpl as builtins
 use Rattle.witx_ast.specs.contracts.types.IntReprHash.TheImpl as reprs
 use Rattle.witx_ast.specs.contracts.types.RecordKindHash.TheImpl as kinds
@@ -38,3 +41,7 @@ abbrev mutual
   cases_writes Arms.no_arms = fed.u8 0
   cases_writes (Arms.bare name docs cs) = case_writes name None docs ++ cases_writes cs
   cases_writes (Arms.carries name t docs cs) = case_writes name (Some (type_writes t)) docs ++ cases_writes cs
+
+-- the same types are fed alike: a proof, which stands here because the law of the hash cites it
+pub written-alike : (x y : Tree) → same_tree x y ≡ true → type_writes x ≡ type_writes y
+written-alike x y h = ap type_writes (same-to x y h)

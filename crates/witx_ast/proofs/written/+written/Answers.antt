@@ -1,6 +1,6 @@
 use Rattle.std.proofs.Common.{rules}
-use Rattle.witx_compat.proofs.Feeding.{feed_rules}
-use Rattle.witx_compat.proofs.written.+written.Goals as goal
+use Rattle.witx_ast.proofs.Feeding.{feed_rules}
+use Rattle.witx_ast.proofs.written.+written.Goals as goal
 
 pub feed_case-returns : goal.feed_case-returns
 feed_case-returns g t c = search (rules, feed_rules)

@@ -2,8 +2,8 @@ use Rattle.std.proofs.Common.{◌≡◌, drop, map}
 use Rattle.std.specs.List.{fold}
 use Rattle.witx_ast.specs.Tree.{fields_of, arms_of}
 use Rattle.witx_ast.specs.Views.{member_field, case_arm}
-use Rattle.witx_compat.specs.Written.{members_writes, cases_writes}
-use Rattle.witx_compat.proofs.written.+written.Given as goal
+use Rattle.witx_ast.specs.Written.{members_writes, cases_writes}
+use Rattle.witx_ast.proofs.written.+written.Given as goal
 
 abbrev pub invariant-feed_members-loop-member : goal.invariant-feed_members-loop-member
 invariant-feed_members-loop-member g l = record {
