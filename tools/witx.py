@@ -64,7 +64,7 @@ def version():
 
 
 def main(words):
-    if words[:1] == ["--help"]:
+    if words[:1] in (["-h"], ["--help"]):
         print(usage() + HELP, end="")
         return 0
     if words == ["--version"]:
