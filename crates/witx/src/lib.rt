@@ -1,7 +1,7 @@
 //! The front door: `run`, which reads a bundle of interface texts and writes what its command asks for; `adapt`,
 //! the call behind the first command; and again, under their own names, the calls and types that a caller of
-//! these needs of the crates below. Not here: the laws of those crates about their definitions; calls that they
-//! have for each other; and those of the further commands, which `witx_tools` gives on.
+//! these needs of the crates below. Not here: the laws of those crates about their definitions, and calls that they
+//! have for each other. `witx_tools` gives all of this on, with the calls of the further commands.
 #![tactic(auto)]
 
 mod commands;

@@ -1,4 +1,5 @@
 pub mod Appending
+pub mod FirstEntries
 pub mod ListingSteps
 pub mod Fitting
 pub mod Lowering

@@ -1,4 +1,5 @@
 pub mod Entries
+pub mod FirstEntries
 pub mod Adaptable
 pub mod Names
 pub mod Lines

@@ -58,9 +58,6 @@ module _ (i : WasmImport) where
     none_first : position is_named es ≡ None → find named (onward 0 es) ≡ None
     none_first e = none_has es 0 (λ j d lt. fails_before_first is_named es j d (omega (arith, lt, past_all e)))
 
-    pub inside : (k : ℕ) (d : AdaptedFunc) → position is_named es ≡ Some k → k < length es
-    inside k d e = (position-Some is_named es k d e).0
-
     the_first : (k : ℕ) (e : AdaptedFunc) → position is_named es ≡ Some k → e ≡ get_or es k e → find named (onward 0 es) ≡ Some (k, offered e)
     the_first k e p is =
         let h = position-Some is_named es k e p in

@@ -1,6 +1,5 @@
 -- What the values on the stack of the code stand for.
 use Rattle.std.specs.Prelude.{◌≡◌, List, [], reverse}
-use Rattle.witx_imports.specs.declared.value.Signature as code
 use Rattle.witx_imports.specs.declared.value.Value.{Value}
 use Rattle.witx_imports.specs.declared.value.Value.TheVariants as value
 use Rattle.witx_imports.specs.declared.production.ProductionName.{ProductionName}

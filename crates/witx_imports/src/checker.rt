@@ -6,16 +6,8 @@ ghost use Rattle.witx_imports.specs.Faults as spec;
 use crate::fault::{ImportFault, ImportFaults};
 use crate::import::{WasmImport, WasmImports};
 use std::alloc::Global;
-use witx_adapt::{Adapted, AdaptedFunc};
+use witx_adapt::{Adapted, AdaptedFunc, first_entries, first_named};
 use witx_base::{Items, OutOfMemory};
-
-/// Whether the entry's module and function have the names that the import asks for.
-#[tactic(auto, unfolding(witx_base::specs::Texts::same_text))]
-fn has_names(entry: &AdaptedFunc, import: &WasmImport) -> bool
-    ensures { result ≡ spec.has_names import.now (spec.offered entry.now) }
-{
-    entry.module.name == import.module && entry.func.name == import.name
-}
 
 /// Whether the entry's words are those of the import.
 fn has_words(entry: &AdaptedFunc, import: &WasmImport) -> bool
@@ -24,18 +16,17 @@ fn has_words(entry: &AdaptedFunc, import: &WasmImport) -> bool
     entry.params == import.params && entry.results == import.results
 }
 
-/// The number of the first entry with the names that the import asks for.
-fn first_named(functions: &[AdaptedFunc], import: &WasmImport) -> Option<usize>
-    ensures { result ≡ position (λ e. spec.has_names import.now (spec.offered e)) functions.now }
-{
-    functions.iter().position(|entry| has_names(entry, import))
-}
-
-/// The fault of the import with this number, if it has one.
-fn fault_of(functions: &[AdaptedFunc], index: usize, import: &WasmImport) -> Option<ImportFault>
+/// The fault of the import with this number. The first entry with its names has the number `first`.
+fn fault_of(
+    functions: &[AdaptedFunc],
+    first: Option<usize>,
+    index: usize,
+    import: &WasmImport,
+) -> Option<ImportFault>
+    requires { first ≡ position (λ e. spec.has_names import.now (spec.offered e)) functions.now }
     ensures { result ≡ spec.fault_of (map spec.offered functions.now) index import.now }
 {
-    let Some(function) = first_named(functions, import) else {
+    let Some(function) = first else {
         return Some(ImportFault::Missing { index });
     };
     if has_words(&functions[function], import) {
@@ -53,9 +44,11 @@ fn faults_of(
 ) -> Result<ImportFaults, OutOfMemory>
     ensures { IfOk result (λ faults. faults ≡ spec.import_faults (map spec.offered functions.now) imports.now) }
 {
+    let entries = first_entries(alloc, functions)?;
     let mut faults = Items::new(alloc);
     for (index, import) in imports.iter().enumerate() {
-        let Some(fault) = fault_of(functions, index, import) else {
+        let first = first_named(&entries, &import.module, &import.name)?;
+        let Some(fault) = fault_of(functions, first, index, import) else {
             continue;
         };
         faults.push(fault)?;
@@ -67,7 +60,7 @@ fn faults_of(
 ///
 /// For each import the first entry whose module and function have its names is taken. `Missing` comes
 /// where there is none, `Differs` where the types of its words, those that go in or those that come
-/// back, aren't the import's. Time is in the product of the lengths of both lists.
+/// back, aren't the import's. Time is in the sum of the lengths of both lists, times a logarithm.
 pub fn check_imports(
     alloc: Global,
     adapted: &Adapted,

@@ -197,6 +197,15 @@ static LINKED: &[Linked] = &[
         "1 definitions",
         0,
     ),
+    // A path that a file has used before makes no call.
+    (
+        &[("/a", r#"(use "b")(use "b/.")(use "c")"#), ("/b", "(typename $t u8)")],
+        &[],
+        "/a",
+        &[4],
+        r#"with file "/c": read failed"#,
+        1,
+    ),
     // A use is seen from the folder of the path that its file stands for, or else from the folder of
     // its mention.
     (

@@ -6,6 +6,7 @@
 
 mod bounds;
 pub mod documents;
+mod one;
 pub mod outputs;
 pub mod program;
 pub mod texts;

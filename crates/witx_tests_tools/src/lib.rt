@@ -7,6 +7,8 @@
 #[cfg(test)]
 mod devices;
 #[cfg(test)]
+mod first_lines;
+#[cfg(test)]
 mod imports;
 #[cfg(test)]
 mod invoke;

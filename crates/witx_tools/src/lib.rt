@@ -1,5 +1,6 @@
-//! The further commands of the program, its tools, and the program's top call, which knows all commands; and the
-//! calls of the tools under their own names.
+//! The one crate to be named: the program's top call, `run_all`, which knows all commands; the calls of the commands that
+//! `run` doesn't have, its tools; and all that `witx` gives on, under the same names. Not here: the laws of the crates
+//! below about their definitions, and calls that they have for each other.
 #![tactic(auto)]
 
 mod import_texts;
@@ -23,3 +24,85 @@ pub use witx_invoke::{
 pub use witx_shim::{Places, Shim, ShimError, shim};
 pub use witx_traces::{TracePair, TracePairs, TracesError, read_traces};
 pub use witx_verify::{Doubt, Verdict, verify};
+// All that `witx` gives on, by hand, since more than two hundred names would be laid out one a line: first its own calls
+// and those of a run, then what it has of the crates below, a list for each.
+#[rattlefmt::skip]
+pub use witx::{
+    AdaptError, Command, DONE, Forms, InputError, NO_BUNDLE, NO_FORM, NO_MEMORY, Output, OwnFile,
+    REFUSED, Ran, Refusal, Stop, TwoFiles, UNREAD, UNWRITTEN, adapt, adapted_or_stop, command_of,
+    constants_have_typenames, files_for, finish, has_form, mapped_modules, output_or_refusal,
+    paths_of, perform, put_refusal, put_text, put_whole, read_bundle, run, text_stop,
+    valid_files_are_not_refused, valid_is_not_refused,
+};
+#[rattlefmt::skip]
+pub use witx::{
+    Bytes, CallCounter, Calls, Duplicate, Failed, Id, Items, MemSink, MemSource, NameMap,
+    OutOfMemory, Reading, Sink, Source, Text, WitxPath, Writing,
+};
+#[rattlefmt::skip]
+pub use witx::{
+    Comments, LexError, LexFault, LexKind, Lexed, LineCursor, Span, Token, Tokens, lex, line_column,
+};
+#[rattlefmt::skip]
+pub use witx::{
+    BuiltinSyntax, CaseSyntax, CaseSyntaxes, CommentSyntax, ConstSyntax, DeclSyntax, Documented,
+    EnumSyntax, ExpectedSyntax, FieldSyntax, FieldSyntaxes, FlagsSyntax, HandleSyntax, IdSyntax,
+    ImportTypeSyntax, InterfaceFuncSyntax, MemberSyntaxes, ModuleDeclSyntax, ModuleDeclSyntaxes,
+    ModuleImportSyntax, ModuleSyntax, RecordSyntax, TopLevelDocument, TopLevelSyntax,
+    TopLevelSyntaxes, TupleSyntax, TypeSyntaxes, TypedefSyntax, TypenameSyntax, UnionFieldSyntaxes,
+    UnionSyntax, VariantSyntax, documentation,
+};
+#[rattlefmt::skip]
+pub use witx::{ParseError, ParseFault, SyntaxError, parse_document};
+#[rattlefmt::skip]
+pub use witx::{Aliases, FailingFs, IoError, IoFault, Location, MockFs, WitxIo};
+#[rattlefmt::skip]
+pub use witx::{Bundle, BundleError};
+#[rattlefmt::skip]
+pub use witx::{
+    Abi, BuiltinType, Case, Cases, Constant, Constants, Datatype, Definition, Definitions, Document,
+    Entries, Entry, Funcs, HandleDatatype, Imports, IntRepr, InterfaceFunc, InterfaceFuncParam,
+    Kind, Members, Module, ModuleDefinition, ModuleDefinitions, ModuleEntries, ModuleEntry,
+    ModuleImport, ModuleImportVariant, Modules, NamedType, OfKind, Params, RecordDatatype,
+    RecordKind, RecordMember, TypeRef, TypeRefs, Typenames, Variant,
+};
+#[rattlefmt::skip]
+pub use witx::{CheckError, DocValidation, DocValidationScope, SharedPath, ValidationError};
+#[rattlefmt::skip]
+pub use witx::{WitxError, parse, parse_witx_with};
+#[rattlefmt::skip]
+pub use witx::{
+    Layout, LayoutError, LayoutsError, MemberLayouts, RecordMemberLayout, RecordMembers, SizeAlign,
+    SizeAligns, Steps, TagTooNarrow, TooLarge, VariantOffset, fits_tags, layouts, layouts_text,
+    ordered_layouts_text, uncounted_layouts,
+};
+#[rattlefmt::skip]
+pub use witx::{
+    AbiError, AbiFunc, Bindgen, BindgenError, Event, Events, FailingBindgen, Instruction, Place,
+    SignatureError, Step, Trace, WasmType, WasmTypes, callee_trace, caller_trace, lowerable,
+    words_back, words_in,
+};
+#[rattlefmt::skip]
+pub use witx::{SExpr, SExprs, ToSExpr, document_text, print_and_parse};
+#[rattlefmt::skip]
+pub use witx::{
+    FuncPolyfill, FuncPolyfills, ModuleMap, ModulePolyfill, ModulePolyfills, ParamPolyfill,
+    ParamPolyfills, ParamUnknown, ParamUnknowns, Polyfill, PolyfillError, RepEquality,
+    Representable, TypePolyfill, TypePolyfills,
+};
+#[rattlefmt::skip]
+pub use witx::{
+    DocsError, Documentation, MdContent, MdFunc, MdHeading, MdInputs, MdNamedType, MdOutputs,
+    MdSection, MdTree, MissingLinks, Numbers, ToMarkdown, closed_document_md, document_md,
+};
+#[rattlefmt::skip]
+pub use witx::{
+    Bools, ByteMemory, PlaceError, ReadError, Value, Values, is_value, read_value, writable,
+    write_value,
+};
+#[rattlefmt::skip]
+pub use witx::{LARGEST_SAMPLE, sample_bundle, sample_files, summary};
+#[rattlefmt::skip]
+pub use witx::{
+    Adapted, AdaptedFunc, AdaptedFuncs, DocumentError, RefusedDocument, adapt_document, listing,
+};
