@@ -18,8 +18,8 @@ from repository import TOP, libraries, with_libraries
 PROGRAMS = {"witx_cli": ["print"], "witx_imports_of": []}
 # The memory that one proof may take, in bytes.
 MEMORY = 4 << 30
-# Seconds of a processor for a line of code, until some proofs have told it.
-A_LINE = 0.2
+# Seconds of a processor for a line of code, and as many lines as if a proof of them had told it.
+A_LINE, TOLD = 0.2, 3000
 
 
 def say(line):
@@ -37,9 +37,9 @@ def lanes():
 
 
 def size(name):
-    """The lines of a crate's code, by which it is told how long its proof takes."""
+    """How long a crate's proof takes beside others: the lines of its code, and something for what is loaded."""
     files = [f"{at}/{it}" for at, _, names in os.walk(f"{TOP}/crates/{name}/src") for it in names]
-    return sum(open(it, "rb").read().count(b"\n") for it in files)
+    return 100 + sum(open(it, "rb").read().count(b"\n") for it in files)
 
 
 class Proof:
@@ -66,7 +66,7 @@ class Proofs:
         self.count, self.left, self.running = len(names), [*names], []
         self.below = {name: [it for it in below if it in names] for name, below in libraries().items() if name in names}
         self.sizes, self.lanes = {it: size(it) for it in names}, lanes()
-        self.spent = self.done = 0
+        self.spent, self.done = A_LINE * TOLD, TOLD
 
     def waits(self, name):
         return any(it in self.left or any(it == other.name for other in self.running) for it in self.below[name])
@@ -88,7 +88,7 @@ class Proofs:
             return max(map(chain, self.below[name]), default=0) + (self.sizes[name] if name in unproved else 0)
 
         lines = max([sum(self.sizes[it] for it in unproved) / self.lanes, *map(chain, self.below)])
-        return round(lines * (self.spent / self.done if self.spent > 60 else A_LINE) / 60)
+        return round(lines * self.spent / self.done / 60)
 
     def end(self, proof):
         """Tells of a proof that has ended, and gives whether it is one."""
@@ -123,7 +123,7 @@ class Proofs:
 def prove_libraries(names):
     """Proves libraries and all below them, with a line for each. Gives whether all are proved."""
     proofs = Proofs(names)
-    say(f"proving {proofs.count} crates on {proofs.lanes} processors, in about {proofs.minutes_left()} minutes; what is proved stays so if this is stopped")
+    say(f"proving {proofs.count} crates, {proofs.lanes} at a time, in about {proofs.minutes_left()} minutes; what is proved stays so if this is stopped")
     return proofs.run()
 
 
