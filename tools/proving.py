@@ -121,7 +121,11 @@ class Proofs:
 
 
 def prove_libraries(names):
-    """Proves libraries and all below them, with a line for each. Gives whether all are proved."""
+    """Proves libraries, with a line for each. Gives whether all are proved."""
+    if not shutil.which("rt"):
+        say("the Rattle kit's command `rt`, which proves and builds, isn't on the path")
+        return False
+    programs.end_by_exit()
     proofs = Proofs(names)
     say(f"proving {proofs.count} crates, {proofs.lanes} at a time, in about {proofs.minutes_left()} minutes; what is proved stays so if this is stopped")
     return proofs.run()
@@ -150,11 +154,7 @@ def prove():
     if all(map(programs.proved, PROGRAMS)):
         say("the program is proved and built")
         return 0
-    if not shutil.which("rt"):
-        say("the Rattle kit's command `rt`, which proves and builds, isn't on the path")
-        return 70
     began = time.time()
-    programs.end_by_exit()
     below = [it for it in with_libraries(*PROGRAMS) if it not in PROGRAMS]
     if not prove_libraries(below) or not all(build(name, words, began) for name, words in PROGRAMS.items()):
         say("not everything is proved, so the program is not built")
