@@ -49,16 +49,18 @@ def end_by_exit():
 
 
 def catch(room, kept):
-    """Gives a second name to a program that stands somewhere below a folder, if one does."""
+    """Gives a second name to a program that stands somewhere below a folder, if one does, and says whether it has."""
     for at, _, files in os.walk(room):
-        if "program" in files and os.access(f"{at}/program", os.X_OK) and not os.path.exists(kept):
+        if "program" in files and os.access(f"{at}/program", os.X_OK):
             with contextlib.suppress(OSError):
                 os.link(f"{at}/program", kept)
+                return True
+    return False
 
 
-def is_whole(kept, said):
-    """Whether a program was caught, and has run to an end since, so that nothing of it is still to be written."""
-    return os.path.exists(kept) and b"case=" in pathlib.Path(said).read_bytes()
+def cases_run(said):
+    """How many cases `rt try` has told of so far."""
+    return pathlib.Path(said).read_bytes().count(b"case=")
 
 
 def build_unproved(crate, kept):
@@ -80,13 +82,16 @@ def build_unproved(crate, kept):
             trying = subprocess.Popen(words, cwd=f"{TOP}/crates/{crate}", env={**os.environ, "TMPDIR": room},
                                       stdin=subprocess.DEVNULL, stdout=subprocess.DEVNULL, stderr=file)
         try:
-            while trying.poll() is None and not is_whole(caught, said):
-                catch(room, caught)
+            seen = None
+            # Two cases after it was caught nothing of it is still to be written.
+            while trying.poll() is None and (seen is None or cases_run(said) < seen + 2):
+                if seen is None and catch(room, caught):
+                    seen = cases_run(said)
                 time.sleep(0.01)
         finally:
             trying.terminate()
             trying.wait()
-        if not is_whole(caught, said):
+        if not os.path.exists(caught):
             sys.stderr.buffer.write(pathlib.Path(said).read_bytes())
             stop(f"{crate} was not built; `rt try -- WORD..` in crates/{crate} builds and runs it once")
         # Whatever changed while it was built is newer.
