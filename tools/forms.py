@@ -58,4 +58,4 @@ def is_of_script(words):
     """Whether ./witx has a form for these words, of the program or of its own."""
     if words[:1] == ["check"]:
         return split_check(words[1:]) is not None
-    return words in (["--help"], ["--version"], ["--prove"]) or has_form(words)
+    return words in (["-h"], ["--help"], ["--version"], ["--prove"]) or has_form(words)

@@ -1,6 +1,7 @@
 """The programs of the repository: proved ones where they are built, and unproved ones, which are built once and kept."""
 import contextlib
 import os
+import pathlib
 import shutil
 import signal
 import subprocess
@@ -14,6 +15,8 @@ from repository import TOP, with_libraries
 
 # The script that runs, by whose name things are said.
 SCRIPT = os.path.basename(sys.argv[0]).removesuffix(".py")
+# How often a program is run that is to be caught.
+CASES = 50
 
 
 def stop(why):
@@ -53,32 +56,42 @@ def catch(room, kept):
                 os.link(f"{at}/program", kept)
 
 
+def is_whole(kept, said):
+    """Whether a program was caught, and has run to an end since, so that nothing of it is still to be written."""
+    return os.path.exists(kept) and b"case=" in pathlib.Path(said).read_bytes()
+
+
 def build_unproved(crate, kept):
     """Builds a program without a proof, and keeps it.
 
     `rt try` builds it in a folder for temporary files, runs it there and removes it, and leaves none by itself: so that
-    folder is named to it, and the program gets a second name as soon as it is seen."""
+    folder is named to it, and the program gets a second name as soon as it is seen. It is run on many cases, since one run
+    is over too soon to be seen for sure."""
     began, out = time.time(), os.path.dirname(kept)
     os.makedirs(out, exist_ok=True)
     end_by_exit()
-    with tempfile.TemporaryDirectory(prefix="unproved-", dir=out) as room, open(f"{room}/said", "w+b") as said:
-        words = ["rt", "try", "--steps", "1", "--seconds", "600"]
-        trying = subprocess.Popen(words, cwd=f"{TOP}/crates/{crate}", env={**os.environ, "TMPDIR": room},
-                                  stdin=subprocess.DEVNULL, stdout=subprocess.DEVNULL, stderr=said)
+    with tempfile.TemporaryDirectory(prefix="unproved-", dir=out) as room:
+        caught, said, cases = f"{room}/caught", f"{room}/said", f"{room}/cases"
+        os.mkdir(cases)
+        for number in range(CASES):
+            open(f"{cases}/{number}", "w").close()
+        words = ["rt", "try", "--steps", "1", "--seconds", "600", "--cases", cases]
+        with open(said, "wb") as file:
+            trying = subprocess.Popen(words, cwd=f"{TOP}/crates/{crate}", env={**os.environ, "TMPDIR": room},
+                                      stdin=subprocess.DEVNULL, stdout=subprocess.DEVNULL, stderr=file)
         try:
-            while trying.poll() is None:
-                catch(room, f"{room}/caught")
-                time.sleep(0.004)
+            while trying.poll() is None and not is_whole(caught, said):
+                catch(room, caught)
+                time.sleep(0.01)
         finally:
             trying.terminate()
             trying.wait()
-        if not os.path.exists(f"{room}/caught"):
-            said.seek(0)
-            sys.stderr.buffer.write(said.read())
+        if not is_whole(caught, said):
+            sys.stderr.buffer.write(pathlib.Path(said).read_bytes())
             stop(f"{crate} was not built; `rt try -- WORD..` in crates/{crate} builds and runs it once")
         # Whatever changed while it was built is newer.
-        os.utime(f"{room}/caught", (began, began))
-        os.replace(f"{room}/caught", kept)
+        os.utime(caught, (began, began))
+        os.replace(caught, kept)
 
 
 def kept_unproved(crate):

@@ -12,7 +12,7 @@ from repository import TOP, fail, read
 HELP = f"""\
        {CHECK}
        ./witx --prove
-       ./witx --version | --help
+       ./witx --version | --help | -h
 
 A form that begins with `witx` is for a bundle on standard input: ./bundle FILE.. | ./witx adapt PATH..
 README.md says what each writes. Those of this script:
@@ -55,16 +55,16 @@ def check(words):
 
 
 def version():
-    kit = re.search(r"rattle-kit-\S+ logic \w+", read("README.md"))
+    kit = re.search(r"Proved with the kits (.*), of which `rt version` says `(logic \w+)`", read("README.md"))
     if not kit:
-        fail("README.md doesn't name the kit that the program is proved with")
+        fail("README.md doesn't name the kits that the program is proved with")
     state = "proved" if programs.proved("witx_cli") else "unproved"
-    print(f"witx, a port of the Rust crate witx 0.9.1, for {kit[0]}; this checkout: {state}")
+    print(f"witx, a port of the Rust crate witx 0.9.1, for {kit[1].replace('`', '')}, {kit[2]}; this checkout: {state}")
     return 0
 
 
 def main(words):
-    if words[:1] == ["--help"]:
+    if words[:1] in (["-h"], ["--help"]):
         print(usage() + HELP, end="")
         return 0
     if words == ["--version"]:
