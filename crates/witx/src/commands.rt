@@ -1,6 +1,6 @@
 //! The output of each command of `run` over the files of a bundle.
 
-ghost use Rattle.std.specs.Prelude.{◌≡◌, [], IfErr, IfOk, None, Some, map, true};
+ghost use Rattle.std.specs.Prelude.{◌≡◌, [], IfErr, IfOk, None, map, true};
 ghost use Rattle.witx_ast.specs.Definitions.{definition_tree};
 ghost use Rattle.witx_render.specs.DocumentTexts.{document_text};
 ghost use Rattle.witx_commands.specs.Causes.{IsOutput};
@@ -40,7 +40,7 @@ pub fn perform(alloc: Global, command: &Command<'_>, files: &mut MockFs) -> Resu
 
 /// The listing of the document that the files at these paths mean.
 #[tactic(auto, using(witx_commands::proofs::Refusing::command_rules))]
-fn adapt_files(alloc: Global, words: &[Text], files: &mut MockFs) -> Result<Output, Stop>
+pub fn adapt_files(alloc: Global, words: &[Text], files: &mut MockFs) -> Result<Output, Stop>
     ensures output { IfOk result (λ o. IsOutput (asked.adapt words.now) files.old o.text o.notes o.adapted) }
     ensures stopped { IfErr result (StopsWith (CommandRefuses (asked.adapt words.now) files.old)) }
 {
@@ -53,7 +53,7 @@ fn adapt_files(alloc: Global, words: &[Text], files: &mut MockFs) -> Result<Outp
 
 /// The printed document that the files at these paths mean.
 #[tactic(auto, using(witx_commands::proofs::Refusing::command_rules))]
-fn print_files(alloc: Global, words: &[Text], files: &mut MockFs) -> Result<Output, Stop>
+pub fn print_files(alloc: Global, words: &[Text], files: &mut MockFs) -> Result<Output, Stop>
     ensures output { IfOk result (λ o. IsOutput (asked.print words.now) files.old o.text o.notes o.adapted) }
     ensures stopped { IfErr result (StopsWith (CommandRefuses (asked.print words.now) files.old)) }
 {

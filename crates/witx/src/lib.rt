@@ -9,7 +9,7 @@ mod output;
 mod program;
 mod refused;
 
-pub use commands::perform;
+pub use commands::{adapt_files, perform, print_files};
 pub use output::{put_text, put_whole};
 pub use program::{Ran, files_for, finish, run};
 pub use refused::put_refusal;

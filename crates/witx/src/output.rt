@@ -40,10 +40,13 @@ pub fn put_text<K: Sink>(sink: &mut K, text: &str) -> Result<(), Failed>
 /// failed.
 pub fn put_both<O: Sink, E: Sink>(out: &mut O, err: &mut E, text: &str, notes: &str) -> u8
     ensures status { (result ≡ 0) ⊎ (result ≡ 4) }
-    ensures done { result ≡ 0 → Appends (O.taken out.old) (O.taken out.new) text.now × Appends (E.taken err.old) (E.taken err.new) notes.now }
+    ensures done { result ≡ 0
+        → Appends (O.taken out.old) (O.taken out.new) text.now × Appends (E.taken err.old) (E.taken err.new) notes.now }
     ensures unwritten { result ≡ 4 →
-        (Rose (O.faults out.old) (O.faults out.new) × (TookPrefix (O.taken out.old) (O.taken out.new) text.now × (text.now ≡ [] → ⊥)) × (err.new ≡ err.old))
-        ⊎ (Rose (E.faults err.old) (E.faults err.new) × TookPrefix (E.taken err.old) (E.taken err.new) notes.now × (notes.now ≡ [] → ⊥)
+        (Rose (O.faults out.old) (O.faults out.new)
+        × (TookPrefix (O.taken out.old) (O.taken out.new) text.now × (text.now ≡ [] → ⊥)) × (err.new ≡ err.old))
+        ⊎ (Rose (E.faults err.old) (E.faults err.new) × TookPrefix (E.taken err.old) (E.taken err.new) notes.now
+        × (notes.now ≡ [] → ⊥)
         × Appends (O.taken out.old) (O.taken out.new) text.now) }
     ensures untouched { notes.now ≡ [] → err.new ≡ err.old }
     ensures out_failed { O.faults out.old < O.faults out.new → result ≡ 4 }
@@ -60,7 +63,8 @@ pub fn put_both<O: Sink, E: Sink>(out: &mut O, err: &mut E, text: &str, notes: &
 /// Writes a text, and answers 0, or 4 where the sink failed.
 pub fn put_whole<K: Sink>(sink: &mut K, text: &str) -> u8
     ensures status { (result ≡ 0) ⊎ (result ≡ 4) }
-    ensures done { result ≡ 0 → Appends (K.taken sink.old) (K.taken sink.new) text.now × (K.faults sink.new ≡ K.faults sink.old) }
+    ensures done { result ≡ 0
+        → Appends (K.taken sink.old) (K.taken sink.new) text.now × (K.faults sink.new ≡ K.faults sink.old) }
     ensures unwritten { result ≡ 4 → Rose (K.faults sink.old) (K.faults sink.new)
         × TookPrefix (K.taken sink.old) (K.taken sink.new) text.now × (text.now ≡ [] → ⊥) }
     ensures untouched { text.now ≡ [] → sink.new ≡ sink.old }

@@ -47,7 +47,8 @@ pub fn run<S: Source, O: Sink, E: Sink>(
     out: &mut O,
     err: &mut E,
 ) -> Ran
-    ensures { IsRun (run_input (task_of words.now) S.left S.faults S.reads source.old source.new) result.status result.adapted
+    ensures { IsRun (run_input (task_of words.now) S.left S.faults S.reads source.old source.new)
+        result.status result.adapted
         (seen O.taken O.faults out.old out.new) (seen E.taken E.faults err.old err.new)
         (source.new ≡ source.old) (out.new ≡ out.old) (err.new ≡ err.old) }
 {
@@ -76,7 +77,8 @@ fn prepare_command<S: Source>(
 ) -> Result<Output, Stop>
     requires of_run { is_of_run (asked_by command.now) ≡ true }
     requires bounded { IsBounded (asked_by command.now) }
-    ensures { IsPrepared (run_input (command_task (asked_by command.now)) S.left S.faults S.reads source.old source.new) result
+    ensures { IsPrepared (run_input (command_task (asked_by command.now))
+        S.left S.faults S.reads source.old source.new) result
         (source.new ≡ source.old) }
 {
     match files_for(alloc, command, source) {
@@ -99,7 +101,8 @@ pub fn files_for<S: Source>(
         → Finished (S.left source.old) (S.left source.new)) }
     ensures nothing_read { reads_source (asked_by command.now) ≡ false → source.new ≡ source.old }
     ensures no_fault { OnOk result (S.faults source.new ≡ S.faults source.old) }
-    ensures refused { IfErr result (FilesCause (asked_by command.now) (source_seen S.left S.faults S.reads source.old source.new)) }
+    ensures refused { IfErr result
+        (FilesCause (asked_by command.now) (source_seen S.left S.faults S.reads source.old source.new)) }
     ensures later { S.faults source.old ≤ S.faults source.new }
     ensures reads { S.reads source.new ≤ S.reads source.old + 4194305 }
     ensures taken { TookInput (source_seen S.left S.faults S.reads source.old source.new) }
@@ -148,12 +151,16 @@ pub fn finish<O: Sink, E: Sink>(
 /// Writes an output, and keeps its value where it was written whole.
 fn put_output<O: Sink, E: Sink>(output: Output, out: &mut O, err: &mut E) -> Ran
     ensures status { (result.status ≡ 0) ⊎ (result.status ≡ 4) }
-    ensures done { result.status ≡ 0 → Appends (O.taken out.old) (O.taken out.new) output.text × Appends (E.taken err.old) (E.taken err.new) output.notes }
+    ensures done { result.status ≡ 0
+        → Appends (O.taken out.old) (O.taken out.new) output.text
+        × Appends (E.taken err.old) (E.taken err.new) output.notes }
     ensures adapted { result.adapted ≡ (if result.status == 0 then output.adapted else None) }
     ensures unwritten { result.status ≡ 4 →
-        (Rose (O.faults out.old) (O.faults out.new) × (TookPrefix (O.taken out.old) (O.taken out.new) output.text × (output.text ≡ [] → ⊥))
+        (Rose (O.faults out.old) (O.faults out.new)
+        × (TookPrefix (O.taken out.old) (O.taken out.new) output.text × (output.text ≡ [] → ⊥))
         × (err.new ≡ err.old))
-        ⊎ (Rose (E.faults err.old) (E.faults err.new) × TookPrefix (E.taken err.old) (E.taken err.new) output.notes × (output.notes ≡ [] → ⊥)
+        ⊎ (Rose (E.faults err.old) (E.faults err.new) × TookPrefix (E.taken err.old) (E.taken err.new) output.notes
+        × (output.notes ≡ [] → ⊥)
         × Appends (O.taken out.old) (O.taken out.new) output.text) }
     ensures untouched { output.notes ≡ [] → err.new ≡ err.old }
     ensures out_failed { O.faults out.old < O.faults out.new → result.status ≡ 4 }

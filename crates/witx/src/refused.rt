@@ -19,7 +19,9 @@ pub fn put_refusal<E: Sink>(alloc: Global, refusal: &Refusal, err: &mut E) -> u8
     ensures status { IsRefused (status_of refusal.now) result }
     ensures usage { IsUsage refusal.now → (result ≡ 2) ⊎ (result ≡ 4) }
     ensures told { result ≡ status_of refusal.now → Appends (E.taken err.old) (E.taken err.new) (text_of refusal.now) }
-    ensures unwritten { result ≡ 4 → Rose (E.faults err.old) (E.faults err.new) × TookPrefix (E.taken err.old) (E.taken err.new) (text_of refusal.now) }
+    ensures unwritten { result ≡ 4
+        → Rose (E.faults err.old) (E.faults err.new)
+        × TookPrefix (E.taken err.old) (E.taken err.new) (text_of refusal.now) }
     ensures no_memory { result ≡ 5 → err.new ≡ err.old }
     ensures failed { E.faults err.old < E.faults err.new → result ≡ 4 }
     ensures later { E.faults err.old ≤ E.faults err.new }
@@ -35,7 +37,9 @@ pub fn put_refusal<E: Sink>(alloc: Global, refusal: &Refusal, err: &mut E) -> u8
 fn put_told<E: Sink>(alloc: Global, refusal: &Refusal, err: &mut E) -> u8
     ensures status { IsRefused (status_of refusal.now) result }
     ensures told { result ≡ status_of refusal.now → Appends (E.taken err.old) (E.taken err.new) (text_of refusal.now) }
-    ensures unwritten { result ≡ 4 → Rose (E.faults err.old) (E.faults err.new) × TookPrefix (E.taken err.old) (E.taken err.new) (text_of refusal.now) }
+    ensures unwritten { result ≡ 4
+        → Rose (E.faults err.old) (E.faults err.new)
+        × TookPrefix (E.taken err.old) (E.taken err.new) (text_of refusal.now) }
     ensures no_memory { result ≡ 5 → err.new ≡ err.old }
     ensures failed { E.faults err.old < E.faults err.new → result ≡ 4 }
     ensures later { E.faults err.old ≤ E.faults err.new }
@@ -54,7 +58,9 @@ fn put_told<E: Sink>(alloc: Global, refusal: &Refusal, err: &mut E) -> u8
 fn put_usage<E: Sink>(known: Forms, err: &mut E) -> u8
     ensures status { (result ≡ 2) ⊎ (result ≡ 4) }
     ensures told { result ≡ 2 → Appends (E.taken err.old) (E.taken err.new) (usage_text known) }
-    ensures unwritten { result ≡ 4 → Rose (E.faults err.old) (E.faults err.new) × TookPrefix (E.taken err.old) (E.taken err.new) (usage_text known) }
+    ensures unwritten { result ≡ 4
+        → Rose (E.faults err.old) (E.faults err.new)
+        × TookPrefix (E.taken err.old) (E.taken err.new) (usage_text known) }
     ensures failed { E.faults err.old < E.faults err.new → result ≡ 4 }
     ensures later { E.faults err.old ≤ E.faults err.new }
 {

@@ -1,5 +1,4 @@
--- What a name was introduced as by declarations without a fault is what the definition of that name is; and a constant
--- without a fault has the name of a typename.
+-- A constant without a fault has the name of a typename.
 use Rattle.std.proofs.Common.{◌≡◌, ℕ, List, [], ◌∷◌, ◌++◌, Bool, true, false, cond, not, refl, sym, ap, ◌∙◌, subst, map, append-nil, find, append_assoc, Option, None, Some, option_map, option_and_then, is_some}
 use Rattle.std.specs.Option.{option_or}
 use Rattle.std.proofs.lemmas.List.Elements.{filter_map-append}
@@ -9,92 +8,31 @@ use Rattle.witx_base.specs.Found.{found}
 use Rattle.witx_base.proofs.Names.{found-append}
 use Rattle.witx_files.specs.declared.location.Location.{Location}
 use Rattle.witx_comments.specs.Comments.{Comments}
-use Rattle.witx_syntax_tree.specs.Trees.{Name}
 use Rattle.witx_ast.specs.Entries.{by_name}
-use Rattle.witx_ast.specs.Definitions.{DefinitionTree, typename_of, module_of, constant_of, introduced, as_typename, typename_called}
+use Rattle.witx_ast.specs.Definitions.{DefinitionTree, typename_of, module_of, constant_of, introduced, as_typename}
 use Rattle.witx_ast.specs.declared.definition.Constant.{Constant}
-use Rattle.witx_ast.proofs.EntryLaws.{names-more, names-same}
+use Rattle.witx_ast.specs.Tree.{Tree}
 use Rattle.witx_scope.specs.Faults.{Check, Fault, first_fault}
-use Rattle.witx_scope.specs.Names.{use_check, Sense, a_type, a_module, unfinished, unknown}
-use Rattle.witx_scope.specs.Integers.{constant_checks}
+use Rattle.witx_scope.specs.Names.{use_check}
 use Rattle.witx_scope.specs.DeclarationForms.{DeclForm, typename_form, module_form, constant_form}
-use Rattle.witx_scope.specs.Positions.{Taken, Outcome, refused, made_type, made_module, is_name, introducer, denotes_before, sense_after}
+use Rattle.witx_scope.specs.Positions.{Taken, Outcome, refused, made_type, made_module, introducer, sense_after}
 use Rattle.witx_scope.specs.Declarations.{Past, nothing_before, decl_checks, decl_tree, accepted}
 use Rattle.witx_order.specs.Items.{Declared}
 use Rattle.witx_order.specs.Walks.{World}
-use Rattle.witx_order.specs.Fronts.{AreSound, Means}
-use Rattle.witx_walk.specs.Meaning.{form_of, places_of, form_fault, form_definitions, form_accepted, past_with, definitions_with, past_of, definitions_of, fault_behind, MeansDocument, world}
+use Rattle.witx_order.specs.Fronts.{AreSound}
+use Rattle.witx_walk.specs.Meaning.{form_of, places_of, form_fault, form_definitions, form_accepted, past_with, definitions_with, past_of, definitions_of, fault_behind, world}
 use Rattle.witx_walk.proofs.Declarations.{past-more, definitions-more}
 use Rattle.witx_markdown.specs.Constants.{constants_in, as_constant, is_typename, unknown_type}
 use Rattle.witx_commands.specs.ConstantTypes.{ConstantsHaveTypenames}
-
--- ---- as what a name is introduced: as a type, or as something else
-
-abbrev is_made : Outcome → Bool
-is_made refused = false
-is_made (made_type t) = true
-is_made made_module = false
-
-abbrev taken_as : Option Taken → Option Bool
-taken_as None = None
-taken_as (Some t) = Some (is_made t.outcome)
-
-abbrev is_type : DefinitionTree → Bool
-is_type (typename_of name t docs) = true
-is_type (module_of m) = false
-is_type (constant_of c) = false
-
-abbrev defined_as : Option DefinitionTree → Option Bool
-defined_as None = None
-defined_as (Some d) = Some (is_type d)
-
-abbrev Alike : List Taken → List DefinitionTree → Type 0
-Alike ts ds = (n : List ℕ) → taken_as (introducer ts n) ≡ defined_as (found (by_name introduced ds) n)
-
-introducer-or : (b : Bool) (t : Taken) (o p q : Option Taken) → o ≡ option_or p q → cond b (Some t) o ≡ option_or (cond b (Some t) p) q
-introducer-or true t o p q e = refl
-introducer-or false t o p q e = e
-
-introducer-append : (ts us : List Taken) (n : List ℕ) → introducer (ts ++ us) n ≡ option_or (introducer ts n) (introducer us n)
-introducer-append [] us n = refl
-introducer-append (t ∷ ts) us n = introducer-or (is_name n t.name) t (introducer (ts ++ us) n) (introducer ts n) (introducer us n) (introducer-append ts us n)
-
-taken-or : (o p : Option Taken) → taken_as (option_or o p) ≡ option_or (taken_as o) (taken_as p)
-taken-or None p = refl
-taken-or (Some t) p = refl
-
-defined-or : (o p : Option DefinitionTree) → defined_as (option_or o p) ≡ option_or (defined_as o) (defined_as p)
-defined-or None p = refl
-defined-or (Some d) p = refl
-
-one-alike : (b : Bool) (t : Taken) (d : DefinitionTree) → is_made t.outcome ≡ is_type d → taken_as (cond b (Some t) None) ≡ defined_as (cond b (Some d) None)
-one-alike true t d e = ap Some e
-one-alike false t d e = refl
-
--- one more name, at the end of both
-alike-more : (ts : List Taken) (ds : List DefinitionTree) (t : Taken) (d : DefinitionTree) → Alike ts ds
-    → introduced d ≡ Some t.name → is_made t.outcome ≡ is_type d → Alike (ts ++ t ∷ []) (ds ++ d ∷ [])
-alike-more ts ds t d h named same n =
-    let last : List (List ℕ × DefinitionTree) = (t.name, d) ∷ [] in
-    ap taken_as (introducer-append ts (t ∷ []) n)
-    ∙ (taken-or (introducer ts n) (introducer (t ∷ []) n)
-    ∙ (ap (λ o. option_or o (taken_as (introducer (t ∷ []) n))) (h n)
-    ∙ (ap (λ o. option_or (defined_as (found (by_name introduced ds) n)) o) (one-alike (is_name n t.name) t d same)
-    ∙ (sym (defined-or (found (by_name introduced ds) n) (found last n))
-    ∙ (ap defined_as (sym (found-append (by_name introduced ds) last n))
-    ∙ ap (λ es. defined_as (found es n)) (sym (names-more introduced ds d t.name named)))))))
-
--- a definition that introduces no name
-alike-same : (ts : List Taken) (ds : List DefinitionTree) (d : DefinitionTree) → Alike ts ds → introduced d ≡ None → Alike ts (ds ++ d ∷ [])
-alike-same ts ds d h none n = h n ∙ ap (λ es. defined_as (found es n)) (sym (names-same introduced ds d none))
+use Rattle.witx_commands.proofs.Introduced.{Alike, alike-more, alike-same, defined_as, taken_as, type_made}
 
 -- ---- typenames stay
 
-typename-of : (o : Option DefinitionTree) → defined_as o ≡ Some true → is_some (option_and_then as_typename o) ≡ true
-typename-of None e = cc
-typename-of (Some (typename_of name t docs)) e = refl
-typename-of (Some (module_of m)) e = cc
-typename-of (Some (constant_of c)) e = cc
+typename-of : (o : Option DefinitionTree) (t : Tree) → defined_as o ≡ Some (Some t) → is_some (option_and_then as_typename o) ≡ true
+typename-of None t e = cc
+typename-of (Some (typename_of name u docs)) t e = refl
+typename-of (Some (module_of m)) t e = cc
+typename-of (Some (constant_of c)) t e = cc
 
 still-typename : (o p : Option DefinitionTree) → is_some (option_and_then as_typename o) ≡ true → is_some (option_and_then as_typename (option_or o p)) ≡ true
 still-typename None p e = cc
@@ -145,14 +83,16 @@ no-first : (c : Check) (cs : List Check) → first_fault (c ∷ cs) ≡ None →
 no-first None cs e = refl
 no-first (Some f) cs e = cc
 
-used-as-type : (o : Option Taken) (n : List ℕ) (at : Location) → use_check n at (sense_after o false) ≡ None → taken_as o ≡ Some true
-used-as-type None n at e = cc
+used-as-type : (o : Option Taken) (n : List ℕ) (at : Location) → use_check n at (sense_after o false) ≡ None
+    → (t : Tree) × (taken_as o ≡ Some (Some t))
+used-as-type None n at e = absurd (cc)
 used-as-type (Some t) n at e = by t.outcome e
   where
-    by : (outcome : Outcome) → use_check n at (sense_after (Some (record { name = t.name; place = t.place; outcome = outcome })) false) ≡ None → Some (is_made outcome) ≡ Some true
-    by refused e = cc
-    by (made_type tree) e = refl
-    by made_module e = cc
+    by : (outcome : Outcome) → use_check n at (sense_after (Some (record { name = t.name; place = t.place; outcome = outcome })) false) ≡ None
+        → (u : Tree) × (Some (type_made outcome) ≡ Some (Some u))
+    by refused e = absurd (cc)
+    by (made_type tree) e = (tree, refl)
+    by made_module e = absurd (cc)
 
 record Known (past : Past) (ds : List DefinitionTree) : Type 0 where
   alike : Alike past.taken ds
@@ -173,8 +113,8 @@ known-form past ds place comments (module_form n items) k e = record {
 }
 known-form past ds place comments (constant_form ty n value own) k e =
     let d : DefinitionTree = decl_tree past place comments (constant_form ty n value own) in
-    let used : taken_as (introducer past.taken ty.name) ≡ Some true = used-as-type (introducer past.taken ty.name) ty.name (place ty.start) (no-first _ _ e) in
-    let before : is_typename ds ty.name ≡ true = typename-of (found (by_name introduced ds) ty.name) (sym (k.alike ty.name) ∙ used) in
+    let used = used-as-type (introducer past.taken ty.name) ty.name (place ty.start) (no-first _ _ e) in
+    let before : is_typename ds ty.name ≡ true = typename-of (found (by_name introduced ds) ty.name) used.0 (sym (k.alike ty.name) ∙ used.1) in
     record {
       alike = alike-same past.taken ds d k.alike refl;
       types = unknown-more ds d k.types (one-none (is_typename (ds ++ d ∷ []) ty.name) ty.name (typename-stays ds (d ∷ []) ty.name before));

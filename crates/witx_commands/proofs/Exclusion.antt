@@ -119,7 +119,7 @@ module _ (reading : Reading) (is : IsReading reading) (fs gs : Files) (same : (q
   text-excluded : (ds : List DefinitionTree) (e : WitxError) → Parses gs handed (Ok ds) → IsTextRefusal e → Parses fs handed (Err e) → ⊥
   text-excluded ds e p i h = not-both (world gs [] reading) handed ds 0 0 e never-rose (here-answers (Ok ds) p).1 i (there-answers (Err e) h)
 
-  parses-same : (ds es : List DefinitionTree) → Parses gs handed (Ok ds) → Parses fs handed (Ok es) → es ≡ ds
+  pub parses-same : (ds es : List DefinitionTree) → Parses gs handed (Ok ds) → Parses fs handed (Ok es) → es ≡ ds
   parses-same ds es p h = same-document (world gs [] reading) handed es ds (there-answers (Ok es) h).1 (here-answers (Ok ds) p).1
 
   meant-excluded : (ds es : List DefinitionTree) (e : DocumentError) → Parses gs handed (Ok ds) → IsAdaptable ds → IsDocumentRefusal e → Parses fs handed (Ok es) → Refuses es e → ⊥

@@ -1,6 +1,7 @@
 pub mod Mapping
 pub mod Noting
 pub mod Paths
+pub mod Introduced
 pub mod ConstantTypes
 pub mod Exclusion
 pub mod Ending

@@ -1,6 +1,6 @@
 -- The map of the pairs of names that a loop has passed, with those still to come, is that of all pairs; and what a command
 -- over two files tells is what the calls below tell.
-use Rattle.std.specs.Prelude.{◌≡◌, ◌⊎◌, ℕ, ◌-◌, ◌<◌, ◌≤◌, List, [], ◌∷◌, ◌++◌, length, take, drop, reverse, map, Option, None, Some, Result, Ok, Err}
+use Rattle.std.specs.Prelude.{◌≡◌, ℕ, ◌-◌, ◌<◌, ◌≤◌, List, [], ◌∷◌, ◌++◌, length, take, drop, reverse, Option, None, Ok}
 use Rattle.std.proofs.Common.{refl, sym, ap, ◌∙◌, subst, get_or, append_assoc, append-nil, arith, inl, inr}
 use Rattle.std.proofs.lemmas.List.{take_all}
 use Rattle.std.proofs.lemmas.Grind.{reverse_onto}
@@ -13,7 +13,7 @@ use Rattle.std.specs.FinMap.{FinMap, entries, entries-insert, from_entries, len-
 use Rattle.std.specs.FinMap.Entries.{by_order}
 use Rattle.witx_files.specs.Files.{Files}
 use Rattle.witx_ast.specs.Definitions.{DefinitionTree}
-use Rattle.witx_compat.specs.Polyfills.{MappedModule, Refusal, no_module, no_function, polyfill_answer}
+use Rattle.witx_compat.specs.Polyfills.{MappedModule, no_module, no_function, polyfill_answer}
 use Rattle.witx_compat.specs.Views.{Says}
 use Rattle.witx_compat.specs.declared.error.PolyfillError.{PolyfillError}
 use Rattle.witx_compat.specs.declared.error.PolyfillError.TheVariants as polyfill_error
@@ -22,9 +22,8 @@ use Rattle.witx_adapt.specs.declared.adapted.Adapted.{Adapted}
 use Rattle.witx_commands.specs.Adapting.{Parses}
 use Rattle.witx_commands.specs.Causes.{IsOutput}
 use Rattle.witx_commands.specs.Mappings.{IsAbsentReport, IsErrorText, IsPolyfillText, MeansBoth, mapping_of, pairs_of}
-use Rattle.witx_commands.specs.Reports.{BothFail, CommandRefuses, MappingFails, ParsingFails}
+use Rattle.witx_commands.specs.Reports.{BothFail, CommandRefuses, ParsingFails}
 use Rattle.witx_commands.specs.Stops.{StopsWith}
-use Rattle.witx_commands.specs.Texts.{absent_text}
 use Rattle.witx_commands.specs.Words as asked
 use Rattle.witx_commands.specs.Words.{TwoFiles, paths_of}
 use Rattle.witx_commands.specs.declared.refusal.Stop.{Stop}

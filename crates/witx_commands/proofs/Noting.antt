@@ -1,7 +1,7 @@
 -- The page of a document with its notes is what the command tells, and so is the refusal of a page.
-use Rattle.std.specs.Prelude.{◌≡◌, ◌⊎◌, ℕ, ◌+◌, ◌<◌, ◌≤◌, List, [], ◌∷◌, ◌++◌, length, drop, Option, Some, None, Ok, Err}
+use Rattle.std.specs.Prelude.{◌≡◌, ◌⊎◌, ℕ, ◌+◌, ◌<◌, ◌≤◌, List, ◌++◌, length, drop, Option, Some, None, Ok}
 use Rattle.std.specs.List.{flat_map}
-use Rattle.std.proofs.Common.{refl, sym, ap, ◌∙◌, subst, inl, inr, get_or, append_assoc, append-nil}
+use Rattle.std.proofs.Common.{sym, ap, ◌∙◌, subst, inl, inr, get_or, append_assoc, append-nil}
 use Rattle.std.proofs.lemmas.List.{drop_more, drop_all}
 use Rattle.witx_files.specs.Files.{Files}
 use Rattle.witx_ast.specs.Definitions.{DefinitionTree}
@@ -13,7 +13,7 @@ use Rattle.witx_docs.specs.declared.error.DocsError.TheVariants as docs_error
 use Rattle.witx_commands.specs.Adapting.{Parses}
 use Rattle.witx_commands.specs.Causes.{IsOutput}
 use Rattle.witx_commands.specs.MeantPages.{IsPage, IsPageReport, IsRefusedPage}
-use Rattle.witx_commands.specs.Reports.{CommandRefuses, PageFails, ParsingFails}
+use Rattle.witx_commands.specs.Reports.{CommandRefuses, ParsingFails}
 use Rattle.witx_commands.specs.Stops.{StopsWith}
 use Rattle.witx_commands.specs.Words as asked
 use Rattle.witx_commands.specs.Words.{paths_of}

@@ -98,7 +98,7 @@ took-some most n a b bytes f g r q c l e = record {
   each = omega (arith, e);
 }
 
--- by one more, or by all that a loop made
+-- by one more than a loop made
 module _ (most turns : ℕ) (a b : Option (List ℕ)) (xs : List ℕ) (fa fb ra rb : ℕ) (p : Consumes a b xs) (t : turns ≤ length xs) (r : rb ≤ ra + turns) where
   pub took-more : (k : ℕ) (c : Option (List ℕ)) (fc rc : ℕ) → TookAtMost k (between b c fb fc rb rc) → length xs + k ≤ most → TookAtMost most (between a c fa fc ra rc)
   took-more k c fc rc s l =
@@ -111,9 +111,6 @@ module _ (most turns : ℕ) (a b : Option (List ℕ)) (xs : List ℕ) (fa fb ra 
         bounded = omega (arith, e, m, l);
         each = omega (arith, e, n, t, r);
       }
-
-  pub took-all : length xs ≤ most → TookAtMost most (between a b fa fb ra rb)
-  took-all l = record { bytes = xs; taken = p; bounded = l; each = omega (arith, t, r) }
 
   -- one that wasn't read through
   pub read-broke : (c : Option (List ℕ)) (fc rc : ℕ) (e : InputError) → fb ≡ fa → length xs ≤ most → ReadCause 0 (between b c fb fc rb rc) e

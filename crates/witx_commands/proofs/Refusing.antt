@@ -1,6 +1,6 @@
 -- What a call below refuses is what the call above it refuses.
-use Rattle.std.specs.Prelude.{◌≡◌, ℕ, List, All, Any, Option, Some, None, [], ◌∷◌, Result, Ok, Err, IfOk, OnOk, is_ok, if◌then◌else◌, map, codes, ◌++◌, ◌<◌, ◌≤◌, ◌^◌}
-use Rattle.std.proofs.Common.{◌∙◌, ap, append_assoc, inl, inr, subst, sym}
+use Rattle.std.specs.Prelude.{◌≡◌, ℕ, List, All, Any, Option, Some, None, [], ◌∷◌, Result, Ok, Err, IfOk, map, codes, ◌<◌, ◌≤◌, ◌^◌}
+use Rattle.std.proofs.Common.{append_assoc, inl, inr, subst, sym}
 use Rattle.witx_base.specs.Paths.{Path}
 use Rattle.witx_files.specs.Files.{Files, Aliases}
 use Rattle.witx_files.specs.declared.fault.IoFault.TheVariants as io_fault
@@ -19,6 +19,7 @@ use Rattle.witx_render.specs.DocumentTexts.{document_text}
 use Rattle.witx_layout.specs.LayoutsText.{layouts_text, typename_sizes}
 use Rattle.witx_sample.specs.Samples.{sample_path}
 use Rattle.witx_sample.specs.Summaries.{summary_text}
+use Rattle.witx_docs.proofs.Lines.{behind}
 use Rattle.witx_commands.specs.Causes.{IsAdaptedText, IsOutput}
 use Rattle.witx_commands.specs.Stops.{StopsWith}
 use Rattle.witx_commands.specs.declared.output.Output.{Output}
@@ -194,13 +195,4 @@ size-stops ds s h k = stops-as (λ report. report ≡ codes "size too large") (I
 pub ruleset size_rules = (size-stops)
 
 -- texts put behind a text
-pub joined-twice : (old a b now after : List ℕ) → now ≡ old ++ a → after ≡ now ++ b → after ≡ old ++ (a ++ b)
-joined-twice old a b now after p q = q ∙ ap (λ s. s ++ b) p ∙ append_assoc old a b
-
--- three texts put behind a text, where the last is put by a call that can fail
-pub appended : {U E : Type 0} (r : Result U E) (old a b d one two now : List ℕ) → one ≡ old ++ a → two ≡ one ++ b → now ≡ (if is_ok r then two ++ d else two)
-    → OnOk r (now ≡ old ++ (a ++ (b ++ d)))
-appended (Ok u) old a b d one two now p q e = e ∙ ap (λ s. s ++ d) (q ∙ ap (λ s. s ++ b) p) ∙ append_assoc (old ++ a) b d ∙ append_assoc old a (b ++ d)
-appended (Err f) old a b d one two now p q e = tt
-
-pub ruleset text_rules = (joined-twice, append_assoc)
+pub ruleset text_rules = (behind, append_assoc)

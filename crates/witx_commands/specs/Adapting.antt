@@ -40,13 +40,17 @@ IsTextRefusal _ = Unit {0}
 
 -- the files mean a document that this refuses
 abbrev pub DocumentRefused : Option Files → Option Aliases → List Path → (before now : ℕ) → DocumentError → Type 0
-DocumentRefused files aliases handed before now e = (ds : List DefinitionTree) × IsParsed files aliases handed before now (Ok ds) × Refuses ds e
+DocumentRefused files aliases handed before now e =
+    (ds : List DefinitionTree) × IsParsed files aliases handed before now (Ok ds) × Refuses ds e
 
 -- when each refusal comes
 abbrev pub AdaptRefuses : Option Files → Option Aliases → List Path → (before now : ℕ) → AdaptError → Type 0
-AdaptRefuses files aliases handed before now (adapt_error.Refused e) = IsTextRefusal e × IsParsed files aliases handed before now (Err e)
-AdaptRefuses files aliases handed before now (adapt_error.TagTooNarrow t) = DocumentRefused files aliases handed before now (document_error.TagTooNarrow t)
-AdaptRefuses files aliases handed before now (adapt_error.TooLarge n) = DocumentRefused files aliases handed before now (document_error.TooLarge n)
+AdaptRefuses files aliases handed before now (adapt_error.Refused e) =
+    IsTextRefusal e × IsParsed files aliases handed before now (Err e)
+AdaptRefuses files aliases handed before now (adapt_error.TagTooNarrow t) =
+    DocumentRefused files aliases handed before now (document_error.TagTooNarrow t)
+AdaptRefuses files aliases handed before now (adapt_error.TooLarge n) =
+    DocumentRefused files aliases handed before now (document_error.TooLarge n)
 AdaptRefuses files aliases handed before now (adapt_error.Unlowerable m f p) =
     DocumentRefused files aliases handed before now (document_error.Unlowerable m f p)
 AdaptRefuses files aliases handed before now adapt_error.OutOfMemory = Unit {0}
@@ -86,8 +90,10 @@ refusal_of (unadapted.Document r) = document_refusal r.error
 -- a document that is handed back is the one that the files mean
 abbrev pub IsMeant : Option Files → Option Aliases → List Path → (before now : ℕ) → Unadapted → Type 0
 IsMeant files aliases handed before now (unadapted.Texts e) = Unit {0}
-IsMeant files aliases handed before now (unadapted.Document r) = IsParsed files aliases handed before now (Ok (map definition_tree r.document.definitions))
+IsMeant files aliases handed before now (unadapted.Document r) =
+    IsParsed files aliases handed before now (Ok (map definition_tree r.document.definitions))
 
 -- so over the files of a bundle
 unfoldable pub RefusesBundle : Files → List Path → Unadapted → Type 0
-RefusesBundle files handed u = AdaptRefusesBundle files handed (refusal_of u) × IsMeant (Some files) (Some []) handed 0 0 u
+RefusesBundle files handed u =
+    AdaptRefusesBundle files handed (refusal_of u) × IsMeant (Some files) (Some []) handed 0 0 u

@@ -51,7 +51,8 @@ InputCause s input.OutOfMemory = NoFault s
 -- why there are no files for a command: only one that works on its source's bundle has a cause in it
 abbrev pub FilesCause : Asked → SourceSeen → InputError → Type 0
 FilesCause c s input.Source = (reads_source c ≡ true) × BrokeOff s
-FilesCause c s (input.Bundle e) = (reads_source c ≡ true) × NoFault s × IsCause e × Reads (bundle_bytes c s.left) (Err e)
+FilesCause c s (input.Bundle e) =
+    (reads_source c ≡ true) × NoFault s × IsCause e × Reads (bundle_bytes c s.left) (Err e)
 FilesCause c s input.OutOfMemory = NoFault s
 
 -- the end of a run that has no bundle
@@ -63,7 +64,8 @@ stop_of input.OutOfMemory = stop.OutOfMemory
 -- this text of the adapted document that the files at these paths mean
 abbrev pub IsAdaptedText : (Adapted → List ℕ) → Files → List Path → List ℕ → Option Adapted → Type 0
 IsAdaptedText text_for files handed text None = ⊥
-IsAdaptedText text_for files handed text (Some a) = Parses files handed (Ok (defined a)) × IsAdapted a × (text ≡ text_for a)
+IsAdaptedText text_for files handed text (Some a) =
+    Parses files handed (Ok (defined a)) × IsAdapted a × (text ≡ text_for a)
 
 -- the document that they mean, printed
 abbrev pub IsPrinted : Files → List Path → List ℕ → Type 0
@@ -72,7 +74,8 @@ IsPrinted files handed text = (ds : List DefinitionTree) × Parses files handed 
 -- the layouts of the document that they mean
 abbrev pub IsLayoutsText : Files → List Path → List ℕ → Type 0
 IsLayoutsText files handed text =
-    (ds : List DefinitionTree) × Parses files handed (Ok ds) × All (λ size. size < 2 ^ 64) (typename_sizes ds) × (text ≡ layouts_text ds)
+    (ds : List DefinitionTree) × Parses files handed (Ok ds) × All (λ size. size < 2 ^ 64) (typename_sizes ds)
+    × (text ≡ layouts_text ds)
 
 -- the page of the document that they mean, and its notes
 abbrev pub IsMeantPage : Files → List Path → (text notes : List ℕ) → Type 0
@@ -81,17 +84,22 @@ IsMeantPage files handed text notes = (ds : List DefinitionTree) × Parses files
 -- the report on the modules of the old file in terms of those of the new one
 abbrev pub IsPolyfill : Files → TwoFiles → List ℕ → Type 0
 IsPolyfill files two text =
-    (new : List DefinitionTree) × (old : List DefinitionTree) × MeansBoth files two new old × IsPolyfillText new old two.names text
+    (new : List DefinitionTree) × (old : List DefinitionTree) × MeansBoth files two new old
+    × IsPolyfillText new old two.names text
 
 -- the text that a command of `run` writes over the files of a bundle, its notes, and the value that it lists: a row for each; nothing
 -- is told of the others here
 unfoldable pub IsOutput : Asked → Files → (text notes : List ℕ) → Option Adapted → Type 0
-IsOutput (asked.adapt paths) files text notes adapted = (notes ≡ []) × IsAdaptedText listing_text files (paths_of paths) text adapted
-IsOutput (asked.print paths) files text notes adapted = (notes ≡ []) × (adapted ≡ None) × IsPrinted files (paths_of paths) text
-IsOutput (asked.layouts paths) files text notes adapted = (notes ≡ []) × (adapted ≡ None) × IsLayoutsText files (paths_of paths) text
+IsOutput (asked.adapt paths) files text notes adapted =
+    (notes ≡ []) × IsAdaptedText listing_text files (paths_of paths) text adapted
+IsOutput (asked.print paths) files text notes adapted =
+    (notes ≡ []) × (adapted ≡ None) × IsPrinted files (paths_of paths) text
+IsOutput (asked.layouts paths) files text notes adapted =
+    (notes ≡ []) × (adapted ≡ None) × IsLayoutsText files (paths_of paths) text
 IsOutput (asked.docs paths) files text notes adapted = (adapted ≡ None) × IsMeantPage files (paths_of paths) text notes
 IsOutput (asked.polyfill two) files text notes adapted = (notes ≡ []) × (adapted ≡ None) × IsPolyfill files two text
-IsOutput (asked.sample n) files text notes adapted = (notes ≡ []) × IsAdaptedText summary_text files (sample_path ∷ []) text adapted
+IsOutput (asked.sample n) files text notes adapted =
+    (notes ≡ []) × IsAdaptedText summary_text files (sample_path ∷ []) text adapted
 IsOutput (asked.shim two) files text notes adapted = ⊥
 IsOutput (asked.verify own) files text notes adapted = ⊥
 IsOutput (asked.invoke names own) files text notes adapted = ⊥
@@ -112,7 +120,8 @@ CanAdapt files handed = (ds : List DefinitionTree) × Parses files handed (Ok ds
 
 -- they mean one whose typenames all have a size
 abbrev pub HasSizes : Files → List Path → Type 0
-HasSizes files handed = (ds : List DefinitionTree) × Parses files handed (Ok ds) × All (λ size. size < 2 ^ 64) (typename_sizes ds)
+HasSizes files handed = (ds : List DefinitionTree) × Parses files handed (Ok ds)
+    × All (λ size. size < 2 ^ 64) (typename_sizes ds)
 
 -- they mean one that has a page
 abbrev pub HasPage : Files → List Path → Type 0

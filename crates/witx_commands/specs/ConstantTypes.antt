@@ -9,5 +9,6 @@ use Rattle.witx_walk.specs.Meaning.{MeansDocument, world}
 use Rattle.witx_markdown.specs.Constants.{unknown_type}
 
 abbrev pub ConstantsHaveTypenames : Type 0
-ConstantsHaveTypenames = (files : Files) (aliases : Aliases) (reading : Reading) (handed : List Path) (ds : List DefinitionTree)
+ConstantsHaveTypenames =
+    (files : Files) (aliases : Aliases) (reading : Reading) (handed : List Path) (ds : List DefinitionTree)
     → MeansDocument (world files aliases reading) handed ds → unknown_type ds ≡ None

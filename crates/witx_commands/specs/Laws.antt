@@ -31,4 +31,5 @@ ValidIsNotRefused = (bytes : List ℕ) (files others : Files) → IsRead bytes (
 abbrev pub ValidFilesAreNotRefused : Type 0
 ValidFilesAreNotRefused = (files : Files) (aliases : Aliases) (handed : List Path) (ds : List DefinitionTree)
     → IsParsed (Some files) (Some aliases) handed 0 0 (Ok ds) → IsAdaptable ds
-    → (before now : ℕ) (e : AdaptError) → (Rose before now → ⊥) → AdaptRefuses (Some files) (Some aliases) handed before now e → e ≡ adapt_error.OutOfMemory
+    → (before now : ℕ) (e : AdaptError) → (Rose before now → ⊥)
+    → AdaptRefuses (Some files) (Some aliases) handed before now e → e ≡ adapt_error.OutOfMemory

@@ -1,6 +1,6 @@
 -- The documents that a new file and an old one mean, and the modules whose names stand behind them. And what is told of these
 -- modules, or of a module or a function that is absent.
-use Rattle.std.specs.Prelude.{◌≡◌, ◌⊎◌, ℕ, List, [], ◌∷◌, reverse, Ok, Err}
+use Rattle.std.specs.Prelude.{◌≡◌, ℕ, List, [], ◌∷◌, reverse, Ok, Err}
 use Rattle.std.specs.FinMap.{entries, from_entries}
 use Rattle.std.specs.Ordering.{nat_cmp}
 use Rattle.std.specs.Cmp.Lexicographic.{slice_cmp}
@@ -26,12 +26,14 @@ mapping_of names = entries (from_entries {R = slice_cmp nat_cmp} (reverse (pairs
 
 -- the new file means the one document, the old file the other
 abbrev pub MeansBoth : Files → TwoFiles → (new old : List DefinitionTree) → Type 0
-MeansBoth files two new old = Parses files (paths_of (two.new ∷ [])) (Ok new) × Parses files (paths_of (two.old ∷ [])) (Ok old)
+MeansBoth files two new old =
+    Parses files (paths_of (two.new ∷ [])) (Ok new) × Parses files (paths_of (two.old ∷ [])) (Ok old)
 
 -- the report on the modules of the two
 unfoldable pub IsPolyfillText : (new old : List DefinitionTree) → List (List ℕ) → List ℕ → Type 0
 IsPolyfillText new old names text =
-    (modules : List MappedModule) × (polyfill_answer new old (mapping_of names) ≡ Ok modules) × (text ≡ polyfill_text modules)
+    (modules : List MappedModule) × (polyfill_answer new old (mapping_of names) ≡ Ok modules)
+    × (text ≡ polyfill_text modules)
 
 -- the first module or function that is absent, as it is told
 unfoldable pub IsAbsentReport : (new old : List DefinitionTree) → List (List ℕ) → List ℕ → Type 0

@@ -12,7 +12,8 @@ IsPage ds text notes = (document_refusal ds ≡ None) × (text ≡ page_text ds)
 
 -- the text of a refusal; there is none of want of memory
 abbrev pub IsRefusedPage : DocsError → List ℕ → Type 0
-IsRefusedPage (docs_error.UnknownConstantType name) text = text ≡ codes "constant of unknown type `" ++ name ++ codes "`"
+IsRefusedPage (docs_error.UnknownConstantType name) text =
+    text ≡ codes "constant of unknown type `" ++ name ++ codes "`"
 IsRefusedPage docs_error.TooLarge text = text ≡ codes "size too large"
 IsRefusedPage docs_error.OutOfMemory text = ⊥
 

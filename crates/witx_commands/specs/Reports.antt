@@ -64,7 +64,8 @@ field_name (Some p) = p.called
 -- the name of that part of the function of the module
 abbrev pub part_name : List DefinitionTree → (owner function : List ℕ) → Place → List ℕ
 part_name ds owner function place =
-    field_name (option_and_then (λ f. field_at f place) (option_and_then (λ (m : ModuleTree). func_called m.items function) (module_called ds owner)))
+    field_name (option_and_then (λ f. field_at f place)
+    (option_and_then (λ (m : ModuleTree). func_called m.items function) (module_called ds owner)))
 
 abbrev pub part_word : Place → List ℕ
 part_word (Place.Param i) = codes "parameter"
@@ -99,18 +100,23 @@ IsDocumentReport ds document_error.OutOfMemory report = ⊥
 -- the report of files that can't be adapted
 unfoldable pub IsUnadaptedReport : Files → Unadapted → List ℕ → Type 0
 IsUnadaptedReport files (unadapted.Texts e) report = IsTextReport files e report
-IsUnadaptedReport files (unadapted.Document r) report = IsDocumentReport (map definition_tree r.document.definitions) r.error report
+IsUnadaptedReport files (unadapted.Document r) report =
+    IsDocumentReport (map definition_tree r.document.definitions) r.error report
 
 -- the files mean a document of whose refusal this is the report
 abbrev pub IsMeantReport : Files → List Path → DocumentError → List ℕ → Type 0
-IsMeantReport files handed e report = (ds : List DefinitionTree) × Parses files handed (Ok ds) × IsDocumentReport ds e report
+IsMeantReport files handed e report =
+    (ds : List DefinitionTree) × Parses files handed (Ok ds) × IsDocumentReport ds e report
 
 -- the report of each refusal of adapt, over the files of a bundle
 unfoldable pub IsAdaptReport : Files → List Path → AdaptError → List ℕ → Type 0
 IsAdaptReport files handed (adapt_error.Refused e) report = IsTextReport files e report
-IsAdaptReport files handed (adapt_error.TagTooNarrow t) report = IsMeantReport files handed (document_error.TagTooNarrow t) report
-IsAdaptReport files handed (adapt_error.TooLarge n) report = IsMeantReport files handed (document_error.TooLarge n) report
-IsAdaptReport files handed (adapt_error.Unlowerable m f p) report = IsMeantReport files handed (document_error.Unlowerable m f p) report
+IsAdaptReport files handed (adapt_error.TagTooNarrow t) report =
+    IsMeantReport files handed (document_error.TagTooNarrow t) report
+IsAdaptReport files handed (adapt_error.TooLarge n) report =
+    IsMeantReport files handed (document_error.TooLarge n) report
+IsAdaptReport files handed (adapt_error.Unlowerable m f p) report =
+    IsMeantReport files handed (document_error.Unlowerable m f p) report
 IsAdaptReport files handed adapt_error.OutOfMemory report = ⊥
 
 -- the report where a typename is too large for its layout to be shown
@@ -123,7 +129,8 @@ ParsingFails files handed report = (e : WitxError) × Parses files handed (Err e
 
 -- they can't be adapted, and this is the report
 abbrev pub AdaptingFails : Files → List Path → List ℕ → Type 0
-AdaptingFails files handed report = (e : AdaptError) × AdaptRefusesBundle files handed e × IsAdaptReport files handed e report
+AdaptingFails files handed report =
+    (e : AdaptError) × AdaptRefusesBundle files handed e × IsAdaptReport files handed e report
 
 -- they mean a document with a typename that is too large, and this is the report
 abbrev pub SizesFail : Files → List Path → List ℕ → Type 0
@@ -132,12 +139,14 @@ SizesFail files handed report = (ds : List DefinitionTree) × Parses files hande
 -- the new file means no document, or it does and the old file doesn't, and this is the report
 abbrev pub BothFail : Files → TwoFiles → List ℕ → Type 0
 BothFail files two report = ParsingFails files (paths_of (two.new ∷ [])) report
-    ⊎ ((new : List DefinitionTree) × Parses files (paths_of (two.new ∷ [])) (Ok new) × ParsingFails files (paths_of (two.old ∷ [])) report)
+    ⊎ ((new : List DefinitionTree) × Parses files (paths_of (two.new ∷ [])) (Ok new)
+    × ParsingFails files (paths_of (two.old ∷ [])) report)
 
 -- both do, a module or a function is absent, and this is the report
 abbrev pub MappingFails : Files → TwoFiles → List ℕ → Type 0
 MappingFails files two report =
-    (new : List DefinitionTree) × (old : List DefinitionTree) × MeansBoth files two new old × IsAbsentReport new old two.names report
+    (new : List DefinitionTree) × (old : List DefinitionTree) × MeansBoth files two new old
+    × IsAbsentReport new old two.names report
 
 -- they mean a document that has no page, and this is the report
 abbrev pub PageFails : Files → List Path → List ℕ → Type 0
@@ -147,8 +156,10 @@ PageFails files handed report = (ds : List DefinitionTree) × Parses files hande
 unfoldable pub CommandRefuses : Asked → Files → List ℕ → Type 0
 CommandRefuses (asked.adapt paths) files report = AdaptingFails files (paths_of paths) report
 CommandRefuses (asked.print paths) files report = ParsingFails files (paths_of paths) report
-CommandRefuses (asked.layouts paths) files report = ParsingFails files (paths_of paths) report ⊎ SizesFail files (paths_of paths) report
-CommandRefuses (asked.docs paths) files report = ParsingFails files (paths_of paths) report ⊎ PageFails files (paths_of paths) report
+CommandRefuses (asked.layouts paths) files report =
+    ParsingFails files (paths_of paths) report ⊎ SizesFail files (paths_of paths) report
+CommandRefuses (asked.docs paths) files report =
+    ParsingFails files (paths_of paths) report ⊎ PageFails files (paths_of paths) report
 CommandRefuses (asked.polyfill two) files report = BothFail files two report ⊎ MappingFails files two report
 CommandRefuses (asked.sample n) files report = AdaptingFails files (sample_path ∷ []) report
 CommandRefuses (asked.shim two) files report = ⊥

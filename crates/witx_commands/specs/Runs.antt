@@ -47,7 +47,8 @@ pub record Task : Type 1 where
   pub IsValid : Files → Type 0
 
 -- that of a command, by what it tells over files, when it refuses them, and which are valid for it
-abbrev pub task_with : (Asked → Files → (text notes : List ℕ) → Option Adapted → Type 0) → (Asked → Files → List ℕ → Type 0) → (Asked → Files → Type 0)
+abbrev pub task_with : (Asked → Files → (text notes : List ℕ) → Option Adapted → Type 0)
+    → (Asked → Files → List ℕ → Type 0) → (Asked → Files → Type 0)
     → Asked → Task
 task_with Tells Refuses IsValid c = record {
   no_form = None;

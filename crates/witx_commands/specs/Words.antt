@@ -75,7 +75,8 @@ asked_by (command.Imports list) = imports (own_file list)
 abbrev pub two_files_of : List (List ℕ) → Option TwoFiles
 two_files_of [] = None
 two_files_of (new ∷ []) = None
-two_files_of (new ∷ old ∷ names) = if length (new ∷ old ∷ names) % 2 == 0 then Some (record { new = new; old = old; names = names }) else None
+two_files_of (new ∷ old ∷ names) =
+    if length (new ∷ old ∷ names) % 2 == 0 then Some (record { new = new; old = old; names = names }) else None
 
 -- one word, and then any
 abbrev pub own_file_of : List (List ℕ) → Option OwnFile

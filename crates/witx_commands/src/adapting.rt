@@ -30,15 +30,20 @@ pub fn adapt<I: WitxIo>(
     paths: &[WitxPath],
     io: &mut I,
 ) -> Result<Adapted, AdaptError>
-    ensures document { IfOk result (λ a. IsParsed (I.files io.old) (I.aliases io.old) paths.now (I.faults io.old) (I.faults io.new) (Ok (defined a))) }
+    ensures document { IfOk result (λ a.
+        IsParsed (I.files io.old) (I.aliases io.old) paths.now (I.faults io.old) (I.faults io.new) (Ok (defined a))) }
     ensures layouts { IfOk result (λ a. a.layouts ≡ all_layouts (defined a)) }
     ensures functions { IfOk result (λ a. map entry_of a.functions ≡ map entry_for (all_functions (defined a))) }
     ensures faithful { IfOk result (λ a. All IsFaithful a.functions) }
     ensures closed { IfOk result (λ a. IsClosed (defined a)) }
     ensures adaptable { IfOk result (λ a. IsAdaptable (defined a)) }
-    ensures refused { IfErr result (AdaptRefuses (I.files io.old) (I.aliases io.old) paths.now (I.faults io.old) (I.faults io.new)) }
-    ensures cause { IfErr result (HasAdaptCause (λ p. Contains paths.now p × (file_name p ≡ None)) (I.files io.old) (I.faults io.old) (I.faults io.new)) }
-    ensures complete { (files : Files) (aliases : Aliases) (ds : List DefinitionTree) → I.files io.old ≡ Some files → I.aliases io.old ≡ Some aliases
+    ensures refused { IfErr result
+        (AdaptRefuses (I.files io.old) (I.aliases io.old) paths.now (I.faults io.old) (I.faults io.new)) }
+    ensures cause { IfErr result
+        (HasAdaptCause (λ p. Contains paths.now p × (file_name p ≡ None))
+        (I.files io.old) (I.faults io.old) (I.faults io.new)) }
+    ensures complete { (files : Files) (aliases : Aliases) (ds : List DefinitionTree)
+        → I.files io.old ≡ Some files → I.aliases io.old ≡ Some aliases
         → IsParsed (Some files) (Some aliases) paths.now 0 0 (Ok ds) → IsAdaptable ds
         → (Rose (I.faults io.old) (I.faults io.new) → ⊥) → IfErr result (λ e. e ≡ AdaptError.OutOfMemory) }
     ensures no_fault { OnOk result (I.faults io.new ≡ I.faults io.old) }
@@ -59,14 +64,17 @@ pub fn adapted<I: WitxIo>(
     paths: &[WitxPath],
     io: &mut I,
 ) -> Result<Adapted, Unadapted>
-    ensures document { IfOk result (λ a. IsParsed (I.files io.old) (I.aliases io.old) paths.now (I.faults io.old) (I.faults io.new) (Ok (defined a))) }
+    ensures document { IfOk result (λ a.
+        IsParsed (I.files io.old) (I.aliases io.old) paths.now (I.faults io.old) (I.faults io.new) (Ok (defined a))) }
     ensures layouts { IfOk result (λ a. a.layouts ≡ all_layouts (defined a)) }
     ensures functions { IfOk result (λ a. map entry_of a.functions ≡ map entry_for (all_functions (defined a))) }
     ensures faithful { IfOk result (λ a. All IsFaithful a.functions) }
     ensures closed { IfOk result (λ a. IsClosed (defined a)) }
     ensures adaptable { IfOk result (λ a. IsAdaptable (defined a)) }
-    ensures refused { IfErr result (λ u. AdaptRefuses (I.files io.old) (I.aliases io.old) paths.now (I.faults io.old) (I.faults io.new) (refusal_of u)) }
-    ensures meant { IfErr result (IsMeant (I.files io.old) (I.aliases io.old) paths.now (I.faults io.old) (I.faults io.new)) }
+    ensures refused { IfErr result (λ u.
+        AdaptRefuses (I.files io.old) (I.aliases io.old) paths.now (I.faults io.old) (I.faults io.new) (refusal_of u)) }
+    ensures meant { IfErr result
+        (IsMeant (I.files io.old) (I.aliases io.old) paths.now (I.faults io.old) (I.faults io.new)) }
     ensures cause { IfErr result (λ u. HasAdaptCause (λ p. Contains paths.now p × (file_name p ≡ None))
         (I.files io.old) (I.faults io.old) (I.faults io.new) (refusal_of u)) }
     ensures no_fault { OnOk result (I.faults io.new ≡ I.faults io.old) }

@@ -132,7 +132,8 @@ fn summarized(alloc: Global, adapted: Adapted) -> Result<Output, Stop>
 fn document_layouts(alloc: Global, document: &Document) -> Result<Output, Stop>
     requires { IsOrdered (map definition_tree document.now.definitions) }
     ensures text { IfOk result (λ o. o.text ≡ text_of_layouts (map definition_tree document.now.definitions)) }
-    ensures sizes { OnOk result (All (λ size. size < 2 ^ 64) (typename_sizes (map definition_tree document.now.definitions))) }
+    ensures sizes { OnOk result
+        (All (λ size. size < 2 ^ 64) (typename_sizes (map definition_tree document.now.definitions))) }
     ensures value { IfOk result (λ o. (o.notes ≡ []) × (o.adapted ≡ None)) }
     ensures too_large { IfErr result (StopsWith (IsSizeReport (map definition_tree document.now.definitions))) }
 {

@@ -57,7 +57,8 @@ fn read_more<S: Source>(
     bytes: &mut Vec<u8>,
 ) -> Result<usize, InputError>
     requires { 0 < length buffer.old }
-    ensures more { IfOk result (λ n. TakesMore (S.left source.old) (S.left source.new) bytes.old.items bytes.new.items n) }
+    ensures more { IfOk result (λ n.
+        TakesMore (S.left source.old) (S.left source.new) bytes.old.items bytes.new.items n) }
     ensures bounded { IfOk result (λ n. n ≤ length buffer.old) }
     ensures no_fault { OnOk result (S.faults source.new ≡ S.faults source.old) }
     ensures refused { IfErr result (ReadCause 0 (source_seen S.left S.faults S.reads source.old source.new)) }
@@ -90,7 +91,8 @@ fn read_through<S: Source>(
     requires none { bytes.old.items ≡ [] }
     ensures input { OnOk result (IsInput (S.left source.old) (S.left source.new) bytes.new.items) }
     ensures no_fault { OnOk result (S.faults source.new ≡ S.faults source.old) }
-    ensures refused { IfErr result (ReadCause LONGEST_BUNDLE (source_seen S.left S.faults S.reads source.old source.new)) }
+    ensures refused { IfErr result
+        (ReadCause LONGEST_BUNDLE (source_seen S.left S.faults S.reads source.old source.new)) }
     ensures taken { TookInput (source_seen S.left S.faults S.reads source.old source.new) }
     ensures later { S.faults source.old ≤ S.faults source.new }
     ensures reads { S.reads source.new ≤ S.reads source.old + 4194305 }
@@ -110,7 +112,8 @@ fn read_through<S: Source>(
 fn read_bytes<S: Source>(alloc: Global, source: &mut S) -> Result<Vec<u8>, InputError>
     ensures input { IfOk result (λ v. IsInput (S.left source.old) (S.left source.new) v.items) }
     ensures no_fault { OnOk result (S.faults source.new ≡ S.faults source.old) }
-    ensures refused { IfErr result (ReadCause LONGEST_BUNDLE (source_seen S.left S.faults S.reads source.old source.new)) }
+    ensures refused { IfErr result
+        (ReadCause LONGEST_BUNDLE (source_seen S.left S.faults S.reads source.old source.new)) }
     ensures taken { TookInput (source_seen S.left S.faults S.reads source.old source.new) }
     ensures later { S.faults source.old ≤ S.faults source.new }
     ensures reads { S.reads source.new ≤ S.reads source.old + 4194305 }

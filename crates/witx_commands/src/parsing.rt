@@ -26,12 +26,16 @@ pub fn parsed<I: WitxIo>(
     paths: &[WitxPath],
     io: &mut I,
 ) -> Result<Document, WitxError>
-    ensures document { IfOk result (λ d. IsParsed (I.files io.old) (I.aliases io.old) paths.now (I.faults io.old) (I.faults io.new)
+    ensures document { IfOk result (λ d.
+        IsParsed (I.files io.old) (I.aliases io.old) paths.now (I.faults io.old) (I.faults io.new)
         (Ok (map definition_tree d.definitions))) }
     ensures ordered { IfOk result (λ d. IsOrdered (map definition_tree d.definitions)) }
     ensures closed { IfOk result (λ d. IsClosed (map definition_tree d.definitions)) }
-    ensures refused { IfErr result (λ e. IsParsed (I.files io.old) (I.aliases io.old) paths.now (I.faults io.old) (I.faults io.new) (Err e)) }
-    ensures cause { IfErr result (HasCause (λ p. Contains paths.now p × (file_name p ≡ None)) (I.files io.old) (I.faults io.old) (I.faults io.new)) }
+    ensures refused { IfErr result (λ e.
+        IsParsed (I.files io.old) (I.aliases io.old) paths.now (I.faults io.old) (I.faults io.new) (Err e)) }
+    ensures cause { IfErr result
+        (HasCause (λ p. Contains paths.now p × (file_name p ≡ None))
+        (I.files io.old) (I.faults io.old) (I.faults io.new)) }
     ensures no_fault { OnOk result (I.faults io.new ≡ I.faults io.old) }
     ensures files { I.files io.new ≡ I.files io.old }
     ensures aliases { I.aliases io.new ≡ I.aliases io.old }
@@ -81,7 +85,8 @@ pub fn parsed_or_stop(
     arguments: &[Text],
     files: &mut MockFs,
 ) -> Result<Document, Stop>
-    ensures document { IfOk result (λ d. Parses files.old (paths_of arguments.now) (Ok (map definition_tree d.definitions))) }
+    ensures document { IfOk result (λ d.
+        Parses files.old (paths_of arguments.now) (Ok (map definition_tree d.definitions))) }
     ensures ordered { IfOk result (λ d. IsOrdered (map definition_tree d.definitions)) }
     ensures closed { IfOk result (λ d. IsClosed (map definition_tree d.definitions)) }
     ensures stopped { IfErr result (StopsWith (ParsingFails files.old (paths_of arguments.now))) }

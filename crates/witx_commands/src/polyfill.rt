@@ -32,7 +32,8 @@ use witx_files::MockFs;
 /// The report on the modules of the old file in terms of those of the new one.
 #[tactic(auto, using(crate::proofs::Mapping::output_rules))]
 pub fn polyfill_files(alloc: Global, two: &TwoFiles<'_>, files: &mut MockFs) -> Result<Output, Stop>
-    ensures output { IfOk result (λ o. IsOutput (asked.polyfill (two_files two.now)) files.old o.text o.notes o.adapted) }
+    ensures output { IfOk result (λ o.
+        IsOutput (asked.polyfill (two_files two.now)) files.old o.text o.notes o.adapted) }
     ensures stopped { IfErr result (StopsWith (CommandRefuses (asked.polyfill (two_files two.now)) files.old)) }
 {
     match both_or_stop(alloc, two, files) {
@@ -50,7 +51,8 @@ fn both_or_stop(
     files: &mut MockFs,
 ) -> Result<(Document, Document), Stop>
     ensures documents { IfOk result (λ both.
-        MeansBoth files.old (two_files two.now) (map definition_tree both.0.definitions) (map definition_tree both.1.definitions)) }
+        MeansBoth files.old (two_files two.now) (map definition_tree both.0.definitions)
+        (map definition_tree both.1.definitions)) }
     ensures stopped { IfErr result (StopsWith (BothFail files.old (two_files two.now))) }
 {
     let new = parsed_or_stop(alloc, from_ref(two.new), files)?;
@@ -61,10 +63,13 @@ fn both_or_stop(
 /// The report on the modules of two documents that have these names, two by two.
 #[tactic(auto, using(crate::proofs::Mapping::report_rules))]
 fn mapped(alloc: Global, new: &Document, old: &Document, names: &[Text]) -> Result<Output, Stop>
-    ensures text { IfOk result (λ o. IsPolyfillText (map definition_tree new.now.definitions) (map definition_tree old.now.definitions) names.now o.text) }
+    ensures text { IfOk result (λ o.
+        IsPolyfillText (map definition_tree new.now.definitions) (map definition_tree old.now.definitions)
+        names.now o.text) }
     ensures value { IfOk result (λ o. (o.notes ≡ []) × (o.adapted ≡ None)) }
     ensures stopped { IfErr result (StopsWith
-        (IsAbsentReport (map definition_tree new.now.definitions) (map definition_tree old.now.definitions) names.now)) }
+        (IsAbsentReport (map definition_tree new.now.definitions) (map definition_tree old.now.definitions)
+        names.now)) }
 {
     match mapped_modules(alloc, new, old, names) {
         Ok(polyfill) => reported(alloc, &polyfill),
@@ -82,10 +87,12 @@ pub fn mapped_modules(
     old: &Document,
     names: &[Text],
 ) -> Result<Polyfill, Stop>
-    ensures modules { IfOk result (λ polyfill. polyfill_answer (map definition_tree new.now.definitions) (map definition_tree old.now.definitions)
+    ensures modules { IfOk result (λ polyfill.
+        polyfill_answer (map definition_tree new.now.definitions) (map definition_tree old.now.definitions)
         (mapping_of names.now) ≡ Ok (map module_view polyfill.modules)) }
     ensures stopped { IfErr result (StopsWith
-        (IsAbsentReport (map definition_tree new.now.definitions) (map definition_tree old.now.definitions) names.now)) }
+        (IsAbsentReport (map definition_tree new.now.definitions) (map definition_tree old.now.definitions)
+        names.now)) }
 {
     let mapping = mapping_of(alloc, names)?;
     match Polyfill::new(alloc, new, old, &mapping) {

@@ -1,16 +1,14 @@
 -- The document that files mean is closed: what a name was introduced as by the declarations before is what the definition of that
 -- name is, so each name inside a declaration is that of a typename that stands before it.
-use Rattle.std.specs.Prelude.{◌≡◌, ℕ, List, [], ◌∷◌, ◌++◌, Bool, true, false, cond, map, Option, None, Some, Ok, option_map}
-use Rattle.std.specs.Option.{option_and_then, option_or}
+use Rattle.std.specs.Prelude.{◌≡◌, ℕ, List, [], ◌∷◌, ◌++◌, Bool, true, false, map, Option, None, Some, Ok}
+use Rattle.std.specs.Option.{option_and_then}
 use Rattle.std.proofs.Common.{refl, sym, ap, ◌∙◌, subst, append_assoc, append-nil}
-use Rattle.witx_base.proofs.Names.{found-append}
 use Rattle.witx_base.specs.Found.{found}
 use Rattle.witx_base.specs.Paths.{Path}
 use Rattle.witx_files.specs.Files.{Files}
 use Rattle.witx_files.specs.declared.location.Location.{Location}
 use Rattle.witx_syntax_tree.specs.Trees as syntax
 use Rattle.witx_comments.specs.Comments.{Comments}
-use Rattle.witx_ast.proofs.EntryLaws.{names-more, names-same}
 use Rattle.witx_ast.specs.Closed.{IsClosed, ItemNamesStand, ParamNamesStand}
 use Rattle.witx_ast.specs.Definitions.{DefinitionTree, as_typename, constant_of, introduced, module_of, typename_of}
 use Rattle.witx_ast.specs.Entries.{by_name}
@@ -28,55 +26,7 @@ use Rattle.witx_order.specs.Items.{Declared}
 use Rattle.witx_walk.specs.Meaning.{definitions_from, definitions_of, form_accepted, form_definitions, form_of, past_from, past_with, places_of, definitions_with}
 use Rattle.witx_walk.specs.Readings.{OneReading}
 use Rattle.witx_commands.specs.Adapting.{IsParsed, Parses}
-
--- ---- as what a name is introduced: as a type, or as something else
-
-abbrev type_made : Outcome → Option Tree
-type_made refused = None
-type_made (made_type t) = Some t
-type_made made_module = None
-
-abbrev taken_as : Option Taken → Option (Option Tree)
-taken_as o = option_map (λ t. type_made t.outcome) o
-
-abbrev defined_as : Option DefinitionTree → Option (Option Tree)
-defined_as o = option_map as_typename o
-
-abbrev Alike : List Taken → List DefinitionTree → Type 0
-Alike ts ds = (n : List ℕ) → taken_as (introducer ts n) ≡ defined_as (found (by_name introduced ds) n)
-
-introducer-or : (b : Bool) (t : Taken) (o p q : Option Taken) → o ≡ option_or p q → cond b (Some t) o ≡ option_or (cond b (Some t) p) q
-introducer-or true t o p q e = refl
-introducer-or false t o p q e = e
-
-introducer-append : (ts us : List Taken) (n : List ℕ) → introducer (ts ++ us) n ≡ option_or (introducer ts n) (introducer us n)
-introducer-append [] us n = refl
-introducer-append (t ∷ ts) us n = introducer-or (is_name n t.name) t (introducer (ts ++ us) n) (introducer ts n) (introducer us n) (introducer-append ts us n)
-
-map-or : {A B : Type 0} (f : A → B) (o p : Option A) → option_map f (option_or o p) ≡ option_or (option_map f o) (option_map f p)
-map-or f None p = refl
-map-or f (Some x) p = refl
-
-one-alike : (b : Bool) (t : Taken) (d : DefinitionTree) → type_made t.outcome ≡ as_typename d → taken_as (cond b (Some t) None) ≡ defined_as (cond b (Some d) None)
-one-alike true t d e = ap Some e
-one-alike false t d e = refl
-
--- one more name, at the end of both
-alike-more : (ts : List Taken) (ds : List DefinitionTree) (t : Taken) (d : DefinitionTree) → Alike ts ds
-    → introduced d ≡ Some t.name → type_made t.outcome ≡ as_typename d → Alike (ts ++ t ∷ []) (ds ++ d ∷ [])
-alike-more ts ds t d h named same n =
-    let last : List (List ℕ × DefinitionTree) = (t.name, d) ∷ [] in
-    ap taken_as (introducer-append ts (t ∷ []) n)
-    ∙ map-or (λ (t : Taken). type_made t.outcome) (introducer ts n) (introducer (t ∷ []) n)
-    ∙ ap (λ o. option_or o (taken_as (introducer (t ∷ []) n))) (h n)
-    ∙ ap (λ o. option_or (defined_as (found (by_name introduced ds) n)) o) (one-alike (is_name n t.name) t d same)
-    ∙ sym (map-or as_typename (found (by_name introduced ds) n) (found last n))
-    ∙ ap defined_as (sym (found-append (by_name introduced ds) last n))
-    ∙ ap (λ es. defined_as (found es n)) (sym (names-more introduced ds d t.name named))
-
--- a definition that introduces no name
-alike-same : (ts : List Taken) (ds : List DefinitionTree) (d : DefinitionTree) → Alike ts ds → introduced d ≡ None → Alike ts (ds ++ d ∷ [])
-alike-same ts ds d h none n = h n ∙ ap (λ es. defined_as (found es n)) (sym (names-same introduced ds d none))
+use Rattle.witx_commands.proofs.Introduced.{Alike, alike-more, alike-same, defined_as, taken_as, type_made}
 
 -- ---- what a name denotes stands before
 

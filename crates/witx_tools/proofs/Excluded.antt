@@ -1,16 +1,11 @@
 -- A bundle that is valid for a tool isn't refused by it, and what a tool tells is over a bundle that is valid for it.
 use Rattle.std.specs.Prelude.{◌≡◌, ◌⊎◌, ℕ, List, [], ◌∷◌, true, Option, Some, None, Ok}
-use Rattle.std.proofs.Common.{refl, sym, ap, ◌∙◌, subst, inl, inr}
-use mathlib.Core.Path.{fun_ext}
+use Rattle.std.proofs.Common.{refl, subst, inl, inr}
 use Rattle.witx_base.specs.Paths.{Path, path_of}
-use Rattle.witx_files.specs.Files.{Files, canonical, held}
+use Rattle.witx_files.specs.Files.{Files, held}
 use Rattle.witx_bundle.specs.Bundles.{IsRead}
 use Rattle.witx_ast.specs.Definitions.{DefinitionTree}
-use Rattle.witx_scope.specs.Faults.{Fault}
-use Rattle.witx_order.specs.Walks.{World}
-use Rattle.witx_walk.specs.Answers.{Answer, Answers, OneAnswer}
-use Rattle.witx_walk.specs.Meaning.{fault_behind, world}
-use Rattle.witx_walk.specs.Readings.{OneReading, Reading}
+use Rattle.witx_walk.specs.Readings.{OneReading}
 use Rattle.witx_ast.specs.Closed.{IsClosed}
 use Rattle.witx_ast.specs.Misfits.{first_misfit}
 use Rattle.witx_ast.specs.Tags.{function_fits}
@@ -20,13 +15,14 @@ use Rattle.witx_invoke.specs.Laws.{AtMostOneLine}
 use Rattle.witx_traces.specs.Traces.{IsUnfit, Sides, TracesLeaveNoneUnfit}
 use Rattle.witx_imports.specs.Reads as list
 use Rattle.witx_imports.specs.declared.import.WasmImport.{WasmImport}
-use Rattle.witx_commands.specs.Adapting.{IsParsed, Parses}
+use Rattle.witx_commands.specs.Adapting.{Parses}
 use Rattle.witx_commands.specs.Causes.{CanAdapt}
 use Rattle.witx_commands.specs.Laws.{ValidIsNotRefused}
 use Rattle.witx_commands.specs.Reports.{AdaptingFails, CommandRefuses, MappingFails}
 use Rattle.witx_commands.specs.Causes.{CanMap}
 use Rattle.witx_commands.specs.Words as asked
 use Rattle.witx_commands.specs.Words.{Asked, Names, OwnFile, TwoFiles, paths_of}
+use Rattle.witx_commands.proofs.Exclusion.{parses-same, same-files}
 use Rattle.witx_tools.specs.Calls.{CallFails, CanCall, IsCallText, NamedFails, entries_of, first_named, has_names}
 use Rattle.witx_tools.specs.ImportTexts.{IsBadList}
 use Rattle.witx_tools.specs.ToolCauses.{CallReads, CallRefuses, CanAdaptAll, HoldsOwn, IsOwnValid, IsToolOutput, IsToolText, IsValidForTool, LacksOwn, ListFails, ListReads, ListingFails, ListingReads, OneIsUnadapted, OwnRefuses, ToolRefuses, adapted_files, own_path}
@@ -39,10 +35,11 @@ use Rattle.witx_tools.proofs.Handing.{call-excluded, found-fits}
 abbrev pub ListsHaveNoFault : Type 0
 ListsHaveNoFault = (text : List ℕ) (d : List WasmImport) (place : list.Place) → list.Reads text d → list.IsFaultOf text place → ⊥
 
-module _ (valid : ValidIsNotRefused) (no_fault : ListsHaveNoFault) (one_answer : OneAnswer) (no_unfit : TracesLeaveNoneUnfit) (one_reading : OneReading) (one_line : AtMostOneLine) (bytes : List ℕ) (files others : Files)
+module _ (valid : ValidIsNotRefused) (no_fault : ListsHaveNoFault) (no_unfit : TracesLeaveNoneUnfit) (one_reading : OneReading) (one_line : AtMostOneLine)
+    (bytes : List ℕ) (files others : Files)
     (here : IsRead bytes (Ok files)) (there : IsRead bytes (Ok others)) where
   same-held : (path : Path) → held files path ≡ held others path
-  same-held path = here.3 path ∙ sym (there.3 path)
+  same-held path = same-files bytes files others here there path
 
   own-excluded : (own : Option Path) (report : List ℕ) → HoldsOwn own others → LacksOwn own files report → ⊥
   own-excluded None report v h = h
@@ -69,31 +66,11 @@ module _ (valid : ValidIsNotRefused) (no_fault : ListsHaveNoFault) (one_answer :
       no_fault text imports place reads (subst (λ t. list.IsFaultOf t place) equal fault)
 
   -- the files of both readings mean the same document
-  abbrev world-with : Reading → (Path → Option (List ℕ)) → World Fault
-  world-with reading texts = record { text_at = texts; canonical = canonical []; reading = reading; fault_of = fault_behind }
-
-  same-world : (reading : Reading) → world files [] reading ≡ world others [] reading
-  same-world reading = ap (λ (texts : Path → Option (List ℕ)). world-with reading texts) (fun_ext same-held)
-
-  parsed-there : (handed : List Path) (r : Answer) → Parses files handed r → Parses others handed r
-  unfolding IsParsed
-  parsed-there handed r p = λ fs links reading e k is.
-      let here_fs : others ≡ fs = cc in
-      let no_links : [] ≡ links = cc in
-      subst (λ l. Answers (world fs l reading) handed 0 0 r) no_links
-      (subst (λ f. Answers (world f [] reading) handed 0 0 r) here_fs (subst (λ w. Answers w handed 0 0 r) (same-world reading) (p files [] reading refl refl is)))
-
   same-document : (handed : List Path) (ds es : List DefinitionTree) → Parses others handed (Ok ds) → Parses files handed (Ok es) → es ≡ ds
-  unfolding IsParsed
-  same-document handed ds es p q =
-      let same : Ok es ≡ Ok ds = one_answer others [] handed 0 0 0 0 (Ok es) (Ok ds) (Ok es) (Ok ds) (parsed-there handed (Ok es) q) p refl refl in
-      cc
+  same-document handed ds es p q = parses-same one_reading.0 one_reading.1.0 files others same-held handed ds es p q
 
   one-document : (handed : List Path) (ds es : List DefinitionTree) → Parses others handed (Ok ds) → Parses others handed (Ok es) → es ≡ ds
-  unfolding IsParsed
-  one-document handed ds es p q =
-      let same : Ok es ≡ Ok ds = one_answer others [] handed 0 0 0 0 (Ok es) (Ok ds) (Ok es) (Ok ds) q p refl refl in
-      cc
+  one-document handed ds es p q = parses-same one_reading.0 one_reading.1.0 others others (λ path. refl) handed ds es p q
 
   listing-excluded : (own : OwnFile) (ds : List DefinitionTree) (sides : List Sides) (report : List ℕ) → ListingReads others own ds sides
       → ListingFails files own report → ⊥
@@ -143,9 +120,10 @@ module _ (valid : ValidIsNotRefused) (no_fault : ListsHaveNoFault) (one_answer :
   unfolding IsValidForTool ToolRefuses
   valid-excluded c report v h = by-part c report v.0 v.1 v.2 h
 
-pub valid-is-not-refused : ValidIsNotRefused → ListsHaveNoFault → OneAnswer → TracesLeaveNoneUnfit → OneReading → AtMostOneLine → ValidIsNotRefusedByTools
-valid-is-not-refused valid no_fault one_answer no_unfit one_reading one_line = λ bytes files others here there c report v h.
-    valid-excluded valid no_fault one_answer no_unfit one_reading one_line bytes files others here there c report v h
+pub valid-is-not-refused : ValidIsNotRefused → ListsHaveNoFault → TracesLeaveNoneUnfit → OneReading → AtMostOneLine
+    → ValidIsNotRefusedByTools
+valid-is-not-refused valid no_fault no_unfit one_reading one_line = λ bytes files others here there c report v h.
+    valid-excluded valid no_fault no_unfit one_reading one_line bytes files others here there c report v h
 
 call-valid : (e : Entry) (values text : List ℕ) → IsCallText e values text → CanCall e values
 call-valid e values text c = record { handed = c.handed; given = c.given; kept = c.answered.kept; room = c.answered.room }

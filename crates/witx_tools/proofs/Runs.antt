@@ -1,16 +1,14 @@
 -- What a command asks for is lawful, be it one of `run` or a tool; and what words that have a form of `run` ask of both calls.
-use Rattle.std.specs.Prelude.{◌≡◌, ℕ, List, [], Bool, true, false, Option, Some, None, Result, IfErr, IfOk, IsTrue, option_map, if◌then◌else◌}
+use Rattle.std.specs.Prelude.{◌≡◌, ℕ, List, Bool, true, false, Option, Some, None, Result, IsTrue, option_map, if◌then◌else◌}
 use Rattle.std.proofs.Common.{refl, sym, subst}
-use Rattle.witx_files.specs.Files.{Files}
 use Rattle.witx_adapt.specs.declared.adapted.Adapted.{Adapted}
 use Rattle.witx_commands.specs.Causes.{IsOutput, IsValidFor}
 use Rattle.witx_commands.specs.Laws.{OutputOrRefusal, ValidIsNotRefused}
 use Rattle.witx_commands.specs.Reports.{CommandRefuses}
-use Rattle.witx_commands.specs.Runs.{IsPrepared, IsRun, SinkSeen, Task, command_task, form_task, task_of, task_with}
-use Rattle.witx_commands.specs.Stops.{StopsWith}
+use Rattle.witx_commands.specs.Runs.{IsPrepared, IsRun, SinkSeen, Task, command_task, form_task, task_with}
 use Rattle.witx_commands.specs.Words as asked
 use Rattle.witx_commands.specs.Streams.{SourceSeen}
-use Rattle.witx_commands.specs.Words.{Asked, asked_by, asked_of, command_of, if_known, is_adapting, is_known, is_of_run}
+use Rattle.witx_commands.specs.Words.{Asked, asked_by, asked_of, command_of, if_known, is_adapting, is_of_run}
 use Rattle.witx_commands.specs.declared.forms.Forms.TheVariants as forms
 use Rattle.witx_commands.specs.declared.output.Output.{Output}
 use Rattle.witx_commands.specs.declared.refusal.Stop.{Stop}
@@ -21,31 +19,8 @@ use Rattle.witx_commands.proofs.Preparing.{of-read}
 use Rattle.witx_commands.proofs.Running.{commands-lawful}
 use Rattle.witx_tools.specs.ToolCauses.{IsValidForTool, ToolRefuses}
 use Rattle.witx_tools.specs.ToolLaws.{AllKnowCommands, OthersAreTools, RunsAlike, ValidIsNotRefusedByTools}
-use Rattle.witx_tools.specs.ToolRuns.{AnyRefuses, AnyTells, OfEither, ToolTells, any_task, task_of_all}
+use Rattle.witx_tools.specs.ToolRuns.{OfEither, ToolTells, any_task, task_of_all}
 use Rattle.witx_tools.proofs.Excluded.{output-valid}
-
--- ---- what either tells and refuses
-
-module _ (c : Asked) (files : Files) (r : Result Output Stop) where
-  abbrev tells-at : Bool → Type 0
-  tells-at b = IfOk r (λ o. OfEither b (IsOutput c files o.text o.notes o.adapted) (ToolTells c files o.text o.notes o.adapted))
-
-  abbrev refuses-at : Bool → Type 0
-  refuses-at b = IfErr r (StopsWith (λ report. OfEither b (CommandRefuses c files report) (ToolRefuses c files report)))
-
-  pub run-tells : is_of_run c ≡ true → IfOk r (λ o. IsOutput c files o.text o.notes o.adapted) → IfOk r (λ o. AnyTells c files o.text o.notes o.adapted)
-  run-tells e h = subst tells-at (sym e) h
-
-  pub tool-tells : is_of_run c ≡ false → IfOk r (λ o. ToolTells c files o.text o.notes o.adapted) → IfOk r (λ o. AnyTells c files o.text o.notes o.adapted)
-  tool-tells e h = subst tells-at (sym e) h
-
-  pub run-refuses : is_of_run c ≡ true → IfErr r (StopsWith (CommandRefuses c files)) → IfErr r (StopsWith (AnyRefuses c files))
-  run-refuses e h = subst refuses-at (sym e) h
-
-  pub tool-refuses : is_of_run c ≡ false → IfErr r (StopsWith (ToolRefuses c files)) → IfErr r (StopsWith (AnyRefuses c files))
-  tool-refuses e h = subst refuses-at (sym e) h
-
-pub ruleset either_rules = (run-tells, tool-tells, run-refuses, tool-refuses)
 
 -- ---- words that have a form, as it was read
 

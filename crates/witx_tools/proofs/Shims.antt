@@ -6,7 +6,7 @@ use Rattle.std.specs.List.{flat_map}
 use Rattle.witx_ast.specs.Functions.{FunctionTree}
 use Rattle.witx_ast.specs.Items.{func_called, funcs_of}
 use Rattle.witx_ast.specs.Definitions.{DefinitionTree, ModuleTree, module_called}
-use Rattle.witx_compat.specs.Polyfills.{MappedFunction, MappedModule, all_of, as_module, function_answer, function_mapped, function_or_none, module_answer, new_or_none, old_or_none, one_more, pair_answer, polyfill_answer}
+use Rattle.witx_compat.specs.Polyfills.{MappedFunction, MappedModule, all_of, as_module, function_answer, function_mapped, function_or_none, module_answer, new_or_none, one_more, pair_answer, polyfill_answer}
 use Rattle.witx_compat.specs.Polyfills as polyfill
 use Rattle.witx_compat.specs.Views.{function_view, module_view}
 use Rattle.witx_compat.specs.declared.functions.FuncPolyfill.{FuncPolyfill}

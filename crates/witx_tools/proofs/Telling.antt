@@ -1,6 +1,6 @@
 -- What a tool tells over the files of a bundle, and why it has no text, by what its calls answer.
 use Rattle.std.specs.Prelude.{◌≡◌, ◌⊎◌, ℕ, List, [], ◌∷◌, All, Some, Ok, Err, map}
-use Rattle.std.proofs.Common.{refl, sym, ap, ◌∙◌, subst, inl, inr, arith}
+use Rattle.std.proofs.Common.{refl, sym, ◌∙◌, subst, inl, inr, arith}
 use Rattle.witx_base.specs.Paths.{Path, path_of}
 use Rattle.witx_files.specs.Answers.{IsText}
 use Rattle.witx_files.specs.Files.{Files, held}
@@ -39,7 +39,7 @@ use Rattle.witx_tools.specs.Callable.{IsCallable}
 use Rattle.witx_tools.specs.Calls.{IsNamedText, NamedFails, entries_of, first_named}
 use Rattle.witx_tools.specs.ImportTexts.{IsBadList, bad_report, faults_text}
 use Rattle.witx_tools.specs.ShimTexts.{shims_text}
-use Rattle.witx_tools.specs.ToolCauses.{CanAdaptAll, HoldsOwn, IsToolOutput, LacksOwn, OneIsUnadapted, OwnRefuses, ToolRefuses}
+use Rattle.witx_tools.specs.ToolCauses.{CanAdaptAll, HoldsOwn, IsToolOutput, LacksOwn, OneIsUnadapted, OpeningFails, OwnRefuses, ToolRefuses}
 use Rattle.witx_tools.specs.VerdictTexts.{IsUnfitListing, listed_for, owned_of, unfit_report, verdicts_text}
 use Rattle.witx_tools.proofs.Calling.{entries-callable}
 use Rattle.witx_tools.proofs.Closing.{parsed-closed}
@@ -143,167 +143,176 @@ pub ruleset shim_rules = (memory-stops, new-stops, old-stops, absent-stops, shim
 abbrev own-of : List ℕ → List (List ℕ) → OwnFile
 own-of file paths = record { file = file; paths = paths }
 
--- what else it refuses is R
+pub own-held : (files : Files) (file : List ℕ) (path : Path) (text : List ℕ) → path ≡ path_of file
+    → held files path ≡ Some text → held files (path_of file) ≡ Some text
+own-held files file path text e h = subst (λ p. held files p ≡ Some text) e h
+
+pub own-document : (files mid : Files) (handed : List Path) (a : Adapted) → mid ≡ files
+    → Parses mid handed (Ok (defined a)) → Parses files handed (Ok (defined a))
+own-document files mid handed a e p = subst (λ fs. Parses fs handed (Ok (defined a))) e p
+
+pub lacking-stops : (files : Files) (own : OwnFile) (path : Path) (s : Stop) → path ≡ path_of own.file
+    → StopsWith (LacksOwn (Some path) files) s → StopsWith (OpeningFails files own) s
+unfolding OpeningFails
+lacking-stops files own path s e k =
+    stops-as (LacksOwn (Some (path_of own.file)) files) (OpeningFails files own) (λ report h. inl h) s
+    (subst (λ p. StopsWith (LacksOwn (Some p) files) s) e k)
+
+pub unadapted-stops : (files mid : Files) (own : OwnFile) (path : Path) (text : List ℕ) (s : Stop) → path ≡ path_of own.file
+    → mid ≡ files → held files path ≡ Some text → StopsWith (AdaptingFails mid (paths_of own.paths)) s
+    → StopsWith (OpeningFails files own) s
+unfolding OpeningFails
+unadapted-stops files mid own path text s e f h k =
+    stops-as (AdaptingFails files (paths_of own.paths)) (OpeningFails files own)
+    (λ report r. inr ((text, own-held files own.file path text e h), r)) s
+    (failed files mid own.paths own.paths s refl f k)
+
+pub ruleset opening_rules = (memory-stops, own-held, own-document, lacking-stops, unadapted-stops)
+
+-- what such a tool refuses, where what it refuses by itself is R
 abbrev Refused : (List ℕ → Type 0) → Files → OwnFile → List ℕ → Type 0
 Refused R files own report =
     LacksOwn (Some (path_of own.file)) files report
-    ⊎ (HoldsOwn (Some (path_of own.file)) files × (OneIsUnadapted files (own.paths ∷ []) report ⊎ (CanAdaptAll files (own.paths ∷ []) × R report)))
+    ⊎ (HoldsOwn (Some (path_of own.file)) files
+    × (OneIsUnadapted files (own.paths ∷ []) report ⊎ (CanAdaptAll files (own.paths ∷ []) × R report)))
 
-own-held : (files : Files) (own : OwnFile) (path : Path) (text : List ℕ) → path ≡ path_of own.file → held files path ≡ Some text → held files (path_of own.file) ≡ Some text
-own-held files own path text e h = subst (λ p. held files p ≡ Some text) e h
+opening-refused : (R : List ℕ → Type 0) (files : Files) (own : OwnFile) (report : List ℕ) → OpeningFails files own report
+    → Refused R files own report
+unfolding OpeningFails
+opening-refused R files own report (inl h) = inl h
+opening-refused R files own report (inr (k, h)) = inr (k, inl (inl h))
 
-lacking : (R : List ℕ → Type 0) (files : Files) (own : OwnFile) (path : Path) (s : Stop) → path ≡ path_of own.file → StopsWith (LacksOwn (Some path) files) s
+opening : (R : List ℕ → Type 0) (files : Files) (own : OwnFile) (s : Stop) → StopsWith (OpeningFails files own) s
     → StopsWith (Refused R files own) s
-lacking R files own path s e k =
-    stops-as (LacksOwn (Some (path_of own.file)) files) (Refused R files own) (λ report h. inl h) s (subst (λ p. StopsWith (LacksOwn (Some p) files) s) e k)
+opening R files own s k =
+    stops-as (OpeningFails files own) (Refused R files own) (λ report h. opening-refused R files own report h) s k
 
-unadapted : (R : List ℕ → Type 0) (files mid : Files) (own : OwnFile) (path : Path) (text : List ℕ) (s : Stop) → path ≡ path_of own.file → mid ≡ files
-    → held files path ≡ Some text → StopsWith (AdaptingFails mid (paths_of own.paths)) s → StopsWith (Refused R files own) s
-unadapted R files mid own path text s e f h k =
-    stops-as (AdaptingFails files (paths_of own.paths)) (Refused R files own) (λ report r. inr ((text, own-held files own path text e h), inl (inl r))) s
-    (failed files mid own.paths own.paths s refl f k)
-
-refusing : (R Q : List ℕ → Type 0) (files mid : Files) (own : OwnFile) (path : Path) (text : List ℕ) (a : Adapted) (s : Stop) → path ≡ path_of own.file → mid ≡ files
-    → held files path ≡ Some text → Parses mid (paths_of own.paths) (Ok (defined a)) → IsAdapted a → ((report : List ℕ) → Q report → R report) → StopsWith Q s
-    → StopsWith (Refused R files own) s
-refusing R Q files mid own path text a s e f h p q why k =
+-- it has its file and its document, and refuses by itself
+refusing : (R Q : List ℕ → Type 0) (files : Files) (own : OwnFile) (text : List ℕ) (a : Adapted) (s : Stop)
+    → held files (path_of own.file) ≡ Some text → Parses files (paths_of own.paths) (Ok (defined a)) → IsAdapted a
+    → ((report : List ℕ) → Q report → R report) → StopsWith Q s → StopsWith (Refused R files own) s
+refusing R Q files own text a s h p q why k =
     stops-as Q (Refused R files own)
-    (λ report r. inr (
-      (text, own-held files own path text e h),
-      inr ((can-adapt files own.paths a (said files mid own.paths own.paths a refl f p) q, tt), why report r),
-    )) s k
+    (λ report r. inr ((text, h), inr ((can-adapt files own.paths a p q, tt), why report r))) s k
 
 -- ---- imports
 
-bad-told : (path : Path) (text : List ℕ) (place : list.Place) (report : List ℕ) → list.IsFaultOf text place → report ≡ bad_report path place → IsBadList path text report
+bad-told : (path : Path) (text : List ℕ) (place : list.Place) (report : List ℕ) → list.IsFaultOf text place
+    → report ≡ bad_report path place → IsBadList path text report
 unfolding IsBadList
 bad-told path text place report h r = (place, h, r)
 
-pub bad-stops : (path : Path) (text : List ℕ) (place : list.Place) (s : Stop) → list.IsFaultOf text place → StopsWith (λ report. report ≡ bad_report path place) s
-    → StopsWith (IsBadList path text) s
-bad-stops path text place s h k = stops-as (λ report. report ≡ bad_report path place) (IsBadList path text) (λ report r. bad-told path text place report h r) s k
+pub bad-stops : (path : Path) (text : List ℕ) (place : list.Place) (s : Stop) → list.IsFaultOf text place
+    → StopsWith (λ report. report ≡ bad_report path place) s → StopsWith (IsBadList path text) s
+bad-stops path text place s h k =
+    stops-as (λ report. report ≡ bad_report path place) (IsBadList path text) (λ report r. bad-told path text place report h r) s k
 
 pub ruleset list_rules = (memory-stops, bad-stops)
 
-pub lacking-stops : (files : Files) (own : OwnFile) (path : Path) (s : Stop) → path ≡ path_of own.file → StopsWith (LacksOwn (Some path) files) s
+pub list-opening : (files : Files) (own : OwnFile) (s : Stop) → StopsWith (OpeningFails files own) s
     → StopsWith (ToolRefuses (asked.imports own) files) s
 unfolding ToolRefuses
-lacking-stops files own path s e k = lacking (OwnRefuses (asked.imports own) files) files own path s e k
+list-opening files own s k = opening (OwnRefuses (asked.imports own) files) files own s k
 
-pub document-stops : (files mid : Files) (own : OwnFile) (path : Path) (text : List ℕ) (s : Stop) → path ≡ path_of own.file → mid ≡ files → held files path ≡ Some text
-    → StopsWith (AdaptingFails mid (paths_of own.paths)) s → StopsWith (ToolRefuses (asked.imports own) files) s
+pub list-stops : (files : Files) (file : List ℕ) (paths : List (List ℕ)) (path : Path) (text : List ℕ) (a : Adapted) (s : Stop)
+    → path ≡ path_of file → held files (path_of file) ≡ Some text → Parses files (paths_of paths) (Ok (defined a))
+    → IsAdapted a → StopsWith (IsBadList path text) s → StopsWith (ToolRefuses (asked.imports (own-of file paths)) files) s
 unfolding ToolRefuses
-document-stops files mid own path text s e f h k = unadapted (OwnRefuses (asked.imports own) files) files mid own path text s e f h k
-
-pub list-stops : (files mid : Files) (file : List ℕ) (paths : List (List ℕ)) (path : Path) (text : List ℕ) (a : Adapted) (s : Stop) → path ≡ path_of file → mid ≡ files → held files path ≡ Some text
-    → Parses mid (paths_of paths) (Ok (defined a)) → IsAdapted a → StopsWith (IsBadList path text) s → StopsWith (ToolRefuses (asked.imports (own-of file paths)) files) s
-unfolding ToolRefuses
-list-stops files mid file paths path text a s e f h p q k =
+list-stops files file paths path text a s e h p q k =
     let own = own-of file paths in
-    refusing (OwnRefuses (asked.imports own) files) (IsBadList (path_of own.file) text) files mid own path text a s e f h p q
-    (λ report r. (text, own-held files own path text e h, r))
-    (subst (λ p. StopsWith (IsBadList p text) s) e k)
+    refusing (OwnRefuses (asked.imports own) files) (IsBadList (path_of file) text) files own text a s h p q
+    (λ report r. (text, h, r)) (subst (λ p. StopsWith (IsBadList p text) s) e k)
 
-pub faults-told : (files mid : Files) (file : List ℕ) (paths : List (List ℕ)) (path : Path) (text told made : List ℕ) (a : Adapted) (imports : List WasmImport) → path ≡ path_of file → mid ≡ files
-    → held files path ≡ Some text → Parses mid (paths_of paths) (Ok (defined a)) → IsAdapted a → list.Reads text imports
-    → told ≡ faults_text (map offered a.functions) imports → made ≡ told → IsToolOutput (asked.imports (own-of file paths)) files made
+pub faults-told : (files : Files) (file : List ℕ) (paths : List (List ℕ)) (text told made : List ℕ) (a : Adapted)
+    (imports : List WasmImport) → held files (path_of file) ≡ Some text → Parses files (paths_of paths) (Ok (defined a))
+    → IsAdapted a → list.Reads text imports → told ≡ faults_text (map offered a.functions) imports → made ≡ told
+    → IsToolOutput (asked.imports (own-of file paths)) files made
 unfolding IsToolOutput
-faults-told files mid file paths path text told made a imports e f h p q r k m =
-    let own = own-of file paths in
-    let holds = own-held files own path text e h in
-    let means = said files mid own.paths own.paths a refl f p in
-    ((text, holds), (can-adapt files own.paths a means q, tt), (imports, (text, holds, r), a, means, q, m ∙ k))
+faults-told files file paths text told made a imports h p q r k m =
+    ((text, h), (can-adapt files paths a p q, tt), (imports, (text, h, r), a, p, q, m ∙ k))
 
-pub ruleset import_rules = (memory-stops, lacking-stops, document-stops, list-stops, faults-told)
+pub ruleset import_rules = (memory-stops, list-opening, list-stops, faults-told)
 
 -- ---- calls
 
-pub all-callable : OneReading → TakeWritable → (files : Files) (handed : List Path) (a : Adapted) (fs : List AdaptedFunc) → fs ≡ a.functions
-    → Parses files handed (Ok (defined a)) → IsAdapted a → All IsCallable fs
+pub all-callable : OneReading → TakeWritable → (files : Files) (handed : List Path) (a : Adapted) (fs : List AdaptedFunc)
+    → fs ≡ a.functions → Parses files handed (Ok (defined a)) → IsAdapted a → All IsCallable fs
 all-callable one law files handed a fs e p k =
     subst (All IsCallable) (sym e)
     (entries-callable law a.functions (all_functions (defined a)) k.functions
     (functions-fit (defined a) (parsed-closed one files handed (defined a) p) k.adaptable.fits) k.adaptable.lowerable k.faithful)
 
-pub lacking-values : (files : Files) (n : Names) (own : OwnFile) (path : Path) (s : Stop) → path ≡ path_of own.file → StopsWith (LacksOwn (Some path) files) s
+pub values-opening : (files : Files) (n : Names) (own : OwnFile) (s : Stop) → StopsWith (OpeningFails files own) s
     → StopsWith (ToolRefuses (asked.invoke n own) files) s
 unfolding ToolRefuses
-lacking-values files n own path s e k = lacking (OwnRefuses (asked.invoke n own) files) files own path s e k
+values-opening files n own s k = opening (OwnRefuses (asked.invoke n own) files) files own s k
 
-pub unadapted-values : (files mid : Files) (n : Names) (own : OwnFile) (path : Path) (text : List ℕ) (s : Stop) → path ≡ path_of own.file → mid ≡ files
-    → held files path ≡ Some text → StopsWith (AdaptingFails mid (paths_of own.paths)) s → StopsWith (ToolRefuses (asked.invoke n own) files) s
+pub call-stops : (files : Files) (n : Names) (file : List ℕ) (paths : List (List ℕ)) (text : List ℕ) (a : Adapted) (s : Stop)
+    → held files (path_of file) ≡ Some text → Parses files (paths_of paths) (Ok (defined a)) → IsAdapted a
+    → StopsWith (NamedFails n (first_named n (map entry_of a.functions)) text) s
+    → StopsWith (ToolRefuses (asked.invoke n (own-of file paths)) files) s
 unfolding ToolRefuses
-unadapted-values files mid n own path text s e f h k = unadapted (OwnRefuses (asked.invoke n own) files) files mid own path text s e f h k
-
-pub call-stops : (files mid : Files) (n : Names) (file : List ℕ) (paths : List (List ℕ)) (path : Path) (text : List ℕ) (a : Adapted) (s : Stop) → path ≡ path_of file → mid ≡ files
-    → held files path ≡ Some text → Parses mid (paths_of paths) (Ok (defined a)) → IsAdapted a
-    → StopsWith (NamedFails n (first_named n (map entry_of a.functions)) text) s → StopsWith (ToolRefuses (asked.invoke n (own-of file paths)) files) s
-unfolding ToolRefuses
-call-stops files mid n file paths path text a s e f h p q k =
+call-stops files n file paths text a s h p q k =
     let own = own-of file paths in
     let fails : List Entry → List ℕ → Type 0 = λ es. NamedFails n (first_named n es) text in
-    refusing (OwnRefuses (asked.invoke n own) files) (fails (entries_of (defined a))) files mid own path text a s e f h p q
-    (λ report r. (defined a, text, (own-held files own path text e h, said files mid own.paths own.paths a refl f p), r))
-    (subst (λ es. StopsWith (fails es) s) q.functions k)
+    refusing (OwnRefuses (asked.invoke n own) files) (fails (entries_of (defined a))) files own text a s h p q
+    (λ report r. (defined a, text, (h, p), r)) (subst (λ es. StopsWith (fails es) s) q.functions k)
 
-pub call-told : (files mid : Files) (n : Names) (file : List ℕ) (paths : List (List ℕ)) (path : Path) (text told made : List ℕ) (a : Adapted) → path ≡ path_of file → mid ≡ files
-    → held files path ≡ Some text → Parses mid (paths_of paths) (Ok (defined a)) → IsAdapted a → IsNamedText n (map entry_of a.functions) text told → made ≡ told
+pub call-told : (files : Files) (n : Names) (file : List ℕ) (paths : List (List ℕ)) (text told made : List ℕ) (a : Adapted)
+    → held files (path_of file) ≡ Some text → Parses files (paths_of paths) (Ok (defined a)) → IsAdapted a
+    → IsNamedText n (map entry_of a.functions) text told → made ≡ told
     → IsToolOutput (asked.invoke n (own-of file paths)) files made
 unfolding IsToolOutput
-call-told files mid n file paths path text told made a e f h p q k m =
-    let own = own-of file paths in
-    let holds = own-held files own path text e h in
-    let means = said files mid own.paths own.paths a refl f p in
-    let tells : IsNamedText n (entries_of (defined a)) text told = subst (λ es. IsNamedText n es text told) q.functions k in
-    ((text, holds), (can-adapt files own.paths a means q, tt), (defined a, text, (holds, means), subst (IsNamedText n (entries_of (defined a)) text) (sym m) tells))
+call-told files n file paths text told made a h p q k m =
+    let tells : IsNamedText n (entries_of (defined a)) text told = subst (λ es. IsNamedText n es text told) q.functions k in (
+      (text, h),
+      (can-adapt files paths a p q, tt),
+      (defined a, text, (h, p), subst (IsNamedText n (entries_of (defined a)) text) (sym m) tells),
+    )
 
-pub ruleset call_rules = (memory-stops, lacking-values, unadapted-values, call-stops, call-told)
+pub ruleset call_rules = (memory-stops, values-opening, call-stops, call-told)
 
 -- ---- verdicts
 
-unfit-told : (shown : Listed) (text : List ℕ) (line : ℕ) (report : List ℕ) → Refuses shown text (traces_error.Line line) → report ≡ unfit_report line
-    → IsUnfitListing shown text report
+unfit-told : (shown : Listed) (text : List ℕ) (line : ℕ) (report : List ℕ) → Refuses shown text (traces_error.Line line)
+    → report ≡ unfit_report line → IsUnfitListing shown text report
 unfolding IsUnfitListing
 unfit-told shown text line report h r = (line, h, r)
 
 pub unfit-stops : (shown : Listed) (text : List ℕ) (line : ℕ) (s : Stop) → Refuses shown text (traces_error.Line line)
     → StopsWith (λ report. report ≡ unfit_report line) s → StopsWith (IsUnfitListing shown text) s
 unfit-stops shown text line s h k =
-    stops-as (λ report. report ≡ unfit_report line) (IsUnfitListing shown text) (λ report r. unfit-told shown text line report h r) s k
+    stops-as (λ report. report ≡ unfit_report line) (IsUnfitListing shown text)
+    (λ report r. unfit-told shown text line report h r) s k
 
 pub ruleset listing_rules = (memory-stops, unfit-stops, each-entry)
 
-pub lacking-listing : (files : Files) (own : OwnFile) (path : Path) (s : Stop) → path ≡ path_of own.file → StopsWith (LacksOwn (Some path) files) s
+pub listing-opening : (files : Files) (own : OwnFile) (s : Stop) → StopsWith (OpeningFails files own) s
     → StopsWith (ToolRefuses (asked.verify own) files) s
 unfolding ToolRefuses
-lacking-listing files own path s e k = lacking (OwnRefuses (asked.verify own) files) files own path s e k
+listing-opening files own s k = opening (OwnRefuses (asked.verify own) files) files own s k
 
-pub unadapted-listing : (files mid : Files) (own : OwnFile) (path : Path) (text : List ℕ) (s : Stop) → path ≡ path_of own.file → mid ≡ files → held files path ≡ Some text
-    → StopsWith (AdaptingFails mid (paths_of own.paths)) s → StopsWith (ToolRefuses (asked.verify own) files) s
+pub listing-stops : (files : Files) (file : List ℕ) (paths : List (List ℕ)) (text : List ℕ) (a : Adapted) (s : Stop)
+    → ReadAsTrees → held files (path_of file) ≡ Some text → Parses files (paths_of paths) (Ok (defined a)) → IsAdapted a
+    → StopsWith (IsUnfitListing (listed a) text) s → StopsWith (ToolRefuses (asked.verify (own-of file paths)) files) s
 unfolding ToolRefuses
-unadapted-listing files mid own path text s e f h k = unadapted (OwnRefuses (asked.verify own) files) files mid own path text s e f h k
-
-pub listing-stops : (files mid : Files) (file : List ℕ) (paths : List (List ℕ)) (path : Path) (text : List ℕ) (a : Adapted) (s : Stop) → ReadAsTrees → path ≡ path_of file → mid ≡ files
-    → held files path ≡ Some text → Parses mid (paths_of paths) (Ok (defined a)) → IsAdapted a → StopsWith (IsUnfitListing (listed a) text) s
-    → StopsWith (ToolRefuses (asked.verify (own-of file paths)) files) s
-unfolding ToolRefuses
-listing-stops files mid file paths path text a s law e f h p q k =
+listing-stops files file paths text a s law h p q k =
     let own = own-of file paths in
-    refusing (OwnRefuses (asked.verify own) files) (IsUnfitListing (listed_for (defined a)) text) files mid own path text a s e f h p q
-    (λ report r. (defined a, text, (own-held files own path text e h, said files mid own.paths own.paths a refl f p), r))
-    (subst (λ l. StopsWith (IsUnfitListing l text) s) (listed-for law a q) k)
+    refusing (OwnRefuses (asked.verify own) files) (IsUnfitListing (listed_for (defined a)) text) files own text a s h p q
+    (λ report r. (defined a, text, (h, p), r)) (subst (λ l. StopsWith (IsUnfitListing l text) s) (listed-for law a q) k)
 
-pub verdicts-told : (files mid : Files) (file : List ℕ) (paths : List (List ℕ)) (path : Path) (text told made : List ℕ) (a : Adapted) (pairs : List TracePair) → ReadAsTrees → path ≡ path_of file
-    → mid ≡ files → held files path ≡ Some text → Parses mid (paths_of paths) (Ok (defined a)) → IsAdapted a → GivesTraces (listed a) text (map sides_of pairs)
-    → told ≡ verdicts_text (map owned_of a.functions) (map sides_of pairs) → made ≡ told → IsToolOutput (asked.verify (own-of file paths)) files made
+pub verdicts-told : (files : Files) (file : List ℕ) (paths : List (List ℕ)) (text told made : List ℕ) (a : Adapted)
+    (pairs : List TracePair) → ReadAsTrees → held files (path_of file) ≡ Some text
+    → Parses files (paths_of paths) (Ok (defined a)) → IsAdapted a → GivesTraces (listed a) text (map sides_of pairs)
+    → told ≡ verdicts_text (map owned_of a.functions) (map sides_of pairs) → made ≡ told
+    → IsToolOutput (asked.verify (own-of file paths)) files made
 unfolding IsToolOutput
-verdicts-told files mid file paths path text told made a pairs law e f h p q g k m =
-    let own = own-of file paths in
-    let holds = own-held files own path text e h in
-    let means = said files mid own.paths own.paths a refl f p in
-    let gives : GivesTraces (listed_for (defined a)) text (map sides_of pairs) = subst (λ l. GivesTraces l text (map sides_of pairs)) (listed-for law a q) g in
-    let tells : made ≡ verdicts_text (all_functions (defined a)) (map sides_of pairs)
-    = m ∙ subst (λ fs. told ≡ verdicts_text fs (map sides_of pairs)) (owned-for a.functions (all_functions (defined a)) q.functions) k in
-    ((text, holds), (can-adapt files own.paths a means q, tt), (defined a, map sides_of pairs, (text, (holds, means), gives), tells))
+verdicts-told files file paths text told made a pairs law h p q g k m =
+    let sides = map sides_of pairs in
+    let gives : GivesTraces (listed_for (defined a)) text sides
+    = subst (λ l. GivesTraces l text sides) (listed-for law a q) g in
+    let tells : made ≡ verdicts_text (all_functions (defined a)) sides
+    = m ∙ subst (λ fs. told ≡ verdicts_text fs sides) (owned-for a.functions (all_functions (defined a)) q.functions) k in
+    ((text, h), (can-adapt files paths a p q, tt), (defined a, sides, (text, (h, p), gives), tells))
 
-pub ruleset verdict_rules = (memory-stops, lacking-listing, unadapted-listing, listing-stops, verdicts-told)
+pub ruleset verdict_rules = (memory-stops, listing-opening, listing-stops, verdicts-told)

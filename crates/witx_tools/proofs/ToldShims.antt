@@ -39,8 +39,9 @@ use Rattle.witx_scope.specs.Positions.{after, is_name}
 use Rattle.witx_scope.specs.Trees.{fields_meant}
 use Rattle.witx_order.specs.Fronts.{AreSound}
 use Rattle.witx_order.specs.Items.{Declared}
-use Rattle.witx_walk.specs.Meaning.{definitions_from, definitions_with, form_definitions, form_fault, form_of, past_from, past_of, past_with, places_of, world}
+use Rattle.witx_walk.specs.Meaning.{definitions_from, definitions_with, form_definitions, form_fault, form_of, past_of, past_with, places_of, world}
 use Rattle.witx_walk.specs.Readings.{OneReading, Reading}
+use Rattle.witx_walk.proofs.Declarations.{past-more}
 use Rattle.witx_shim.specs.Refusals.{Refusal, first_of, new_unlowerable, not_compatible, old_unlowerable, other_abi, refusal_of, repeated, repeated_after, repeated_param, unless}
 use Rattle.witx_commands.specs.Adapting.{IsParsed, Parses}
 use Rattle.witx_tools.specs.ToolLaws.{IsToldShim, ShimsTellTwoRefusals}
@@ -169,10 +170,6 @@ one-apart : (past : Past) (place : ℕ → Location) (comments : Comments) (form
     → AllHave HasOwnNames (form_definitions past place comments form)
 one-apart past place comments None e = tt
 one-apart past place comments (Some form) e = (form-apart past place comments form e, tt)
-
-past-more : (past : Past) (before : List Declared) (δ : Declared) → past_from past (before ++ δ ∷ []) ≡ past_with (past_from past before) δ
-past-more past [] δ = refl
-past-more past (d ∷ before) δ = past-more (past_with past d) before δ
 
 -- declarations without a fault, behind others
 module _ (files : Files) (reading : Reading) where

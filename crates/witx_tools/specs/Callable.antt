@@ -19,7 +19,8 @@ pub record IsCallable (f : AdaptedFunc) : Type 0 where
   pub fits : function_fits (func_tree f.func.value) ≡ true
   pub faithful : IsFaithful f
   pub writable : (arguments : List Value) (reply : Option Value)
-      → AllocatesWritable f.module.value.name (called f.func.value) (map event_of f.caller.events) (map event_of f.callee.events) arguments reply
+      → AllocatesWritable f.module.value.name (called f.func.value) (map event_of f.caller.events)
+      (map event_of f.callee.events) arguments reply
 
 -- values are of its types
 pub record AreFor (f : AdaptedFunc) (h : Handed) : Type 0 where

@@ -58,7 +58,8 @@ pub record CanCall (e : Entry) (values : List ℕ) : Type 0 where
   pub room : ¬ (LacksRoom e handed)
 
 abbrev pub CallComesTo : Entry → Handed → CallSeen → Type 0
-CallComesTo e h seen = ComesTo e.owned.owner.name (called_function e) e.lowered.caller e.lowered.callee h.arguments h.reply seen
+CallComesTo e h seen = ComesTo e.owned.owner.name (called_function e)
+    e.lowered.caller e.lowered.callee h.arguments h.reply seen
 
 -- the call with these values can be made, and this is the text of what it comes to
 pub record IsHandedText (e : Entry) (h : Handed) (text : List ℕ) : Type 0 where
@@ -90,12 +91,14 @@ line_report line = codes "values: unexpected line " ++ decimal line
 
 -- a line is at fault, and this is the report of the first
 unfoldable pub LineFails : Entry → List ℕ → List ℕ → Type 0
-LineFails e values report = (line : ℕ) × FirstFault 1 (types_of (called_function e)) values line × (report ≡ line_report line)
+LineFails e values report =
+    (line : ℕ) × FirstFault 1 (types_of (called_function e)) values line × (report ≡ line_report line)
 
 -- the reply can't come back; or it can, and there is no room
 unfoldable pub HandedFails : Entry → Handed → List ℕ → Type 0
 HandedFails e h report =
-    (IsTrue (is_lost e h) × (report ≡ codes "error word is 0")) ⊎ (IsFalse (is_lost e h) × LacksRoom e h × (report ≡ codes "out of room"))
+    (IsTrue (is_lost e h) × (report ≡ codes "error word is 0"))
+    ⊎ (IsFalse (is_lost e h) × LacksRoom e h × (report ≡ codes "out of room"))
 
 -- so it is with the values that the lines give
 unfoldable pub CallFails : Entry → List ℕ → List ℕ → Type 0

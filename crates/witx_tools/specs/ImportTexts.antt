@@ -33,14 +33,16 @@ differs_line _ _ = []
 -- the line of a fault, which tells numbers of imports and of what is offered
 abbrev pub fault_line : (offered imports : List WasmImport) → ImportFault → List ℕ
 fault_line offered imports (fault.Missing index) = missing_line (slice_get imports index)
-fault_line offered imports (fault.Differs index function) = differs_line (slice_get imports index) (slice_get offered function)
+fault_line offered imports (fault.Differs index function) =
+    differs_line (slice_get imports index) (slice_get offered function)
 
 -- THE TEXT of the faults of imports, in their order
 unfoldable pub faults_text : (offered imports : List WasmImport) → List ℕ
 faults_text offered imports = flat_map (fault_line offered imports) (import_faults offered imports)
 
 abbrev pub bad_report : Path → Place → List ℕ
-bad_report path place = path_text path ++ (codes ":" ++ (decimal place.line ++ (codes ":" ++ (decimal place.column ++ codes ": not an import"))))
+bad_report path place = path_text path
+    ++ (codes ":" ++ (decimal place.line ++ (codes ":" ++ (decimal place.column ++ codes ": not an import"))))
 
 -- the text at this path is no list of imports, and this is the report
 unfoldable pub IsBadList : Path → List ℕ → List ℕ → Type 0

@@ -32,10 +32,12 @@ byte_text (Some b) = codes " " ++ digit (b / 16) ∷ digit (b % 16) ∷ []
 
 -- a range: its address, and the bytes of so many addresses from there on
 abbrev pub range_line : Bytes → ℕ × ℕ → List ℕ
-range_line memory range = codes "bytes " ++ decimal range.0 ++ flat_map (λ at. byte_text (memory at)) (numbers range.0 range.1) ++ codes "\n"
+range_line memory range =
+    codes "bytes " ++ decimal range.0 ++ flat_map (λ at. byte_text (memory at)) (numbers range.0 range.1) ++ codes "\n"
 
 -- THE TEXT of a call
 unfoldable pub call_text : CallSeen → List ℕ
 call_text seen =
-    words_line (codes "pass") seen.pass ++ flat_map note_line seen.notes ++ words_line (codes "back") seen.back ++ returned_line seen.returned
+    words_line (codes "pass") seen.pass ++ flat_map note_line seen.notes ++ words_line (codes "back") seen.back
+    ++ returned_line seen.returned
     ++ flat_map (range_line seen.bytes) seen.taken

@@ -57,7 +57,14 @@ CanAdaptAll files (words ∷ more) = CanAdapt files (paths_of words) × CanAdapt
 -- those of one can't, the first such, and this is the report of `adapt`
 abbrev pub OneIsUnadapted : Files → List (List (List ℕ)) → List ℕ → Type 0
 OneIsUnadapted files [] report = ⊥
-OneIsUnadapted files (words ∷ more) report = AdaptingFails files (paths_of words) report ⊎ (CanAdapt files (paths_of words) × OneIsUnadapted files more report)
+OneIsUnadapted files (words ∷ more) report =
+    AdaptingFails files (paths_of words) report ⊎ (CanAdapt files (paths_of words) × OneIsUnadapted files more report)
+
+-- a file of a tool's own is missing, or the document behind it can't be adapted, and this is the report
+unfoldable pub OpeningFails : Files → OwnFile → List ℕ → Type 0
+OpeningFails files own report =
+    LacksOwn (Some (path_of own.file)) files report
+    ⊎ (HoldsOwn (Some (path_of own.file)) files × AdaptingFails files (paths_of own.paths) report)
 
 -- the bundle holds this text, and the files behind it mean this document
 abbrev pub IsOwnText : Files → OwnFile → List ℕ → List DefinitionTree → Type 0
@@ -65,12 +72,14 @@ IsOwnText files own text ds = (held files (path_of own.file) ≡ Some text) × P
 
 -- the listing gives the functions of the document these traces
 abbrev pub ListingReads : Files → OwnFile → List DefinitionTree → List Sides → Type 0
-ListingReads files own ds sides = (listing : List ℕ) × IsOwnText files own listing ds × GivesTraces (listed_for ds) listing sides
+ListingReads files own ds sides =
+    (listing : List ℕ) × IsOwnText files own listing ds × GivesTraces (listed_for ds) listing sides
 
 -- a line of it can't stand there, and this is the report of the first such
 abbrev pub ListingFails : Files → OwnFile → List ℕ → Type 0
 ListingFails files own report =
-    (ds : List DefinitionTree) × (listing : List ℕ) × IsOwnText files own listing ds × IsUnfitListing (listed_for ds) listing report
+    (ds : List DefinitionTree) × (listing : List ℕ) × IsOwnText files own listing ds
+    × IsUnfitListing (listed_for ds) listing report
 
 -- the function with these names can be called with these values
 abbrev pub CallReads : Files → Names → OwnFile → Type 0
@@ -81,7 +90,8 @@ CallReads files names own =
 -- there is no such call, and this is the report
 abbrev pub CallRefuses : Files → Names → OwnFile → List ℕ → Type 0
 CallRefuses files names own report =
-    (ds : List DefinitionTree) × (values : List ℕ) × IsOwnText files own values ds × NamedFails names (first_named names (entries_of ds)) values report
+    (ds : List DefinitionTree) × (values : List ℕ) × IsOwnText files own values ds
+    × NamedFails names (first_named names (entries_of ds)) values report
 
 -- the list of imports is read so
 abbrev pub ListReads : Files → Path → List WasmImport → Type 0
@@ -103,29 +113,35 @@ OwnRefuses _ files report = ⊥
 unfoldable pub ToolRefuses : Asked → Files → List ℕ → Type 0
 ToolRefuses c files report =
     LacksOwn (own_path c) files report
-    ⊎ (HoldsOwn (own_path c) files × (OneIsUnadapted files (adapted_files c) report ⊎ (CanAdaptAll files (adapted_files c) × OwnRefuses c files report)))
+    ⊎ (HoldsOwn (own_path c) files
+    × (OneIsUnadapted files (adapted_files c) report
+    ⊎ (CanAdaptAll files (adapted_files c) × OwnRefuses c files report)))
 
 -- the shims of the modules of the old file by those of the new one
 abbrev pub AreShims : Files → TwoFiles → List ℕ → Type 0
 AreShims files two text =
     (new : List DefinitionTree) × (old : List DefinitionTree) × MeansBoth files two new old
-    × (modules : List MappedModule) × (polyfill_answer new old (mapping_of two.names) ≡ Ok modules) × (text ≡ shims_text modules)
+    × (modules : List MappedModule) × (polyfill_answer new old (mapping_of two.names) ≡ Ok modules)
+    × (text ≡ shims_text modules)
 
 -- the verdicts on the traces that the listing gives the functions of the document behind it
 abbrev pub AreVerdicts : Files → OwnFile → List ℕ → Type 0
 AreVerdicts files own text =
-    (ds : List DefinitionTree) × (sides : List Sides) × ListingReads files own ds sides × (text ≡ verdicts_text (all_functions ds) sides)
+    (ds : List DefinitionTree) × (sides : List Sides) × ListingReads files own ds sides
+    × (text ≡ verdicts_text (all_functions ds) sides)
 
 -- the call of the function with these names, with the values of the file
 abbrev pub IsCall : Files → Names → OwnFile → List ℕ → Type 0
 IsCall files names own text =
-    (ds : List DefinitionTree) × (values : List ℕ) × IsOwnText files own values ds × IsNamedText names (entries_of ds) values text
+    (ds : List DefinitionTree) × (values : List ℕ) × IsOwnText files own values ds
+    × IsNamedText names (entries_of ds) values text
 
 -- the faults of the imports of the list, held against the document of the files behind it
 abbrev pub AreFaults : Files → OwnFile → List ℕ → Type 0
 AreFaults files own text =
     (imports : List WasmImport) × ListReads files (path_of own.file) imports
-    × (a : Adapted) × Parses files (paths_of own.paths) (Ok (defined a)) × IsAdapted a × (text ≡ faults_text (map offered a.functions) imports)
+    × (a : Adapted) × Parses files (paths_of own.paths) (Ok (defined a)) × IsAdapted a
+    × (text ≡ faults_text (map offered a.functions) imports)
 
 -- the text of a tool: a row for each tool
 abbrev pub IsToolText : Asked → Files → List ℕ → Type 0
@@ -142,7 +158,8 @@ IsToolOutput c files text = HoldsOwn (own_path c) files × CanAdaptAll files (ad
 -- nothing of this is refused by the tool itself: a row for each tool
 abbrev pub IsOwnValid : Asked → Files → Type 0
 IsOwnValid (asked.shim two) files = CanMap files two
-IsOwnValid (asked.verify listing) files = (ds : List DefinitionTree) × (sides : List Sides) × ListingReads files listing ds sides
+IsOwnValid (asked.verify listing) files =
+    (ds : List DefinitionTree) × (sides : List Sides) × ListingReads files listing ds sides
 IsOwnValid (asked.invoke names values) files = CallReads files names values
 IsOwnValid (asked.imports own) files = (imports : List WasmImport) × ListReads files (path_of own.file) imports
 IsOwnValid _ files = ⊥

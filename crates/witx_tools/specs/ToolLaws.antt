@@ -25,15 +25,19 @@ AllKnowCommands = (words : List (List ℕ)) (c : Asked) → command_of forms.Com
 
 -- and what only `run_all` knows is a tool
 abbrev pub OthersAreTools : Type 0
-OthersAreTools = (words : List (List ℕ)) (c : Asked) → command_of forms.All words ≡ Some c → command_of forms.Commands words ≡ None
+OthersAreTools = (words : List (List ℕ)) (c : Asked) → command_of forms.All words ≡ Some c
+    → command_of forms.Commands words ≡ None
     → is_of_run c ≡ false
 
 -- and a run of `run_all` with words that have a form of `run` is one of `run`; whether a device was touched is told by any test
 abbrev pub RunsAlike : Type 0
 RunsAlike = (words : List (List ℕ)) (c : Asked) → command_of forms.Commands words ≡ Some c
-    → (source : SourceSeen) (status : ℕ) (value : Option Adapted) (out err : SinkSeen) (source_kept out_kept err_kept : Bool)
-    → IsRun (record { task = task_of_all words; source = source }) status value out err (IsTrue source_kept) (IsTrue out_kept) (IsTrue err_kept)
-    → IsRun (record { task = task_of words; source = source }) status value out err (IsTrue source_kept) (IsTrue out_kept) (IsTrue err_kept)
+    → (source : SourceSeen) (status : ℕ) (value : Option Adapted) (out err : SinkSeen)
+    (source_kept out_kept err_kept : Bool)
+    → IsRun (record { task = task_of_all words; source = source })
+    status value out err (IsTrue source_kept) (IsTrue out_kept) (IsTrue err_kept)
+    → IsRun (record { task = task_of words; source = source })
+    status value out err (IsTrue source_kept) (IsTrue out_kept) (IsTrue err_kept)
 
 -- for any two readings of one bundle
 abbrev pub ValidIsNotRefusedByTools : Type 0
@@ -50,6 +54,8 @@ IsToldShim (Some _) = ⊥
 -- so of each function that is mapped of two documents which files mean and which can be adapted: no parameter's name stands twice, and
 -- each function can be lowered
 abbrev pub ShimsTellTwoRefusals : Type 0
-ShimsTellTwoRefusals = (files : Files) (news olds : List Path) (new old : List DefinitionTree) → Parses files news (Ok new) → Parses files olds (Ok old)
-    → IsAdaptable new → IsAdaptable old → (names : List (List ℕ × List ℕ)) (modules : List MappedModule) → polyfill_answer new old names ≡ Ok modules
+ShimsTellTwoRefusals = (files : Files) (news olds : List Path) (new old : List DefinitionTree)
+    → Parses files news (Ok new) → Parses files olds (Ok old)
+    → IsAdaptable new → IsAdaptable old → (names : List (List ℕ × List ℕ)) (modules : List MappedModule)
+    → polyfill_answer new old names ≡ Ok modules
     → All (λ (m : MappedModule). All (λ (f : MappedFunction). IsToldShim (refusal_of f)) m.functions) modules

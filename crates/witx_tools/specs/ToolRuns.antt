@@ -20,7 +20,8 @@ OfEither false Run Tool = Tool
 
 -- what any command tells over the files of a bundle, when it refuses them, and which are valid for it
 abbrev pub AnyTells : Asked → Files → (text notes : List ℕ) → Option Adapted → Type 0
-AnyTells c files text notes adapted = OfEither (is_of_run c) (IsOutput c files text notes adapted) (ToolTells c files text notes adapted)
+AnyTells c files text notes adapted =
+    OfEither (is_of_run c) (IsOutput c files text notes adapted) (ToolTells c files text notes adapted)
 
 abbrev pub AnyRefuses : Asked → Files → List ℕ → Type 0
 AnyRefuses c files report = OfEither (is_of_run c) (CommandRefuses c files report) (ToolRefuses c files report)

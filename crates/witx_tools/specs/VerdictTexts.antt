@@ -49,7 +49,11 @@ abbrev pub offered_by : Entry → traces.Offered
 offered_by e = record { function = function_of e.owned.func; lowered = e.lowered }
 
 abbrev pub listed_for : List DefinitionTree → Listed
-listed_for ds = record { definitions = ds; functions = map (λ f. offered_by (entry_for f)) (all_functions ds); layouts = all_layouts ds }
+listed_for ds = record {
+  definitions = ds;
+  functions = map (λ f. offered_by (entry_for f)) (all_functions ds);
+  layouts = all_layouts ds;
+}
 
 abbrev pub unfit_report : ℕ → List ℕ
 unfit_report number = codes "listing: unexpected line " ++ decimal number

@@ -1,11 +1,9 @@
 //! The check of a list of imports against a document.
 
-ghost use Rattle.std.specs.Prelude.{◌≡◌, ◌++◌, IfErr, IfOk, None, OnOk, Ok, Some, codes, map, option_copied, option_map, string_bytes};
+ghost use Rattle.std.specs.Prelude.{◌≡◌, ◌++◌, IfErr, IfOk, OnOk, Ok, Some, codes, map, option_copied, option_map, string_bytes};
 ghost use Rattle.std.specs.Fmt.{decimal};
 ghost use Rattle.std.specs.List.{flat_map};
 ghost use Rattle.witx_files.specs.Files.{held};
-ghost use Rattle.witx_files.specs.declared.fault.IoFault.{IoFault};
-ghost use Rattle.witx_walk.specs.ErrorReports.{io_report};
 ghost use Rattle.witx_imports.specs.Faults.{offered};
 ghost use Rattle.witx_imports.specs.Reads.{Reads};
 ghost use Rattle.witx_commands.specs.Stops.{StopsWith};
@@ -15,7 +13,7 @@ ghost use Rattle.witx_tools.specs.ImportTexts.{IsBadList, asked_text, bad_report
 ghost use Rattle.witx_tools.specs.ToolCauses.{ToolRefuses};
 ghost use Rattle.witx_tools.specs.ToolRuns.{ToolTells};
 
-use crate::own::{adapted_words, file_path, own_text};
+use crate::own::opened_file;
 use std::alloc::{AllocError, Global};
 use witx::{Output, OwnFile, Refusal, Stop};
 use witx_adapt::{Adapted, AdaptedFunc, put_quoted, put_signature};
@@ -30,14 +28,13 @@ use witx_imports::{
 /// behind it.
 #[tactic(auto, using(crate::proofs::Telling::import_rules))]
 pub fn faults_of_files(alloc: Global, own: &OwnFile<'_>, files: &mut MockFs) -> Result<Output, Stop>
-    ensures output { IfOk result (λ o. ToolTells (asked.imports (own_file own.now)) files.old o.text o.notes o.adapted) }
+    ensures output { IfOk result (λ o.
+        ToolTells (asked.imports (own_file own.now)) files.old o.text o.notes o.adapted) }
     ensures stopped { IfErr result (StopsWith (ToolRefuses (asked.imports (own_file own.now)) files.old)) }
 {
-    let path = file_path(alloc, own)?;
-    let list = own_text(alloc, &path, files)?;
-    let adapted = adapted_words(alloc, own.paths, files)?;
-    let imports = listed_imports(alloc, &path, list.as_str())?;
-    let text = faults_text(alloc, &adapted, &imports)?;
+    let opened = opened_file(alloc, own, files)?;
+    let imports = listed_imports(alloc, &opened.path, opened.text.as_str())?;
+    let text = faults_text(alloc, &opened.adapted, &imports)?;
     Ok(text_alone(alloc, text))
 }
 
@@ -65,7 +62,9 @@ fn bad_stop(alloc: Global, path: &WitxPath, line: usize, column: usize) -> Stop
 }
 
 fn bad_report(alloc: Global, path: &str, line: usize, column: usize) -> Result<Text, OutOfMemory>
-    ensures { IfOk result (λ report. report ≡ path.now ++ (codes ":" ++ (decimal line ++ (codes ":" ++ (decimal column ++ codes ": not an import"))))) }
+    ensures { IfOk result (λ report.
+        report ≡ path.now ++ (codes ":"
+        ++ (decimal line ++ (codes ":" ++ (decimal column ++ codes ": not an import"))))) }
 {
     Ok(Text::from_string(format!(in alloc; "{path}:{line}:{column}: not an import")?))
 }
@@ -108,7 +107,8 @@ fn put_fault(
     imports: &[WasmImport],
     fault: &ImportFault,
 ) -> Result<(), AllocError>
-    ensures { OnOk result (string_bytes text.new ≡ string_bytes text.old ++ fault_line (map offered functions.now) imports.now fault.now) }
+    ensures { OnOk result (string_bytes text.new ≡ string_bytes text.old
+        ++ fault_line (map offered functions.now) imports.now fault.now) }
 {
     match fault {
         ImportFault::Missing { index } => put_missing(text, imports.get(*index)),
@@ -145,7 +145,8 @@ fn put_differs(
 
 /// The line of an import that differs from what an entry offers, with both signatures.
 fn put_both(text: &mut String, import: &WasmImport, entry: &AdaptedFunc) -> Result<(), AllocError>
-    ensures { OnOk result (string_bytes text.new ≡ string_bytes text.old ++ differs_line (Some import.now) (Some (offered entry.now))) }
+    ensures { OnOk result (string_bytes text.new ≡ string_bytes text.old
+        ++ differs_line (Some import.now) (Some (offered entry.now))) }
 {
     text.push_str("differs ")?;
     put_asked(text, import)?;

@@ -20,7 +20,7 @@ ghost use Rattle.witx_tools.specs.InvokeTexts.{byte_text, call_text, note_line, 
 ghost use Rattle.witx_tools.specs.ToolCauses.{ToolRefuses};
 ghost use Rattle.witx_tools.specs.ToolRuns.{ToolTells};
 
-use crate::own::{adapted_words, file_path, own_text};
+use crate::own::opened_file;
 use std::alloc::{AllocError, Global};
 use std::fmt::Write;
 use witx::{Output, OwnFile, Refusal, Stop};
@@ -52,15 +52,13 @@ pub fn call_of_files(
 {
     one_reading();
     traces_take_writable();
-    let path = file_path(alloc, own)?;
-    let values = own_text(alloc, &path, files)?;
-    let adapted = adapted_words(alloc, own.paths, files)?;
+    let opened = opened_file(alloc, own, files)?;
     let text = named_call(
         alloc,
-        adapted.functions.as_slice(),
+        opened.adapted.functions.as_slice(),
         owner.as_str(),
         function.as_str(),
-        values.as_str(),
+        opened.text.as_str(),
     )?;
     Ok(text_alone(alloc, text))
 }
@@ -86,7 +84,7 @@ fn named_call(
 
 /// The number of the first function with these names.
 fn number_named(functions: &[AdaptedFunc], owner: &str, function: &str) -> Option<usize>
-    ensures { result ≡ position (λ f. has_names (record { owner = owner.now; function = function.now }) (entry_of f)) functions.now }
+    ensures { result ≡ position (λ f. has_names (names_of owner.now function.now) (entry_of f)) functions.now }
 {
     functions
         .iter()
@@ -94,14 +92,14 @@ fn number_named(functions: &[AdaptedFunc], owner: &str, function: &str) -> Optio
 }
 
 fn has_names(entry: &AdaptedFunc, owner: &str, function: &str) -> bool
-    ensures { result ≡ has_names (record { owner = owner.now; function = function.now }) (entry_of entry.now) }
+    ensures { result ≡ has_names (names_of owner.now function.now) (entry_of entry.now) }
 {
     entry.module.name.is(owner) && entry.func.name.is(function)
 }
 
 /// The end of a run whose document has no such function.
 fn absent_stop(alloc: Global, owner: &str, function: &str) -> Stop
-    ensures { StopsWith (λ report. report ≡ absent_report (record { owner = owner.now; function = function.now })) result }
+    ensures { StopsWith (λ report. report ≡ absent_report (names_of owner.now function.now)) result }
 {
     match absent_report(alloc, owner, function) {
         Ok(report) => Stop::Refused(Refusal::Command(report)),
@@ -110,7 +108,7 @@ fn absent_stop(alloc: Global, owner: &str, function: &str) -> Stop
 }
 
 fn absent_report(alloc: Global, owner: &str, function: &str) -> Result<Text, OutOfMemory>
-    ensures { IfOk result (λ report. report ≡ absent_report (record { owner = owner.now; function = function.now })) }
+    ensures { IfOk result (λ report. report ≡ absent_report (names_of owner.now function.now)) }
 {
     Ok(Text::from_string(format!(in alloc; "no function `{function}` in module `{owner}`")?))
 }
@@ -216,7 +214,8 @@ fn put_call(alloc: Global, text: &mut String, invoked: &Invoked) -> Result<(), O
 
 /// Words behind what they are.
 fn put_words_line(text: &mut String, name: &str, words: &[Word]) -> Result<(), AllocError>
-    ensures { OnOk result (string_bytes text.new ≡ string_bytes text.old ++ words_line name.now (map word_of words.now)) }
+    ensures { OnOk result (string_bytes text.new ≡ string_bytes text.old
+        ++ words_line name.now (map word_of words.now)) }
 {
     text.push_str(name)?;
     put_words(text, words)?;
@@ -225,7 +224,8 @@ fn put_words_line(text: &mut String, name: &str, words: &[Word]) -> Result<(), A
 
 #[tactic(auto, using(crate::proofs::Shims::viewed_rules))]
 fn put_words(text: &mut String, words: &[Word]) -> Result<(), AllocError>
-    ensures { OnOk result (string_bytes text.new ≡ string_bytes text.old ++ flat_map word_text (map word_of words.now)) }
+    ensures { OnOk result (string_bytes text.new ≡ string_bytes text.old
+        ++ flat_map word_text (map word_of words.now)) }
 {
     for word in words {
         put_word(text, *word)?;
@@ -275,7 +275,8 @@ fn put_value_line(
     name: &str,
     value: &Value,
 ) -> Result<(), OutOfMemory>
-    ensures { OnOk result (string_bytes text.new ≡ string_bytes text.old ++ (name.now ++ text_of (seen value.now) ++ codes "\n")) }
+    ensures { OnOk result (string_bytes text.new ≡ string_bytes text.old
+        ++ (name.now ++ text_of (seen value.now) ++ codes "\n")) }
 {
     let written = value_text(alloc, value)?;
     text.push_str(name)?;
@@ -289,7 +290,8 @@ fn put_returned(
     text: &mut String,
     returned: &Option<Value>,
 ) -> Result<(), OutOfMemory>
-    ensures { OnOk result (string_bytes text.new ≡ string_bytes text.old ++ returned_line (option_map seen returned.now)) }
+    ensures { OnOk result (string_bytes text.new ≡ string_bytes text.old
+        ++ returned_line (option_map seen returned.now)) }
 {
     match returned {
         Some(value) => put_value_line(alloc, text, "return ", value),
@@ -301,7 +303,8 @@ fn put_returned(
 #[tactic(auto, using(crate::proofs::Shims::viewed_rules))]
 fn put_ranges(text: &mut String, taken: &[Placed], memory: &ByteMemory) -> Result<(), AllocError>
     requires { All (λ p. p.at + p.len ≤ 2 ^ 20) taken.now }
-    ensures { OnOk result (string_bytes text.new ≡ string_bytes text.old ++ flat_map (range_line (held memory.now)) (map placed_of taken.now)) }
+    ensures { OnOk result (string_bytes text.new ≡ string_bytes text.old
+        ++ flat_map (range_line (held memory.now)) (map placed_of taken.now)) }
 {
     for range in taken {
         put_range(text, *range, memory)?;
@@ -311,7 +314,8 @@ fn put_ranges(text: &mut String, taken: &[Placed], memory: &ByteMemory) -> Resul
 
 fn put_range(text: &mut String, range: Placed, memory: &ByteMemory) -> Result<(), AllocError>
     requires { range.at + range.len ≤ 2 ^ 20 }
-    ensures { OnOk result (string_bytes text.new ≡ string_bytes text.old ++ range_line (held memory.now) (placed_of range)) }
+    ensures { OnOk result (string_bytes text.new ≡ string_bytes text.old
+        ++ range_line (held memory.now) (placed_of range)) }
 {
     put_address(text, range.at)?;
     put_bytes(text, range, memory)?;
@@ -345,7 +349,8 @@ fn put_byte(text: &mut String, byte: Option<u8>) -> Result<(), AllocError>
 }
 
 fn put_digits(text: &mut String, byte: u8) -> Result<(), AllocError>
-    ensures { OnOk result (string_bytes text.new ≡ string_bytes text.old ++ (codes " " ++ digit (byte / 16) ∷ digit (byte % 16) ∷ [])) }
+    ensures { OnOk result (string_bytes text.new ≡ string_bytes text.old
+        ++ (codes " " ++ digit (byte / 16) ∷ digit (byte % 16) ∷ [])) }
 {
     text.push_str(" ")?;
     text.push(hex_digit(byte / 16))?;

@@ -7,7 +7,7 @@ use witx::valid_is_not_refused;
 use witx_imports::no_fault_where_imports_are_read;
 use witx_invoke::lines_tell_values;
 use witx_traces::traces_leave_no_line_unfit;
-use witx_walk::{one_answer, one_reading};
+use witx_walk::one_reading;
 
 /// Words that have a form of `run` ask the same of `run_all`, and a run of that is one of this; any others of which
 /// it knows the form are a tool's.
@@ -23,7 +23,6 @@ pub fn valid_is_not_refused_by_tools()
 {
     valid_is_not_refused();
     no_fault_where_imports_are_read();
-    one_answer();
     traces_leave_no_line_unfit();
     one_reading();
     lines_tell_values();

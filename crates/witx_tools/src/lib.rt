@@ -29,10 +29,10 @@ pub use witx_verify::{Doubt, Verdict, verify};
 #[rattlefmt::skip]
 pub use witx::{
     AdaptError, Command, DONE, Forms, InputError, NO_BUNDLE, NO_FORM, NO_MEMORY, Output, OwnFile,
-    REFUSED, Ran, Refusal, Stop, TwoFiles, UNREAD, UNWRITTEN, adapt, adapted_or_stop, command_of,
-    constants_have_typenames, files_for, finish, has_form, mapped_modules, output_or_refusal,
-    paths_of, perform, put_refusal, put_text, put_whole, read_bundle, run, text_stop,
-    valid_files_are_not_refused, valid_is_not_refused,
+    REFUSED, Ran, Refusal, Stop, TwoFiles, UNREAD, UNWRITTEN, adapt, adapt_files, adapted_or_stop,
+    command_of, constants_have_typenames, files_for, finish, has_form, mapped_modules,
+    output_or_refusal, paths_of, perform, print_files, put_refusal, put_text, put_whole,
+    read_bundle, run, text_stop, valid_files_are_not_refused, valid_is_not_refused,
 };
 #[rattlefmt::skip]
 pub use witx::{

@@ -1,6 +1,6 @@
 //! What tools work on: the file of their own, and adapted documents. A tool is a command that `run` doesn't have.
 
-ghost use Rattle.std.specs.Prelude.{◌≡◌, IfErr, IfOk, None, OnOk, Ok, Some};
+ghost use Rattle.std.specs.Prelude.{◌≡◌, IfErr, IfOk, OnOk, Ok, Some};
 ghost use Rattle.witx_base.specs.Paths.{path_of};
 ghost use Rattle.witx_files.specs.Files.{held};
 ghost use Rattle.witx_files.specs.declared.fault.IoFault.{IoFault};
@@ -8,13 +8,13 @@ ghost use Rattle.witx_walk.specs.ErrorReports.{io_report};
 ghost use Rattle.witx_commands.specs.Adapting.{IsAdapted, Parses, defined};
 ghost use Rattle.witx_commands.specs.Reports.{AdaptingFails, IsTextReport};
 ghost use Rattle.witx_commands.specs.Stops.{StopsWith};
-ghost use Rattle.witx_commands.specs.Words.{paths_of};
-ghost use Rattle.witx_tools.specs.ToolCauses.{LacksOwn};
+ghost use Rattle.witx_commands.specs.Words.{own_file, paths_of};
+ghost use Rattle.witx_tools.specs.ToolCauses.{LacksOwn, OpeningFails};
 
 use std::alloc::Global;
 use witx::{OwnFile, Stop, adapted_or_stop, paths_of, text_stop};
 use witx_adapt::Adapted;
-use witx_base::{Duplicate, OutOfMemory, Text, WitxPath};
+use witx_base::{Duplicate, Text, WitxPath};
 use witx_files::{IoError, IoFault, MockFs, WitxIo};
 use witx_walk::WitxError;
 
@@ -31,16 +31,37 @@ pub fn adapted_words(alloc: Global, words: &[Text], files: &mut MockFs) -> Resul
     adapted_or_stop(alloc, paths.as_slice(), files)
 }
 
-/// The path of a tool's own file.
-pub fn file_path(alloc: Global, own: &OwnFile<'_>) -> Result<WitxPath, OutOfMemory>
-    ensures { IfOk result (λ path. path ≡ path_of own.now.file.now) }
+/// A tool's own file, and the adapted document of the files behind it.
+#[derive(Drop)]
+pub struct Opened {
+    pub path: WitxPath,
+    pub text: Text,
+    pub adapted: Adapted,
+}
+
+/// A tool's own file and then the document behind it, or the end of a run whose bundle lacks the one or has files
+/// for the other that can't be adapted.
+#[tactic(auto, using(crate::proofs::Telling::opening_rules))]
+pub fn opened_file(alloc: Global, own: &OwnFile<'_>, files: &mut MockFs) -> Result<Opened, Stop>
+    ensures path { IfOk result (λ o. o.path ≡ path_of own.now.file.now) }
+    ensures held { IfOk result (λ o. held files.old (path_of own.now.file.now) ≡ Some o.text) }
+    ensures document { IfOk result (λ o. Parses files.old (paths_of own.now.paths.now) (Ok (defined o.adapted))) }
+    ensures parts { IfOk result (λ o. IsAdapted o.adapted) }
+    ensures stopped { IfErr result (StopsWith (OpeningFails files.old (own_file own.now))) }
 {
-    WitxPath::new(alloc, own.file.as_str())
+    let path = WitxPath::new(alloc, own.file.as_str())?;
+    let text = own_text(alloc, &path, files)?;
+    let adapted = adapted_words(alloc, own.paths, files)?;
+    Ok(Opened {
+        path,
+        text,
+        adapted,
+    })
 }
 
 /// The text of a tool's own file, or the end of a run whose bundle lacks it.
 #[tactic(auto, using(crate::proofs::Telling::own_rules))]
-pub fn own_text(alloc: Global, path: &WitxPath, files: &mut MockFs) -> Result<Text, Stop>
+fn own_text(alloc: Global, path: &WitxPath, files: &mut MockFs) -> Result<Text, Stop>
     ensures held { IfOk result (λ text. held files.old path.now ≡ Some text) }
     ensures stopped { IfErr result (StopsWith (LacksOwn (Some path.now) files.old)) }
     ensures kept { OnOk result (files.new ≡ files.old) }

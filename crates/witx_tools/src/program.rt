@@ -31,7 +31,8 @@ pub fn run_all<S: Source, O: Sink, E: Sink>(
     out: &mut O,
     err: &mut E,
 ) -> Ran
-    ensures { IsRun (run_input (task_of_all words.now) S.left S.faults S.reads source.old source.new) result.status result.adapted
+    ensures { IsRun (run_input (task_of_all words.now) S.left S.faults S.reads source.old source.new)
+        result.status result.adapted
         (seen O.taken O.faults out.old out.new) (seen E.taken E.faults err.old err.new)
         (source.new ≡ source.old) (out.new ≡ out.old) (err.new ≡ err.old) }
 {
@@ -60,7 +61,8 @@ fn prepare_command<S: Source>(
     source: &mut S,
 ) -> Result<Output, Stop>
     requires { IsBounded (asked_by command.now) }
-    ensures { IsPrepared (run_input (any_task (asked_by command.now)) S.left S.faults S.reads source.old source.new) result
+    ensures { IsPrepared (run_input (any_task (asked_by command.now)) S.left S.faults S.reads source.old source.new)
+        result
         (source.new ≡ source.old) }
 {
     match files_for(alloc, command, source) {

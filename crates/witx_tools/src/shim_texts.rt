@@ -8,7 +8,7 @@ ghost use Rattle.witx_shim.specs.Refusals.{Refusal, Says, refusal_of};
 ghost use Rattle.witx_commands.specs.Stops.{StopsWith};
 ghost use Rattle.witx_commands.specs.Words as asked;
 ghost use Rattle.witx_commands.specs.Words.{two_files};
-ghost use Rattle.witx_tools.specs.ShimTexts.{function_lines, listed_line, module_line, module_lines, pass_line, passing_line, refusal_line, shims_text, spaced_number};
+ghost use Rattle.witx_tools.specs.ShimTexts.{function_lines, listed_line, module_lines, pass_line, passing_line, refusal_line, shims_text, spaced_number};
 ghost use Rattle.witx_tools.specs.ToolCauses.{ToolRefuses};
 ghost use Rattle.witx_tools.specs.MappedBy.{AreMapped, IsMapped};
 ghost use Rattle.witx_tools.specs.ToolRuns.{ToolTells};
@@ -58,7 +58,8 @@ fn put_modules(
     modules: &[ModulePolyfill],
 ) -> Result<(), OutOfMemory>
     requires { All AreMapped modules.now }
-    ensures { OnOk result (string_bytes text.new ≡ string_bytes text.old ++ flat_map module_lines (map module_view modules.now)) }
+    ensures { OnOk result (string_bytes text.new ≡ string_bytes text.old
+        ++ flat_map module_lines (map module_view modules.now)) }
 {
     for module in modules {
         put_module(alloc, text, module)?;
@@ -76,7 +77,8 @@ fn put_module(alloc: Global, text: &mut String, mapped: &ModulePolyfill) -> Resu
 }
 
 fn put_module_line(text: &mut String, old: &str, new: &str) -> Result<(), AllocError>
-    ensures { OnOk result (string_bytes text.new ≡ string_bytes text.old ++ (codes "module " ++ old.now ++ codes " by " ++ new.now ++ codes "\n")) }
+    ensures { OnOk result (string_bytes text.new ≡ string_bytes text.old
+        ++ (codes "module " ++ old.now ++ codes " by " ++ new.now ++ codes "\n")) }
 {
     write!(text, "module {old} by {new}\n")
 }
@@ -88,7 +90,8 @@ fn put_functions(
     functions: &[FuncPolyfill],
 ) -> Result<(), OutOfMemory>
     requires { All IsMapped functions.now }
-    ensures { OnOk result (string_bytes text.new ≡ string_bytes text.old ++ flat_map function_lines (map function_view functions.now)) }
+    ensures { OnOk result (string_bytes text.new ≡ string_bytes text.old
+        ++ flat_map function_lines (map function_view functions.now)) }
 {
     for function in functions {
         put_function(alloc, text, function)?;
@@ -117,7 +120,8 @@ fn put_listed(alloc: Global, text: &mut String, func: &InterfaceFunc) -> Result<
 /// Which of the old function's words go to the new one, or why there is no shim.
 fn put_passing(alloc: Global, text: &mut String, poly: &FuncPolyfill) -> Result<(), OutOfMemory>
     requires { IsMapped poly.now }
-    ensures { OnOk result (string_bytes text.new ≡ string_bytes text.old ++ passing_line (function_view poly.now) (refusal_of (function_view poly.now))) }
+    ensures { OnOk result (string_bytes text.new ≡ string_bytes text.old
+        ++ passing_line (function_view poly.now) (refusal_of (function_view poly.now))) }
 {
     match shim(alloc, poly) {
         Ok(shim) => put_pass(text, shim.pass.as_slice()),

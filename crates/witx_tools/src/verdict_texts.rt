@@ -13,7 +13,7 @@ ghost use Rattle.witx_tools.specs.ToolCauses.{ToolRefuses};
 ghost use Rattle.witx_tools.specs.ToolRuns.{ToolTells};
 ghost use Rattle.witx_tools.specs.VerdictTexts.{IsUnfitListing, doubt_text, found_text, judged_line, owned_of, unfit_report, verdict_line, verdicts_text};
 
-use crate::own::{adapted_words, file_path, own_text};
+use crate::own::opened_file;
 use std::alloc::{AllocError, Global};
 use std::fmt::Write;
 use witx::{Output, OwnFile, Refusal, Stop};
@@ -37,11 +37,9 @@ pub fn verdicts_of_files(
     ensures stopped { IfErr result (StopsWith (ToolRefuses (asked.verify (own_file own.now)) files.old)) }
 {
     functions_are_read_as_their_trees();
-    let path = file_path(alloc, own)?;
-    let listing = own_text(alloc, &path, files)?;
-    let adapted = adapted_words(alloc, own.paths, files)?;
-    let pairs = listed_traces(alloc, &adapted, listing.as_str())?;
-    let text = verdicts_text(alloc, &adapted, pairs.as_slice())?;
+    let opened = opened_file(alloc, own, files)?;
+    let pairs = listed_traces(alloc, &opened.adapted, opened.text.as_str())?;
+    let text = verdicts_text(alloc, &opened.adapted, pairs.as_slice())?;
     Ok(text_alone(alloc, text))
 }
 
@@ -109,7 +107,8 @@ fn put_judged(
     entry: &AdaptedFunc,
     pair: &TracePair,
 ) -> Result<(), OutOfMemory>
-    ensures { OnOk result (string_bytes text.new ≡ string_bytes text.old ++ judged_line (owned_of entry.now) (sides_of pair.now)) }
+    ensures { OnOk result (string_bytes text.new ≡ string_bytes text.old
+        ++ judged_line (owned_of entry.now) (sides_of pair.now)) }
 {
     functions_are_read_as_their_trees();
     let found = verify(
@@ -140,7 +139,8 @@ fn put_found(text: &mut String, found: Verdict) -> Result<(), AllocError>
 }
 
 fn put_no(text: &mut String, doubt: Doubt) -> Result<(), AllocError>
-    ensures { OnOk result (string_bytes text.new ≡ string_bytes text.old ++ (codes " no " ++ doubt_text doubt ++ codes "\n")) }
+    ensures { OnOk result (string_bytes text.new ≡ string_bytes text.old
+        ++ (codes " no " ++ doubt_text doubt ++ codes "\n")) }
 {
     text.push_str(" no ")?;
     put_doubt(text, doubt)?;
