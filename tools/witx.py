@@ -19,8 +19,9 @@ README.md says what each writes. Those of this script:
 
 check      what is wrong with the imports of a WebAssembly module against the document of the files; status 1 where
            something is
---prove    proves every crate that the program stands on, side by side, and builds it, in about an hour on four
-           processors. It can be stopped and begun again: a crate that is proved stays so
+--prove    proves every crate that the program stands on, and builds it, in about an hour on four processors. As many are
+           proved at a time as processors and memory allow, or as RT_JOBS says. It can be stopped and begun again: a
+           crate that is proved stays so
 """
 
 
