@@ -14,8 +14,8 @@ import time
 import programs
 from repository import TOP, libraries, with_libraries
 
-# The program, and the one behind tools/imports-of; with words by which each ends at once on no input.
-PROGRAMS = {"witx_cli": ["print"], "witx_imports_of": []}
+# The program, the one behind tools/imports-of, and the one that writes headers; with words by which each ends at once on no input.
+PROGRAMS = {"witx_cli": ["print"], "witx_imports_of": [], "witx_header_of": []}
 # The memory that one proof may take, in bytes.
 MEMORY = 4 << 30
 # Seconds of a processor for a line of code, and as many lines as if a proof of them had told it.
