@@ -1,14 +1,17 @@
 -- Computed examples of a header: a literal, a comment, WASI's clock subscription and its choice of subscriptions with the numbers
--- that wasi-libc's header asserts of them, an enum, flags, and the import of a call.
+-- that wasi-libc's header asserts of them, an enum, flags, the import of a call, and a caller's side.
 use Rattle.std.specs.Prelude.{◌≡◌, refl, [], ◌∷◌, false, codes}
 use Rattle.std.specs.Fmt.{digits}
 use Rattle.std.specs.Str.{chars}
 use Rattle.witx_ast.specs.declared.types.BuiltinType.{BuiltinType}
 use Rattle.witx_ast.specs.declared.types.IntRepr.{IntRepr}
 use Rattle.witx_ast.specs.declared.types.RecordKind.{RecordKind}
+use Rattle.witx_ast.specs.declared.function.Abi.{Abi}
 use Rattle.witx_ast.specs.Tree.{Tree, Fields, Arms}
+use Rattle.witx_ast.specs.Functions.{FunctionTree}
 use Rattle.witx_machine.specs.declared.surface.WasmType.{WasmType}
 use Rattle.witx_header.specs.CNames.{comment, literal, member_name}
+use Rattle.witx_header.specs.Bodies.{body_lines}
 use Rattle.witx_header.specs.Headers.{prototype}
 use Rattle.witx_header.specs.Typedefs.{typename_lines}
 
@@ -54,3 +57,24 @@ an_import : prototype (codes "wasi_snapshot_preview1") (codes "fd_seek") (WasmTy
     ≡ codes "int32_t __imported_wasi_snapshot_preview1_fd_seek(int32_t arg0, int64_t arg1, int32_t arg2, int32_t arg3) __attribute__((\n    __import_module__(\"wasi_snapshot_preview1\"),\n    __import_name__(\"fd_seek\")\n));\n\n"
 unfolding digits
 an_import = refl
+
+-- a call with a list, a result that is stored, and an error
+abbrev size : Tree
+size = Tree.named (codes "size") (Tree.builtin (BuiltinType.U32 false)) []
+
+abbrev errno : Tree
+errno = Tree.named (codes "errno") (Tree.variant_of IntRepr.U8 (Arms.bare (codes "success") [] (Arms.bare (codes "full") [] Arms.no_arms))) []
+
+abbrev write : FunctionTree
+write = record {
+  abi = Abi.Preview1;
+  name = codes "write";
+  params = (record { called = codes "text"; tree = Tree.list_of (Tree.builtin BuiltinType.Char); comment = [] }) ∷ [];
+  results = (record { called = codes "written"; tree = Tree.variant_of IntRepr.U32 (Arms.carries (codes "ok") size [] (Arms.carries (codes "err") errno [] Arms.no_arms)); comment = [] }) ∷ [];
+  noreturn = false;
+  comment = [];
+}
+
+a_side : body_lines (codes "log") write ≡ codes "/* The caller's side:\n    // value0: struct { char const *ptr; size_t len; } text\n    __auto_type t0 = value0;\n    int32_t t1 = (int32_t)t0.ptr, t2 = (int32_t)t0.len;\n    __wasi_size_t space0;\n    int32_t t3 = (int32_t)&space0;\n    int32_t returned = __imported_log_write(t1, t2, t3), t4 = returned;\n    // block\n    int32_t t5 = (int32_t)&space0;\n    __wasi_size_t t6 = *(__wasi_size_t const *)t5;\n    // end, gives t6\n    // block\n    __auto_type t7 = returned;\n    __wasi_errno_t t8 = (__wasi_errno_t)t7;\n    // end, gives t8\n    __auto_type t9 = t4; // 0: what the first block gives, else the second\n    return t9;\n*/\n\n"
+unfolding digits
+a_side = refl

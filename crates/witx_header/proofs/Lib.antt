@@ -4,4 +4,6 @@ pub mod Reading
 pub mod Typing
 pub mod Numbered
 pub mod Declaring
+pub mod Calls
+pub mod Sides
 mod Examples

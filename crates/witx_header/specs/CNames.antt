@@ -19,6 +19,10 @@ upper_byte b = to_ascii_uppercase (word_byte b)
 abbrev pub c_upper : List ℕ → List ℕ
 c_upper name = map upper_byte name
 
+-- a function of a module, as it is imported
+abbrev pub imported_name : (owner name : List ℕ) → List ℕ
+imported_name owner name = codes "__imported_" ++ c_name owner ++ codes "_" ++ c_name name
+
 abbrev pub begins_with_digit : List ℕ → Bool
 begins_with_digit [] = false
 begins_with_digit (b ∷ bs) = is_ascii_digit b

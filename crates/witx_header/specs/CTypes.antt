@@ -7,6 +7,7 @@ use Rattle.witx_ast.specs.declared.types.RecordKind.{RecordKind}
 use Rattle.witx_ast.specs.Tree.{Tree, Fields, Arms, arm_list, behind}
 use Rattle.witx_ast.specs.TypeNames.{is_char}
 use Rattle.witx_ast.specs.Words.{repr_builtin, all_arms_bare}
+use Rattle.witx_machine.specs.declared.surface.WasmType.{WasmType}
 use Rattle.witx_header.specs.CNames.{c_name, member_name}
 
 abbrev pub typedef_name : List ℕ → List ℕ
@@ -27,6 +28,13 @@ builtin_word BuiltinType.F64 = codes "double"
 
 abbrev pub repr_word : IntRepr → List ℕ
 repr_word repr = builtin_word (repr_builtin repr)
+
+-- the type of a word
+abbrev pub wasm_word : WasmType → List ℕ
+wasm_word WasmType.I32 = codes "int32_t"
+wasm_word WasmType.I64 = codes "int64_t"
+wasm_word WasmType.F32 = codes "float"
+wasm_word WasmType.F64 = codes "double"
 
 -- a part of a struct or a union that is written on one line
 abbrev pub part_text : (type name : List ℕ) → List ℕ

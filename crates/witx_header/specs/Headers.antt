@@ -1,5 +1,5 @@
 -- The header of a document, whole: a front, the lines of each definition in order, and a back. A constant is a macro, a
--- module has the prototypes of its functions as WebAssembly imports them, by their signatures' words.
+-- module has the prototypes of its functions as WebAssembly imports them, by their signatures' words, each with its caller's side.
 use Rattle.std.specs.Prelude.{ℕ, ◌+◌, ◌==◌, List, [], ◌∷◌, ◌++◌, Bool, codes, if◌then◌else◌}
 use Rattle.std.specs.List.{flat_map}
 use Rattle.std.specs.Fmt.{decimal}
@@ -10,7 +10,9 @@ use Rattle.witx_ast.specs.Definitions.{DefinitionTree, ModuleTree, typename_of, 
 use Rattle.witx_machine.specs.declared.surface.WasmType.{WasmType}
 use Rattle.witx_machine.specs.Functions.{function_of}
 use Rattle.witx_machine.specs.Signature.{signature_params, signature_results}
-use Rattle.witx_header.specs.CNames.{c_name, comment, literal}
+use Rattle.witx_header.specs.CNames.{comment, imported_name, literal}
+use Rattle.witx_header.specs.CTypes.{wasm_word}
+use Rattle.witx_header.specs.Bodies.{body_lines}
 use Rattle.witx_header.specs.Typedefs.{define, typename_lines, typename_numbers}
 
 abbrev pub front : List ℕ
@@ -21,12 +23,6 @@ back = codes "#ifdef __cplusplus\n}\n#endif\n"
 
 abbrev pub constant_lines : Constant → List ℕ
 constant_lines c = comment [] c.docs ++ (define c.ty c.name ++ codes "UINT64_C(" ++ decimal c.value ++ codes ")\n\n")
-
-abbrev pub wasm_word : WasmType → List ℕ
-wasm_word WasmType.I32 = codes "int32_t"
-wasm_word WasmType.I64 = codes "int64_t"
-wasm_word WasmType.F32 = codes "float"
-wasm_word WasmType.F64 = codes "double"
 
 -- the word that comes back; a function that can be lowered has no second one
 abbrev pub result_text : List WasmType → List ℕ
@@ -51,13 +47,16 @@ noreturn_line noreturn = if noreturn then codes "    __noreturn__,\n" else []
 -- a function's declaration, for its module and its words
 abbrev pub prototype : (owner name : List ℕ) → (params results : List WasmType) → (noreturn : Bool) → List ℕ
 prototype owner name params results noreturn =
-    (result_text results ++ codes " __imported_" ++ c_name owner ++ codes "_" ++ c_name name)
+    (result_text results ++ codes " " ++ imported_name owner name)
     ++ (codes "(" ++ params_text params ++ codes ") __attribute__((\n")
     ++ noreturn_line noreturn
     ++ (codes "    __import_module__(" ++ literal owner ++ codes "),\n    __import_name__(" ++ literal name ++ codes ")\n));\n\n")
 
+abbrev pub import_lines : (owner : List ℕ) → FunctionTree → List ℕ
+import_lines owner f = prototype owner f.name (signature_params (function_of f)) (signature_results (function_of f)) f.noreturn
+
 abbrev pub func_lines : (owner : List ℕ) → FunctionTree → List ℕ
-func_lines owner f = comment [] f.comment ++ prototype owner f.name (signature_params (function_of f)) (signature_results (function_of f)) f.noreturn
+func_lines owner f = comment [] f.comment ++ import_lines owner f ++ body_lines owner f
 
 abbrev pub item_lines : (owner : List ℕ) → ItemTree → List ℕ
 item_lines owner (import_of i) = []

@@ -2,33 +2,49 @@
 
 ghost use Rattle.std.specs.Prelude.{◌≡◌, ◌++◌, OnOk, codes, string_bytes};
 ghost use Rattle.witx_ast.specs.Functions.{func_tree};
-ghost use Rattle.witx_header.specs.CNames.{c_name, literal};
-ghost use Rattle.witx_header.specs.Headers.{func_lines, noreturn_line, param_text, params_from, params_text, prototype, result_text, wasm_word};
+ghost use Rattle.witx_header.specs.CNames.{imported_name, literal};
+ghost use Rattle.witx_header.specs.Headers.{func_lines, import_lines, noreturn_line, param_text, params_from, params_text, prototype, result_text};
 
+use crate::bodies::put_body;
 use crate::comments::put_comment;
-use crate::names::{put_literal, put_name};
+use crate::names::{put_imported_name, put_literal};
+use crate::types::wasm_word;
 use std::alloc::{AllocError, Global};
 use std::fmt::Write;
 use witx_ast::InterfaceFunc;
-use witx_base::OutOfMemory;
+use witx_base::{Id, OutOfMemory};
 use witx_instructions::{functions_are_read_as_their_trees, words_back};
 use witx_lowering::words_in;
 use witx_machine::WasmType;
 
-/// Appends the prototype of a function of a module, below its documentation.
+/// Appends the prototype of a function of a module, below its documentation, and its caller's side.
 #[tactic(auto, using(crate::proofs::Appending::piece_rules))]
 pub fn put_func(
+    alloc: Global,
+    text: &mut String,
+    owner: &Id,
+    func: &InterfaceFunc,
+) -> Result<(), OutOfMemory>
+    ensures { OnOk result (string_bytes text.new ≡ string_bytes text.old ++ func_lines owner.now (func_tree func.now)) }
+{
+    put_comment(text, "", func.docs.as_str())?;
+    put_import(alloc, text, owner.as_str(), func)?;
+    put_body(alloc, text, owner, func)?;
+    Ok(())
+}
+
+/// Appends the prototype of a function of a module.
+fn put_import(
     alloc: Global,
     text: &mut String,
     owner: &str,
     func: &InterfaceFunc,
 ) -> Result<(), OutOfMemory>
-    ensures { OnOk result (string_bytes text.new ≡ string_bytes text.old ++ func_lines owner.now (func_tree func.now)) }
+    ensures { OnOk result (string_bytes text.new ≡ string_bytes text.old ++ import_lines owner.now (func_tree func.now)) }
 {
     functions_are_read_as_their_trees();
     let params = words_in(alloc, func)?;
     let results = words_back(alloc, func)?;
-    put_comment(text, "", func.docs.as_str())?;
     put_prototype(
         text,
         owner,
@@ -66,13 +82,11 @@ fn put_declared(
     results: &[WasmType],
 ) -> Result<(), AllocError>
     ensures { OnOk result (string_bytes text.new ≡ string_bytes text.old
-        ++ (result_text results.now ++ codes " __imported_" ++ c_name owner.now ++ codes "_" ++ c_name name.now)) }
+        ++ (result_text results.now ++ codes " " ++ imported_name owner.now name.now)) }
 {
     text.push_str(result_text(results))?;
-    text.push_str(" __imported_")?;
-    put_name(text, owner)?;
-    text.push_str("_")?;
-    put_name(text, name)
+    text.push_str(" ")?;
+    put_imported_name(text, owner, name)
 }
 
 fn result_text(results: &[WasmType]) -> &'static str
@@ -81,17 +95,6 @@ fn result_text(results: &[WasmType]) -> &'static str
     match results {
         [] => "void",
         [word, ..] => wasm_word(*word),
-    }
-}
-
-fn wasm_word(word: WasmType) -> &'static str
-    ensures { result.now ≡ wasm_word word }
-{
-    match word {
-        WasmType::I32 => "int32_t",
-        WasmType::I64 => "int64_t",
-        WasmType::F32 => "float",
-        WasmType::F64 => "double",
     }
 }
 

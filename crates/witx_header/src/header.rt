@@ -16,7 +16,7 @@ use crate::values::{put_define, put_values};
 use std::alloc::{AllocError, Global};
 use std::fmt::Write;
 use witx_ast::{Constant, Definition, Document, Module, ModuleDefinition, NamedType};
-use witx_base::{OutOfMemory, Text};
+use witx_base::{Id, OutOfMemory, Text};
 use witx_layout::LayoutError;
 
 /// The header of a document, in C for 32-bit WebAssembly: for each definition, in order, a typename's typedef with its
@@ -115,19 +115,14 @@ fn put_module(alloc: Global, text: &mut String, module: &Module) -> Result<(), O
 {
     put_comment(text, "", module.docs.as_str())?;
     text.push('\n')?;
-    put_items(
-        alloc,
-        text,
-        module.name.as_str(),
-        module.definitions().as_slice(),
-    )
+    put_items(alloc, text, &module.name, module.definitions().as_slice())
 }
 
 #[tactic(auto, using(crate::proofs::Appending::appending_rules))]
 fn put_items(
     alloc: Global,
     text: &mut String,
-    owner: &str,
+    owner: &Id,
     items: &[ModuleDefinition],
 ) -> Result<(), OutOfMemory>
     ensures { OnOk result (string_bytes text.new ≡ string_bytes text.old ++ flat_map (item_lines owner.now) (map item_tree items.now)) }
@@ -141,7 +136,7 @@ fn put_items(
 fn put_item(
     alloc: Global,
     text: &mut String,
-    owner: &str,
+    owner: &Id,
     item: &ModuleDefinition,
 ) -> Result<(), OutOfMemory>
     ensures { OnOk result (string_bytes text.new ≡ string_bytes text.old ++ item_lines owner.now (item_tree item.now)) }

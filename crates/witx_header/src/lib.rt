@@ -2,11 +2,16 @@
 //! the prototypes of its functions as imports.
 #![tactic(auto)]
 
+mod bodies;
+mod body;
 mod comments;
 mod functions;
+mod handed;
 mod header;
 mod layouts;
+mod lines;
 mod names;
+mod telling;
 mod typedefs;
 mod types;
 mod values;

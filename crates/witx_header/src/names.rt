@@ -2,7 +2,7 @@
 
 ghost use Rattle.std.specs.Prelude.{◌≡◌, ◌+◌, ◌++◌, ◌<◌, ◌∷◌, [], OnOk, string_bytes};
 ghost use Rattle.std.specs.List.{flat_map};
-ghost use Rattle.witx_header.specs.CNames.{begins_with_digit, c_name, c_upper, literal, literal_byte, member_name, octal, stands_alone, upper_byte, word_byte};
+ghost use Rattle.witx_header.specs.CNames.{begins_with_digit, c_name, c_upper, imported_name, literal, literal_byte, member_name, octal, stands_alone, upper_byte, word_byte};
 ghost use Rattle.witx_header.specs.CTypes.{typedef_name};
 
 use std::alloc::AllocError;
@@ -85,6 +85,16 @@ pub fn put_typedef_name(text: &mut String, name: &str) -> Result<(), AllocError>
     text.push_str("__wasi_")?;
     put_name(text, name)?;
     text.push_str("_t")
+}
+
+/// Appends the name of a function of a module, as it is imported.
+pub fn put_imported_name(text: &mut String, owner: &str, name: &str) -> Result<(), AllocError>
+    ensures { OnOk result (string_bytes text.new ≡ string_bytes text.old ++ imported_name owner.now name.now) }
+{
+    text.push_str("__imported_")?;
+    put_name(text, owner)?;
+    text.push_str("_")?;
+    put_name(text, name)
 }
 
 /// Appends a text as a literal of C.

@@ -5,7 +5,7 @@ ghost use Rattle.witx_ast.specs.Tree.{arms_of, fields_of, list_of};
 ghost use Rattle.witx_ast.specs.TypeNames.{is_char};
 ghost use Rattle.witx_ast.specs.Tree.{behind};
 ghost use Rattle.witx_ast.specs.Views.{case_arm, datatype_tree, member_field, record_tree, tree_of, variant_tree};
-ghost use Rattle.witx_header.specs.CTypes.{builtin_word, members_text, part_text, payload_text, payloads_text, repr_word, struct_text, tagged_text, type_text};
+ghost use Rattle.witx_header.specs.CTypes.{builtin_word, members_text, part_text, payload_text, payloads_text, repr_word, struct_text, tagged_text, type_text, wasm_word};
 
 use crate::names::{put_member_name, put_typedef_name};
 use std::alloc::AllocError;
@@ -13,6 +13,7 @@ use witx_ast::{
     BuiltinType, Case, Datatype, IntRepr, RecordDatatype, RecordKind, RecordMember, TypeRef,
     Variant,
 };
+use witx_machine::WasmType;
 
 /// Appends the type of C for a type, on one line.
 #[cycle(typing)]
@@ -184,5 +185,17 @@ fn builtin_word(builtin: BuiltinType) -> &'static str
         BuiltinType::S64 => "int64_t",
         BuiltinType::F32 => "float",
         BuiltinType::F64 => "double",
+    }
+}
+
+/// The type of C for a word.
+pub fn wasm_word(word: WasmType) -> &'static str
+    ensures { result.now ≡ wasm_word word }
+{
+    match word {
+        WasmType::I32 => "int32_t",
+        WasmType::I64 => "int64_t",
+        WasmType::F32 => "float",
+        WasmType::F64 => "double",
     }
 }
