@@ -53,9 +53,7 @@ one-left (d ∷ cs) c =
 -- ---- the stack
 
 above : (low operands : List Variable) (n : ℕ) → length operands ≡ n → length (low ++ operands) - n ≡ length low
-above low operands n l =
-    let e = length-append low operands in
-    omega arith
+above low operands n l = omega (arith, length-append low operands)
 
 on-top : (low operands stack : List Variable) (n : ℕ) → stack ≡ low ++ operands → length operands ≡ n → topmost n stack ≡ operands
 on-top low operands stack n s l = ap (topmost n) s ∙ ap (λ k. drop k (low ++ operands)) (above low operands n l) ∙ drop-append_seam low operands
@@ -106,6 +104,7 @@ told-list (Some cs) = cs
 
 -- what a body holds, once it was called for these events
 pub caller-calls : (es : List Event) (held : List (Call Variable)) → OperandsInOrder es (Some []) (Some held) → AreNumbered 0 held → held ≡ calls_from 0 [] es
+unfolding told-list
 caller-calls es held o n =
     let is : held ≡ o.in_order.calls = ap told-list o.in_order.told in
     is ∙ calls-are 0 [] o.behind o.in_order.calls o.in_order.hand_on (subst (AreNumbered 0) is n) ∙ ap (calls_from 0 []) o.in_order.events
@@ -135,7 +134,35 @@ kept-more calls now h c w is = ap (map call_of) w ∙ map-append call_of calls (
 pub kept-numbered : (calls now : List Handed) (h : Handed) (c : Call Variable) (next after : ℕ) → now ≡ calls ++ h ∷ [] → call_of h ≡ c → Leaves next c → after ≡ next + left_by c
     → AreNumbered 0 (map call_of calls) → next ≡ left_by_all (map call_of calls) → AreNumbered 0 (map call_of now) × (after ≡ left_by_all (map call_of now))
 kept-numbered calls now h c next after w is l a n e =
-    let more = kept-more calls now h c w is in (
-      subst (AreNumbered 0) (sym more) (one-more 0 (map call_of calls) c n (subst (λ k. Leaves k c) e l)),
+    let more = kept-more calls now h c w is in
+    let from-0 : left_by_all (map call_of calls) ≡ 0 + left_by_all (map call_of calls) = omega arith in (
+      subst (AreNumbered 0) (sym more) (one-more 0 (map call_of calls) c n (subst (λ k. Leaves k c) (e ∙ from-0) l)),
       a ∙ ap (λ k. k + left_by c) e ∙ sym (one-left (map call_of calls) c) ∙ ap left_by_all (sym more),
     )
+
+pub kept-call : (before calls now : List Handed) (h : Handed) (c : Call Variable) → calls ≡ before → now ≡ calls ++ h ∷ [] → call_of h ≡ c
+    → Some (map call_of now) ≡ Some (map call_of before ++ c ∷ [])
+kept-call before calls now h c v w is = ap Some (kept-more calls now h c w is ∙ ap (λ cs. map call_of cs ++ c ∷ []) v)
+
+-- one that leaves no variable, and none
+pub kept-unmoved : (calls now : List Handed) (h : Handed) (c : Call Variable) (next : ℕ) → now ≡ calls ++ h ∷ [] → call_of h ≡ c → Leaves next c → left_by c ≡ 0
+    → AreNumbered 0 (map call_of calls) × (next ≡ left_by_all (map call_of calls)) → AreNumbered 0 (map call_of now) × (next ≡ left_by_all (map call_of now))
+kept-unmoved calls now h c next w is l none held =
+    let a : next ≡ next + left_by c = omega (arith, none) in
+    kept-numbered calls now h c next next w is l a held.0 held.1
+
+pub kept-same : (calls now : List Handed) (next : ℕ) → now ≡ calls → AreNumbered 0 (map call_of calls) × (next ≡ left_by_all (map call_of calls))
+    → AreNumbered 0 (map call_of now) × (next ≡ left_by_all (map call_of now))
+kept-same calls now next w held = subst (λ cs. AreNumbered 0 (map call_of cs) × (next ≡ left_by_all (map call_of cs))) (sym w) held
+
+-- what an instruction leaves, as many as it has results
+as-many : (first after count : ℕ) (x : Step) → after ≡ first + count → count ≡ results_count x → after - first ≡ results_count x
+as-many first after count x a n = omega (arith, a, n)
+
+pub filled : (first after count : ℕ) (x : Step) (results : List Variable) (len : ℕ) → after ≡ first + count → count ≡ results_count x
+    → results ≡ numbered first (after - first) → length results ≡ len → len ≡ results_count x
+filled first after count x results len a n r l = sym l ∙ ap length r ∙ numbered-length first (after - first) ∙ as-many first after count x a n
+
+pub leaves : (first after count : ℕ) (x : Step) (operands results : List Variable) → length operands ≡ operands_count x → after ≡ first + count
+    → count ≡ results_count x → results ≡ numbered first (after - first) → Leaves first (emitted x operands results)
+leaves first after count x operands results o a n r = (o, r ∙ ap (numbered first) (as-many first after count x a n))

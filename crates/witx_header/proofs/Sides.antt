@@ -1,10 +1,10 @@
 -- The values of a function's caller side, line by line, and which function it is of.
-use Rattle.std.proofs.Common.{◌≡◌, ℕ, ◌+◌, ◌<◌, ◌≤◌, List, [], ◌∷◌, ◌++◌, Option, None, Some, length, map, get_or, drop, sym, ap, ◌∙◌, append-nil, subst}
-use Rattle.witx_ast.specs.Functions.{FunctionTree, func_tree, param_field}
+use Rattle.std.proofs.Common.{◌≡◌, ℕ, ◌+◌, ◌<◌, ◌≤◌, List, [], ◌∷◌, ◌++◌, None, length, map, get_or, drop, sym, ap, ◌∙◌, append-nil, subst}
+use Rattle.std.specs.Prelude.{OnOk, Result}
+use Rattle.witx_ast.specs.Functions.{func_tree, param_field}
 use Rattle.witx_ast.specs.declared.function.InterfaceFunc.{InterfaceFunc}
 use Rattle.witx_ast.specs.declared.function.InterfaceFuncParam.{InterfaceFuncParam}
-use Rattle.witx_machine.specs.declared.surface.Place.{Place}
-use Rattle.witx_machine.specs.Functions.{Function, function_of}
+use Rattle.witx_machine.specs.Functions.{function_of}
 use Rattle.witx_machine.specs.Lowerable.{unlowerable}
 use Rattle.witx_machine.specs.Traces.{caller_events}
 use Rattle.witx_instructions.specs.Handed.{Call}
@@ -25,14 +25,14 @@ all-values xs i done total l e = sym (append-nil done) ∙ ap (λ ps. done ++ va
 
 pub ruleset value_rules = (all-values)
 
--- the side of a function that can be lowered, by the function as it is lowered; and of one that can't
-pub with-side : (f : InterfaceFunc) (owner start end : List ℕ) (calls : List (Call Variable)) → function_of (func_tree f) ≡ called f → None ≡ unlowerable (called f)
-    → calls ≡ calls_from 0 [] (caller_events owner (called f)) → end ≡ start ++ side_text (map param_field f.params) calls → end ≡ start ++ body_lines owner (func_tree f)
-with-side f owner start end calls same can are is =
-    is ∙ ap (λ cs. start ++ side_text (map param_field f.params) cs) (are ∙ ap (λ k. calls_from 0 [] (caller_events owner k)) (sym same))
-    ∙ ap (λ o. start ++ lowered_side o owner (func_tree f)) (can ∙ ap unlowerable (sym same))
+-- the side of a function that can be lowered, by the function as it is lowered
+side-is : (f : InterfaceFunc) (owner : List ℕ) (calls : List (Call Variable)) → function_of (func_tree f) ≡ called f → None ≡ unlowerable (called f)
+    → calls ≡ calls_from 0 [] (caller_events owner (called f)) → side_text (map param_field f.params) calls ≡ body_lines owner (func_tree f)
+side-is f owner calls same can are =
+    ap (side_text (map param_field f.params)) (are ∙ ap (λ k. calls_from 0 [] (caller_events owner k)) (sym same))
+    ∙ ap (λ o. lowered_side o owner (func_tree f)) (can ∙ ap unlowerable (sym same))
 
-pub without-side : (f : InterfaceFunc) (owner start end : List ℕ) (p : Place) → function_of (func_tree f) ≡ called f → Some p ≡ unlowerable (called f)
-    → end ≡ start → end ≡ start ++ body_lines owner (func_tree f)
-without-side f owner start end p same cannot is =
-    is ∙ sym (append-nil start) ∙ ap (λ o. start ++ lowered_side o owner (func_tree f)) (cannot ∙ ap unlowerable (sym same))
+pub with-side : {T E : Type 0} (r : Result T E) (f : InterfaceFunc) (owner start end : List ℕ) (calls : List (Call Variable)) → function_of (func_tree f) ≡ called f
+    → None ≡ unlowerable (called f) → calls ≡ calls_from 0 [] (caller_events owner (called f))
+    → OnOk r (end ≡ start ++ side_text (map param_field f.params) calls) → OnOk r (end ≡ start ++ body_lines owner (func_tree f))
+with-side r f owner start end calls same can are is = subst (λ t. OnOk r (end ≡ start ++ t)) (side-is f owner calls same can are) is

@@ -1,6 +1,7 @@
 //! The caller's side of a function, below its prototype.
 
 ghost use Rattle.std.specs.Prelude.{◌≡◌, ◌++◌, [], IfOk, OnOk, codes, map, string_bytes};
+ghost use Rattle.std.specs.Fmt.{decimal};
 ghost use Rattle.std.specs.List.{flat_map};
 ghost use Rattle.witx_ast.specs.Functions.{func_tree, param_field};
 ghost use Rattle.witx_machine.specs.Lowerable.{unlowerable};
@@ -91,9 +92,16 @@ fn put_values(text: &mut String, params: &[InterfaceFuncParam]) -> Result<(), Al
 fn put_value(text: &mut String, place: usize, param: &InterfaceFuncParam) -> Result<(), AllocError>
     ensures { OnOk result (string_bytes text.new ≡ string_bytes text.old ++ value_line place (param_field param.now)) }
 {
-    write!(text, "    // value{place}: ")?;
+    put_place(text, place)?;
     put_type(text, &param.tref)?;
     text.push_str(" ")?;
     put_name(text, param.name.as_str())?;
-    text.push_str("\n")
+    text.push_str("\n")?;
+    Ok(())
+}
+
+fn put_place(text: &mut String, place: usize) -> Result<(), AllocError>
+    ensures { OnOk result (string_bytes text.new ≡ string_bytes text.old ++ (codes "    // value" ++ decimal place ++ codes ": ")) }
+{
+    write!(text, "    // value{place}: ")
 }

@@ -15,5 +15,6 @@ mod telling;
 mod typedefs;
 mod types;
 mod values;
+mod variables;
 
 pub use header::header_text;

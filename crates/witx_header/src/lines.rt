@@ -6,12 +6,13 @@ ghost use Rattle.std.specs.List.{flat_map};
 ghost use Rattle.witx_ast.specs.Views.{named_tree, tree_of};
 ghost use Rattle.witx_instructions.specs.Views.{event_of, kept_step};
 ghost use Rattle.witx_header.specs.CTypes.{type_text};
-ghost use Rattle.witx_header.specs.Bodies.{address_line, behind_comma, call_begin, call_end, call_line, call_text, cast_line, cast_word, declared, end_line, list_line, load_line, member, own_line, result_line, return_line, returned_line, room_line, step_line, tuple_line, variable_text, variables_text, wasm_line};
+ghost use Rattle.witx_header.specs.Bodies.{address_line, call_begin, call_end, call_line, call_text, cast_line, cast_word, declared, end_line, list_line, load_line, member, own_line, result_line, return_line, returned_line, room_line, step_line, tuple_line, variable_text, variables_text, wasm_line};
 ghost use Rattle.witx_header.specs.Kept.{call_for, call_of};
 
 use crate::handed::{Handed, Variable};
-use crate::names::{put_imported_name, put_typedef_name};
-use crate::types::{put_type, wasm_word};
+use crate::names::put_imported_name;
+use crate::types::{put_type, put_typename, wasm_word};
+use crate::variables::{put_members, put_variable, put_variables};
 use std::alloc::{AllocError, Global};
 use std::fmt::Write;
 use witx_ast::{NamedType, TypeRef};
@@ -50,7 +51,14 @@ fn put_room(text: &mut String, slot: usize, ty: &NamedType) -> Result<(), AllocE
     ensures { OnOk result (string_bytes text.new ≡ string_bytes text.old ++ room_line slot (named_tree ty.now)) }
 {
     text.push_str("    ")?;
-    put_typedef_name(text, ty.name.as_str())?;
+    put_typename(text, ty)?;
+    put_slot(text, slot)?;
+    Ok(())
+}
+
+fn put_slot(text: &mut String, slot: usize) -> Result<(), AllocError>
+    ensures { OnOk result (string_bytes text.new ≡ string_bytes text.old ++ (codes " space" ++ decimal slot ++ codes ";\n")) }
+{
     write!(text, " space{slot};\n")
 }
 
@@ -68,7 +76,8 @@ fn put_value_end(text: &mut String, variable: Variable) -> Result<(), AllocError
 {
     text.push_str("    // end, gives ")?;
     put_variable(text, variable)?;
-    text.push_str("\n")
+    text.push_str("\n")?;
+    Ok(())
 }
 
 fn put_step(
@@ -253,7 +262,7 @@ fn named_word(alloc: Global, ty: &NamedType) -> Result<String, AllocError>
     ensures { IfOk result (λ word. string_bytes word ≡ type_text (named_tree ty.now)) }
 {
     let mut word = String::new(alloc);
-    put_typedef_name(&mut word, ty.name.as_str())?;
+    put_typename(&mut word, ty)?;
     Ok(word)
 }
 
@@ -360,7 +369,8 @@ fn put_length(text: &mut String, operands: &[Variable], len: Variable) -> Result
     put_variable(text, len)?;
     text.push_str(" = (int32_t)")?;
     put_variables(text, operands)?;
-    text.push_str(".len;\n")
+    text.push_str(".len;\n")?;
+    Ok(())
 }
 
 fn put_tuple(
@@ -388,26 +398,6 @@ fn put_tuple_type(
     put_members(text, operands)?;
     text.push_str("} ")?;
     put_variables(text, results)
-}
-
-#[tactic(auto, using(crate::proofs::Appending::appending_rules))]
-fn put_members(text: &mut String, operands: &[Variable]) -> Result<(), AllocError>
-    ensures { OnOk result (string_bytes text.new ≡ string_bytes text.old ++ flat_map member operands.now) }
-{
-    for operand in operands {
-        put_member(text, *operand)?;
-    }
-    Ok(())
-}
-
-fn put_member(text: &mut String, operand: Variable) -> Result<(), AllocError>
-    ensures { OnOk result (string_bytes text.new ≡ string_bytes text.old ++ member operand) }
-{
-    text.push_str("__typeof__(")?;
-    put_variable(text, operand)?;
-    text.push_str(") ")?;
-    put_variable(text, operand)?;
-    text.push_str("; ")
 }
 
 /// Appends the line of the call; the word that comes back has a name of its own.
@@ -474,7 +464,8 @@ fn put_kept_word(text: &mut String, results: &[Variable]) -> Result<(), AllocErr
 {
     text.push_str(", ")?;
     put_variables(text, results)?;
-    text.push_str(" = returned;\n")
+    text.push_str(" = returned;\n")?;
+    Ok(())
 }
 
 fn put_return(text: &mut String, operands: &[Variable]) -> Result<(), AllocError>
@@ -492,47 +483,4 @@ fn put_return_of(text: &mut String, operands: &[Variable]) -> Result<(), AllocEr
     text.push_str("    return ")?;
     put_variables(text, operands)?;
     text.push_str(";\n")
-}
-
-/// Appends variables, with commas between them.
-fn put_variables(text: &mut String, variables: &[Variable]) -> Result<(), AllocError>
-    ensures { OnOk result (string_bytes text.new ≡ string_bytes text.old ++ variables_text variables.now) }
-{
-    match variables {
-        [] => Ok(()),
-        [first, more @ ..] => put_first(text, *first, more),
-    }
-}
-
-fn put_first(text: &mut String, first: Variable, more: &[Variable]) -> Result<(), AllocError>
-    ensures { OnOk result (string_bytes text.new ≡ string_bytes text.old ++ (variable_text first ++ flat_map behind_comma more.now)) }
-{
-    put_variable(text, first)?;
-    put_more(text, more)?;
-    Ok(())
-}
-
-#[tactic(auto, using(crate::proofs::Appending::appending_rules))]
-fn put_more(text: &mut String, more: &[Variable]) -> Result<(), AllocError>
-    ensures { OnOk result (string_bytes text.new ≡ string_bytes text.old ++ flat_map behind_comma more.now) }
-{
-    for variable in more {
-        put_behind_comma(text, *variable)?;
-    }
-    Ok(())
-}
-
-fn put_behind_comma(text: &mut String, variable: Variable) -> Result<(), AllocError>
-    ensures { OnOk result (string_bytes text.new ≡ string_bytes text.old ++ behind_comma variable) }
-{
-    text.push_str(", ")?;
-    put_variable(text, variable)?;
-    Ok(())
-}
-
-fn put_variable(text: &mut String, variable: Variable) -> Result<(), AllocError>
-    ensures { OnOk result (string_bytes text.new ≡ string_bytes text.old ++ variable_text variable) }
-{
-    let number = variable.number;
-    write!(text, "t{number}")
 }

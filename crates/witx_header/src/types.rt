@@ -4,14 +4,14 @@ ghost use Rattle.std.specs.Prelude.{◌≡◌, ◌++◌, OnOk, map, option_map, 
 ghost use Rattle.witx_ast.specs.Tree.{arms_of, fields_of, list_of};
 ghost use Rattle.witx_ast.specs.TypeNames.{is_char};
 ghost use Rattle.witx_ast.specs.Tree.{behind};
-ghost use Rattle.witx_ast.specs.Views.{case_arm, datatype_tree, member_field, record_tree, tree_of, variant_tree};
+ghost use Rattle.witx_ast.specs.Views.{case_arm, datatype_tree, member_field, named_tree, record_tree, tree_of, variant_tree};
 ghost use Rattle.witx_header.specs.CTypes.{builtin_word, members_text, part_text, payload_text, payloads_text, repr_word, struct_text, tagged_text, type_text, wasm_word};
 
 use crate::names::{put_member_name, put_typedef_name};
 use std::alloc::AllocError;
 use witx_ast::{
-    BuiltinType, Case, Datatype, IntRepr, RecordDatatype, RecordKind, RecordMember, TypeRef,
-    Variant,
+    BuiltinType, Case, Datatype, IntRepr, NamedType, RecordDatatype, RecordKind, RecordMember,
+    TypeRef, Variant,
 };
 use witx_machine::WasmType;
 
@@ -25,6 +25,14 @@ pub fn put_type(text: &mut String, tref: &TypeRef) -> Result<(), AllocError>
         TypeRef::Name(named) => put_typedef_name(text, named.name.as_str()),
         TypeRef::Value(datatype) => put_datatype(text, datatype),
     }
+}
+
+/// Appends the type of C for a typename.
+#[tactic(auto, using(crate::proofs::Typing::typing_rules))]
+pub fn put_typename(text: &mut String, named: &NamedType) -> Result<(), AllocError>
+    ensures { OnOk result (string_bytes text.new ≡ string_bytes text.old ++ type_text (named_tree named.now)) }
+{
+    put_typedef_name(text, named.name.as_str())
 }
 
 /// Appends the type of C for a type that is written out, on one line.
