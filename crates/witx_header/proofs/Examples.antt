@@ -3,6 +3,7 @@
 use Rattle.std.specs.Prelude.{◌≡◌, refl, [], ◌∷◌, false, codes}
 use Rattle.std.specs.Fmt.{digits}
 use Rattle.std.specs.Str.{chars}
+use Rattle.witx_base.specs.Texts.{same_text}
 use Rattle.witx_ast.specs.declared.types.BuiltinType.{BuiltinType}
 use Rattle.witx_ast.specs.declared.types.IntRepr.{IntRepr}
 use Rattle.witx_ast.specs.declared.types.RecordKind.{RecordKind}
@@ -76,5 +77,5 @@ write = record {
 }
 
 a_side : body_lines (codes "log") write ≡ codes "/* The caller's side:\n    // value0: struct { char const *ptr; size_t len; } text\n    __auto_type t0 = value0;\n    int32_t t1 = (int32_t)t0.ptr, t2 = (int32_t)t0.len;\n    __wasi_size_t space0;\n    int32_t t3 = (int32_t)&space0;\n    int32_t returned = __imported_log_write(t1, t2, t3), t4 = returned;\n    // block\n    int32_t t5 = (int32_t)&space0;\n    __wasi_size_t t6 = *(__wasi_size_t const *)t5;\n    // end, gives t6\n    // block\n    __auto_type t7 = returned;\n    __wasi_errno_t t8 = (__wasi_errno_t)t7;\n    // end, gives t8\n    __auto_type t9 = t4; // 0: what the first block gives, else the second\n    return t9;\n*/\n\n"
-unfolding digits
+unfolding digits same_text
 a_side = refl
