@@ -1,6 +1,7 @@
 pub mod Ranges
 pub mod Calling
 pub mod Closing
+pub mod Meeting
 pub mod Handing
 pub mod Excluded
 pub mod Telling

@@ -110,6 +110,9 @@ modules-mapped : (ms : List ModulePolyfill) → Each AreMappedViews (map module_
 modules-mapped [] h = tt
 modules-mapped (m ∷ ms) h = (each-all IsMapped m.funcs (functions-mapped m.funcs h.0), modules-mapped ms h.1)
 
+pub mapped-module : (new old : ModuleTree) (m : ModulePolyfill) → module_answer new old ≡ Ok (module_view m) → AreMapped m
+mapped-module new old m e = each-all IsMapped m.funcs (functions-mapped m.funcs (module-mapped new old (module_view m) e))
+
 pub answers-mapped : (new old : List DefinitionTree) (pairs : List (List ℕ × List ℕ)) (ms : List ModulePolyfill) → polyfill_answer new old pairs ≡ Ok (map module_view ms)
     → All AreMapped ms
 answers-mapped new old pairs ms e = each-all AreMapped ms (modules-mapped ms (views-mapped new old pairs (map module_view ms) e))

@@ -3,6 +3,7 @@
 //! below about their definitions, and calls that they have for each other.
 #![tactic(auto)]
 
+mod conditions;
 mod import_texts;
 mod invoke_texts;
 mod laws;
@@ -12,8 +13,13 @@ mod program;
 mod shim_texts;
 mod verdict_texts;
 
+pub use conditions::{
+    adapted_meets_conditions, given_values_meet_conditions, mapped_module_meets_conditions,
+    new_validator_meets_conditions, polyfill_meets_conditions,
+};
 pub use laws::{commands_of_both, shims_tell_two_refusals, valid_is_not_refused_by_tools};
 pub use program::run_all;
+pub use witx_error_texts::ErrorText;
 pub use witx_imports::{
     ImportFault, ImportFaults, ImportsError, WasmImport, WasmImports, check_imports, read_imports,
 };

@@ -1,0 +1,56 @@
+//! A listing, read back and checked.
+
+ghost use Rattle.std.specs.Prelude.{◌≡◌, IfOk, map, true};
+ghost use Rattle.witx_tools.specs.EventViews.{called, event_of};
+ghost use Rattle.witx_tools.specs.Faithful.{Faithful};
+ghost use Rattle.witx_client_example.specs.Whole.{IsWhole};
+
+use crate::error::{ClientError, refused};
+use std::alloc::Global;
+use witx_tools::{
+    Adapted, AdaptedFunc, OutOfMemory, TracePair, Verdict, adapted_meets_conditions, listing,
+    read_traces, verify,
+};
+
+/// Whether the traces that the document's own listing shows hold, function by function.
+pub fn own_traces_hold(alloc: Global, adapted: &Adapted) -> Result<bool, ClientError>
+    requires { IsWhole adapted.now }
+{
+    let text = listing(alloc, adapted)?;
+    adapted_meets_conditions(adapted);
+    match read_traces(alloc, adapted, text.as_str()) {
+        Ok(pairs) => Ok(all_hold(alloc, adapted.functions.as_slice(), pairs.as_slice())?),
+        Err(error) => Err(refused(alloc, &error)),
+    }
+}
+
+fn all_hold(
+    alloc: Global,
+    functions: &[AdaptedFunc],
+    pairs: &[TracePair],
+) -> Result<bool, OutOfMemory> {
+    for (entry, pair) in functions.iter().zip(pairs) {
+        if !holds(alloc, entry, pair)? {
+            return Ok(false);
+        }
+    }
+    Ok(true)
+}
+
+/// Whether a pair of traces gets a yes, which says that it is faithful to the function.
+pub fn holds(alloc: Global, entry: &AdaptedFunc, pair: &TracePair) -> Result<bool, OutOfMemory>
+    ensures { IfOk result (λ yes. yes ≡ true → Faithful entry.now.module.value.name (called entry.now.func.value)
+        (map event_of pair.now.caller) (map event_of pair.now.callee)) }
+{
+    let found = verify(
+        alloc,
+        &entry.module.name,
+        &entry.func,
+        &pair.caller,
+        &pair.callee,
+    )?;
+    match found {
+        Verdict::Yes => Ok(true),
+        Verdict::No(_) => Ok(false),
+    }
+}
