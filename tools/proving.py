@@ -36,8 +36,16 @@ def lanes():
     return max(1, min(len(os.sched_getaffinity(0)), free // MEMORY))
 
 
+def stands(name):
+    """Whether a crate is proved, as far as the times of its files and of those below it tell."""
+    stamp = f"{TOP}/crates/{name}/out/rlib/stamp"
+    return os.path.exists(stamp) and os.stat(stamp).st_mtime >= programs.changed(name, "src", "specs", "proofs")
+
+
 def size(name):
     """How long a crate's proof takes beside others: the lines of its code, and something for what is loaded."""
+    if stands(name):
+        return 0
     files = [f"{at}/{it}" for at, _, names in os.walk(f"{TOP}/crates/{name}/src") for it in names]
     return 100 + sum(open(it, "rb").read().count(b"\n") for it in files)
 
