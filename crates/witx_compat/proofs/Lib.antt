@@ -8,5 +8,6 @@ pub mod Mapping
 pub mod Gathering
 pub mod OnceLaws
 pub mod Copied
-pub mod Depths
+pub mod Heads
+pub mod Sizes
 pub mod PolyfillCopies

@@ -6,13 +6,14 @@ use Rattle.std.specs.Cmp.Lexicographic.{slice_cmp}
 use Rattle.std.specs.Bool.{one_answer}
 use Rattle.witx_ast.specs.Plain.{Plain, plain, Arms, plain_arms}
 use Rattle.witx_ast.specs.Tree as arms
-use Rattle.witx_ast.specs.Tree.{Tree, arm}
+use Rattle.witx_ast.specs.Tree.{Tree, arm, behind}
 use Rattle.std.proofs.lemmas.Bool.{ltb-true}
 use Rattle.witx_ast.specs.declared.types.Variant.{Variant, out-Variant}
-use Rattle.witx_ast.specs.Views.{cases_plain, members_plain, tree_of, case_arm, variant_tree}
+use Rattle.witx_ast.specs.Views.{cases_plain, tree_of, case_arm, datatype_tree, variant_tree}
 use Rattle.witx_ast.specs.Same.{same_bytes}
 use Rattle.witx_ast.specs.SameLaws.{bytes-to, bytes-self, both, false-true}
 use Rattle.witx_ast.specs.declared.types.Case.{Case}
+use Rattle.witx_ast.specs.declared.types.Datatype.{Datatype}
 use Rattle.witx_ast.specs.declared.types.TypeRef.{TypeRef}
 use Rattle.witx_ast.specs.declared.types.RecordMember.{RecordMember}
 use Rattle.witx_ast.proofs.EntryLaws.{key-decides}
@@ -23,6 +24,8 @@ use Rattle.witx_base.specs.Found.{found}
 use Rattle.witx_compat.specs.declared.answer.RepEquality.{RepEquality}
 use Rattle.witx_compat.specs.Answers.{worse, is_same, is_refused, repr_by}
 use Rattle.witx_compat.specs.Represents.{Place, place, bare_at, carrying_at, last_case, last_place, later_of, only_if, number_if, represented, fields_same, cases_by, case_by, payload_by, count_by}
+use Rattle.witx_compat.specs.Heads.{all_placed}
+use Rattle.witx_compat.proofs.Heads.{placed-here, worse-refused, misplaced}
 use Rattle.witx_compat.proofs.Standing.{standing, cases_from, found-there}
 use Rattle.witx_compat.proofs.SameLaws.{builtin-alike, repr-alike, same-alike}
 
@@ -86,42 +89,6 @@ pub looked-at : (xs : List Case) (i : ℕ) (c : Case) (q : List ℕ) (f g n : Op
 looked-at xs i c q f g n b l p t k e =
     ap (λ m. last_from m (i + 1) q (cases_plain (drop (i + 1) xs))) (k ∙ ap (λ b. later_of f (number_if b i)) t) ∙ sym (next-place xs i c q f l p) ∙ e
 
--- members
-
-same-count : (xs ys : List RecordMember) → fields_same (members_plain xs) (members_plain ys) ≡ true → length xs ≡ length ys
-same-count [] [] h = refl
-same-count [] (y ∷ ys) h = absurd (false-true h)
-same-count (x ∷ xs) [] h = absurd (false-true h)
-same-count (x ∷ xs) (y ∷ ys) h = ap suc (same-count xs ys (both _ _ (both _ _ h).1).1)
-
-by-test : (b : Bool) (xs ys : List RecordMember) → fields_same (members_plain xs) (members_plain ys) ≡ b → length xs ≢ length ys → false ≡ b
-by-test true xs ys e d = absurd (d (same-count xs ys e))
-by-test false xs ys e d = refl
-
-pub other-count : (xs ys : List RecordMember) → length xs ≢ length ys → false ≡ fields_same (members_plain xs) (members_plain ys)
-other-count xs ys d = by-test _ xs ys refl d
-
-pub member-step : (xs ys : List RecordMember) (i : ℕ) (x y : RecordMember) (n : Bool) → i < length xs → i < length ys → x ≡ get_or xs i x → y ≡ get_or ys i y
-    → fields_same (members_plain (drop i xs)) (members_plain (drop i ys)) ≡ n
-    → (same_bytes x.name y.name && is_same (represented (plain (tree_of x.tref)) (plain (tree_of y.tref)))) && fields_same (members_plain (drop (i + 1) xs)) (members_plain (drop (i + 1) ys)) ≡ n
-member-step xs ys i x y n l m p q e = and-assoc (same_bytes x.name y.name) (is_same (represented (plain (tree_of x.tref)) (plain (tree_of y.tref)))) (fields_same (members_plain (drop (i + 1) xs)) (members_plain (drop (i + 1) ys))) ∙ (rw (members-drop xs i x l p, members-drop ys i y m q) at e)
-  where
-    and-assoc : (a b c : Bool) → (a && b) && c ≡ a && (b && c)
-    and-assoc true b c = refl
-    and-assoc false b c = refl
-
-pub member-same : (xs ys : List RecordMember) (i : ℕ) (x y : RecordMember) (n : Bool) → i < length xs → i < length ys → x ≡ get_or xs i x → y ≡ get_or ys i y
-    → (same_bytes x.name y.name && is_same (represented (plain (tree_of x.tref)) (plain (tree_of y.tref)))) ≡ true
-    → fields_same (members_plain (drop i xs)) (members_plain (drop i ys)) ≡ n
-    → fields_same (members_plain (drop (i + 1) xs)) (members_plain (drop (i + 1) ys)) ≡ n
-member-same xs ys i x y n l m p q t e = rw t at (member-step xs ys i x y n l m p q e)
-
-pub member-other : (xs ys : List RecordMember) (i : ℕ) (x y : RecordMember) (n : Bool) → i < length xs → i < length ys → x ≡ get_or xs i x → y ≡ get_or ys i y
-    → (same_bytes x.name y.name && is_same (represented (plain (tree_of x.tref)) (plain (tree_of y.tref)))) ≡ false
-    → fields_same (members_plain (drop i xs)) (members_plain (drop i ys)) ≡ n
-    → false ≡ n
-member-other xs ys i x y n l m p q t e = rw t at (member-step xs ys i x y n l m p q e)
-
 -- cases
 
 is-refused : (a : RepEquality) → is_refused a ≡ true → a ≡ RepEquality.NotEq
@@ -184,10 +151,6 @@ in-range-by by name j false t s =
 pub in-range : (by : List Case) (name : List ℕ) (j : ℕ) → last_place name (cases_plain by) ≡ Some j → j < length by
 in-range by name j h = in-range-by by name j _ refl (place-is _ j h)
 
-pub in-range-some : (by : List Case) (name : List ℕ) (o : Option ℕ) → o ≡ last_place name (cases_plain by) → IfSome o (λ j. j < length by)
-in-range-some by name None e = tt
-in-range-some by name (Some j) e = in-range by name j (sym e)
-
 at-self : (i k : ℕ) → k ≡ i → (i == k) ≡ true
 at-self i k e = grind (arith, e)
 
@@ -220,28 +183,125 @@ counterpart by i c name o p h =
     met i o s.spot c c.tref name _ _ s.there refl (λ t. sym e ∙ cases-bare by i c l p t) (λ u t. sym e ∙ cases-carries by i c u l p t)
     ∙ ap (case_by i o) (sym s.found)
 
-pub refused-case : (xs : List Case) (i : ℕ) (c : Case) (by : Arms) (a n r : RepEquality) → i < length xs → c ≡ get_or xs i c
-    → worse a (cases_by i (cases_plain (drop i xs)) by) ≡ n
-    → r ≡ worse a (case_by i (option_map (λ t. plain (tree_of t)) c.tref) (last_case 0 c.name by))
-    → is_refused r ≡ true → r ≡ n
-refused-case xs i c by a n r l p e k h =
-    let q = is-refused r h in
-    let w = ap (λ x. worse x (cases_by (i + 1) (cases_plain (drop (i + 1) xs)) by)) (sym q ∙ k) in
-    q ∙ w ∙ next-case xs i c by a n l p e
+worse-eq : (a : RepEquality) → worse a RepEquality.Eq ≡ a
+worse-eq RepEquality.Eq = refl
+worse-eq RepEquality.Superset = refl
+worse-eq RepEquality.NotEq = refl
 
-pub variant-answer : (v w : Variant) → worse (repr_by (out-Variant v).tag_repr (out-Variant w).tag_repr)
+-- the payloads of two cases that stand at one place
+abbrev payloads : Case → Case → RepEquality
+payloads x y = payload_by (option_map (λ t. plain (tree_of t)) x.tref) (option_map (λ t. plain (tree_of t)) y.tref)
+
+at-place : (xs ys : List Case) (i : ℕ) (x y : Case) → i < length xs → x ≡ get_or xs i x → y ≡ get_or ys i y
+    → all_placed i (cases_plain (drop i xs)) (cases_plain ys) ≡ true
+    → payloads x y ≡ case_by i (option_map (λ t. plain (tree_of t)) x.tref) (last_case 0 x.name (cases_plain ys))
+at-place xs ys i x y l p q h = counterpart ys i y x.name (option_map (λ t. plain (tree_of t)) x.tref) q (placed-here xs i x (cases_plain ys) l p h)
+
+next-payload : (xs ys : List Case) (i : ℕ) (x y : Case) (a r n : RepEquality) → i < length xs → x ≡ get_or xs i x → y ≡ get_or ys i y
+    → all_placed i (cases_plain (drop i xs)) (cases_plain ys) ≡ true
+    → payloads x y ≡ r
+    → worse a (cases_by i (cases_plain (drop i xs)) (cases_plain ys)) ≡ n
+    → worse (worse a r) (cases_by (i + 1) (cases_plain (drop (i + 1) xs)) (cases_plain ys)) ≡ n
+next-payload xs ys i x y a r n l p q h k e =
+    ap (λ b. worse (worse a b) (cases_by (i + 1) (cases_plain (drop (i + 1) xs)) (cases_plain ys))) (sym k ∙ at-place xs ys i x y l p q h)
+    ∙ next-case xs i x (cases_plain ys) a n l p e
+
+both-carry : (o p : Option TypeRef) (t u : TypeRef) → o ≡ Some t → p ≡ Some u
+    → payload_by (option_map (λ t. plain (tree_of t)) o) (option_map (λ t. plain (tree_of t)) p) ≡ represented (plain (tree_of t)) (plain (tree_of u))
+both-carry o p t u h k = rw (h, k) refl
+
+-- both cases have a payload
+pub next-carried : (xs ys : List Case) (i : ℕ) (x y : Case) (t u : TypeRef) (a n : RepEquality) → i < length xs → x ≡ get_or xs i x → y ≡ get_or ys i y
+    → all_placed i (cases_plain (drop i xs)) (cases_plain ys) ≡ true
+    → x.tref ≡ Some t → y.tref ≡ Some u
+    → worse a (cases_by i (cases_plain (drop i xs)) (cases_plain ys)) ≡ n
+    → worse (worse a (represented (plain (tree_of t)) (plain (tree_of u)))) (cases_by (i + 1) (cases_plain (drop (i + 1) xs)) (cases_plain ys)) ≡ n
+next-carried xs ys i x y t u a n l p q h j k e = next-payload xs ys i x y a _ n l p q h (both-carry x.tref y.tref t u j k) e
+
+pub refused-carried : (xs ys : List Case) (i : ℕ) (x y : Case) (t u : TypeRef) (a n r : RepEquality) → i < length xs → x ≡ get_or xs i x → y ≡ get_or ys i y
+    → all_placed i (cases_plain (drop i xs)) (cases_plain ys) ≡ true
+    → x.tref ≡ Some t → y.tref ≡ Some u
+    → worse a (cases_by i (cases_plain (drop i xs)) (cases_plain ys)) ≡ n
+    → r ≡ worse a (represented (plain (tree_of t)) (plain (tree_of u)))
+    → is_refused r ≡ true → r ≡ n
+refused-carried xs ys i x y t u a n r l p q h j k e w f =
+    let g = is-refused r f in
+    let z = next-carried xs ys i x y t u a n l p q h j k e in
+    g ∙ ap (λ b. worse b (cases_by (i + 1) (cases_plain (drop (i + 1) xs)) (cases_plain ys))) (sym g ∙ w) ∙ z
+
+-- the old case alone has one
+pub lost-payload : (xs ys : List Case) (i : ℕ) (x y : Case) (t : TypeRef) (a n : RepEquality) → i < length xs → x ≡ get_or xs i x → y ≡ get_or ys i y
+    → all_placed i (cases_plain (drop i xs)) (cases_plain ys) ≡ true
+    → x.tref ≡ Some t → y.tref ≡ None
+    → worse a (cases_by i (cases_plain (drop i xs)) (cases_plain ys)) ≡ n → RepEquality.NotEq ≡ n
+lost-payload xs ys i x y t a n l p q h j k e =
+    ap (λ b. worse b (cases_by (i + 1) (cases_plain (drop (i + 1) xs)) (cases_plain ys))) (sym (worse-refused a))
+    ∙ next-payload xs ys i x y a RepEquality.NotEq n l p q h (rw (j, k) refl) e
+
+-- the other case alone has one
+pub next-gained : (xs ys : List Case) (i : ℕ) (x y : Case) (u : TypeRef) (a n : RepEquality) → i < length xs → x ≡ get_or xs i x → y ≡ get_or ys i y
+    → all_placed i (cases_plain (drop i xs)) (cases_plain ys) ≡ true
+    → x.tref ≡ None → y.tref ≡ Some u
+    → worse a (cases_by i (cases_plain (drop i xs)) (cases_plain ys)) ≡ n
+    → worse (worse a RepEquality.Superset) (cases_by (i + 1) (cases_plain (drop (i + 1) xs)) (cases_plain ys)) ≡ n
+next-gained xs ys i x y u a n l p q h j k e = next-payload xs ys i x y a RepEquality.Superset n l p q h (rw (j, k) refl) e
+
+-- no case has one
+pub next-bare : (xs ys : List Case) (i : ℕ) (x y : Case) (a n : RepEquality) → i < length xs → x ≡ get_or xs i x → y ≡ get_or ys i y
+    → all_placed i (cases_plain (drop i xs)) (cases_plain ys) ≡ true
+    → x.tref ≡ None → y.tref ≡ None
+    → worse a (cases_by i (cases_plain (drop i xs)) (cases_plain ys)) ≡ n
+    → worse a (cases_by (i + 1) (cases_plain (drop (i + 1) xs)) (cases_plain ys)) ≡ n
+next-bare xs ys i x y a n l p q h j k e =
+    ap (λ b. worse b (cases_by (i + 1) (cases_plain (drop (i + 1) xs)) (cases_plain ys))) (sym (worse-eq a))
+    ∙ next-payload xs ys i x y a RepEquality.Eq n l p q h (rw (j, k) refl) e
+
+pub all-cases : (xs : List Case) (i : ℕ) (by : Arms) (a n : RepEquality) → length xs ≤ i → worse a (cases_by i (cases_plain (drop i xs)) by) ≡ n → a ≡ n
+all-cases xs i by a n l e = sym (worse-eq a) ∙ (rw (cases-end xs i l) at e)
+
+variant-answer : (v w : Variant) → worse (repr_by (out-Variant v).tag_repr (out-Variant w).tag_repr)
     (worse (cases_by 0 (cases_plain (out-Variant v).cases) (cases_plain (out-Variant w).cases)) (count_by (length (out-Variant v).cases) (length (out-Variant w).cases)))
     ≡ represented (plain (variant_tree v)) (plain (variant_tree w))
 variant-answer v w = rw (variant-plain v, variant-plain w, count-cases (out-Variant v).cases, count-cases (out-Variant w).cases) refl
 
-pub refused-tags : (v w : Variant) → is_refused (repr_by (out-Variant v).tag_repr (out-Variant w).tag_repr) ≡ true
+worse-last : (t n c : RepEquality) → worse (worse t n) c ≡ worse t (worse c n)
+worse-last t n c = search rules
+
+-- the answer of the tags, and of the numbers of cases
+abbrev pub IsHead : Variant → Variant → RepEquality → Type 0
+IsHead v w a = a ≡ worse (repr_by (out-Variant v).tag_repr (out-Variant w).tag_repr) (count_by (length (out-Variant v).cases) (length (out-Variant w).cases))
+
+pub variant-whole : (v w : Variant) (xs ys : List Case) (a : RepEquality) → xs ≡ (out-Variant v).cases → ys ≡ (out-Variant w).cases → IsHead v w a
+    → worse a (cases_by 0 (cases_plain xs) (cases_plain ys)) ≡ represented (plain (variant_tree v)) (plain (variant_tree w))
+variant-whole v w xs ys a p q e =
+    let cases = cases_by 0 (cases_plain (out-Variant v).cases) (cases_plain (out-Variant w).cases) in
+    let tags = repr_by (out-Variant v).tag_repr (out-Variant w).tag_repr in
+    let count = count_by (length (out-Variant v).cases) (length (out-Variant w).cases) in
+    rw (p, q) (ap (λ x. worse x cases) e ∙ worse-last tags count cases ∙ variant-answer v w)
+
+pub refused-head : (v w : Variant) (a : RepEquality) → IsHead v w a → is_refused a ≡ true → a ≡ represented (plain (variant_tree v)) (plain (variant_tree w))
+refused-head v w a e h =
+    let q = is-refused a h in
+    q ∙ ap (λ x. worse x (cases_by 0 (cases_plain (out-Variant v).cases) (cases_plain (out-Variant w).cases))) (sym q)
+    ∙ variant-whole v w _ _ a refl refl e
+
+pub misplaced-variant : (v w : Variant) → all_placed 0 (cases_plain (out-Variant v).cases) (cases_plain (out-Variant w).cases) ≡ false
     → RepEquality.NotEq ≡ represented (plain (variant_tree v)) (plain (variant_tree w))
-refused-tags v w h =
-    ap (λ x. worse x (worse (cases_by 0 (cases_plain (out-Variant v).cases) (cases_plain (out-Variant w).cases)) (count_by (length (out-Variant v).cases) (length (out-Variant w).cases)))) (sym (is-refused _ h))
-    ∙ variant-answer v w
+misplaced-variant v w h =
+    let count = count_by (length (out-Variant v).cases) (length (out-Variant w).cases) in
+    let tags = repr_by (out-Variant v).tag_repr (out-Variant w).tag_repr in
+    sym (worse-refused tags) ∙ ap (λ x. worse tags (worse x count)) (sym (misplaced 0 (cases_plain (out-Variant v).cases) (cases_plain (out-Variant w).cases) h)) ∙ variant-answer v w
+
+-- the answer of two types behind names is that of the names
+pub looked-through : (a b : Datatype) (t u : TypeRef) (r : RepEquality) → r ≡ represented (plain (datatype_tree a)) (plain (datatype_tree b))
+    → datatype_tree a ≡ behind (tree_of t) → datatype_tree b ≡ behind (tree_of u) → r ≡ represented (plain (tree_of t)) (plain (tree_of u))
+looked-through a b t u r e h k = rw (h, k, plain-behind (tree_of t), plain-behind (tree_of u)) at e
+
+pub alike-by : (a b : Plain) (r : RepEquality) → r ≡ represented a b → r ≡ RepEquality.Eq → a ≡ b
+alike-by a b r e h = same-alike a b (sym e ∙ h)
 
 pub ruleset answer_rules = (builtin-alike, repr-alike, same-alike)
 
-pub ruleset place_rules = (put-place, all-placed, looked-at, in-range-some)
+pub ruleset place_rules = (put-place, all-placed, looked-at)
 
-pub ruleset compat_rules = (tree_rules, record-plain, variant-plain, plain-behind, same-alike, variant-answer, refused-tags)
+pub ruleset compat_rules = (tree_rules, record-plain, variant-plain, plain-behind, same-alike)

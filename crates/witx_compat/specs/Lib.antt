@@ -1,6 +1,7 @@
 pub mod Answers
 pub mod Represents
 pub mod Depth
+pub mod Heads
 pub mod Conversions
 pub mod Polyfills
 pub mod Halves

@@ -1,19 +1,21 @@
 //! Whether the values of one type can be represented by another, type by type.
 
-ghost use Rattle.std.specs.Prelude.{◌≡◌, option_map, ◌&&◌, IfSome, ◌<◌, length, ℕ, List};
+ghost use Rattle.std.specs.Prelude.{◌≡◌, ◌&&◌, length};
 ghost use Rattle.witx_ast.specs.Plain.{plain};
 ghost use Rattle.witx_ast.specs.Same.{same_bytes};
-ghost use Rattle.witx_ast.specs.Views.{tree_of, datatype_tree, named_tree, record_tree, variant_tree, members_plain, cases_plain};
-ghost use Rattle.witx_base.specs.Found.{found};
+ghost use Rattle.witx_ast.specs.Views.{tree_of, datatype_tree, named_tree, record_tree, variant_tree, members_plain};
+ghost use Rattle.witx_ast.specs.contracts.types.RecordKindPartialEq.TheImpl as kinds;
+ghost use Rattle.witx_ast.specs.declared.types.RecordDatatype.{out-RecordDatatype};
+ghost use Rattle.witx_ast.specs.declared.types.Variant.{out-Variant};
 ghost use Rattle.witx_compat.specs.declared.answer.RepEquality.{RepEquality};
-ghost use Rattle.witx_compat.specs.Answers.{builtin_by, repr_by, is_same};
-ghost use Rattle.witx_compat.specs.Represents.{represented, fields_same, cases_by, case_by, payload_by, last_case, last_place, count_by};
+ghost use Rattle.witx_compat.specs.Answers.{builtin_by, repr_by, worse};
+ghost use Rattle.witx_compat.specs.Heads.{same_names};
+ghost use Rattle.witx_compat.specs.Represents.{represented, count_by};
 
 use crate::answer::RepEquality;
-use crate::places::{Places, place_of, places_of};
-use std::alloc::Global;
+use crate::places::are_placed;
 use witx_ast::{
-    BuiltinType, Case, Datatype, IntRepr, NamedType, RecordDatatype, RecordMember, TypeRef, Variant,
+    BuiltinType, Datatype, IntRepr, NamedType, RecordDatatype, RecordMember, TypeRef, Variant,
 };
 
 /// Whether values of one type can be represented by another type.
@@ -78,16 +80,9 @@ impl Representable for TypeRef {
 
     ghost is_alike = { λ a b. plain (tree_of a) ≡ plain (tree_of b) };
 
-    #[cycle(compat)]
     #[tactic(auto, using(crate::proofs::Steps::compat_rules))]
     fn representable(&self, by: &Self) -> RepEquality {
-        let mut tref = self;
-        loop {
-            match tref {
-                TypeRef::Name(named) => tref = &named.tref,
-                TypeRef::Value(datatype) => return datatype.representable(by.type_()),
-            }
-        }
+        self.type_().representable(by.type_())
     }
 }
 
@@ -102,6 +97,8 @@ impl Representable for NamedType {
     }
 }
 
+// From here on two calls go down a level of types at most, and what else they ask is asked in functions apart, so that a
+// level takes little of the stack.
 impl Representable for Datatype {
     ghost answer = { λ a b. represented (plain (datatype_tree a)) (plain (datatype_tree b)) };
 
@@ -114,9 +111,11 @@ impl Representable for Datatype {
             (Datatype::Record(a), Datatype::Record(b)) => a.representable(b),
             (Datatype::Variant(a), Datatype::Variant(b)) => a.representable(b),
             (Datatype::Handle(_), Datatype::Handle(_)) => RepEquality::Eq,
-            (Datatype::List(a), Datatype::List(b)) => a.representable(b),
-            (Datatype::Pointer(a), Datatype::Pointer(b)) => a.representable(b),
-            (Datatype::ConstPointer(a), Datatype::ConstPointer(b)) => a.representable(b),
+            (Datatype::List(a), Datatype::List(b))
+            | (Datatype::Pointer(a), Datatype::Pointer(b))
+            | (Datatype::ConstPointer(a), Datatype::ConstPointer(b)) => {
+                a.type_().representable(b.type_())
+            }
             (Datatype::Builtin(a), Datatype::Builtin(b)) => a.representable(b),
             _ => RepEquality::NotEq,
         }
@@ -128,14 +127,23 @@ impl Representable for RecordDatatype {
 
     ghost is_alike = { λ a b. plain (record_tree a) ≡ plain (record_tree b) };
 
+    #[inline(never)]
     #[cycle(compat)]
     #[tactic(auto, using(crate::proofs::Steps::compat_rules))]
     fn representable(&self, by: &Self) -> RepEquality {
-        if self.kind == by.kind && members_same(self.members.as_slice(), by.members.as_slice()) {
-            RepEquality::Eq
-        } else {
-            RepEquality::NotEq
+        if !are_headed_alike(self, by) {
+            return RepEquality::NotEq;
         }
+        let members = self.members.as_slice();
+        let others = by.members.as_slice();
+        for i in 0..members.len() {
+            let mine = members[i].tref.type_();
+            let other = others[i].tref.type_();
+            if !mine.representable(other).is_same() {
+                return RepEquality::NotEq;
+            }
+        }
+        RepEquality::Eq
     }
 }
 
@@ -144,23 +152,78 @@ impl Representable for Variant {
 
     ghost is_alike = { λ a b. plain (variant_tree a) ≡ plain (variant_tree b) };
 
-    // Apart, as `members_same` is, so that each level takes only the room on the stack that its own kind of type needs.
     #[inline(never)]
     #[cycle(compat)]
     #[tactic(auto, using(crate::proofs::Steps::compat_rules))]
     fn representable(&self, by: &Self) -> RepEquality {
-        let tags = self.tag_repr.representable(&by.tag_repr);
-        if tags.is_refused() {
+        let mut answer = head_answer(self, by);
+        if answer.is_refused() {
+            return answer;
+        }
+        if !are_placed(&self.cases, &by.cases) {
             return RepEquality::NotEq;
         }
-        let cases = each_case(
-            by.cases.allocator(),
-            self.cases.as_slice(),
-            by.cases.as_slice(),
-        );
-        let count = counted(self.cases.len(), by.cases.len());
-        tags.worse(&cases.worse(&count))
+        let cases = self.cases.as_slice();
+        let others = by.cases.as_slice();
+        for i in 0..cases.len() {
+            match (&cases[i].tref, &others[i].tref) {
+                (Some(mine), Some(other)) => {
+                    answer = answer.worse(&mine.type_().representable(other.type_()));
+                    if answer.is_refused() {
+                        return answer;
+                    }
+                    continue;
+                }
+                (Some(_), None) => return RepEquality::NotEq,
+                (None, Some(_)) => {
+                    answer = answer.worse(&RepEquality::Superset);
+                    continue;
+                }
+                (None, None) => continue,
+            }
+        }
+        answer
     }
+}
+
+/// Whether the kinds are equal, the members as many, and member by member their names equal.
+#[inline(never)]
+fn are_headed_alike(one: &RecordDatatype, by: &RecordDatatype) -> bool
+    ensures { let a = out-RecordDatatype one.now in let b = out-RecordDatatype by.now in
+        result ≡ (kinds.ghosts.eq a.kind b.kind && same_names (members_plain a.members) (members_plain b.members)) }
+{
+    one.kind == by.kind && are_named_alike(one.members.as_slice(), by.members.as_slice())
+}
+
+/// Whether the members are as many, and member by member their names are equal.
+fn are_named_alike(members: &[RecordMember], by: &[RecordMember]) -> bool
+    ensures { result ≡ same_names (members_plain members.now) (members_plain by.now) }
+{
+    if members.len() != by.len() {
+        return false;
+    }
+    for i in 0..members.len() {
+        if !is_named_alike(&members[i], &by[i]) {
+            return false;
+        }
+    }
+    true
+}
+
+fn is_named_alike(member: &RecordMember, by: &RecordMember) -> bool
+    ensures { result ≡ same_bytes member.now.name by.now.name }
+{
+    member.name == by.name
+}
+
+/// The worse of the tags' answer and of whether there are more cases.
+#[inline(never)]
+fn head_answer(one: &Variant, by: &Variant) -> RepEquality
+    ensures { let a = out-Variant one.now in let b = out-Variant by.now in
+        result ≡ worse (repr_by a.tag_repr b.tag_repr) (count_by (length a.cases) (length b.cases)) }
+{
+    let tags = one.tag_repr.representable(&by.tag_repr);
+    tags.worse(&counted(one.cases.len(), by.cases.len()))
 }
 
 /// Whether there are more cases.
@@ -171,94 +234,5 @@ fn counted(cases: usize, by: usize) -> RepEquality
         RepEquality::Superset
     } else {
         RepEquality::Eq
-    }
-}
-
-/// Whether the members are as many, and member by member their names are equal and their types `Eq`.
-#[inline(never)]
-#[cycle(compat)]
-#[tactic(auto, using(crate::proofs::Steps::compat_rules))]
-fn members_same(members: &[RecordMember], by: &[RecordMember]) -> bool
-    ensures { result ≡ fields_same (members_plain members.now) (members_plain by.now) }
-{
-    if members.len() != by.len() {
-        return false;
-    }
-    for i in 0..members.len() {
-        if !member_same(&members[i], &by[i]) {
-            return false;
-        }
-    }
-    true
-}
-
-#[cycle(compat)]
-#[tactic(auto, using(crate::proofs::Steps::compat_rules))]
-fn member_same(member: &RecordMember, by: &RecordMember) -> bool
-    ensures { result ≡ (same_bytes member.now.name by.now.name && is_same (represented (plain (tree_of member.now.tref)) (plain (tree_of by.now.tref)))) }
-{
-    member.name == by.name && member.tref.representable(&by.tref).is_same()
-}
-
-/// The worst answer of a case.
-#[cycle(compat)]
-#[tactic(auto, using(crate::proofs::Steps::compat_rules))]
-fn each_case(alloc: Global, cases: &[Case], by: &[Case]) -> RepEquality
-    ensures { result ≡ cases_by 0 (cases_plain cases.now) (cases_plain by.now) }
-{
-    let places = places_of(alloc, by);
-    worst_case(&places, cases, by)
-}
-
-/// The worst answer of a case, by the places of the names in `by`; the first case that is not
-/// represented ends the work.
-#[cycle(compat)]
-#[tactic(auto, using(crate::proofs::Steps::compat_rules))]
-fn worst_case(places: &Places, cases: &[Case], by: &[Case]) -> RepEquality
-    requires { IfSome places.now (λ table. (name : List ℕ) → found table name ≡ last_place name (cases_plain by.now)) }
-    ensures { result ≡ cases_by 0 (cases_plain cases.now) (cases_plain by.now) }
-{
-    let mut answer = RepEquality::Eq;
-    for i in 0..cases.len() {
-        let case = &cases[i];
-        let place = place_of(places, by, &case.name);
-        answer = answer.worse(&case_answer(i, case, place, by));
-        if answer.is_refused() {
-            return answer;
-        }
-    }
-    answer
-}
-
-/// The answer of the case numbered `i`, whose name stands last in `by` at `place`.
-#[cycle(compat)]
-#[tactic(auto, using(crate::proofs::Steps::compat_rules))]
-fn case_answer(i: usize, case: &Case, place: Option<usize>, by: &[Case]) -> RepEquality
-    requires place { place ≡ last_place case.now.name (cases_plain by.now) }
-    requires within { IfSome place (λ j. j < length by.now) }
-    ensures { result ≡ case_by i (option_map (λ t. plain (tree_of t)) case.now.tref) (last_case 0 case.now.name (cases_plain by.now)) }
-{
-    match place {
-        Some(j) => {
-            if j == i {
-                payload_answer(&case.tref, &by[j].tref)
-            } else {
-                RepEquality::NotEq
-            }
-        }
-        None => RepEquality::NotEq,
-    }
-}
-
-#[cycle(compat)]
-#[tactic(auto, using(crate::proofs::Steps::compat_rules))]
-fn payload_answer(payload: &Option<TypeRef>, by: &Option<TypeRef>) -> RepEquality
-    ensures { result ≡ payload_by (option_map (λ t. plain (tree_of t)) payload.now) (option_map (λ t. plain (tree_of t)) by.now) }
-{
-    match (payload, by) {
-        (Some(mine), Some(other)) => mine.representable(other),
-        (Some(_), None) => RepEquality::NotEq,
-        (None, Some(_)) => RepEquality::Superset,
-        (None, None) => RepEquality::Eq,
     }
 }

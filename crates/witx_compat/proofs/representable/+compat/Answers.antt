@@ -1,143 +1,142 @@
-use Rattle.std.proofs.Common.{◌≤◌, rules, arith, option_map, ◌∙◌, ap, sym}
-use Rattle.std.proofs.lemmas.Grind.{common_steps}
+use Rattle.std.proofs.Common.{arith, ◌∙◌, ◌<◌, ap, length, sym, rules}
+use Rattle.witx_ast.specs.Tree.{behind}
+use Rattle.witx_ast.specs.Views.{tree_of, datatype_tree, record_tree, variant_tree, cases_plain}
 use Rattle.witx_ast.specs.Plain.{plain}
-use Rattle.witx_ast.specs.Views.{tree_of, cases_plain}
-use Rattle.witx_compat.specs.Represents.{case_by, payload_by, last_case}
-use Rattle.witx_compat.specs.Answers.{worse}
-use Rattle.witx_compat.proofs.Steps.{counterpart, next-case, refused-case, other-count, member-same, member-other, compat_rules}
-use Rattle.witx_ast.proofs.types.TypeRef.TheLaws.{the_size}
-use Rattle.witx_compat.proofs.Depths.{behind-name}
+use Rattle.witx_ast.specs.declared.types.RecordMember.{RecordMember}
+use Rattle.witx_compat.specs.Answers.{is_same, worse}
+use Rattle.witx_compat.proofs.Heads.{same-count, headed-other, headed-names, record-lost, record-kept, names-next, type-same, type-other, all-same, placed-here, placed-rest}
+use Rattle.witx_compat.proofs.Sizes.{size-behind, member-size, payload-size}
+use Rattle.witx_compat.proofs.Steps.{looked-through, alike-by, in-range, next-carried, refused-carried, lost-payload, next-gained, next-bare, all-cases, variant-whole, misplaced-variant}
 use Rattle.witx_compat.proofs.representable.+compat.Goals as goal
 
-pub case_answer-returns-then-j-i : goal.case_answer-returns-then-j-i
-case_answer-returns-then-j-i t c =
-    c.payload_answer.ensures
-    ∙ ap (λ x. payload_by (option_map (λ t. plain (tree_of t)) c.args.case.now.tref) (option_map (λ t. plain (tree_of t)) x.tref)) (sym c.index-by-j.is)
-    ∙ counterpart c.args.by.now c.in-Some.j c.index-by-j.result c.args.case.now.name _ c.index-by-j.is (sym c.requires.place ∙ c.in-Some.is)
-    ∙ ap (λ k. case_by k (option_map (λ t. plain (tree_of t)) c.args.case.now.tref) (last_case 0 c.args.case.now.name (cases_plain c.args.by.now))) c.if-j-i.true
+pub RecordDatatypeRepresentable::representable-returns-then-not-are_headed_alike-clause-exact : goal.RecordDatatypeRepresentable::representable-returns-then-not-are_headed_alike-clause-exact
+RecordDatatypeRepresentable::representable-returns-then-not-are_headed_alike-clause-exact t c =
+    headed-other c.args.self.now c.args.by.now (sym c.are_headed_alike.ensures ∙ c.if-not-are_headed_alike.true)
 
-pub worst_case-loop-i-preserved : goal.worst_case-loop-i-preserved
-worst_case-loop-i-preserved t c = record {
-  answer = rw (c.worse-answer.ensures, c.case_answer.ensures) (next-case c.args.cases.now c.loop-i.i c.index-cases-i.result (cases_plain c.args.by.now) c.loop-i.answer _ c.loop-i-test.true c.index-cases-i.is c.loop-i.invariant.answer);
-}
+pub RecordDatatypeRepresentable::representable-representable-requires : goal.RecordDatatypeRepresentable::representable-representable-requires
+RecordDatatypeRepresentable::representable-representable-requires t c =
+    let less = member-size c.args.self.now c.as_slice-members.result.now c.loop-i.i c.index-members-i.result c.as_slice-members.ensures c.loop-i-test.true c.index-members-i.is in
+    let same = size-behind c.index-members-i.result.tref c.deref.result.now (ap datatype_tree c.deref.ensures ∙ c.type_-mine.ensures ∙ ap (λ (x : RecordMember). behind (tree_of x.tref)) (sym c.index-members-i.is)) in
+    (omega (arith, less, same, c.decreases), tt)
 
-pub worst_case-returns-then-is_refused : goal.worst_case-returns-then-is_refused
-worst_case-returns-then-is_refused t c =
-    refused-case c.args.cases.now c.loop-i.i c.index-cases-i.result (cases_plain c.args.by.now) c.loop-i.answer _ c.worse-answer.result c.loop-i-test.true c.index-cases-i.is c.loop-i.invariant.answer
-    (c.worse-answer.ensures ∙ ap (worse c.loop-i.answer) c.case_answer.ensures) (sym c.is_refused.ensures ∙ c.if-is_refused.true)
+pub RecordDatatypeRepresentable::representable-returns-then-not-is_same-clause-exact : goal.RecordDatatypeRepresentable::representable-returns-then-not-is_same-clause-exact
+RecordDatatypeRepresentable::representable-returns-then-not-is_same-clause-exact t c =
+    let xs = c.as_slice-members.result.now in
+    let ys = c.as_slice-others.result.now in
+    let count = same-count xs ys (headed-names c.args.self.now c.args.by.now xs ys c.as_slice-members.ensures c.as_slice-others.ensures (sym c.are_headed_alike.ensures ∙ c.if-not-are_headed_alike.false)) in
+    let here = c.loop-i-test.true in
+    let within : c.loop-i.i < length ys = omega (arith, here, count) in
+    let look =
+    looked-through c.deref.result.now c.deref-in-loop-i.result.now c.index-members-i.result.tref c.index-others-i.result.tref c.representable.result c.representable.ensures.exact
+    (ap datatype_tree c.deref.ensures ∙ c.type_-mine.ensures ∙ ap (λ (x : RecordMember). behind (tree_of x.tref)) (sym c.index-members-i.is))
+    (ap datatype_tree c.deref-in-loop-i.ensures ∙ c.type_-other.ensures ∙ ap (λ (x : RecordMember). behind (tree_of x.tref)) (sym c.index-others-i.is)) in
+    record-lost c.args.self.now c.args.by.now xs ys c.as_slice-members.ensures c.as_slice-others.ensures
+    (type-other xs ys c.loop-i.i c.index-members-i.result c.index-others-i.result _ here within c.index-members-i.is c.index-others-i.is (ap is_same (sym look) ∙ sym c.is_same.ensures ∙ c.if-not-is_same.true) c.loop-i.invariant.same)
 
-pub members_same-returns-then-members-by : goal.members_same-returns-then-members-by
-members_same-returns-then-members-by t c = other-count c.args.members.now c.args.by.now c.if-members-by.true
+pub RecordDatatypeRepresentable::representable-loop-i-preserved : goal.RecordDatatypeRepresentable::representable-loop-i-preserved
+RecordDatatypeRepresentable::representable-loop-i-preserved t c =
+    let xs = c.as_slice-members.result.now in
+    let ys = c.as_slice-others.result.now in
+    let count = same-count xs ys (headed-names c.args.self.now c.args.by.now xs ys c.as_slice-members.ensures c.as_slice-others.ensures (sym c.are_headed_alike.ensures ∙ c.if-not-are_headed_alike.false)) in
+    let here = c.loop-i-test.true in
+    let within : c.loop-i.i < length ys = omega (arith, here, count) in
+    let look =
+    looked-through c.deref.result.now c.deref-in-loop-i.result.now c.index-members-i.result.tref c.index-others-i.result.tref c.representable.result c.representable.ensures.exact
+    (ap datatype_tree c.deref.ensures ∙ c.type_-mine.ensures ∙ ap (λ (x : RecordMember). behind (tree_of x.tref)) (sym c.index-members-i.is))
+    (ap datatype_tree c.deref-in-loop-i.ensures ∙ c.type_-other.ensures ∙ ap (λ (x : RecordMember). behind (tree_of x.tref)) (sym c.index-others-i.is)) in
+    record {
+      named = names-next xs ys c.loop-i.i c.index-members-i.result c.index-others-i.result here within c.index-members-i.is c.index-others-i.is c.loop-i.invariant.named;
+      same = type-same xs ys c.loop-i.i c.index-members-i.result c.index-others-i.result _ here within c.index-members-i.is c.index-others-i.is c.loop-i.invariant.named (ap is_same (sym look) ∙ sym c.is_same.ensures ∙ c.if-not-is_same.false) c.loop-i.invariant.same;
+    }
 
-pub members_same-returns-then-not-member_same : goal.members_same-returns-then-not-member_same
-members_same-returns-then-not-member_same t c =
-    member-other c.args.members.now c.args.by.now c.loop-i.i c.index-members-i.result c.index-by-i.result _ c.loop-i-test.true (omega (arith, c.loop-i-test.true, c.if-members-by.false)) c.index-members-i.is c.index-by-i.is (sym c.member_same.ensures ∙ c.if-not-member_same.true) c.loop-i.invariant.same
+pub RecordDatatypeRepresentable::representable-returns-clause-exact : goal.RecordDatatypeRepresentable::representable-returns-clause-exact
+RecordDatatypeRepresentable::representable-returns-clause-exact t c =
+    let xs = c.as_slice-members.result.now in
+    let ys = c.as_slice-others.result.now in
+    let heads = sym c.are_headed_alike.ensures ∙ c.if-not-are_headed_alike.false in
+    let count = same-count xs ys (headed-names c.args.self.now c.args.by.now xs ys c.as_slice-members.ensures c.as_slice-others.ensures heads) in
+    record-kept c.args.self.now c.args.by.now xs ys c.as_slice-members.ensures c.as_slice-others.ensures heads
+    (all-same xs ys c.loop-i.i _ c.loop-i-test.false count c.loop-i.invariant.same)
 
-pub members_same-loop-i-preserved : goal.members_same-loop-i-preserved
-members_same-loop-i-preserved t c = record {
-  same = member-same c.args.members.now c.args.by.now c.loop-i.i c.index-members-i.result c.index-by-i.result _ c.loop-i-test.true (omega (arith, c.loop-i-test.true, c.if-members-by.false)) c.index-members-i.is c.index-by-i.is (sym c.member_same.ensures ∙ c.if-not-member_same.false) c.loop-i.invariant.same;
-}
+pub RecordDatatypeRepresentable::representable-returns-clause-alike : goal.RecordDatatypeRepresentable::representable-returns-clause-alike
+RecordDatatypeRepresentable::representable-returns-clause-alike t c =
+    λ h. alike-by (plain (record_tree c.args.self.now)) (plain (record_tree c.args.by.now)) _ (RecordDatatypeRepresentable::representable-returns-clause-exact t c) h
 
-pub DatatypeRepresentable::representable-returns-in-Builtin-Builtin-clause-alike : goal.DatatypeRepresentable::representable-returns-in-Builtin-Builtin-clause-alike
-DatatypeRepresentable::representable-returns-in-Builtin-Builtin-clause-alike t c = search rules
+pub VariantRepresentable::representable-returns-then-not-are_placed-clause-exact : goal.VariantRepresentable::representable-returns-then-not-are_placed-clause-exact
+VariantRepresentable::representable-returns-then-not-are_placed-clause-exact t c =
+    misplaced-variant c.args.self.now c.args.by.now (sym c.are_placed.ensures ∙ c.if-not-are_placed.true)
 
-pub DatatypeRepresentable::representable-returns-in-Builtin-Builtin-clause-exact : goal.DatatypeRepresentable::representable-returns-in-Builtin-Builtin-clause-exact
-DatatypeRepresentable::representable-returns-in-Builtin-Builtin-clause-exact t c = search (rules, compat_rules)
+pub VariantRepresentable::representable-bounds-others-i : goal.VariantRepresentable::representable-bounds-others-i
+VariantRepresentable::representable-bounds-others-i t c =
+    let xs = c.as_slice-cases.result.now in
+    let ys = c.as_slice-others.result.now in
+    in-range ys c.index-cases-i.result.name c.loop-i.i (placed-here xs c.loop-i.i c.index-cases-i.result (cases_plain ys) c.loop-i-test.true c.index-cases-i.is c.loop-i.invariant.placed)
 
-pub DatatypeRepresentable::representable-returns-in-ConstPointer-ConstPointer-clause-alike : goal.DatatypeRepresentable::representable-returns-in-ConstPointer-ConstPointer-clause-alike
-DatatypeRepresentable::representable-returns-in-ConstPointer-ConstPointer-clause-alike t c = search (rules, compat_rules)
+pub VariantRepresentable::representable-representable-requires : goal.VariantRepresentable::representable-representable-requires
+VariantRepresentable::representable-representable-requires t c =
+    let less = payload-size c.args.self.now c.as_slice-cases.result.now c.loop-i.i c.index-cases-i.result c.in-Some-Some.mine c.as_slice-cases.ensures c.loop-i-test.true c.index-cases-i.is (search rules) in
+    let same = size-behind c.in-Some-Some.mine c.deref.result.now (ap datatype_tree c.deref.ensures ∙ c.type_.ensures) in
+    (omega (arith, less, same, c.decreases), tt)
 
-pub DatatypeRepresentable::representable-returns-in-ConstPointer-ConstPointer-clause-exact : goal.DatatypeRepresentable::representable-returns-in-ConstPointer-ConstPointer-clause-exact
-DatatypeRepresentable::representable-returns-in-ConstPointer-ConstPointer-clause-exact t c = search (rules, compat_rules)
+pub VariantRepresentable::representable-returns-then-is_refused-2-clause-exact : goal.VariantRepresentable::representable-returns-then-is_refused-2-clause-exact
+VariantRepresentable::representable-returns-then-is_refused-2-clause-exact t c =
+    let xs = c.as_slice-cases.result.now in
+    let ys = c.as_slice-others.result.now in
+    let look =
+    looked-through c.deref.result.now c.deref-in-Some-Some.result.now c.in-Some-Some.mine c.in-Some-Some.other c.representable.result c.representable.ensures.exact
+    (ap datatype_tree c.deref.ensures ∙ c.type_.ensures) (ap datatype_tree c.deref-in-Some-Some.ensures ∙ c.type_-in-Some-Some.ensures) in
+    refused-carried xs ys c.loop-i.i c.index-cases-i.result c.index-others-i.result c.in-Some-Some.mine c.in-Some-Some.other c.loop-i.answer _ c.worse-answer.result c.loop-i-test.true c.index-cases-i.is c.index-others-i.is c.loop-i.invariant.placed (search rules) (search rules)
+    c.loop-i.invariant.answer (c.worse-answer.ensures ∙ ap (worse c.loop-i.answer) look) (sym c.is_refused-in-Some-Some.ensures ∙ c.if-is_refused-2.true)
+    ∙ variant-whole c.args.self.now c.args.by.now xs ys c.head_answer-answer.result c.as_slice-cases.ensures c.as_slice-others.ensures c.head_answer-answer.ensures
 
-pub DatatypeRepresentable::representable-returns-in-Handle-Handle-clause-alike : goal.DatatypeRepresentable::representable-returns-in-Handle-Handle-clause-alike
-DatatypeRepresentable::representable-returns-in-Handle-Handle-clause-alike t c = search rules
+pub VariantRepresentable::representable-loop-i-preserved-in-Some-Some : goal.VariantRepresentable::representable-loop-i-preserved-in-Some-Some
+VariantRepresentable::representable-loop-i-preserved-in-Some-Some t c =
+    let xs = c.as_slice-cases.result.now in
+    let ys = c.as_slice-others.result.now in
+    let look =
+    looked-through c.deref.result.now c.deref-in-Some-Some.result.now c.in-Some-Some.mine c.in-Some-Some.other c.representable.result c.representable.ensures.exact
+    (ap datatype_tree c.deref.ensures ∙ c.type_.ensures) (ap datatype_tree c.deref-in-Some-Some.ensures ∙ c.type_-in-Some-Some.ensures) in
+    record {
+      placed = placed-rest xs c.loop-i.i c.index-cases-i.result (cases_plain ys) c.loop-i-test.true c.index-cases-i.is c.loop-i.invariant.placed;
+      answer =
+          rw (c.worse-answer.ensures, look)
+          (next-carried xs ys c.loop-i.i c.index-cases-i.result c.index-others-i.result c.in-Some-Some.mine c.in-Some-Some.other c.loop-i.answer _ c.loop-i-test.true c.index-cases-i.is c.index-others-i.is c.loop-i.invariant.placed (search rules) (search rules) c.loop-i.invariant.answer);
+    }
 
-pub DatatypeRepresentable::representable-returns-in-Handle-Handle-clause-exact : goal.DatatypeRepresentable::representable-returns-in-Handle-Handle-clause-exact
-DatatypeRepresentable::representable-returns-in-Handle-Handle-clause-exact t c = search (rules, compat_rules)
+pub VariantRepresentable::representable-returns-in-Some-None-clause-exact : goal.VariantRepresentable::representable-returns-in-Some-None-clause-exact
+VariantRepresentable::representable-returns-in-Some-None-clause-exact t c =
+    let xs = c.as_slice-cases.result.now in
+    let ys = c.as_slice-others.result.now in
+    lost-payload xs ys c.loop-i.i c.index-cases-i.result c.index-others-i.result c.in-Some-None.field-0-0 c.loop-i.answer _ c.loop-i-test.true c.index-cases-i.is c.index-others-i.is c.loop-i.invariant.placed (search rules) (search rules) c.loop-i.invariant.answer
+    ∙ variant-whole c.args.self.now c.args.by.now xs ys c.head_answer-answer.result c.as_slice-cases.ensures c.as_slice-others.ensures c.head_answer-answer.ensures
 
-pub DatatypeRepresentable::representable-returns-in-List-List-clause-alike : goal.DatatypeRepresentable::representable-returns-in-List-List-clause-alike
-DatatypeRepresentable::representable-returns-in-List-List-clause-alike t c = search (rules, compat_rules)
+pub VariantRepresentable::representable-loop-i-preserved-in-None-Some : goal.VariantRepresentable::representable-loop-i-preserved-in-None-Some
+VariantRepresentable::representable-loop-i-preserved-in-None-Some t c =
+    let xs = c.as_slice-cases.result.now in
+    let ys = c.as_slice-others.result.now in
+    record {
+      placed = placed-rest xs c.loop-i.i c.index-cases-i.result (cases_plain ys) c.loop-i-test.true c.index-cases-i.is c.loop-i.invariant.placed;
+      answer =
+          rw c.worse-answer-in-None-Some.ensures
+          (next-gained xs ys c.loop-i.i c.index-cases-i.result c.index-others-i.result c.in-None-Some.field-0-1 c.loop-i.answer _ c.loop-i-test.true c.index-cases-i.is c.index-others-i.is c.loop-i.invariant.placed (search rules) (search rules) c.loop-i.invariant.answer);
+    }
 
-pub DatatypeRepresentable::representable-returns-in-List-List-clause-exact : goal.DatatypeRepresentable::representable-returns-in-List-List-clause-exact
-DatatypeRepresentable::representable-returns-in-List-List-clause-exact t c = search (rules, compat_rules)
-
-pub DatatypeRepresentable::representable-returns-in-Pointer-Pointer-clause-alike : goal.DatatypeRepresentable::representable-returns-in-Pointer-Pointer-clause-alike
-DatatypeRepresentable::representable-returns-in-Pointer-Pointer-clause-alike t c = search (rules, compat_rules)
-
-pub DatatypeRepresentable::representable-returns-in-Pointer-Pointer-clause-exact : goal.DatatypeRepresentable::representable-returns-in-Pointer-Pointer-clause-exact
-DatatypeRepresentable::representable-returns-in-Pointer-Pointer-clause-exact t c = search (rules, compat_rules)
-
-pub DatatypeRepresentable::representable-returns-in-Record-Record-clause-alike : goal.DatatypeRepresentable::representable-returns-in-Record-Record-clause-alike
-DatatypeRepresentable::representable-returns-in-Record-Record-clause-alike t c = search (rules, compat_rules)
-
-pub DatatypeRepresentable::representable-returns-in-Record-Record-clause-exact : goal.DatatypeRepresentable::representable-returns-in-Record-Record-clause-exact
-DatatypeRepresentable::representable-returns-in-Record-Record-clause-exact t c = search (rules, compat_rules)
-
-pub DatatypeRepresentable::representable-returns-in-Variant-Variant-clause-alike : goal.DatatypeRepresentable::representable-returns-in-Variant-Variant-clause-alike
-DatatypeRepresentable::representable-returns-in-Variant-Variant-clause-alike t c = search (rules, compat_rules)
-
-pub DatatypeRepresentable::representable-returns-in-Variant-Variant-clause-exact : goal.DatatypeRepresentable::representable-returns-in-Variant-Variant-clause-exact
-DatatypeRepresentable::representable-returns-in-Variant-Variant-clause-exact t c = search (rules, compat_rules)
-
-pub DatatypeRepresentable::representable-returns-in_default : goal.DatatypeRepresentable::representable-returns-in_default
-DatatypeRepresentable::representable-returns-in_default t c = search (rules, compat_rules)
-
-pub DatatypeRepresentable::representable-returns-in_default-2 : goal.DatatypeRepresentable::representable-returns-in_default-2
-DatatypeRepresentable::representable-returns-in_default-2 t c = search (rules, compat_rules)
-
-pub DatatypeRepresentable::representable-returns-in_default-3 : goal.DatatypeRepresentable::representable-returns-in_default-3
-DatatypeRepresentable::representable-returns-in_default-3 t c = search (rules, compat_rules)
-
-pub DatatypeRepresentable::representable-returns-in_default-4 : goal.DatatypeRepresentable::representable-returns-in_default-4
-DatatypeRepresentable::representable-returns-in_default-4 t c = search (rules, compat_rules)
-
-pub DatatypeRepresentable::representable-returns-in_default-5 : goal.DatatypeRepresentable::representable-returns-in_default-5
-DatatypeRepresentable::representable-returns-in_default-5 t c = search (rules, compat_rules)
-
-pub DatatypeRepresentable::representable-returns-in_default-6 : goal.DatatypeRepresentable::representable-returns-in_default-6
-DatatypeRepresentable::representable-returns-in_default-6 t c = search (rules, compat_rules)
-
-pub DatatypeRepresentable::representable-returns-in_default-7 : goal.DatatypeRepresentable::representable-returns-in_default-7
-DatatypeRepresentable::representable-returns-in_default-7 t c = search (rules, compat_rules)
-
-pub RecordDatatypeRepresentable::representable-returns-then-members_same-clause-alike : goal.RecordDatatypeRepresentable::representable-returns-then-members_same-clause-alike
-RecordDatatypeRepresentable::representable-returns-then-members_same-clause-alike t c = grind (arith, common_steps, compat_rules)
-
-pub RecordDatatypeRepresentable::representable-returns-then-members_same-clause-exact : goal.RecordDatatypeRepresentable::representable-returns-then-members_same-clause-exact
-RecordDatatypeRepresentable::representable-returns-then-members_same-clause-exact t c = search (rules, compat_rules)
-
-pub TypeRefRepresentable::representable-loop-tref-preserved : goal.TypeRefRepresentable::representable-loop-tref-preserved
-TypeRefRepresentable::representable-loop-tref-preserved t c = record {
-  behind = search (rules, compat_rules);
-  shallower =
-      let d : the_size c.deref.result.now.tref ≤ the_size c.loop-tref.tref.now = rw (c.deref.ensures, c.in-Name.is) (behind-name c.in-Name.named) in
-      omega (arith, d, c.loop-tref.invariant.shallower);
-}
-
-pub TypeRefRepresentable::representable-returns-in-Value-clause-alike : goal.TypeRefRepresentable::representable-returns-in-Value-clause-alike
-TypeRefRepresentable::representable-returns-in-Value-clause-alike t c = search (rules, compat_rules)
-
-pub TypeRefRepresentable::representable-returns-in-Value-clause-exact : goal.TypeRefRepresentable::representable-returns-in-Value-clause-exact
-TypeRefRepresentable::representable-returns-in-Value-clause-exact t c = search (rules, compat_rules)
-
-pub VariantRepresentable::representable-returns-clause-alike : goal.VariantRepresentable::representable-returns-clause-alike
-VariantRepresentable::representable-returns-clause-alike t c = search (rules, compat_rules)
+pub VariantRepresentable::representable-loop-i-preserved : goal.VariantRepresentable::representable-loop-i-preserved
+VariantRepresentable::representable-loop-i-preserved t c =
+    let xs = c.as_slice-cases.result.now in
+    let ys = c.as_slice-others.result.now in
+    record {
+      placed = placed-rest xs c.loop-i.i c.index-cases-i.result (cases_plain ys) c.loop-i-test.true c.index-cases-i.is c.loop-i.invariant.placed;
+      answer = next-bare xs ys c.loop-i.i c.index-cases-i.result c.index-others-i.result c.loop-i.answer _ c.loop-i-test.true c.index-cases-i.is c.index-others-i.is c.loop-i.invariant.placed (search rules) (search rules) c.loop-i.invariant.answer;
+    }
 
 pub VariantRepresentable::representable-returns-clause-exact : goal.VariantRepresentable::representable-returns-clause-exact
-VariantRepresentable::representable-returns-clause-exact t c = search (rules, compat_rules)
+VariantRepresentable::representable-returns-clause-exact t c =
+    let xs = c.as_slice-cases.result.now in
+    let ys = c.as_slice-others.result.now in
+    all-cases xs c.loop-i.i (cases_plain ys) c.loop-i.answer _ c.loop-i-test.false c.loop-i.invariant.answer
+    ∙ variant-whole c.args.self.now c.args.by.now xs ys c.head_answer-answer.result c.as_slice-cases.ensures c.as_slice-others.ensures c.head_answer-answer.ensures
 
-pub VariantRepresentable::representable-returns-then-is_refused-clause-alike : goal.VariantRepresentable::representable-returns-then-is_refused-clause-alike
-VariantRepresentable::representable-returns-then-is_refused-clause-alike t c = search rules
-
-pub VariantRepresentable::representable-returns-then-is_refused-clause-exact : goal.VariantRepresentable::representable-returns-then-is_refused-clause-exact
-VariantRepresentable::representable-returns-then-is_refused-clause-exact t c = search (rules, compat_rules)
-
-pub members_same-returns : goal.members_same-returns
-members_same-returns t c = grind (arith, common_steps)
-
-pub payload_answer-returns-in-Some-Some : goal.payload_answer-returns-in-Some-Some
-payload_answer-returns-in-Some-Some t c = search rules
-
-pub worst_case-returns : goal.worst_case-returns
-worst_case-returns t c = grind (arith, common_steps)
+pub VariantRepresentable::representable-returns-clause-alike : goal.VariantRepresentable::representable-returns-clause-alike
+VariantRepresentable::representable-returns-clause-alike t c =
+    λ h. alike-by (plain (variant_tree c.args.self.now)) (plain (variant_tree c.args.by.now)) _ (VariantRepresentable::representable-returns-clause-exact t c) h

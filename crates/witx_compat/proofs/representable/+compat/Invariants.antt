@@ -1,23 +1,29 @@
-use Rattle.std.proofs.Common.{◌≡◌, ◌≤◌, drop}
+use Rattle.std.proofs.Common.{◌≡◌, ◌+◌, ◌*◌, true, drop}
 use Rattle.witx_ast.specs.Plain.{plain}
-use Rattle.witx_ast.specs.Views.{cases_plain, members_plain, tree_of}
-use Rattle.witx_ast.proofs.types.TypeRef.TheLaws.{the_size}
+use Rattle.witx_ast.specs.Views.{datatype_tree, record_tree, variant_tree, cases_plain, members_plain}
 use Rattle.witx_compat.specs.Answers.{worse}
+use Rattle.witx_compat.specs.Heads.{same_names, all_placed}
 use Rattle.witx_compat.specs.Represents.{fields_same, cases_by}
+use Rattle.witx_compat.proofs.Sizes.{size}
 use Rattle.witx_compat.proofs.representable.+compat.Given as goal
 
-abbrev pub invariant-TypeRefRepresentable::representable-loop-tref : goal.invariant-TypeRefRepresentable::representable-loop-tref
-invariant-TypeRefRepresentable::representable-loop-tref l = record {
-  behind : plain (tree_of l.tref) ≡ plain (tree_of l.initial.tref);
-  shallower : the_size l.tref ≤ the_size l.initial.tref;
+abbrev pub decreases-DatatypeRepresentable::representable : goal.decreases-DatatypeRepresentable::representable
+decreases-DatatypeRepresentable::representable l = 2 * size (plain (datatype_tree l.self.now)) + 1
+
+abbrev pub decreases-RecordDatatypeRepresentable::representable : goal.decreases-RecordDatatypeRepresentable::representable
+decreases-RecordDatatypeRepresentable::representable l = 2 * size (plain (record_tree l.self.now))
+
+abbrev pub decreases-VariantRepresentable::representable : goal.decreases-VariantRepresentable::representable
+decreases-VariantRepresentable::representable l = 2 * size (plain (variant_tree l.self.now))
+
+abbrev pub invariant-RecordDatatypeRepresentable::representable-loop-i : goal.invariant-RecordDatatypeRepresentable::representable-loop-i
+invariant-RecordDatatypeRepresentable::representable-loop-i l = record {
+  named : same_names (members_plain (drop l.i l.members)) (members_plain (drop l.i l.others)) ≡ true;
+  same : fields_same (members_plain (drop l.i l.members)) (members_plain (drop l.i l.others)) ≡ fields_same (members_plain l.members) (members_plain l.others);
 }
 
-abbrev pub invariant-members_same-loop-i : goal.invariant-members_same-loop-i
-invariant-members_same-loop-i l = record {
-  same : fields_same (members_plain (drop l.i l.members)) (members_plain (drop l.i l.by)) ≡ fields_same (members_plain l.members) (members_plain l.by);
-}
-
-abbrev pub invariant-worst_case-loop-i : goal.invariant-worst_case-loop-i
-invariant-worst_case-loop-i l = record {
-  answer : worse l.answer (cases_by l.i (cases_plain (drop l.i l.cases)) (cases_plain l.by)) ≡ cases_by 0 (cases_plain l.cases) (cases_plain l.by);
+abbrev pub invariant-VariantRepresentable::representable-loop-i : goal.invariant-VariantRepresentable::representable-loop-i
+invariant-VariantRepresentable::representable-loop-i l = record {
+  placed : all_placed l.i (cases_plain (drop l.i l.cases)) (cases_plain l.others) ≡ true;
+  answer : worse l.answer (cases_by l.i (cases_plain (drop l.i l.cases)) (cases_plain l.others)) ≡ worse l.initial.answer (cases_by 0 (cases_plain l.cases) (cases_plain l.others));
 }
