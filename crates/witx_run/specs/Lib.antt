@@ -14,3 +14,5 @@ pub mod OutcomeViews
 pub mod Sides
 pub mod CallViews
 pub mod RunEnds
+pub mod Stops
+pub mod SideEnds

@@ -11,7 +11,7 @@ ghost use Rattle.witx_run.specs.LeftOver.{left_item, left_row};
 ghost use Rattle.witx_run.specs.MachineViews.{Setting, block_of, inside_of, spot_in, state_in};
 ghost use Rattle.witx_run.specs.Nearing.{Falls};
 ghost use Rattle.witx_run.specs.ScriptParts.{event_below};
-ghost use Rattle.witx_run.specs.Turns.{ComesTo, TurnsHere, entering, events_of, leaving, lifting_by, lowering_by, turned, whole, whole_at, whole_behind, whole_with};
+ghost use Rattle.witx_run.specs.Turns.{ComesTo, FramesFit, TurnsHere, entering, events_of, leaving, lifting_by, lowering_by, turned, whole, whole_at, whole_behind, whole_with};
 
 use crate::cases::has_cases;
 use crate::domain::{Domain, Picked};
@@ -26,6 +26,21 @@ use std::mem::replace;
 use witx_ast::TypeRef;
 use witx_base::OutOfMemory;
 use witx_machine::WasmType;
+
+/// The types that the two cases of a result carry.
+#[derive(Clone, Copy, Drop)]
+pub(crate) struct Cases<'a> {
+    pub(crate) ok: Option<&'a TypeRef>,
+    pub(crate) err: Option<&'a TypeRef>,
+}
+
+/// A result step as it runs a block: which step and which case it is, and the block.
+#[derive(Clone, Copy, Drop)]
+struct ResultStep {
+    lowers: bool,
+    error: bool,
+    block: Block,
+}
 
 /// A push sets its block aside, and the trace goes on behind it.
 pub(crate) fn set_aside<'a, D: Domain>(
@@ -56,23 +71,22 @@ pub(crate) fn lower_result<'a, D: Domain>(
     domain: &D,
     progress: &mut ProgressOf<D>,
     script: &ScriptOf<'a, D>,
-    ok: Option<&TypeRef>,
-    err: Option<&TypeRef>,
+    cases: Cases<'_>,
 ) -> Result<Turn<'a>, OutOfMemory>
     requires here { progress.old.at < progress.old.end }
-    requires deep { length progress.old.frames.items ≤ length script.now.events.now }
+    requires deep { FramesFit script.now progress.old }
     ensures comes { IfOk result (λ turn. (called : Bool) → ComesTo (D.domain domain.now) D.value_of D.word_of D.memory_of script.now called
         (λ x es. whole_at (D.domain domain.now) D.value_of D.word_of D.memory_of x es progress.old
-        (result_lower (type_tree ok.entry) (type_tree err.entry))) progress.new turn) }
+        (result_lower (type_tree cases.entry.ok) (type_tree cases.entry.err))) progress.new turn) }
     ensures falls { IfOk result (λ turn. Falls 0 progress.old progress.new turn) }
-    ensures deep { IfOk result (λ _. length progress.new.frames.items ≤ length script.now.events.now) }
+    ensures deep { IfOk result (λ _. FramesFit script.now progress.new) }
     ensures here { IfOk result (λ turn. TurnsHere progress.new turn) }
 {
-    if !has_cases(script.func.results.as_slice(), ok, err) {
+    if !has_cases(script.func.results.as_slice(), cases.ok, cases.err) {
         return Ok(Turn::Stops(Stop::Stuck(progress.at)));
     }
     match pop_value::<D>(&mut progress.machine.stack) {
-        Some(value) => lower_value(alloc, domain, progress, script, ok, err, value),
+        Some(value) => lower_value(alloc, domain, progress, script, cases, value),
         None => Ok(Turn::Stops(Stop::Stuck(progress.at))),
     }
 }
@@ -82,32 +96,36 @@ fn lower_value<'a, D: Domain>(
     domain: &D,
     progress: &mut ProgressOf<D>,
     script: &ScriptOf<'a, D>,
-    ok: Option<&TypeRef>,
-    err: Option<&TypeRef>,
+    cases: Cases<'_>,
     value: D::Value,
 ) -> Result<Turn<'a>, OutOfMemory>
     requires here { progress.old.at < progress.old.end }
-    requires deep { length progress.old.frames.items ≤ length script.now.events.now }
+    requires deep { FramesFit script.now progress.old }
     ensures comes { IfOk result (λ turn. (x : Setting D.V D.W D.M) →
         whole_behind (D.domain domain.now) D.value_of D.word_of D.memory_of x (events_of script.now) progress.old
         (lowering_by (D.domain domain.now) D.value_of D.word_of D.memory_of x (events_of script.now) progress.old
-        (type_tree ok.entry) (type_tree err.entry) (D.value_of value)
+        (type_tree cases.entry.ok) (type_tree cases.entry.err) (D.value_of value)
         (stack_of D.value_of D.word_of progress.old.machine.stack.items) (state_in D.value_of D.word_of D.memory_of x (events_of script.now) progress.old.machine))
         ≡ turned (D.domain domain.now) D.value_of D.word_of D.memory_of x (events_of script.now) progress.new turn) }
     ensures falls { IfOk result (λ turn. Falls 0 progress.old progress.new turn) }
-    ensures deep { IfOk result (λ _. length progress.new.frames.items ≤ length script.now.events.now) }
+    ensures deep { IfOk result (λ _. FramesFit script.now progress.new) }
     ensures here { IfOk result (λ turn. TurnsHere progress.new turn) }
 {
     let Some((first, second)) = last_two(&mut progress.machine.blocks) else {
         drop(value);
         return Ok(Turn::Stops(Stop::Stuck(progress.at)));
     };
-    match domain.picks(ok, err, value)? {
+    match domain.picks(cases.ok, cases.err, value)? {
         Some(picked) => {
             let error = picked.error;
             let inside = Inside::Lower(payload_item::<D>(picked));
             let block = chosen(error, first, second);
-            enter::<D>(alloc, progress, script, inside, true, error, block)
+            let step = ResultStep {
+                lowers: true,
+                error,
+                block,
+            };
+            enter::<D>(alloc, progress, script, inside, step)
         }
         None => Ok(Turn::Stops(Stop::Stuck(progress.at))),
     }
@@ -121,12 +139,12 @@ pub(crate) fn lift_result<'a, D: Domain>(
     script: &ScriptOf<'a, D>,
 ) -> Result<Turn<'a>, OutOfMemory>
     requires here { progress.old.at < progress.old.end }
-    requires deep { length progress.old.frames.items ≤ length script.now.events.now }
+    requires deep { FramesFit script.now progress.old }
     ensures comes { IfOk result (λ turn. (x : Setting D.V D.W D.M) →
         whole_at (D.domain domain.now) D.value_of D.word_of D.memory_of x (events_of script.now) progress.old result_lift
         ≡ turned (D.domain domain.now) D.value_of D.word_of D.memory_of x (events_of script.now) progress.new turn) }
     ensures falls { IfOk result (λ turn. Falls 0 progress.old progress.new turn) }
-    ensures deep { IfOk result (λ _. length progress.new.frames.items ≤ length script.now.events.now) }
+    ensures deep { IfOk result (λ _. FramesFit script.now progress.new) }
     ensures here { IfOk result (λ turn. TurnsHere progress.new turn) }
 {
     match pop_word::<D>(&mut progress.machine.stack) {
@@ -143,14 +161,14 @@ fn lift_word<'a, D: Domain>(
     word: D::Word,
 ) -> Result<Turn<'a>, OutOfMemory>
     requires here { progress.old.at < progress.old.end }
-    requires deep { length progress.old.frames.items ≤ length script.now.events.now }
+    requires deep { FramesFit script.now progress.old }
     ensures comes { IfOk result (λ turn. (x : Setting D.V D.W D.M) →
         whole_behind (D.domain domain.now) D.value_of D.word_of D.memory_of x (events_of script.now) progress.old
         (lifting_by (D.domain domain.now) D.value_of D.word_of D.memory_of x (events_of script.now) progress.old (D.word_of word)
         (stack_of D.value_of D.word_of progress.old.machine.stack.items) (state_in D.value_of D.word_of D.memory_of x (events_of script.now) progress.old.machine))
         ≡ turned (D.domain domain.now) D.value_of D.word_of D.memory_of x (events_of script.now) progress.new turn) }
     ensures falls { IfOk result (λ turn. Falls 0 progress.old progress.new turn) }
-    ensures deep { IfOk result (λ _. length progress.new.frames.items ≤ length script.now.events.now) }
+    ensures deep { IfOk result (λ _. FramesFit script.now progress.new) }
     ensures here { IfOk result (λ turn. TurnsHere progress.new turn) }
 {
     let Some((first, second)) = last_two(&mut progress.machine.blocks) else {
@@ -162,7 +180,12 @@ fn lift_word<'a, D: Domain>(
     match choice {
         Some(error) => {
             let block = chosen(error, first, second);
-            enter::<D>(alloc, progress, script, Inside::Lift, false, error, block)
+            let step = ResultStep {
+                lowers: false,
+                error,
+                block,
+            };
+            enter::<D>(alloc, progress, script, Inside::Lift, step)
         }
         None => Ok(Turn::Stops(Stop::Stuck(progress.at))),
     }
@@ -174,20 +197,18 @@ fn enter<'a, D: Domain>(
     progress: &mut ProgressOf<D>,
     script: &ScriptOf<'a, D>,
     inside: Inside<D::Value, D::Word>,
-    lowers: bool,
-    error: bool,
-    block: Block,
+    step: ResultStep,
 ) -> Result<Turn<'a>, OutOfMemory>
     requires here { progress.old.at < progress.old.end }
-    requires deep { length progress.old.frames.items ≤ length script.now.events.now }
+    requires deep { FramesFit script.now progress.old }
     ensures comes { IfOk result (λ turn. (d : machine_specs.Domain D.V D.W D.M) (x : Setting D.V D.W D.M) →
         whole_behind d D.value_of D.word_of D.memory_of x (events_of script.now) progress.old
-        (entering d D.value_of D.word_of D.memory_of x (events_of script.now) progress.old (inside_of D.value_of D.word_of inside) lowers error
-        (block_of (spot_in x.trace) (events_of script.now) block)
+        (entering d D.value_of D.word_of D.memory_of x (events_of script.now) progress.old (inside_of D.value_of D.word_of inside) step.lowers step.error
+        (block_of (spot_in x.trace) (events_of script.now) step.block)
         (stack_of D.value_of D.word_of progress.old.machine.stack.items) (state_in D.value_of D.word_of D.memory_of x (events_of script.now) progress.old.machine))
         ≡ turned d D.value_of D.word_of D.memory_of x (events_of script.now) progress.new turn) }
-    ensures falls { IfOk result (λ turn. Falls (suc (block.end - block.first)) progress.old progress.new turn) }
-    ensures deep { IfOk result (λ _. length progress.new.frames.items ≤ length script.now.events.now) }
+    ensures falls { IfOk result (λ turn. Falls (suc (step.block.end - step.block.first)) progress.old progress.new turn) }
+    ensures deep { IfOk result (λ _. FramesFit script.now progress.new) }
     ensures here { IfOk result (λ turn. TurnsHere progress.new turn) }
 {
     if progress.frames.len() >= script.events.len() {
@@ -199,14 +220,14 @@ fn enter<'a, D: Domain>(
         at: progress.at,
         end: progress.end,
         below: replace(&mut progress.machine.stack, Vec::new(alloc)),
-        lowers,
-        error,
-        has_value: block.has_value,
-        finish: block.end,
+        lowers: step.lowers,
+        error: step.error,
+        has_value: step.block.has_value,
+        finish: step.block.end,
     };
     progress.frames.push(frame)?;
-    progress.at = block.first;
-    progress.end = block.end;
+    progress.at = step.block.first;
+    progress.end = step.block.end;
     Ok(Turn::Advances)
 }
 
@@ -217,13 +238,13 @@ pub(crate) fn leave<'a, D: Domain>(
     progress: &mut ProgressOf<D>,
     script: &ScriptOf<'a, D>,
 ) -> Result<Turn<'a>, OutOfMemory>
-    requires deep { length progress.old.frames.items ≤ length script.now.events.now }
+    requires deep { FramesFit script.now progress.old }
     ensures comes { IfOk result (λ turn. (x : Setting D.V D.W D.M) →
         whole_with (D.domain domain.now) D.value_of D.word_of D.memory_of x (events_of script.now) progress.old
         (went (state_in D.value_of D.word_of D.memory_of x (events_of script.now) progress.old.machine))
         ≡ turned (D.domain domain.now) D.value_of D.word_of D.memory_of x (events_of script.now) progress.new turn) }
     ensures falls { IfOk result (λ turn. Falls 0 progress.old progress.new turn) }
-    ensures deep { IfOk result (λ _. length progress.new.frames.items ≤ length script.now.events.now) }
+    ensures deep { IfOk result (λ _. FramesFit script.now progress.new) }
     ensures here { IfOk result (λ turn. TurnsHere progress.new turn) }
 {
     match progress.frames.pop() {

@@ -10,9 +10,9 @@ ghost use Rattle.witx_run.specs.Nearing.{Falls};
 ghost use Rattle.witx_run.specs.RowViews.{row_view, runs_nothing};
 ghost use Rattle.witx_run.specs.ScriptParts.{event_below};
 ghost use Rattle.witx_run.specs.StackRows.{tried_if};
-ghost use Rattle.witx_run.specs.Turns.{ComesTo, HaltsAt, IsHere, TurnsHere, events_of, run_start, whole, whole_behind, whole_at, space_at, turned};
+ghost use Rattle.witx_run.specs.Turns.{ComesTo, FramesFit, HaltsAt, IsHere, TurnsHere, events_of, run_start, whole, whole_behind, whole_at, space_at, turned};
 
-use crate::blocks::{leave, lift_result, lower_result, set_aside};
+use crate::blocks::{Cases, leave, lift_result, lower_result, set_aside};
 use crate::domain::Domain;
 use crate::frame::Frame;
 use crate::machine::{Inside, Machine, give_slot as machine_give, perform as machine_perform};
@@ -151,11 +151,11 @@ fn take_turn<'a, D: Domain>(
     script: &ScriptOf<'a, D>,
     has_called: bool,
 ) -> Result<Turn<'a>, OutOfMemory>
-    requires { length progress.old.frames.items ≤ length script.now.events.now }
+    requires { FramesFit script.now progress.old }
     ensures comes { IfOk result (λ turn. ComesTo (D.domain domain.now) D.value_of D.word_of D.memory_of script.now has_called
         (λ x es. whole (D.domain domain.now) D.value_of D.word_of D.memory_of x es progress.old) progress.new turn) }
     ensures falls { IfOk result (λ turn. Falls 0 progress.old progress.new turn) }
-    ensures deep { IfOk result (λ _. length progress.new.frames.items ≤ length script.now.events.now) }
+    ensures deep { IfOk result (λ _. FramesFit script.now progress.new) }
     ensures here { IfOk result (λ turn. TurnsHere progress.new turn) }
 {
     match script.event_at(progress.at, progress.end) {
@@ -183,15 +183,17 @@ fn run_step<'a, D: Domain>(
     row: Row<'a>,
 ) -> Result<Turn<'a>, OutOfMemory>
     requires here { progress.old.at < progress.old.end }
-    requires deep { length progress.old.frames.items ≤ length script.now.events.now }
+    requires deep { FramesFit script.now progress.old }
     ensures comes { IfOk result (λ turn. ComesTo (D.domain domain.now) D.value_of D.word_of D.memory_of script.now has_called
         (λ x es. whole_at (D.domain domain.now) D.value_of D.word_of D.memory_of x es progress.old (row_view row.entry)) progress.new turn) }
     ensures falls { IfOk result (λ turn. Falls 0 progress.old progress.new turn) }
-    ensures deep { IfOk result (λ _. length progress.new.frames.items ≤ length script.now.events.now) }
+    ensures deep { IfOk result (λ _. FramesFit script.now progress.new) }
     ensures here { IfOk result (λ turn. TurnsHere progress.new turn) }
 {
     match row {
-        Row::ResultLower { ok, err } => lower_result(alloc, domain, progress, script, ok, err),
+        Row::ResultLower { ok, err } => {
+            lower_result(alloc, domain, progress, script, Cases { ok, err })
+        }
         Row::ResultLift => lift_result(alloc, domain, progress, script),
         Row::CallWasm {
             module,

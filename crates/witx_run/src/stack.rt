@@ -1,4 +1,5 @@
 //! The rows that look at the stack, and at the memory and the slots that they name.
+#![tactic(auto, using(crate::proofs::StackLemmas::stack_rules))]
 
 ghost use Rattle.std.specs.Prelude.{◌≡◌, ◌∷◌, [], Some, None, IfOk, MatchOption, map, option_map, slice_get};
 ghost use Rattle.witx_ast.specs.Views.{named_tree};
@@ -22,7 +23,6 @@ use witx_base::OutOfMemory;
 pub(crate) type Stack<D> = Vec<Item<<D as Domain>::Value, <D as Domain>::Word>>;
 
 /// The word on top, taken off.
-#[tactic(auto, using(crate::proofs::StackLemmas::stack_rules))]
 pub(crate) fn pop_word<D: Domain>(stack: &mut Stack<D>) -> Option<D::Word>
     ensures { MatchOption result (top_word_of (stack_of D.value_of D.word_of stack.old.items) ≡ None)
         (λ w. top_word_of (stack_of D.value_of D.word_of stack.old.items) ≡ Some (D.word_of w, stack_of D.value_of D.word_of stack.new.items)) }
@@ -35,7 +35,6 @@ pub(crate) fn pop_word<D: Domain>(stack: &mut Stack<D>) -> Option<D::Word>
 }
 
 /// The value on top with its name, taken off.
-#[tactic(auto, using(crate::proofs::StackLemmas::stack_rules))]
 pub(crate) fn pop_named<D: Domain>(
     stack: &mut Stack<D>,
 ) -> Option<(D::Value, Option<Rc<NamedType>>)>
@@ -51,7 +50,6 @@ pub(crate) fn pop_named<D: Domain>(
 }
 
 /// The value on top, taken off.
-#[tactic(auto, using(crate::proofs::StackLemmas::stack_rules))]
 pub(crate) fn pop_value<D: Domain>(stack: &mut Stack<D>) -> Option<D::Value>
     ensures { MatchOption result (top_value_of (stack_of D.value_of D.word_of stack.old.items) ≡ None)
         (λ v. top_value_of (stack_of D.value_of D.word_of stack.old.items) ≡ Some (D.value_of v, stack_of D.value_of D.word_of stack.new.items)) }
@@ -64,7 +62,6 @@ pub(crate) fn pop_value<D: Domain>(stack: &mut Stack<D>) -> Option<D::Value>
 }
 
 /// Pushes what there is; or the step has no rule.
-#[tactic(auto, using(crate::proofs::StackLemmas::stack_rules))]
 pub(crate) fn push_word<D: Domain>(
     stack: &mut Stack<D>,
     word: Option<D::Word>,
@@ -82,7 +79,6 @@ pub(crate) fn push_word<D: Domain>(
 }
 
 /// Pushes the value that there is; or the step has no rule.
-#[tactic(auto, using(crate::proofs::StackLemmas::stack_rules))]
 pub(crate) fn push_value<D: Domain>(
     stack: &mut Stack<D>,
     value: Option<D::Value>,
@@ -100,7 +96,6 @@ pub(crate) fn push_value<D: Domain>(
 }
 
 /// Pushes an argument, by its number; or the step has no rule.
-#[tactic(auto, using(crate::proofs::StackLemmas::stack_rules))]
 pub(crate) fn get_arg<D: Domain>(
     domain: &D,
     stack: &mut Stack<D>,
@@ -120,7 +115,6 @@ pub(crate) fn get_arg<D: Domain>(
 }
 
 /// A value becomes the address at which it is put; or the step has no rule.
-#[tactic(auto, using(crate::proofs::StackLemmas::stack_rules))]
 pub(crate) fn addr_of<D: Domain>(
     domain: &D,
     stack: &mut Stack<D>,
@@ -135,7 +129,6 @@ pub(crate) fn addr_of<D: Domain>(
     }
 }
 
-#[tactic(auto, using(crate::proofs::StackLemmas::stack_rules))]
 fn put_by_name<D: Domain>(
     domain: &D,
     stack: &mut Stack<D>,
@@ -156,7 +149,6 @@ fn put_by_name<D: Domain>(
 }
 
 /// A value becomes its one word; or the step has no rule.
-#[tactic(auto, using(crate::proofs::StackLemmas::stack_rules))]
 pub(crate) fn lowering<D: Domain>(
     domain: &D,
     stack: &mut Stack<D>,
@@ -175,7 +167,6 @@ pub(crate) fn lowering<D: Domain>(
 }
 
 /// A word becomes the value whose word it is; or the step has no rule.
-#[tactic(auto, using(crate::proofs::StackLemmas::stack_rules))]
 pub(crate) fn lifting<D: Domain>(
     domain: &D,
     stack: &mut Stack<D>,
@@ -194,7 +185,6 @@ pub(crate) fn lifting<D: Domain>(
 }
 
 /// A list becomes its address and its length; or the step has no rule.
-#[tactic(auto, using(crate::proofs::StackLemmas::stack_rules))]
 pub(crate) fn list_pointer_length<D: Domain>(
     domain: &D,
     stack: &mut Stack<D>,
@@ -211,7 +201,6 @@ pub(crate) fn list_pointer_length<D: Domain>(
     }
 }
 
-#[tactic(auto, using(crate::proofs::StackLemmas::stack_rules))]
 fn push_words<D: Domain>(
     stack: &mut Stack<D>,
     words: Option<(D::Word, D::Word)>,
@@ -230,7 +219,6 @@ fn push_words<D: Domain>(
 }
 
 /// An address and a length become their list; or the step has no rule.
-#[tactic(auto, using(crate::proofs::StackLemmas::stack_rules))]
 pub(crate) fn list_from_pointer_length<D: Domain>(
     domain: &D,
     stack: &mut Stack<D>,
@@ -249,7 +237,6 @@ pub(crate) fn list_from_pointer_length<D: Domain>(
 }
 
 /// Pushes the address of a slot; or the step has no rule.
-#[tactic(auto, using(crate::proofs::StackLemmas::stack_rules))]
 pub(crate) fn return_pointer_get<D: Domain>(
     domain: &D,
     stack: &mut Stack<D>,
@@ -269,7 +256,6 @@ pub(crate) fn return_pointer_get<D: Domain>(
 }
 
 /// An address becomes the value that stands there; or the step has no rule.
-#[tactic(auto, using(crate::proofs::StackLemmas::stack_rules))]
 pub(crate) fn load<D: Domain>(
     domain: &D,
     stack: &mut Stack<D>,
@@ -293,7 +279,6 @@ pub(crate) fn load<D: Domain>(
 }
 
 /// A value is put at an address; or the step has no rule.
-#[tactic(auto, using(crate::proofs::StackLemmas::stack_rules))]
 pub(crate) fn store<D: Domain>(
     domain: &D,
     stack: &mut Stack<D>,
@@ -313,7 +298,6 @@ pub(crate) fn store<D: Domain>(
 }
 
 /// So many values, taken off in the order in which they were pushed; none where there aren't so many.
-#[tactic(auto, using(crate::proofs::StackLemmas::stack_rules))]
 pub(crate) fn values_off<D: Domain>(
     alloc: Global,
     stack: &mut Stack<D>,
@@ -334,7 +318,6 @@ pub(crate) fn values_off<D: Domain>(
 }
 
 /// So many words, in the same way.
-#[tactic(auto, using(crate::proofs::StackLemmas::stack_rules))]
 pub(crate) fn words_off<D: Domain>(
     alloc: Global,
     stack: &mut Stack<D>,
@@ -355,7 +338,6 @@ pub(crate) fn words_off<D: Domain>(
 }
 
 /// The item on top, taken off.
-#[tactic(auto, using(crate::proofs::StackLemmas::stack_rules))]
 fn pop_item<D: Domain>(stack: &mut Stack<D>) -> Option<Item<D::Value, D::Word>>
     ensures { MatchOption result (stack_of D.value_of D.word_of stack.old.items ≡ [])
         (λ x. stack_of D.value_of D.word_of stack.old.items ≡ item_of D.value_of D.word_of x ∷ stack_of D.value_of D.word_of stack.new.items) }
@@ -364,7 +346,6 @@ fn pop_item<D: Domain>(stack: &mut Stack<D>) -> Option<Item<D::Value, D::Word>>
 }
 
 /// So many items, in the same way.
-#[tactic(auto, using(crate::proofs::StackLemmas::stack_rules))]
 pub(crate) fn items_off<D: Domain>(
     alloc: Global,
     stack: &mut Stack<D>,
@@ -385,7 +366,6 @@ pub(crate) fn items_off<D: Domain>(
 }
 
 /// So many values become their tuple; or the step has no rule.
-#[tactic(auto, using(crate::proofs::StackLemmas::stack_rules))]
 pub(crate) fn tuple_lift<D: Domain>(
     alloc: Global,
     domain: &D,
@@ -406,7 +386,6 @@ pub(crate) fn tuple_lift<D: Domain>(
 }
 
 /// A tuple becomes its members; or the step has no rule.
-#[tactic(auto, using(crate::proofs::StackLemmas::stack_rules))]
 pub(crate) fn tuple_lower<D: Domain>(
     domain: &D,
     stack: &mut Stack<D>,
@@ -427,7 +406,6 @@ pub(crate) fn tuple_lower<D: Domain>(
     }
 }
 
-#[tactic(auto, using(crate::proofs::StackLemmas::stack_rules))]
 fn push_all<D: Domain>(stack: &mut Stack<D>, parts: Vec<D::Value>) -> Result<(), OutOfMemory>
     ensures { IfOk result (λ _. stack_of D.value_of D.word_of stack.new.items
         ≡ pushed (map plain_item (map D.value_of parts.items)) (stack_of D.value_of D.word_of stack.old.items)) }
@@ -441,7 +419,6 @@ fn push_all<D: Domain>(stack: &mut Stack<D>, parts: Vec<D::Value>) -> Result<(),
 }
 
 /// Pushes the payload of a block that result_lower runs; or the step has no rule.
-#[tactic(auto, using(crate::proofs::StackLemmas::stack_rules))]
 pub(crate) fn variant_payload<D: Domain>(
     domain: &D,
     stack: &mut Stack<D>,
@@ -460,7 +437,6 @@ pub(crate) fn variant_payload<D: Domain>(
 }
 
 /// Pushes the one word that the call gave; or the step has no rule.
-#[tactic(auto, using(crate::proofs::StackLemmas::stack_rules))]
 pub(crate) fn reuse_return<D: Domain>(
     domain: &D,
     stack: &mut Stack<D>,
