@@ -1,5 +1,6 @@
 pub mod Views
 pub mod StackRows
+pub mod RowEnds
 pub mod RowViews
 pub mod SlotViews
 pub mod MachineViews

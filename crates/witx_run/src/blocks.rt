@@ -6,10 +6,10 @@ ghost use Rattle.witx_run.specs.Views.{item_of, picked_of, stack_of, type_tree};
 ghost use Rattle.witx_machine.specs.Machine as machine_specs;
 ghost use Rattle.witx_machine.specs.Machine.{block_word, payload_item, went};
 ghost use Rattle.witx_machine.specs.Rows.{result_lower, result_lift};
-ghost use Rattle.witx_machine.specs.Words.{when};
 ghost use Rattle.witx_run.specs.LeftOver.{left_item, left_row};
 ghost use Rattle.witx_run.specs.MachineViews.{Setting, block_of, inside_of, spot_in, state_in};
 ghost use Rattle.witx_run.specs.Nearing.{Falls};
+ghost use Rattle.witx_run.specs.RowEnds.{Makes};
 ghost use Rattle.witx_run.specs.ScriptParts.{event_below};
 ghost use Rattle.witx_run.specs.Turns.{ComesTo, FramesFit, TurnsHere, entering, events_of, leaving, lifting_by, lowering_by, turned, whole, whole_at, whole_behind, whole_with};
 
@@ -75,7 +75,8 @@ pub(crate) fn lower_result<'a, D: Domain>(
 ) -> Result<Turn<'a>, OutOfMemory>
     requires here { progress.old.at < progress.old.end }
     requires deep { FramesFit script.now progress.old }
-    ensures comes { IfOk result (λ turn. (called : Bool) → ComesTo (D.domain domain.now) D.value_of D.word_of D.memory_of script.now called
+    ensures comes { IfOk result (λ turn. (called : Bool) →
+        ComesTo (D.domain domain.now) D.value_of D.word_of D.memory_of script.now called
         (λ x es. whole_at (D.domain domain.now) D.value_of D.word_of D.memory_of x es progress.old
         (result_lower (type_tree cases.entry.ok) (type_tree cases.entry.err))) progress.new turn) }
     ensures falls { IfOk result (λ turn. Falls 0 progress.old progress.new turn) }
@@ -285,7 +286,8 @@ fn leave_block<'a, D: Domain>(
 
 /// The two blocks set aside last, taken off, the earlier one first.
 fn last_two(blocks: &mut Vec<Block>) -> Option<(Block, Block)>
-    ensures { MatchOption result (length blocks.old.items < 2) (λ p. blocks.old.items ≡ (blocks.new.items ++ p.0 ∷ []) ++ p.1 ∷ []) }
+    ensures { MatchOption result (length blocks.old.items < 2)
+        (λ p. blocks.old.items ≡ (blocks.new.items ++ p.0 ∷ []) ++ p.1 ∷ []) }
 {
     if blocks.len() < 2 {
         return None;
@@ -318,7 +320,8 @@ fn left_over<D: Domain>(
     stack: &mut Stack<D>,
     has_value: bool,
 ) -> Option<Option<Item<D::Value, D::Word>>>
-    ensures { option_map (option_map (item_of D.value_of D.word_of)) result ≡ left_item has_value (stack_of D.value_of D.word_of stack.old.items) }
+    ensures { option_map (option_map (item_of D.value_of D.word_of)) result
+        ≡ left_item has_value (stack_of D.value_of D.word_of stack.old.items) }
 {
     if !has_value {
         return if stack.is_empty() { Some(None) } else { None };
@@ -352,8 +355,8 @@ fn push_left<D: Domain>(
     error: bool,
     left: Option<Item<D::Value, D::Word>>,
 ) -> Result<bool, OutOfMemory>
-    ensures { IfOk result (λ went. when went (Some (stack_of D.value_of D.word_of stack.new.items)) ≡
-        left_row (D.domain domain.now) lowers error (option_map (item_of D.value_of D.word_of) left) (stack_of D.value_of D.word_of stack.old.items)) }
+    ensures { IfOk result (Makes D.Domain stack.old.items stack.new.items
+        (left_row (D.domain domain.now) lowers error (option_map (item_of D.value_of D.word_of) left))) }
 {
     if lowers {
         push_word::<D>(stack, block_word(domain, error, left))
@@ -368,8 +371,8 @@ fn push_result<D: Domain>(
     error: bool,
     left: Option<Item<D::Value, D::Word>>,
 ) -> Result<bool, OutOfMemory>
-    ensures { IfOk result (λ went. when went (Some (stack_of D.value_of D.word_of stack.new.items)) ≡
-        left_row (D.domain domain.now) false error (option_map (item_of D.value_of D.word_of) left) (stack_of D.value_of D.word_of stack.old.items)) }
+    ensures { IfOk result (Makes D.Domain stack.old.items stack.new.items
+        (left_row (D.domain domain.now) false error (option_map (item_of D.value_of D.word_of) left))) }
 {
     match left {
         None => {
@@ -390,7 +393,8 @@ fn block_word<D: Domain>(
     error: bool,
     left: Option<Item<D::Value, D::Word>>,
 ) -> Option<D::Word>
-    ensures { option_map D.word_of result ≡ block_word (D.domain domain.now) error (option_map (item_of D.value_of D.word_of) left) }
+    ensures { option_map D.word_of result
+        ≡ block_word (D.domain domain.now) error (option_map (item_of D.value_of D.word_of) left) }
 {
     match left {
         None => Some(domain.case_word(error)),

@@ -119,7 +119,8 @@ fn reply_on<D: Domain>(
     func: &InterfaceFunc,
     reply: Option<&D::Value>,
 ) -> Result<Option<Vec<D::Value>>, OutOfMemory>
-    ensures { IfOk result (λ noted. option_map (λ vs. (map D.value_of vs.items, stack_of D.value_of D.word_of stack.new.items)) noted
+    ensures { IfOk result (λ noted.
+        option_map (λ vs. (map D.value_of vs.items, stack_of D.value_of D.word_of stack.new.items)) noted
         ≡ reply_row (called func.now) (reply_of D.value_of reply.entry) (stack_of D.value_of D.word_of stack.old.items)) }
 {
     match values_off::<D>(alloc, stack, func.params.len())? {
@@ -135,7 +136,8 @@ fn push_reply_for<D: Domain>(
     reply: Option<&D::Value>,
     values: Vec<D::Value>,
 ) -> Result<Option<Vec<D::Value>>, OutOfMemory>
-    ensures { IfOk result (λ noted. option_map (λ vs. (map D.value_of vs.items, stack_of D.value_of D.word_of stack.new.items)) noted
+    ensures { IfOk result (λ noted.
+        option_map (λ vs. (map D.value_of vs.items, stack_of D.value_of D.word_of stack.new.items)) noted
         ≡ reply_on (reply_items (param_types results.now) (reply_of D.value_of reply.entry))
         (map D.value_of values.items, stack_of D.value_of D.word_of stack.old.items)) }
 {
@@ -189,7 +191,8 @@ fn typed_words_off<D: Domain>(
     stack: &mut Stack<D>,
     types: &WasmTypes,
 ) -> Result<Option<Vec<D::Word>>, OutOfMemory>
-    ensures { IfOk result (λ words. option_map (λ ws. (map D.word_of ws.items, stack_of D.value_of D.word_of stack.new.items)) words
+    ensures { IfOk result (λ words.
+        option_map (λ ws. (map D.word_of ws.items, stack_of D.value_of D.word_of stack.new.items)) words
         ≡ words_row (D.domain domain.now) types.now (stack_of D.value_of D.word_of stack.old.items)) }
 {
     let Some(words) = words_off::<D>(alloc, stack, types.len())? else {
@@ -204,7 +207,8 @@ fn words_of_types<D: Domain>(
     types: &WasmTypes,
     words: Vec<D::Word>,
 ) -> Option<Vec<D::Word>>
-    ensures { option_map (λ ws. map D.word_of ws.items) result ≡ typed_only (D.domain domain.now) types.now (map D.word_of words.items) }
+    ensures { option_map (λ ws. map D.word_of ws.items) result
+        ≡ typed_only (D.domain domain.now) types.now (map D.word_of words.items) }
 {
     if are_typed(domain, types.as_slice(), words.as_slice()) {
         Some(words)
@@ -251,7 +255,8 @@ fn only_words<D: Domain>(
     domain: &D,
     items: &[Item<D::Value, D::Word>],
 ) -> Result<Option<Vec<D::Word>>, OutOfMemory>
-    ensures { IfOk result (λ words. option_map (λ ws. map D.word_of ws.items) words ≡ words_in (items_of D.value_of D.word_of items.now)) }
+    ensures { IfOk result (λ words. option_map (λ ws. map D.word_of ws.items) words
+        ≡ words_in (items_of D.value_of D.word_of items.now)) }
 {
     let mut words = Vec::new(alloc);
     for item in items {

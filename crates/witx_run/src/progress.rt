@@ -152,7 +152,8 @@ fn take_turn<'a, D: Domain>(
     has_called: bool,
 ) -> Result<Turn<'a>, OutOfMemory>
     requires { FramesFit script.now progress.old }
-    ensures comes { IfOk result (λ turn. ComesTo (D.domain domain.now) D.value_of D.word_of D.memory_of script.now has_called
+    ensures comes { IfOk result (λ turn.
+        ComesTo (D.domain domain.now) D.value_of D.word_of D.memory_of script.now has_called
         (λ x es. whole (D.domain domain.now) D.value_of D.word_of D.memory_of x es progress.old) progress.new turn) }
     ensures falls { IfOk result (λ turn. Falls 0 progress.old progress.new turn) }
     ensures deep { IfOk result (λ _. FramesFit script.now progress.new) }
@@ -184,7 +185,8 @@ fn run_step<'a, D: Domain>(
 ) -> Result<Turn<'a>, OutOfMemory>
     requires here { progress.old.at < progress.old.end }
     requires deep { FramesFit script.now progress.old }
-    ensures comes { IfOk result (λ turn. ComesTo (D.domain domain.now) D.value_of D.word_of D.memory_of script.now has_called
+    ensures comes { IfOk result (λ turn.
+        ComesTo (D.domain domain.now) D.value_of D.word_of D.memory_of script.now has_called
         (λ x es. whole_at (D.domain domain.now) D.value_of D.word_of D.memory_of x es progress.old (row_view row.entry)) progress.new turn) }
     ensures falls { IfOk result (λ turn. Falls 0 progress.old progress.new turn) }
     ensures deep { IfOk result (λ _. FramesFit script.now progress.new) }
@@ -232,7 +234,8 @@ fn perform_plain<'a, D: Domain>(
 ) -> Result<Turn<'a>, OutOfMemory>
     requires here { progress.old.at < progress.old.end }
     requires plain { runs_nothing (row_view row) ≡ true }
-    ensures comes { IfOk result (λ turn. ComesTo (D.domain domain.now) D.value_of D.word_of D.memory_of script.now has_called
+    ensures comes { IfOk result (λ turn.
+        ComesTo (D.domain domain.now) D.value_of D.word_of D.memory_of script.now has_called
         (λ x es. whole_at (D.domain domain.now) D.value_of D.word_of D.memory_of x es progress.old (row_view row.entry)) progress.new turn) }
     ensures falls { IfOk result (λ turn. Falls 0 progress.old progress.new turn) }
     ensures frames { IfOk result (λ _. progress.new.frames ≡ progress.old.frames) }
@@ -297,7 +300,8 @@ pub(crate) fn settle<'a, D: Domain>(
 
 /// Whether the trace hasn't returned yet, or has no event of this number.
 fn goes_to<D: Domain>(progress: &ProgressOf<D>, script: &ScriptOf<'_, D>, next: usize) -> bool
-    ensures { result ≡ (is_none progress.now.machine.answer || is_none (event_below (events_of script.now) next progress.now.end)) }
+    ensures { result ≡ (is_none progress.now.machine.answer
+        || is_none (event_below (events_of script.now) next progress.now.end)) }
 {
     progress.machine.answer.is_none() || script.event_at(next, progress.end).is_none()
 }

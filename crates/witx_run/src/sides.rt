@@ -41,7 +41,8 @@ pub(crate) fn argument_item<D: Domain>(
     ty: &TypeRef,
     argument: &D::Value,
 ) -> Result<Item<D::Value, D::Word>, OutOfMemory>
-    ensures { IfOk result (λ item. item_of D.value_of D.word_of item ≡ value_item (D.value_of argument.now) (name_of (tree_of ty.now))) }
+    ensures { IfOk result (λ item. item_of D.value_of D.word_of item
+        ≡ value_item (D.value_of argument.now) (name_of (tree_of ty.now))) }
 {
     let name = name_of(ty)?;
     let value = domain.copy_value(argument)?;

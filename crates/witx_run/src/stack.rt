@@ -4,7 +4,7 @@
 ghost use Rattle.std.specs.Prelude.{◌≡◌, ◌∷◌, [], Some, None, IfOk, MatchOption, map, option_map, slice_get};
 ghost use Rattle.witx_ast.specs.Views.{named_tree};
 ghost use Rattle.witx_machine.specs.Machine.{pushed, plain_item, values_off, words_off, items_off, slot_word};
-ghost use Rattle.witx_machine.specs.Words.{when};
+ghost use Rattle.witx_run.specs.RowEnds.{Makes, MakesBoth};
 ghost use Rattle.witx_run.specs.SlotViews.{given_slots};
 ghost use Rattle.witx_run.specs.StackRows.{top_word_of, top_named_of, top_value_of, pushed_item, pushed_word, pushed_value, pushed_words, lowering_row, lifting_row, list_words_row, list_value_row, load_row, store_row, addr_row, put_named, tuple_row, parts_row};
 ghost use Rattle.witx_run.specs.Views.{item_of, items_of, name_tree, scalar_of, stack_of};
@@ -66,8 +66,8 @@ pub(crate) fn push_word<D: Domain>(
     stack: &mut Stack<D>,
     word: Option<D::Word>,
 ) -> Result<bool, OutOfMemory>
-    ensures { IfOk result (λ went. when went (Some (stack_of D.value_of D.word_of stack.new.items))
-        ≡ pushed_word (option_map D.word_of word) (stack_of D.value_of D.word_of stack.old.items)) }
+    ensures { IfOk result (Makes D.Domain stack.old.items stack.new.items
+        (pushed_word (option_map D.word_of word))) }
 {
     match word {
         Some(word) => {
@@ -83,8 +83,8 @@ pub(crate) fn push_value<D: Domain>(
     stack: &mut Stack<D>,
     value: Option<D::Value>,
 ) -> Result<bool, OutOfMemory>
-    ensures { IfOk result (λ went. when went (Some (stack_of D.value_of D.word_of stack.new.items))
-        ≡ pushed_value (option_map D.value_of value) (stack_of D.value_of D.word_of stack.old.items)) }
+    ensures { IfOk result (Makes D.Domain stack.old.items stack.new.items
+        (pushed_value (option_map D.value_of value))) }
 {
     match value {
         Some(value) => {
@@ -102,8 +102,8 @@ pub(crate) fn get_arg<D: Domain>(
     arguments: &[Item<D::Value, D::Word>],
     nth: usize,
 ) -> Result<bool, OutOfMemory>
-    ensures { IfOk result (λ went. when went (Some (stack_of D.value_of D.word_of stack.new.items))
-        ≡ pushed_item (slice_get (items_of D.value_of D.word_of arguments.now) nth) (stack_of D.value_of D.word_of stack.old.items)) }
+    ensures { IfOk result (Makes D.Domain stack.old.items stack.new.items
+        (pushed_item (slice_get (items_of D.value_of D.word_of arguments.now) nth))) }
 {
     match arguments.get(nth) {
         Some(item) => {
@@ -120,8 +120,8 @@ pub(crate) fn addr_of<D: Domain>(
     stack: &mut Stack<D>,
     memory: &mut D::Memory,
 ) -> Result<bool, OutOfMemory>
-    ensures { IfOk result (λ went. when went (Some (stack_of D.value_of D.word_of stack.new.items, D.memory_of memory.new))
-        ≡ addr_row (D.domain domain.now) (D.memory_of memory.old) (stack_of D.value_of D.word_of stack.old.items)) }
+    ensures { IfOk result (MakesBoth D.Domain stack.old.items stack.new.items memory.new
+        (addr_row (D.domain domain.now) (D.memory_of memory.old))) }
 {
     match pop_named::<D>(stack) {
         Some((value, name)) => put_by_name(domain, stack, memory, value, name),
@@ -136,8 +136,8 @@ fn put_by_name<D: Domain>(
     value: D::Value,
     name: Option<Rc<NamedType>>,
 ) -> Result<bool, OutOfMemory>
-    ensures { IfOk result (λ went. when went (Some (stack_of D.value_of D.word_of stack.new.items, D.memory_of memory.new))
-        ≡ put_named (D.domain domain.now) (name_tree name) (D.value_of value) (D.memory_of memory.old) (stack_of D.value_of D.word_of stack.old.items)) }
+    ensures { IfOk result (MakesBoth D.Domain stack.old.items stack.new.items memory.new
+        (put_named (D.domain domain.now) (name_tree name) (D.value_of value) (D.memory_of memory.old))) }
 {
     match name {
         Some(named) => {
@@ -154,8 +154,8 @@ pub(crate) fn lowering<D: Domain>(
     stack: &mut Stack<D>,
     conversion: Conversion<'_>,
 ) -> Result<bool, OutOfMemory>
-    ensures { IfOk result (λ went. when went (Some (stack_of D.value_of D.word_of stack.new.items))
-        ≡ lowering_row (D.domain domain.now) (scalar_of conversion.entry) (stack_of D.value_of D.word_of stack.old.items)) }
+    ensures { IfOk result (Makes D.Domain stack.old.items stack.new.items
+        (lowering_row (D.domain domain.now) (scalar_of conversion.entry))) }
 {
     match pop_value::<D>(stack) {
         Some(value) => {
@@ -172,8 +172,8 @@ pub(crate) fn lifting<D: Domain>(
     stack: &mut Stack<D>,
     conversion: Conversion<'_>,
 ) -> Result<bool, OutOfMemory>
-    ensures { IfOk result (λ went. when went (Some (stack_of D.value_of D.word_of stack.new.items))
-        ≡ lifting_row (D.domain domain.now) (scalar_of conversion.entry) (stack_of D.value_of D.word_of stack.old.items)) }
+    ensures { IfOk result (Makes D.Domain stack.old.items stack.new.items
+        (lifting_row (D.domain domain.now) (scalar_of conversion.entry))) }
 {
     match pop_word::<D>(stack) {
         Some(word) => {
@@ -189,8 +189,8 @@ pub(crate) fn list_pointer_length<D: Domain>(
     domain: &D,
     stack: &mut Stack<D>,
 ) -> Result<bool, OutOfMemory>
-    ensures { IfOk result (λ went. when went (Some (stack_of D.value_of D.word_of stack.new.items))
-        ≡ list_words_row (D.domain domain.now) (stack_of D.value_of D.word_of stack.old.items)) }
+    ensures { IfOk result (Makes D.Domain stack.old.items stack.new.items
+        (list_words_row (D.domain domain.now))) }
 {
     match pop_value::<D>(stack) {
         Some(value) => {
@@ -205,8 +205,8 @@ fn push_words<D: Domain>(
     stack: &mut Stack<D>,
     words: Option<(D::Word, D::Word)>,
 ) -> Result<bool, OutOfMemory>
-    ensures { IfOk result (λ went. when went (Some (stack_of D.value_of D.word_of stack.new.items))
-        ≡ pushed_words (option_map (λ p. (D.word_of p.0, D.word_of p.1)) words) (stack_of D.value_of D.word_of stack.old.items)) }
+    ensures { IfOk result (Makes D.Domain stack.old.items stack.new.items
+        (pushed_words (option_map (λ p. (D.word_of p.0, D.word_of p.1)) words))) }
 {
     match words {
         Some((address, length)) => {
@@ -223,8 +223,8 @@ pub(crate) fn list_from_pointer_length<D: Domain>(
     domain: &D,
     stack: &mut Stack<D>,
 ) -> Result<bool, OutOfMemory>
-    ensures { IfOk result (λ went. when went (Some (stack_of D.value_of D.word_of stack.new.items))
-        ≡ list_value_row (D.domain domain.now) (stack_of D.value_of D.word_of stack.old.items)) }
+    ensures { IfOk result (Makes D.Domain stack.old.items stack.new.items
+        (list_value_row (D.domain domain.now))) }
 {
     let Some(length) = pop_word::<D>(stack) else {
         return Ok(false);
@@ -243,8 +243,8 @@ pub(crate) fn return_pointer_get<D: Domain>(
     slots: &Slots<D::Word>,
     slot: usize,
 ) -> Result<bool, OutOfMemory>
-    ensures { IfOk result (λ went. when went (Some (stack_of D.value_of D.word_of stack.new.items))
-        ≡ pushed_word (slot_word slot (given_slots D.word_of slots.now.in_order.items)) (stack_of D.value_of D.word_of stack.old.items)) }
+    ensures { IfOk result (Makes D.Domain stack.old.items stack.new.items
+        (pushed_word (slot_word slot (given_slots D.word_of slots.now.in_order.items)))) }
 {
     match slots.get(slot) {
         Some(address) => {
@@ -262,8 +262,8 @@ pub(crate) fn load<D: Domain>(
     memory: &D::Memory,
     ty: &Rc<NamedType>,
 ) -> Result<bool, OutOfMemory>
-    ensures { IfOk result (λ went. when went (Some (stack_of D.value_of D.word_of stack.new.items))
-        ≡ load_row (D.domain domain.now) (named_tree ty.now.value) (D.memory_of memory.now) (stack_of D.value_of D.word_of stack.old.items)) }
+    ensures { IfOk result (Makes D.Domain stack.old.items stack.new.items
+        (load_row (D.domain domain.now) (named_tree ty.now.value) (D.memory_of memory.now))) }
 {
     let Some(word) = pop_word::<D>(stack) else {
         return Ok(false);
@@ -285,8 +285,8 @@ pub(crate) fn store<D: Domain>(
     memory: &mut D::Memory,
     ty: &Rc<NamedType>,
 ) -> Result<bool, OutOfMemory>
-    ensures { IfOk result (λ went. when went (Some (stack_of D.value_of D.word_of stack.new.items, D.memory_of memory.new))
-        ≡ store_row (D.domain domain.now) (named_tree ty.now.value) (D.memory_of memory.old) (stack_of D.value_of D.word_of stack.old.items)) }
+    ensures { IfOk result (MakesBoth D.Domain stack.old.items stack.new.items memory.new
+        (store_row (D.domain domain.now) (named_tree ty.now.value) (D.memory_of memory.old))) }
 {
     let Some(word) = pop_word::<D>(stack) else {
         return Ok(false);
@@ -303,7 +303,8 @@ pub(crate) fn values_off<D: Domain>(
     stack: &mut Stack<D>,
     count: usize,
 ) -> Result<Option<Vec<D::Value>>, OutOfMemory>
-    ensures { IfOk result (λ values. option_map (λ vs. (map D.value_of vs.items, stack_of D.value_of D.word_of stack.new.items)) values
+    ensures { IfOk result (λ values.
+        option_map (λ vs. (map D.value_of vs.items, stack_of D.value_of D.word_of stack.new.items)) values
         ≡ values_off count [] (stack_of D.value_of D.word_of stack.old.items)) }
 {
     let mut values = Vec::new(alloc);
@@ -323,7 +324,8 @@ pub(crate) fn words_off<D: Domain>(
     stack: &mut Stack<D>,
     count: usize,
 ) -> Result<Option<Vec<D::Word>>, OutOfMemory>
-    ensures { IfOk result (λ words. option_map (λ ws. (map D.word_of ws.items, stack_of D.value_of D.word_of stack.new.items)) words
+    ensures { IfOk result (λ words.
+        option_map (λ ws. (map D.word_of ws.items, stack_of D.value_of D.word_of stack.new.items)) words
         ≡ words_off count [] (stack_of D.value_of D.word_of stack.old.items)) }
 {
     let mut words = Vec::new(alloc);
@@ -351,7 +353,8 @@ pub(crate) fn items_off<D: Domain>(
     stack: &mut Stack<D>,
     count: usize,
 ) -> Result<Option<Stack<D>>, OutOfMemory>
-    ensures { IfOk result (λ items. option_map (λ xs. (items_of D.value_of D.word_of xs.items, stack_of D.value_of D.word_of stack.new.items)) items
+    ensures { IfOk result (λ items.
+        option_map (λ xs. (items_of D.value_of D.word_of xs.items, stack_of D.value_of D.word_of stack.new.items)) items
         ≡ items_off count [] (stack_of D.value_of D.word_of stack.old.items)) }
 {
     let mut items = Vec::new(alloc);
@@ -372,8 +375,8 @@ pub(crate) fn tuple_lift<D: Domain>(
     stack: &mut Stack<D>,
     count: usize,
 ) -> Result<bool, OutOfMemory>
-    ensures { IfOk result (λ went. when went (Some (stack_of D.value_of D.word_of stack.new.items))
-        ≡ tuple_row (D.domain domain.now) count (stack_of D.value_of D.word_of stack.old.items)) }
+    ensures { IfOk result (Makes D.Domain stack.old.items stack.new.items
+        (tuple_row (D.domain domain.now) count)) }
 {
     match values_off::<D>(alloc, stack, count)? {
         Some(values) => {
@@ -391,8 +394,8 @@ pub(crate) fn tuple_lower<D: Domain>(
     stack: &mut Stack<D>,
     count: usize,
 ) -> Result<bool, OutOfMemory>
-    ensures { IfOk result (λ went. when went (Some (stack_of D.value_of D.word_of stack.new.items))
-        ≡ parts_row (D.domain domain.now) count (stack_of D.value_of D.word_of stack.old.items)) }
+    ensures { IfOk result (Makes D.Domain stack.old.items stack.new.items
+        (parts_row (D.domain domain.now) count)) }
 {
     let Some(value) = pop_value::<D>(stack) else {
         return Ok(false);
@@ -424,8 +427,8 @@ pub(crate) fn variant_payload<D: Domain>(
     stack: &mut Stack<D>,
     payload: Option<&Item<D::Value, D::Word>>,
 ) -> Result<bool, OutOfMemory>
-    ensures { IfOk result (λ went. when went (Some (stack_of D.value_of D.word_of stack.new.items))
-        ≡ pushed_item (option_map (λ x. item_of D.value_of D.word_of x.now) payload.entry) (stack_of D.value_of D.word_of stack.old.items)) }
+    ensures { IfOk result (Makes D.Domain stack.old.items stack.new.items
+        (pushed_item (option_map (λ x. item_of D.value_of D.word_of x.now) payload.entry))) }
 {
     match payload {
         Some(item) => {
@@ -442,8 +445,8 @@ pub(crate) fn reuse_return<D: Domain>(
     stack: &mut Stack<D>,
     returned: &Option<D::Word>,
 ) -> Result<bool, OutOfMemory>
-    ensures { IfOk result (λ went. when went (Some (stack_of D.value_of D.word_of stack.new.items))
-        ≡ pushed_word (option_map D.word_of returned.now) (stack_of D.value_of D.word_of stack.old.items)) }
+    ensures { IfOk result (Makes D.Domain stack.old.items stack.new.items
+        (pushed_word (option_map D.word_of returned.now))) }
 {
     match returned {
         Some(word) => {
