@@ -106,7 +106,8 @@ fn lower_value<'a, D: Domain>(
         whole_behind (D.domain domain.now) D.value_of D.word_of D.memory_of x (events_of script.now) progress.old
         (lowering_by (D.domain domain.now) D.value_of D.word_of D.memory_of x (events_of script.now) progress.old
         (type_tree cases.entry.ok) (type_tree cases.entry.err) (D.value_of value)
-        (stack_of D.value_of D.word_of progress.old.machine.stack.items) (state_in D.value_of D.word_of D.memory_of x (events_of script.now) progress.old.machine))
+        (stack_of D.value_of D.word_of progress.old.machine.stack.items)
+        (state_in D.value_of D.word_of D.memory_of x (events_of script.now) progress.old.machine))
         ≡ turned (D.domain domain.now) D.value_of D.word_of D.memory_of x (events_of script.now) progress.new turn) }
     ensures falls { IfOk result (λ turn. Falls 0 progress.old progress.new turn) }
     ensures deep { IfOk result (λ _. FramesFit script.now progress.new) }
@@ -142,7 +143,8 @@ pub(crate) fn lift_result<'a, D: Domain>(
     requires here { progress.old.at < progress.old.end }
     requires deep { FramesFit script.now progress.old }
     ensures comes { IfOk result (λ turn. (x : Setting D.V D.W D.M) →
-        whole_at (D.domain domain.now) D.value_of D.word_of D.memory_of x (events_of script.now) progress.old result_lift
+        whole_at (D.domain domain.now) D.value_of D.word_of D.memory_of x (events_of script.now) progress.old
+        result_lift
         ≡ turned (D.domain domain.now) D.value_of D.word_of D.memory_of x (events_of script.now) progress.new turn) }
     ensures falls { IfOk result (λ turn. Falls 0 progress.old progress.new turn) }
     ensures deep { IfOk result (λ _. FramesFit script.now progress.new) }
@@ -165,8 +167,10 @@ fn lift_word<'a, D: Domain>(
     requires deep { FramesFit script.now progress.old }
     ensures comes { IfOk result (λ turn. (x : Setting D.V D.W D.M) →
         whole_behind (D.domain domain.now) D.value_of D.word_of D.memory_of x (events_of script.now) progress.old
-        (lifting_by (D.domain domain.now) D.value_of D.word_of D.memory_of x (events_of script.now) progress.old (D.word_of word)
-        (stack_of D.value_of D.word_of progress.old.machine.stack.items) (state_in D.value_of D.word_of D.memory_of x (events_of script.now) progress.old.machine))
+        (lifting_by (D.domain domain.now) D.value_of D.word_of D.memory_of x (events_of script.now) progress.old
+        (D.word_of word)
+        (stack_of D.value_of D.word_of progress.old.machine.stack.items)
+        (state_in D.value_of D.word_of D.memory_of x (events_of script.now) progress.old.machine))
         ≡ turned (D.domain domain.now) D.value_of D.word_of D.memory_of x (events_of script.now) progress.new turn) }
     ensures falls { IfOk result (λ turn. Falls 0 progress.old progress.new turn) }
     ensures deep { IfOk result (λ _. FramesFit script.now progress.new) }
@@ -204,9 +208,11 @@ fn enter<'a, D: Domain>(
     requires deep { FramesFit script.now progress.old }
     ensures comes { IfOk result (λ turn. (d : machine_specs.Domain D.V D.W D.M) (x : Setting D.V D.W D.M) →
         whole_behind d D.value_of D.word_of D.memory_of x (events_of script.now) progress.old
-        (entering d D.value_of D.word_of D.memory_of x (events_of script.now) progress.old (inside_of D.value_of D.word_of inside) step.lowers step.error
+        (entering d D.value_of D.word_of D.memory_of x (events_of script.now) progress.old
+        (inside_of D.value_of D.word_of inside) step.lowers step.error
         (block_of (spot_in x.trace) (events_of script.now) step.block)
-        (stack_of D.value_of D.word_of progress.old.machine.stack.items) (state_in D.value_of D.word_of D.memory_of x (events_of script.now) progress.old.machine))
+        (stack_of D.value_of D.word_of progress.old.machine.stack.items)
+        (state_in D.value_of D.word_of D.memory_of x (events_of script.now) progress.old.machine))
         ≡ turned d D.value_of D.word_of D.memory_of x (events_of script.now) progress.new turn) }
     ensures falls { IfOk result (λ turn. Falls (suc (step.block.end - step.block.first)) progress.old progress.new turn) }
     ensures deep { IfOk result (λ _. FramesFit script.now progress.new) }

@@ -95,7 +95,8 @@ impl<'a, D: Domain> Side<'a, D> {
     fn callee_halted(self, stop: Stop<'_>) -> Result<CalleeEndOf<D>, OutOfMemory>
         requires deep { FramesFit self.script.now self.progress }
         requires here { IsHere self.progress stop }
-        ensures { IfOk result (λ end. EndsAsCallee D.Domain self.entry None (halted D.Domain self.entry stop.entry) end) }
+        ensures { IfOk result (λ end. EndsAsCallee D.Domain self.entry None
+            (halted D.Domain self.entry stop.entry) end) }
     {
         match CallRow::of_interface(stop) {
             Some(call) => self.call_interface(call),

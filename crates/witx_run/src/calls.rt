@@ -121,7 +121,8 @@ fn reply_on<D: Domain>(
 ) -> Result<Option<Vec<D::Value>>, OutOfMemory>
     ensures { IfOk result (λ noted.
         option_map (λ vs. (map D.value_of vs.items, stack_of D.value_of D.word_of stack.new.items)) noted
-        ≡ reply_row (called func.now) (reply_of D.value_of reply.entry) (stack_of D.value_of D.word_of stack.old.items)) }
+        ≡ reply_row (called func.now) (reply_of D.value_of reply.entry)
+        (stack_of D.value_of D.word_of stack.old.items)) }
 {
     match values_off::<D>(alloc, stack, func.params.len())? {
         Some(values) => push_reply_for(domain, stack, func.results.as_slice(), reply, values),
@@ -277,7 +278,8 @@ fn made_call<D: Domain>(
     at_return: D::Memory,
 ) -> Result<CallMadeOf<D>, OutOfMemory>
     ensures made { IfOk result (λ call. IsAnswered (D.domain domain.now) D.value_of D.word_of D.memory_of
-        (map D.word_of words.items) (map D.value_of noted.items) (map D.word_of callee_words.items) (D.memory_of at_return)
+        (map D.word_of words.items) (map D.value_of noted.items) (map D.word_of callee_words.items)
+        (D.memory_of at_return)
         machine.old machine.new call) }
     ensures answer { machine.new.answer ≡ machine.old.answer }
     ensures blocks { machine.new.blocks ≡ machine.old.blocks }
@@ -303,7 +305,8 @@ fn put_back<D: Domain>(
     ensures before { IfOk result (λ memory. memory ≡ machine.old.memory) }
     ensures stack { IfOk result (λ _. stack_of D.value_of D.word_of machine.new.stack.items
         ≡ pushed (map word_item (map D.word_of words.now)) (stack_of D.value_of D.word_of machine.old.stack.items)) }
-    ensures returned { IfOk result (λ _. option_map D.word_of machine.new.returned ≡ one_word (map D.word_of words.now)) }
+    ensures returned { IfOk result (λ _. option_map D.word_of machine.new.returned
+        ≡ one_word (map D.word_of words.now)) }
     ensures memory { IfOk result (λ _. D.memory_of machine.new.memory ≡ D.memory_of at_return.now) }
     ensures slots { machine.new.slots ≡ machine.old.slots }
     ensures answer { machine.new.answer ≡ machine.old.answer }

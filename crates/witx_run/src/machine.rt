@@ -148,7 +148,8 @@ fn return_items<D: Domain>(
 ) -> Result<bool, OutOfMemory>
     ensures performs { IfOk result (λ went.
         (domain : machine_specs.Domain D.V D.W D.M) (arguments : List (declared_item.Item D.Value D.Word)) →
-        Performs domain D.value_of D.word_of D.memory_of arguments has_called inside.now (returns count) machine.old machine.new went) }
+        Performs domain D.value_of D.word_of D.memory_of arguments has_called inside.now (returns count)
+        machine.old machine.new went) }
     ensures blocks { machine.new.blocks ≡ machine.old.blocks }
 {
     match inside {
@@ -165,7 +166,8 @@ fn answer_with<D: Domain>(
 ) -> Result<bool, OutOfMemory>
     ensures performs { IfOk result (λ went.
         (domain : machine_specs.Domain D.V D.W D.M) (arguments : List (declared_item.Item D.Value D.Word)) →
-        Performs domain D.value_of D.word_of D.memory_of arguments has_called Outside (returns count) machine.old machine.new went) }
+        Performs domain D.value_of D.word_of D.memory_of arguments has_called Outside (returns count)
+        machine.old machine.new went) }
     ensures blocks { machine.new.blocks ≡ machine.old.blocks }
 {
     let Some(items) = items_off::<D>(alloc, &mut machine.stack, count)? else {

@@ -112,7 +112,8 @@ pub fn run<'a, D: Domain>(
     has_called: bool,
 ) -> Result<Stop<'a>, OutOfMemory>
     requires { length progress.old.frames.items ≤ length script.now.events.now }
-    ensures halts { IfOk result (λ stop. HaltsAt (D.domain domain.now) D.value_of D.word_of D.memory_of script.now has_called
+    ensures halts { IfOk result (λ stop.
+        HaltsAt (D.domain domain.now) D.value_of D.word_of D.memory_of script.now has_called
         (λ x es. whole (D.domain domain.now) D.value_of D.word_of D.memory_of x es progress.old) progress.new stop) }
     ensures deep { IfOk result (λ _. length progress.new.frames.items ≤ length script.now.events.now) }
     ensures here { IfOk result (λ stop. IsHere progress.new stop) }
@@ -187,7 +188,8 @@ fn run_step<'a, D: Domain>(
     requires deep { FramesFit script.now progress.old }
     ensures comes { IfOk result (λ turn.
         ComesTo (D.domain domain.now) D.value_of D.word_of D.memory_of script.now has_called
-        (λ x es. whole_at (D.domain domain.now) D.value_of D.word_of D.memory_of x es progress.old (row_view row.entry)) progress.new turn) }
+        (λ x es. whole_at (D.domain domain.now) D.value_of D.word_of D.memory_of x es progress.old
+        (row_view row.entry)) progress.new turn) }
     ensures falls { IfOk result (λ turn. Falls 0 progress.old progress.new turn) }
     ensures deep { IfOk result (λ _. FramesFit script.now progress.new) }
     ensures here { IfOk result (λ turn. TurnsHere progress.new turn) }
@@ -236,7 +238,8 @@ fn perform_plain<'a, D: Domain>(
     requires plain { runs_nothing (row_view row) ≡ true }
     ensures comes { IfOk result (λ turn.
         ComesTo (D.domain domain.now) D.value_of D.word_of D.memory_of script.now has_called
-        (λ x es. whole_at (D.domain domain.now) D.value_of D.word_of D.memory_of x es progress.old (row_view row.entry)) progress.new turn) }
+        (λ x es. whole_at (D.domain domain.now) D.value_of D.word_of D.memory_of x es progress.old
+        (row_view row.entry)) progress.new turn) }
     ensures falls { IfOk result (λ turn. Falls 0 progress.old progress.new turn) }
     ensures frames { IfOk result (λ _. progress.new.frames ≡ progress.old.frames) }
     ensures here { IfOk result (λ turn. TurnsHere progress.new turn) }
@@ -262,7 +265,8 @@ fn give_space<'a, D: Domain>(
 ) -> Result<Turn<'a>, OutOfMemory>
     requires { progress.old.at < progress.old.end }
     ensures comes { IfOk result (λ turn. (x : Setting D.V D.W D.M) →
-        space_at (D.domain domain.now) D.value_of D.word_of D.memory_of x (events_of script.now) progress.old slot (named_tree ty.now.value)
+        space_at (D.domain domain.now) D.value_of D.word_of D.memory_of x (events_of script.now) progress.old
+        slot (named_tree ty.now.value)
         ≡ turned (D.domain domain.now) D.value_of D.word_of D.memory_of x (events_of script.now) progress.new turn) }
     ensures falls { IfOk result (λ turn. Falls 0 progress.old progress.new turn) }
     ensures frames { IfOk result (λ _. progress.new.frames ≡ progress.old.frames) }

@@ -55,7 +55,8 @@ pub(crate) fn word_items<D: Domain>(
     domain: &D,
     words: &[D::Word],
 ) -> Result<Stack<D>, OutOfMemory>
-    ensures { IfOk result (λ items. items_of D.value_of D.word_of items.items ≡ map word_item (map D.word_of words.now)) }
+    ensures { IfOk result (λ items. items_of D.value_of D.word_of items.items
+        ≡ map word_item (map D.word_of words.now)) }
 {
     let mut items = Vec::new(alloc);
     for word in words {

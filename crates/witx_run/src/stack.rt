@@ -25,7 +25,8 @@ pub(crate) type Stack<D> = Vec<Item<<D as Domain>::Value, <D as Domain>::Word>>;
 /// The word on top, taken off.
 pub(crate) fn pop_word<D: Domain>(stack: &mut Stack<D>) -> Option<D::Word>
     ensures { MatchOption result (top_word_of (stack_of D.value_of D.word_of stack.old.items) ≡ None)
-        (λ w. top_word_of (stack_of D.value_of D.word_of stack.old.items) ≡ Some (D.word_of w, stack_of D.value_of D.word_of stack.new.items)) }
+        (λ w. top_word_of (stack_of D.value_of D.word_of stack.old.items)
+        ≡ Some (D.word_of w, stack_of D.value_of D.word_of stack.new.items)) }
 {
     match stack.pop() {
         Some(Item::Word(word)) => Some(word),
@@ -52,7 +53,8 @@ pub(crate) fn pop_named<D: Domain>(
 /// The value on top, taken off.
 pub(crate) fn pop_value<D: Domain>(stack: &mut Stack<D>) -> Option<D::Value>
     ensures { MatchOption result (top_value_of (stack_of D.value_of D.word_of stack.old.items) ≡ None)
-        (λ v. top_value_of (stack_of D.value_of D.word_of stack.old.items) ≡ Some (D.value_of v, stack_of D.value_of D.word_of stack.new.items)) }
+        (λ v. top_value_of (stack_of D.value_of D.word_of stack.old.items)
+        ≡ Some (D.value_of v, stack_of D.value_of D.word_of stack.new.items)) }
 {
     match stack.pop() {
         Some(Item::Value { value, name: _ }) => Some(value),
@@ -342,7 +344,8 @@ pub(crate) fn words_off<D: Domain>(
 /// The item on top, taken off.
 fn pop_item<D: Domain>(stack: &mut Stack<D>) -> Option<Item<D::Value, D::Word>>
     ensures { MatchOption result (stack_of D.value_of D.word_of stack.old.items ≡ [])
-        (λ x. stack_of D.value_of D.word_of stack.old.items ≡ item_of D.value_of D.word_of x ∷ stack_of D.value_of D.word_of stack.new.items) }
+        (λ x. stack_of D.value_of D.word_of stack.old.items
+        ≡ item_of D.value_of D.word_of x ∷ stack_of D.value_of D.word_of stack.new.items) }
 {
     stack.pop()
 }
