@@ -28,14 +28,14 @@ use witx_base::OutOfMemory;
 use witx_machine::WasmType;
 
 /// The types that the two cases of a result carry.
-#[derive(Clone, Copy, Drop)]
+#[derive(Drop)]
 pub(crate) struct Cases<'a> {
     pub(crate) ok: Option<&'a TypeRef>,
     pub(crate) err: Option<&'a TypeRef>,
 }
 
 /// A result step as it runs a block: which step and which case it is, and the block.
-#[derive(Clone, Copy, Drop)]
+#[derive(Drop)]
 struct ResultStep {
     lowers: bool,
     error: bool,

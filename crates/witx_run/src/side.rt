@@ -31,7 +31,7 @@ pub(crate) struct Host<'a, D: Domain> {
     pub(crate) reply: Option<&'a D::Value>,
 }
 
-/// A trace, and how far it was run. Whatever ends it takes it.
+/// A trace, and how far it was run. What runs it on takes it, and so does what gives it up.
 #[derive(Drop)]
 pub(crate) struct Side<'a, D: Domain> {
     /// What the run is given.
