@@ -1,9 +1,10 @@
 -- The runs of the two traces, as the program makes them.
-use Rattle.std.proofs.Common.{◌≡◌, ℕ, suc, ◌+◌, Bool, true, false, is_some, refl, sym, ap, ◌∙◌, subst, List, [], ◌∷◌, map, length, Option, Some, None, option_map}
+use Rattle.std.proofs.Common.{◌≡◌, ℕ, suc, ◌+◌, true, false, is_some, refl, sym, ap, ◌∙◌, subst, List, [], ◌∷◌, map, length, Option, Some, None, option_map}
 use Rattle.std.specs.Prelude.{Result, IfOk, Ok, Err}
 use Rattle.std.specs.Global.{Vec}
 use Rattle.witx_base.specs.declared.memory.OutOfMemory.{OutOfMemory}
 use Rattle.witx_ast.specs.Tree.{Tree}
+use Rattle.witx_ast.specs.declared.types.TypeRef.{TypeRef}
 use Rattle.witx_ast.specs.Views.{tree_of}
 use Rattle.witx_machine.specs.declared.surface.WasmType.{WasmType}
 use Rattle.witx_machine.specs.Events.{Event}
@@ -19,35 +20,44 @@ use Rattle.witx_run.specs.MachineViews.{Noted, Numbered, Setting, part, spot_in,
 use Rattle.witx_run.specs.OutcomeViews.{call_of, run_of}
 use Rattle.witx_run.specs.RunEnds.{CallsNoMore, CalleeComes, CalleeEnds, CallerComes, EndsAs, HandedOn, IsEndWith, IsRunWith, TakenUp, callee_run, finished, outcome_from}
 use Rattle.witx_run.specs.Sides.{callee_setting, caller_setting}
+use Rattle.witx_run.specs.Stops.{interface_at, interface_row, stuck_event, wasm_at, wasm_row}
 use Rattle.witx_run.specs.Turns.{HaltsAt, Known, StateIn, deeper, events_of, frames_of, run_start, stopped, whole, whole_at, whole_behind}
 use Rattle.witx_run.specs.Views.{items_of}
 use Rattle.witx_run.specs.declared.outcome.CallMade as declared_call
 use Rattle.witx_run.specs.declared.item.Item as declared_item
+use Rattle.witx_run.specs.declared.naming.CallRow.{CallRow}
 use Rattle.witx_run.specs.declared.machine.Machine as declared_machine
 use Rattle.witx_run.specs.declared.outcome.Run as declared_run
 use Rattle.witx_run.specs.declared.outcome.Run.TheVariants as run
 use Rattle.witx_run.specs.declared.progress.Progress as declared_progress
 use Rattle.witx_run.specs.declared.progress.Stop as declared_stop
 use Rattle.witx_run.specs.declared.progress.Stop.TheVariants as stop
-use Rattle.witx_run.specs.declared.traces.Returned as declared_returned
-use Rattle.witx_run.specs.declared.traces.End as declared_end
-use Rattle.witx_run.specs.declared.traces.End.TheVariants as end
-use Rattle.witx_run.specs.declared.traces.CalleeEnd as declared_callee
-use Rattle.witx_run.specs.declared.traces.CalleeEnd.TheVariants as callee_end
+use Rattle.witx_run.specs.declared.callee.Returned as declared_returned
+use Rattle.witx_run.specs.declared.side.End as declared_end
+use Rattle.witx_run.specs.declared.side.End.TheVariants as end
+use Rattle.witx_run.specs.declared.callee.CalleeEnd as declared_callee
+use Rattle.witx_run.specs.declared.callee.CalleeEnd.TheVariants as callee_end
 use Rattle.witx_run.specs.declared.script.Script as declared_script
 use Rattle.witx_run.proofs.Resuming.{no_way, resume_stuck}
 
--- in front of a call
-abbrev pub calls_wasm : declared_stop.Stop → Bool
-calls_wasm (stop.Wasm m n ps rs) = true
-calls_wasm _ = false
+none-some : {A : Type 0} {x : A} → None ≡ Some x → ⊥
+none-some e = cc
 
-abbrev pub calls_interface : declared_stop.Stop → Bool
-calls_interface (stop.Interface m n ps rs) = true
-calls_interface _ = false
+some-same : {A : Type 0} {x y : A} → Some x ≡ Some y → x ≡ y
+some-same e = cc
 
-clash : false ≡ true → ⊥
-clash e = cc
+-- the call in front of which a run has halted
+pub interface-found : (s : declared_stop.Stop) (call : CallRow TypeRef) → Some call ≡ interface_at s → s ≡ stop.Interface call.owner call.name call.params call.results
+interface-found (stop.Interface m n ps rs) call e = sym (ap (λ (c : CallRow TypeRef). stop.Interface c.owner c.name c.params c.results) (some-same e))
+interface-found (stop.Wasm m n ps rs) call e = absurd (none-some (sym e))
+interface-found (stop.Stuck i) call e = absurd (none-some (sym e))
+interface-found stop.Over call e = absurd (none-some (sym e))
+
+pub wasm-found : (s : declared_stop.Stop) (call : CallRow WasmType) → Some call ≡ wasm_at s → s ≡ stop.Wasm call.owner call.name call.params call.results
+wasm-found (stop.Wasm m n ps rs) call e = sym (ap (λ (c : CallRow WasmType). stop.Wasm c.owner c.name c.params c.results) (some-same e))
+wasm-found (stop.Interface m n ps rs) call e = absurd (none-some (sym e))
+wasm-found (stop.Stuck i) call e = absurd (none-some (sym e))
+wasm-found stop.Over call e = absurd (none-some (sym e))
 
 numbered-long : (spot : ℕ → Spot) (i : ℕ) (es : List Event) → length (numbered spot i es) ≡ length es
 numbered-long spot i [] = refl
@@ -72,17 +82,15 @@ module _ {pv pw pm V W M : Type 0} (D : Domain V W M) (value : pv → V) (word :
         EndsAs value word memory x c (end.Stuck p.at) (finished x es (whole_at D value word memory x es p (call_interface m n ps rs)))
     end-interface m n ps rs over = ap (finished x es) (ap (whole_behind D value word memory x es p) (over.interface m n ps rs (state_in value word memory x es p.machine) refl) ∙ behind-none x es p)
 
-    pub end-at-wasm : (s : declared_stop.Stop) → CallsNoMore x → calls_wasm s ≡ true → EndsAs value word memory x c (end.Stuck p.at) (finished x es (stopped D value word memory x es p s))
-    end-at-wasm (stop.Wasm m n ps rs) over e = end-wasm m.now n.now ps.now rs.now over
-    end-at-wasm (stop.Interface m n ps rs) over e = absurd (clash e)
-    end-at-wasm (stop.Stuck i) over e = absurd (clash e)
-    end-at-wasm stop.Over over e = absurd (clash e)
-
-    pub end-at-interface : (s : declared_stop.Stop) → CallsNoMore x → calls_interface s ≡ true → EndsAs value word memory x c (end.Stuck p.at) (finished x es (stopped D value word memory x es p s))
-    end-at-interface (stop.Interface m n ps rs) over e = end-interface m.now n.now (map tree_of ps.now) (map tree_of rs.now) over
-    end-at-interface (stop.Wasm m n ps rs) over e = absurd (clash e)
-    end-at-interface (stop.Stuck i) over e = absurd (clash e)
-    end-at-interface stop.Over over e = absurd (clash e)
+    pub end-stops : (events : ℕ) (s : declared_stop.Stop) (i : ℕ) → (s ≡ stop.Over → ⊥) → i ≡ stuck_event events p.at s → CallsNoMore x →
+        EndsAs value word memory x c (end.Stuck i) (finished x es (stopped D value word memory x es p s))
+    end-stops events s i apart e over = subst (λ i. EndsAs value word memory x c (end.Stuck i) (finished x es (stopped D value word memory x es p s))) (sym e) (at s apart)
+      where
+        at : (s : declared_stop.Stop) → (s ≡ stop.Over → ⊥) → EndsAs value word memory x c (end.Stuck (stuck_event events p.at s)) (finished x es (stopped D value word memory x es p s))
+        at (stop.Stuck i) apart = refl
+        at stop.Over apart = absurd (apart refl)
+        at (stop.Wasm m n ps rs) apart = end-wasm m.now n.now ps.now rs.now over
+        at (stop.Interface m n ps rs) apart = end-interface m.now n.now (map tree_of ps.now) (map tree_of rs.now) over
 
 -- the trace is over, and has given this back or not
 module _ {pv pw pm V W M : Type 0} (value : pv → V) (word : pw → W) (memory : pm → M) where
@@ -101,9 +109,9 @@ module _ {pv pw pm V W M : Type 0} (value : pv → V) (word : pw → W) (memory 
 
   pub finishes : (D : Domain V W M) (script : declared_script.Script pv pw) (before : (x : Setting V W M) → List Event → Tried Spot (StateIn x)) (new : declared_progress.Progress pv pw pm) (s : declared_stop.Stop) (e : declared_end.End pv pw pm) →
       HaltsAt D value word memory script true before new s →
-      ((D : Domain V W M) (x : Setting V W M) (c : Noted V W M x.trace) → x.called ≡ Some c → CallsNoMore x → EndsAs value word memory x c e (finished x (events_of script) (stopped D value word memory x (events_of script) new s))) →
+      ((x : Setting V W M) (c : Noted V W M x.trace) → Known value word x script true → x.called ≡ Some c → CallsNoMore x → EndsAs value word memory x c e (finished x (events_of script) (stopped D value word memory x (events_of script) new s))) →
       (x : Setting V W M) (c : Noted V W M x.trace) → Known value word x script true → x.called ≡ Some c → CallsNoMore x → EndsAs value word memory x c e (finished x (events_of script) (before x (events_of script)))
-  finishes D script before new s e halts ends x c known k over = subst (λ t. EndsAs value word memory x c e (finished x (events_of script) t)) (sym (halts x known)) (ends D x c k over)
+  finishes D script before new s e halts ends x c known k over = subst (λ t. EndsAs value word memory x c e (finished x (events_of script) t)) (sym (halts x known)) (ends x c known k over)
 
 -- WHAT THE PROGRAM KNOWS of the two sides
 module _ {pv pw V W M : Type 0} (D : Domain V W M) (value : pv → V) (word : pw → W) (home : List ℕ) (reply : Option V) (script : declared_script.Script pv pw) where
@@ -159,28 +167,37 @@ module _ {pv pw pm V W M : Type 0} (D : Domain V W M) (value : pv → V) (word :
   pub callee-wasm : (p : declared_progress.Progress pv pw pm) (m' n' : List ℕ) (ps rs : List WasmType) → CalleeComes D value word memory home reply None script (λ x es. whole_at D value word memory x es p (call_wasm m' n' ps rs)) (callee_end.Stuck p.at)
   callee-wasm p m' n' ps rs = λ words k. ap (finished (of_script words None) es) (behind-none D value word memory (of_script words None) es p)
 
-  pub callee-at-wasm : (p : declared_progress.Progress pv pw pm) (s : declared_stop.Stop) → calls_wasm s ≡ true → CalleeComes D value word memory home reply None script (λ x es. stopped D value word memory x es p s) (callee_end.Stuck p.at)
-  callee-at-wasm p (stop.Wasm m' n' ps rs) e = callee-wasm p m'.now n'.now ps.now rs.now
-  callee-at-wasm p (stop.Interface m' n' ps rs) e = absurd (clash e)
-  callee-at-wasm p (stop.Stuck i) e = absurd (clash e)
-  callee-at-wasm p stop.Over e = absurd (clash e)
+  -- where the run has halted in front of no call of the interface, and where it has halted in front of one
+  pub callee-stops : (p : declared_progress.Progress pv pw pm) (s : declared_stop.Stop) (i : ℕ) → None ≡ interface_at s → i ≡ stuck_event (length script.events.now) p.at s →
+      CalleeComes D value word memory home reply None script (λ x es. stopped D value word memory x es p s) (callee_end.Stuck i)
+  callee-stops p s i none e = subst (λ i. CalleeComes D value word memory home reply None script (λ x es. stopped D value word memory x es p s) (callee_end.Stuck i)) (sym e) (at s none)
+    where
+      at : (s : declared_stop.Stop) → None ≡ interface_at s → CalleeComes D value word memory home reply None script (λ x es. stopped D value word memory x es p s) (callee_end.Stuck (stuck_event (length script.events.now) p.at s))
+      at (stop.Stuck i) none = callee-stuck p i
+      at stop.Over none = callee-over p
+      at (stop.Wasm m' n' ps rs) none = callee-wasm p m'.now n'.now ps.now rs.now
+      at (stop.Interface m' n' ps rs) none = absurd (none-some none)
 
-  pub interface-none : (p : declared_progress.Progress pv pw pm) (new : declared_machine.Machine pv pw pm) (m' n' : List ℕ) (ps rs : List Tree) →
+  pub callee-calls : (p : declared_progress.Progress pv pw pm) (s : declared_stop.Stop) (call : CallRow TypeRef) (r : Result (declared_callee.CalleeEnd pv pw pm) OutOfMemory) → Some call ≡ interface_at s →
+      IfOk r (CalleeComes D value word memory home reply None script (λ x es. whole_at D value word memory x es p (interface_row call))) → IfOk r (CalleeComes D value word memory home reply None script (λ x es. stopped D value word memory x es p s))
+  callee-calls p s call r e h = subst (λ s. IfOk r (CalleeComes D value word memory home reply None script (λ x es. stopped D value word memory x es p s))) (sym (interface-found s call e)) h
+
+  pub interface-none : (p : declared_progress.Progress pv pw pm) (new : declared_machine.Machine pv pw pm) (m' n' : List ℕ) (ps rs : List Tree) (i : ℕ) → i ≡ p.at →
       Replies D value word memory home (called script.func.now) reply m' n' ps rs p.machine new None →
-      CalleeComes D value word memory home reply None script (λ x es. whole_at D value word memory x es p (call_interface m' n' ps rs)) (callee_end.Stuck p.at)
-  interface-none p new m' n' ps rs h = λ words k.
+      CalleeComes D value word memory home reply None script (λ x es. whole_at D value word memory x es p (call_interface m' n' ps rs)) (callee_end.Stuck i)
+  interface-none p new m' n' ps rs i at h = λ words k.
       let x = of_script words None in
-      ap (finished x es) (ap (whole_behind D value word memory x es p) (h words es) ∙ behind-none D value word memory x es p)
+      ap (finished x es) (ap (whole_behind D value word memory x es p) (h words es) ∙ behind-none D value word memory x es p) ∙ ap (λ i. stuck_at (in_callee i)) (sym at)
 
   pub interface-some : (p : declared_progress.Progress pv pw pm) (new : declared_machine.Machine pv pw pm) (m' n' : List ℕ) (ps rs : List Tree) (noted : Vec pv) (r : Result (declared_callee.CalleeEnd pv pw pm) OutOfMemory) →
       Replies D value word memory home (called script.func.now) reply m' n' ps rs p.machine new (Some noted) →
-      IfOk r (λ e. (home : List ℕ) (reply : Option V) → CalleeComes D value word memory home reply (Some (map value noted.items)) script
-      (λ x es. whole_behind D value word memory x es (record p { machine = new }) (went (state_in value word memory x es new))) e) →
+      IfOk r (CalleeComes D value word memory home reply (Some (map value noted.items)) script
+      (λ x es. whole_behind D value word memory x es (record p { machine = new }) (went (state_in value word memory x es new)))) →
       IfOk r (CalleeComes D value word memory home reply None script (λ x es. whole_at D value word memory x es p (call_interface m' n' ps rs)))
   interface-some p new m' n' ps rs noted (Err e) h k = k
   interface-some p new m' n' ps rs noted (Ok r) h k = λ words l.
       let x = of_script words None in
-      subst (λ t. CalleeEnds value word memory r (finished x es (whole_behind D value word memory x es p t))) (sym (h words es)) (k home reply words l)
+      subst (λ t. CalleeEnds value word memory r (finished x es (whole_behind D value word memory x es p t))) (sym (h words es)) (k words l)
 
   pub callee-ran : (evs : List Event) (f : Function) (words : List W) (old : M) (p : declared_progress.Progress pv pw pm) (r : Result (declared_callee.CalleeEnd pv pw pm) OutOfMemory) →
       es ≡ evs → called script.func.now ≡ f → items_of value word script.arguments.items ≡ map word_item words →
@@ -225,18 +242,28 @@ module _ {pv pw pm V W M : Type 0} (D : Domain V W M) (value : pv → V) (word :
   pub caller-interface : (p : declared_progress.Progress pv pw pm) (m' n' : List ℕ) (ps rs : List Tree) → CallerComes D value word memory home callee reply None script (λ x es. whole_at D value word memory x es p (call_interface m' n' ps rs)) (run.StuckInCaller p.at)
   caller-interface p m' n' ps rs = λ arguments k. sym (ap (λ t. outcome_from (finished (with_script arguments None) own t)) (behind-none D value word memory (with_script arguments None) own p))
 
-  pub caller-at-interface : (p : declared_progress.Progress pv pw pm) (s : declared_stop.Stop) → calls_interface s ≡ true → CallerComes D value word memory home callee reply None script (λ x es. stopped D value word memory x es p s) (run.StuckInCaller p.at)
-  caller-at-interface p (stop.Interface m' n' ps rs) e = caller-interface p m'.now n'.now (map tree_of ps.now) (map tree_of rs.now)
-  caller-at-interface p (stop.Wasm m' n' ps rs) e = absurd (clash e)
-  caller-at-interface p (stop.Stuck i) e = absurd (clash e)
-  caller-at-interface p stop.Over e = absurd (clash e)
+  -- where the run has halted in front of no call of WebAssembly, and where it has halted in front of one
+  pub caller-stops : (p : declared_progress.Progress pv pw pm) (s : declared_stop.Stop) (i : ℕ) → None ≡ wasm_at s → i ≡ stuck_event (length script.events.now) p.at s →
+      CallerComes D value word memory home callee reply None script (λ x es. stopped D value word memory x es p s) (run.StuckInCaller i)
+  caller-stops p s i none e = subst (λ i. CallerComes D value word memory home callee reply None script (λ x es. stopped D value word memory x es p s) (run.StuckInCaller i)) (sym e) (at s none)
+    where
+      at : (s : declared_stop.Stop) → None ≡ wasm_at s → CallerComes D value word memory home callee reply None script (λ x es. stopped D value word memory x es p s) (run.StuckInCaller (stuck_event (length script.events.now) p.at s))
+      at (stop.Stuck i) none = caller-stuck p i
+      at stop.Over none = caller-over p
+      at (stop.Interface m' n' ps rs) none = caller-interface p m'.now n'.now (map tree_of ps.now) (map tree_of rs.now)
+      at (stop.Wasm m' n' ps rs) none = absurd (none-some none)
 
-  pub wasm-none : (p : declared_progress.Progress pv pw pm) (new : declared_machine.Machine pv pw pm) (m' n' : List ℕ) (ps rs : List WasmType) →
+  pub caller-calls : (p : declared_progress.Progress pv pw pm) (s : declared_stop.Stop) (call : CallRow WasmType) (r : Result (declared_run.Run pv pw pm) OutOfMemory) → Some call ≡ wasm_at s →
+      IfOk r (CallerComes D value word memory home callee reply None script (λ x es. whole_at D value word memory x es p (wasm_row call))) → IfOk r (CallerComes D value word memory home callee reply None script (λ x es. stopped D value word memory x es p s))
+  caller-calls p s call r e h = subst (λ s. IfOk r (CallerComes D value word memory home callee reply None script (λ x es. stopped D value word memory x es p s))) (sym (wasm-found s call e)) h
+
+  pub wasm-none : (p : declared_progress.Progress pv pw pm) (new : declared_machine.Machine pv pw pm) (m' n' : List ℕ) (ps rs : List WasmType) (i : ℕ) → i ≡ p.at →
       HandsOn D value word memory home (called script.func.now) m' n' ps rs p.machine new None →
-      CallerComes D value word memory home callee reply None script (λ x es. whole_at D value word memory x es p (call_wasm m' n' ps rs)) (run.StuckInCaller p.at)
-  wasm-none p new m' n' ps rs h = λ arguments k.
+      CallerComes D value word memory home callee reply None script (λ x es. whole_at D value word memory x es p (call_wasm m' n' ps rs)) (run.StuckInCaller i)
+  wasm-none p new m' n' ps rs i at h = λ arguments k.
       let x = with_script arguments None in
-      sym (ap (λ t. outcome_from (finished x own t)) (ap (whole_behind D value word memory x own p) (h callee arguments reply own) ∙ behind-none D value word memory x own p))
+      ap (λ i. stuck_at (in_caller i)) at
+      ∙ sym (ap (λ t. outcome_from (finished x own t)) (ap (whole_behind D value word memory x own p) (h callee arguments reply own) ∙ behind-none D value word memory x own p))
 
   pub wasm-some : (p : declared_progress.Progress pv pw pm) (new : declared_machine.Machine pv pw pm) (m' n' : List ℕ) (ps rs : List WasmType) (words : Vec pw) (r : Result (declared_run.Run pv pw pm) OutOfMemory) →
       HandsOn D value word memory home (called script.func.now) m' n' ps rs p.machine new (Some words) →
@@ -257,11 +284,11 @@ module _ {pv pw pm V W M : Type 0} (D : Domain V W M) (value : pv → V) (word :
 
   pub handed-returned : (p : declared_progress.Progress pv pw pm) (words : List W) (returned : declared_returned.Returned pv pw pm) (r : Result (declared_run.Run pv pw pm) OutOfMemory) →
       CalleeEnds value word memory (callee_end.Returned returned) (callee_run D home (called script.func.now) callee reply words (memory p.machine.memory)) →
-      IfOk r (λ run. (home : List ℕ) (callee : List Event) (reply : Option V) → TakenUp D value word memory home callee reply script p words returned run) → IfOk r (HandedOn D value word memory home callee reply script p words)
+      IfOk r (λ run. (callee : List Event) → TakenUp D value word memory home callee reply script p words returned run) → IfOk r (HandedOn D value word memory home callee reply script p words)
   handed-returned p words returned (Err e) h k = k
   handed-returned p words returned (Ok r) h k = λ arguments l.
       let x = with_script arguments None in
-      k home callee reply h.0 h.2 arguments l
+      k callee h.0 h.2 arguments l
       ∙ sym (ap (λ t. outcome_from (finished x own (whole_behind D value word memory x own p (next t (taken_back (λ (e : Numbered). e.1) (λ (e : Numbered). e.0) D home (called script.func.now) (itself home (called script.func.now)) words (state_in value word memory x own p.machine)))))) h.1)
 
   pub caller-ran : (evs : List Event) (f : Function) (arguments : List V) (old : M) (p : declared_progress.Progress pv pw pm) (r : Result (declared_run.Run pv pw pm) OutOfMemory) →
@@ -282,19 +309,18 @@ module _ {pv pw pm V W M : Type 0} (D : Domain V W M) (value : pv → V) (word :
   abbrev takes_back : Option (declared_call.CallMade pv pw pm) → Type 0
   takes_back call = TakesBack D value word memory (called script.func.now) words (map value returned.noted.items) (items_of value word returned.back.items) (memory returned.memory) p.machine new call
 
-  pub taken-none : takes_back None → (home : List ℕ) (callee : List Event) (reply : Option V) → TakenUp D value word memory home callee reply script p words returned (run.StuckInCaller p.at)
-  taken-none h = λ home callee reply last e arguments k.
+  pub taken-none : (home : List ℕ) (reply : Option V) (i : ℕ) → i ≡ p.at → takes_back None → (callee : List Event) → TakenUp D value word memory home callee reply script p words returned (run.StuckInCaller i)
+  taken-none home reply i at h = λ callee last e arguments k.
       let x = caller_setting D home (called script.func.now) callee arguments reply None in
-      sym (ap (λ t. outcome_from (finished x (events_of script) (whole_behind D value word memory x (events_of script) p t))) (h home callee arguments reply (events_of script) last e)
+      ap (λ i. stuck_at (in_caller i)) at
+      ∙ sym (ap (λ t. outcome_from (finished x (events_of script) (whole_behind D value word memory x (events_of script) p t))) (h home callee arguments reply (events_of script) last e)
       ∙ ap (λ t. outcome_from (finished x (events_of script) t)) (behind-none D value word memory x (events_of script) p))
 
-  pub taken-some : (call : declared_call.CallMade pv pw pm) (r : Result (declared_run.Run pv pw pm) OutOfMemory) → takes_back (Some call) →
-      IfOk r (λ run. (home : List ℕ) (callee : List Event) (reply : Option V) → CallerComes D value word memory home callee reply (Some (call_of value word memory call)) script
+  pub taken-some : (home : List ℕ) (reply : Option V) (call : declared_call.CallMade pv pw pm) (r : Result (declared_run.Run pv pw pm) OutOfMemory) → takes_back (Some call) →
+      IfOk r (λ run. (callee : List Event) → CallerComes D value word memory home callee reply (Some (call_of value word memory call)) script
       (λ x es. whole_behind D value word memory x es (record p { machine = new }) (went (state_in value word memory x es new))) run) →
-      IfOk r (λ run. (home : List ℕ) (callee : List Event) (reply : Option V) → TakenUp D value word memory home callee reply script p words returned run)
-  taken-some call (Err e) h k = k
-  taken-some call (Ok r) h k = λ home callee reply last e arguments l.
+      IfOk r (λ run. (callee : List Event) → TakenUp D value word memory home callee reply script p words returned run)
+  taken-some home reply call (Err e) h k = k
+  taken-some home reply call (Ok r) h k = λ callee last e arguments l.
       let x = caller_setting D home (called script.func.now) callee arguments reply None in
-      k home callee reply arguments l ∙ sym (ap (λ t. outcome_from (finished x (events_of script) (whole_behind D value word memory x (events_of script) p t))) (h home callee arguments reply (events_of script) last e))
-
-pub ruleset run_rules = (behind-none, behind-stuck)
+      k callee arguments l ∙ sym (ap (λ t. outcome_from (finished x (events_of script) (whole_behind D value word memory x (events_of script) p t))) (h home callee arguments reply (events_of script) last e))

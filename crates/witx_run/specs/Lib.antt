@@ -1,5 +1,6 @@
 pub mod Views
 pub mod StackRows
+pub mod RowEnds
 pub mod RowViews
 pub mod SlotViews
 pub mod MachineViews
@@ -14,3 +15,5 @@ pub mod OutcomeViews
 pub mod Sides
 pub mod CallViews
 pub mod RunEnds
+pub mod Stops
+pub mod SideEnds

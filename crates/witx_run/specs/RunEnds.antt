@@ -17,11 +17,11 @@ use Rattle.witx_run.specs.Views.{items_of}
 use Rattle.witx_run.specs.declared.script.Script as declared_script
 use Rattle.witx_run.specs.declared.outcome.Run as declared_run
 use Rattle.witx_run.specs.declared.progress.Progress as declared_progress
-use Rattle.witx_run.specs.declared.traces.Returned as declared_returned
-use Rattle.witx_run.specs.declared.traces.End as declared_end
-use Rattle.witx_run.specs.declared.traces.End.TheVariants as end
-use Rattle.witx_run.specs.declared.traces.CalleeEnd as declared_callee
-use Rattle.witx_run.specs.declared.traces.CalleeEnd.TheVariants as callee
+use Rattle.witx_run.specs.declared.callee.Returned as declared_returned
+use Rattle.witx_run.specs.declared.side.End as declared_end
+use Rattle.witx_run.specs.declared.side.End.TheVariants as end
+use Rattle.witx_run.specs.declared.callee.CalleeEnd as declared_callee
+use Rattle.witx_run.specs.declared.callee.CalleeEnd.TheVariants as callee
 
 module _ {V W M : Type 0} where
   -- what a trace comes to whose events came to t: it has made its call, and has returned

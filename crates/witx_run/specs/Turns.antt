@@ -1,6 +1,6 @@
 -- What the turns of the program's loop over a trace are held against: the run of the whole trace, of which so much is
 -- done, stays what it is until it halts.
-use Rattle.std.specs.Prelude.{◌≡◌, ℕ, suc, ◌-◌, ◌<◌, List, ◌∷◌, length, map, reverse, Bool, true, false, cond, Option, is_some}
+use Rattle.std.specs.Prelude.{◌≡◌, ℕ, suc, ◌-◌, ◌<◌, ◌≤◌, List, ◌∷◌, length, map, reverse, Bool, true, false, cond, Option, is_some}
 use Rattle.witx_ast.specs.Tree.{Tree}
 use Rattle.witx_ast.specs.Views.{tree_of}
 use Rattle.witx_machine.specs.Events.{Event}
@@ -45,6 +45,10 @@ module _ {v w V W : Type 0} (value : v → V) (word : w → W) where
   -- the innermost block first
   abbrev pub frames_of : (ℕ → Spot) → List Event → List (declared_frame.Frame v w) → List (Frame Spot Numbered V W)
   frames_of spot es fs = map (frame_of spot es) (reverse fs)
+
+-- no more blocks are being run within one another than the trace has events
+abbrev pub FramesFit : {v w m : Type 0} → declared_script.Script v w → declared_progress.Progress v w m → Type 0
+FramesFit s p = length p.frames.items ≤ length s.events.now
 
 -- how many more blocks can be run within one another
 abbrev pub deeper : {v w : Type 0} → List Event → List (declared_frame.Frame v w) → ℕ

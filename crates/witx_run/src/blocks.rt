@@ -6,12 +6,12 @@ ghost use Rattle.witx_run.specs.Views.{item_of, picked_of, stack_of, type_tree};
 ghost use Rattle.witx_machine.specs.Machine as machine_specs;
 ghost use Rattle.witx_machine.specs.Machine.{block_word, payload_item, went};
 ghost use Rattle.witx_machine.specs.Rows.{result_lower, result_lift};
-ghost use Rattle.witx_machine.specs.Words.{when};
 ghost use Rattle.witx_run.specs.LeftOver.{left_item, left_row};
 ghost use Rattle.witx_run.specs.MachineViews.{Setting, block_of, inside_of, spot_in, state_in};
 ghost use Rattle.witx_run.specs.Nearing.{Falls};
+ghost use Rattle.witx_run.specs.RowEnds.{Makes};
 ghost use Rattle.witx_run.specs.ScriptParts.{event_below};
-ghost use Rattle.witx_run.specs.Turns.{ComesTo, TurnsHere, entering, events_of, leaving, lifting_by, lowering_by, turned, whole, whole_at, whole_behind, whole_with};
+ghost use Rattle.witx_run.specs.Turns.{ComesTo, FramesFit, TurnsHere, entering, events_of, leaving, lifting_by, lowering_by, turned, whole, whole_at, whole_behind, whole_with};
 
 use crate::cases::has_cases;
 use crate::domain::{Domain, Picked};
@@ -26,6 +26,21 @@ use std::mem::replace;
 use witx_ast::TypeRef;
 use witx_base::OutOfMemory;
 use witx_machine::WasmType;
+
+/// The types that the two cases of a result carry.
+#[derive(Drop)]
+pub(crate) struct Cases<'a> {
+    pub(crate) ok: Option<&'a TypeRef>,
+    pub(crate) err: Option<&'a TypeRef>,
+}
+
+/// A result step as it runs a block: which step and which case it is, and the block.
+#[derive(Drop)]
+struct ResultStep {
+    lowers: bool,
+    error: bool,
+    block: Block,
+}
 
 /// A push sets its block aside, and the trace goes on behind it.
 pub(crate) fn set_aside<'a, D: Domain>(
@@ -56,23 +71,23 @@ pub(crate) fn lower_result<'a, D: Domain>(
     domain: &D,
     progress: &mut ProgressOf<D>,
     script: &ScriptOf<'a, D>,
-    ok: Option<&TypeRef>,
-    err: Option<&TypeRef>,
+    cases: Cases<'_>,
 ) -> Result<Turn<'a>, OutOfMemory>
     requires here { progress.old.at < progress.old.end }
-    requires deep { length progress.old.frames.items ≤ length script.now.events.now }
-    ensures comes { IfOk result (λ turn. (called : Bool) → ComesTo (D.domain domain.now) D.value_of D.word_of D.memory_of script.now called
+    requires deep { FramesFit script.now progress.old }
+    ensures comes { IfOk result (λ turn. (called : Bool) →
+        ComesTo (D.domain domain.now) D.value_of D.word_of D.memory_of script.now called
         (λ x es. whole_at (D.domain domain.now) D.value_of D.word_of D.memory_of x es progress.old
-        (result_lower (type_tree ok.entry) (type_tree err.entry))) progress.new turn) }
+        (result_lower (type_tree cases.entry.ok) (type_tree cases.entry.err))) progress.new turn) }
     ensures falls { IfOk result (λ turn. Falls 0 progress.old progress.new turn) }
-    ensures deep { IfOk result (λ _. length progress.new.frames.items ≤ length script.now.events.now) }
+    ensures deep { IfOk result (λ _. FramesFit script.now progress.new) }
     ensures here { IfOk result (λ turn. TurnsHere progress.new turn) }
 {
-    if !has_cases(script.func.results.as_slice(), ok, err) {
+    if !has_cases(script.func.results.as_slice(), cases.ok, cases.err) {
         return Ok(Turn::Stops(Stop::Stuck(progress.at)));
     }
     match pop_value::<D>(&mut progress.machine.stack) {
-        Some(value) => lower_value(alloc, domain, progress, script, ok, err, value),
+        Some(value) => lower_value(alloc, domain, progress, script, cases, value),
         None => Ok(Turn::Stops(Stop::Stuck(progress.at))),
     }
 }
@@ -82,32 +97,37 @@ fn lower_value<'a, D: Domain>(
     domain: &D,
     progress: &mut ProgressOf<D>,
     script: &ScriptOf<'a, D>,
-    ok: Option<&TypeRef>,
-    err: Option<&TypeRef>,
+    cases: Cases<'_>,
     value: D::Value,
 ) -> Result<Turn<'a>, OutOfMemory>
     requires here { progress.old.at < progress.old.end }
-    requires deep { length progress.old.frames.items ≤ length script.now.events.now }
+    requires deep { FramesFit script.now progress.old }
     ensures comes { IfOk result (λ turn. (x : Setting D.V D.W D.M) →
         whole_behind (D.domain domain.now) D.value_of D.word_of D.memory_of x (events_of script.now) progress.old
         (lowering_by (D.domain domain.now) D.value_of D.word_of D.memory_of x (events_of script.now) progress.old
-        (type_tree ok.entry) (type_tree err.entry) (D.value_of value)
-        (stack_of D.value_of D.word_of progress.old.machine.stack.items) (state_in D.value_of D.word_of D.memory_of x (events_of script.now) progress.old.machine))
+        (type_tree cases.entry.ok) (type_tree cases.entry.err) (D.value_of value)
+        (stack_of D.value_of D.word_of progress.old.machine.stack.items)
+        (state_in D.value_of D.word_of D.memory_of x (events_of script.now) progress.old.machine))
         ≡ turned (D.domain domain.now) D.value_of D.word_of D.memory_of x (events_of script.now) progress.new turn) }
     ensures falls { IfOk result (λ turn. Falls 0 progress.old progress.new turn) }
-    ensures deep { IfOk result (λ _. length progress.new.frames.items ≤ length script.now.events.now) }
+    ensures deep { IfOk result (λ _. FramesFit script.now progress.new) }
     ensures here { IfOk result (λ turn. TurnsHere progress.new turn) }
 {
     let Some((first, second)) = last_two(&mut progress.machine.blocks) else {
         drop(value);
         return Ok(Turn::Stops(Stop::Stuck(progress.at)));
     };
-    match domain.picks(ok, err, value)? {
+    match domain.picks(cases.ok, cases.err, value)? {
         Some(picked) => {
             let error = picked.error;
             let inside = Inside::Lower(payload_item::<D>(picked));
             let block = chosen(error, first, second);
-            enter::<D>(alloc, progress, script, inside, true, error, block)
+            let step = ResultStep {
+                lowers: true,
+                error,
+                block,
+            };
+            enter::<D>(alloc, progress, script, inside, step)
         }
         None => Ok(Turn::Stops(Stop::Stuck(progress.at))),
     }
@@ -121,12 +141,13 @@ pub(crate) fn lift_result<'a, D: Domain>(
     script: &ScriptOf<'a, D>,
 ) -> Result<Turn<'a>, OutOfMemory>
     requires here { progress.old.at < progress.old.end }
-    requires deep { length progress.old.frames.items ≤ length script.now.events.now }
+    requires deep { FramesFit script.now progress.old }
     ensures comes { IfOk result (λ turn. (x : Setting D.V D.W D.M) →
-        whole_at (D.domain domain.now) D.value_of D.word_of D.memory_of x (events_of script.now) progress.old result_lift
+        whole_at (D.domain domain.now) D.value_of D.word_of D.memory_of x (events_of script.now) progress.old
+        result_lift
         ≡ turned (D.domain domain.now) D.value_of D.word_of D.memory_of x (events_of script.now) progress.new turn) }
     ensures falls { IfOk result (λ turn. Falls 0 progress.old progress.new turn) }
-    ensures deep { IfOk result (λ _. length progress.new.frames.items ≤ length script.now.events.now) }
+    ensures deep { IfOk result (λ _. FramesFit script.now progress.new) }
     ensures here { IfOk result (λ turn. TurnsHere progress.new turn) }
 {
     match pop_word::<D>(&mut progress.machine.stack) {
@@ -143,14 +164,16 @@ fn lift_word<'a, D: Domain>(
     word: D::Word,
 ) -> Result<Turn<'a>, OutOfMemory>
     requires here { progress.old.at < progress.old.end }
-    requires deep { length progress.old.frames.items ≤ length script.now.events.now }
+    requires deep { FramesFit script.now progress.old }
     ensures comes { IfOk result (λ turn. (x : Setting D.V D.W D.M) →
         whole_behind (D.domain domain.now) D.value_of D.word_of D.memory_of x (events_of script.now) progress.old
-        (lifting_by (D.domain domain.now) D.value_of D.word_of D.memory_of x (events_of script.now) progress.old (D.word_of word)
-        (stack_of D.value_of D.word_of progress.old.machine.stack.items) (state_in D.value_of D.word_of D.memory_of x (events_of script.now) progress.old.machine))
+        (lifting_by (D.domain domain.now) D.value_of D.word_of D.memory_of x (events_of script.now) progress.old
+        (D.word_of word)
+        (stack_of D.value_of D.word_of progress.old.machine.stack.items)
+        (state_in D.value_of D.word_of D.memory_of x (events_of script.now) progress.old.machine))
         ≡ turned (D.domain domain.now) D.value_of D.word_of D.memory_of x (events_of script.now) progress.new turn) }
     ensures falls { IfOk result (λ turn. Falls 0 progress.old progress.new turn) }
-    ensures deep { IfOk result (λ _. length progress.new.frames.items ≤ length script.now.events.now) }
+    ensures deep { IfOk result (λ _. FramesFit script.now progress.new) }
     ensures here { IfOk result (λ turn. TurnsHere progress.new turn) }
 {
     let Some((first, second)) = last_two(&mut progress.machine.blocks) else {
@@ -162,7 +185,12 @@ fn lift_word<'a, D: Domain>(
     match choice {
         Some(error) => {
             let block = chosen(error, first, second);
-            enter::<D>(alloc, progress, script, Inside::Lift, false, error, block)
+            let step = ResultStep {
+                lowers: false,
+                error,
+                block,
+            };
+            enter::<D>(alloc, progress, script, Inside::Lift, step)
         }
         None => Ok(Turn::Stops(Stop::Stuck(progress.at))),
     }
@@ -174,20 +202,20 @@ fn enter<'a, D: Domain>(
     progress: &mut ProgressOf<D>,
     script: &ScriptOf<'a, D>,
     inside: Inside<D::Value, D::Word>,
-    lowers: bool,
-    error: bool,
-    block: Block,
+    step: ResultStep,
 ) -> Result<Turn<'a>, OutOfMemory>
     requires here { progress.old.at < progress.old.end }
-    requires deep { length progress.old.frames.items ≤ length script.now.events.now }
+    requires deep { FramesFit script.now progress.old }
     ensures comes { IfOk result (λ turn. (d : machine_specs.Domain D.V D.W D.M) (x : Setting D.V D.W D.M) →
         whole_behind d D.value_of D.word_of D.memory_of x (events_of script.now) progress.old
-        (entering d D.value_of D.word_of D.memory_of x (events_of script.now) progress.old (inside_of D.value_of D.word_of inside) lowers error
-        (block_of (spot_in x.trace) (events_of script.now) block)
-        (stack_of D.value_of D.word_of progress.old.machine.stack.items) (state_in D.value_of D.word_of D.memory_of x (events_of script.now) progress.old.machine))
+        (entering d D.value_of D.word_of D.memory_of x (events_of script.now) progress.old
+        (inside_of D.value_of D.word_of inside) step.lowers step.error
+        (block_of (spot_in x.trace) (events_of script.now) step.block)
+        (stack_of D.value_of D.word_of progress.old.machine.stack.items)
+        (state_in D.value_of D.word_of D.memory_of x (events_of script.now) progress.old.machine))
         ≡ turned d D.value_of D.word_of D.memory_of x (events_of script.now) progress.new turn) }
-    ensures falls { IfOk result (λ turn. Falls (suc (block.end - block.first)) progress.old progress.new turn) }
-    ensures deep { IfOk result (λ _. length progress.new.frames.items ≤ length script.now.events.now) }
+    ensures falls { IfOk result (λ turn. Falls (suc (step.block.end - step.block.first)) progress.old progress.new turn) }
+    ensures deep { IfOk result (λ _. FramesFit script.now progress.new) }
     ensures here { IfOk result (λ turn. TurnsHere progress.new turn) }
 {
     if progress.frames.len() >= script.events.len() {
@@ -199,14 +227,14 @@ fn enter<'a, D: Domain>(
         at: progress.at,
         end: progress.end,
         below: replace(&mut progress.machine.stack, Vec::new(alloc)),
-        lowers,
-        error,
-        has_value: block.has_value,
-        finish: block.end,
+        lowers: step.lowers,
+        error: step.error,
+        has_value: step.block.has_value,
+        finish: step.block.end,
     };
     progress.frames.push(frame)?;
-    progress.at = block.first;
-    progress.end = block.end;
+    progress.at = step.block.first;
+    progress.end = step.block.end;
     Ok(Turn::Advances)
 }
 
@@ -217,13 +245,13 @@ pub(crate) fn leave<'a, D: Domain>(
     progress: &mut ProgressOf<D>,
     script: &ScriptOf<'a, D>,
 ) -> Result<Turn<'a>, OutOfMemory>
-    requires deep { length progress.old.frames.items ≤ length script.now.events.now }
+    requires deep { FramesFit script.now progress.old }
     ensures comes { IfOk result (λ turn. (x : Setting D.V D.W D.M) →
         whole_with (D.domain domain.now) D.value_of D.word_of D.memory_of x (events_of script.now) progress.old
         (went (state_in D.value_of D.word_of D.memory_of x (events_of script.now) progress.old.machine))
         ≡ turned (D.domain domain.now) D.value_of D.word_of D.memory_of x (events_of script.now) progress.new turn) }
     ensures falls { IfOk result (λ turn. Falls 0 progress.old progress.new turn) }
-    ensures deep { IfOk result (λ _. length progress.new.frames.items ≤ length script.now.events.now) }
+    ensures deep { IfOk result (λ _. FramesFit script.now progress.new) }
     ensures here { IfOk result (λ turn. TurnsHere progress.new turn) }
 {
     match progress.frames.pop() {
@@ -264,7 +292,8 @@ fn leave_block<'a, D: Domain>(
 
 /// The two blocks set aside last, taken off, the earlier one first.
 fn last_two(blocks: &mut Vec<Block>) -> Option<(Block, Block)>
-    ensures { MatchOption result (length blocks.old.items < 2) (λ p. blocks.old.items ≡ (blocks.new.items ++ p.0 ∷ []) ++ p.1 ∷ []) }
+    ensures { MatchOption result (length blocks.old.items < 2)
+        (λ p. blocks.old.items ≡ (blocks.new.items ++ p.0 ∷ []) ++ p.1 ∷ []) }
 {
     if blocks.len() < 2 {
         return None;
@@ -297,7 +326,8 @@ fn left_over<D: Domain>(
     stack: &mut Stack<D>,
     has_value: bool,
 ) -> Option<Option<Item<D::Value, D::Word>>>
-    ensures { option_map (option_map (item_of D.value_of D.word_of)) result ≡ left_item has_value (stack_of D.value_of D.word_of stack.old.items) }
+    ensures { option_map (option_map (item_of D.value_of D.word_of)) result
+        ≡ left_item has_value (stack_of D.value_of D.word_of stack.old.items) }
 {
     if !has_value {
         return if stack.is_empty() { Some(None) } else { None };
@@ -331,8 +361,8 @@ fn push_left<D: Domain>(
     error: bool,
     left: Option<Item<D::Value, D::Word>>,
 ) -> Result<bool, OutOfMemory>
-    ensures { IfOk result (λ went. when went (Some (stack_of D.value_of D.word_of stack.new.items)) ≡
-        left_row (D.domain domain.now) lowers error (option_map (item_of D.value_of D.word_of) left) (stack_of D.value_of D.word_of stack.old.items)) }
+    ensures { IfOk result (Makes D.Domain stack.old.items stack.new.items
+        (left_row (D.domain domain.now) lowers error (option_map (item_of D.value_of D.word_of) left))) }
 {
     if lowers {
         push_word::<D>(stack, block_word(domain, error, left))
@@ -347,8 +377,8 @@ fn push_result<D: Domain>(
     error: bool,
     left: Option<Item<D::Value, D::Word>>,
 ) -> Result<bool, OutOfMemory>
-    ensures { IfOk result (λ went. when went (Some (stack_of D.value_of D.word_of stack.new.items)) ≡
-        left_row (D.domain domain.now) false error (option_map (item_of D.value_of D.word_of) left) (stack_of D.value_of D.word_of stack.old.items)) }
+    ensures { IfOk result (Makes D.Domain stack.old.items stack.new.items
+        (left_row (D.domain domain.now) false error (option_map (item_of D.value_of D.word_of) left))) }
 {
     match left {
         None => {
@@ -369,7 +399,8 @@ fn block_word<D: Domain>(
     error: bool,
     left: Option<Item<D::Value, D::Word>>,
 ) -> Option<D::Word>
-    ensures { option_map D.word_of result ≡ block_word (D.domain domain.now) error (option_map (item_of D.value_of D.word_of) left) }
+    ensures { option_map D.word_of result
+        ≡ block_word (D.domain domain.now) error (option_map (item_of D.value_of D.word_of) left) }
 {
     match left {
         None => Some(domain.case_word(error)),

@@ -1,27 +1,30 @@
 //! The two calls of a run: the caller's, which hands words to the callee and takes its words back, and the
 //! callee's, of the interface's function.
+#![tactic(auto, using(crate::proofs::CallLemmas::call_rules))]
 
 ghost use Rattle.std.specs.Prelude.{◌≡◌, ◌++◌, Some, IfOk, map, option_and_then, option_map};
-ghost use Rattle.witx_ast.specs.Views.{tree_of};
 ghost use Rattle.witx_machine.specs.Machine.{pushed, word_item};
 ghost use Rattle.witx_machine.specs.Run.{one_word, reply_items, typed, words_in};
 ghost use Rattle.witx_machine.specs.Signature.{signature_results};
 ghost use Rattle.witx_machine.specs.Words.{when};
 ghost use Rattle.witx_instructions.specs.Views.{called, param_types};
-ghost use Rattle.witx_run.specs.CallViews.{reply_on, reply_row, typed_only, words_row, HandsOn, IsAnswered, Replies, TakesBack};
+ghost use Rattle.witx_run.specs.CallViews.{reply_on, reply_row, typed_only, words_row, IsAnswered};
+ghost use Rattle.witx_run.specs.SideEnds.{HostHandsOn, HostReplies, HostTakesBack};
 ghost use Rattle.witx_run.specs.Views.{items_of, reply_of, stack_of};
 
+use crate::callee::{Returned, ReturnedOf};
 use crate::domain::Domain;
 use crate::item::Item;
 use crate::machine::MachineOf;
 use crate::naming::{CallRow, names_function, names_words};
 use crate::outcome::CallMade;
+use crate::side::Host;
 use crate::sides::{argument_item, word_item};
 use crate::stack::{Stack, values_off, words_off};
 use std::alloc::Global;
 use std::mem::replace;
 use witx_ast::{InterfaceFunc, InterfaceFuncParam, TypeRef};
-use witx_base::{Id, OutOfMemory};
+use witx_base::OutOfMemory;
 use witx_instructions::{WasmTypes, words_back};
 use witx_machine::WasmType;
 
@@ -32,33 +35,83 @@ pub(crate) type CallMadeOf<D> = CallMade<
     <D as Domain>::Memory,
 >;
 
-/// Calls the interface's function in the callee's trace, which hasn't called it yet: takes the values off,
-/// and pushes the reply. Answers the values; none where the call has no rule.
-#[tactic(auto, using(crate::proofs::CallLemmas::call_rules))]
-pub(crate) fn reply_to<D: Domain>(
-    alloc: Global,
-    domain: &D,
-    machine: &mut MachineOf<D>,
-    module: &Id,
-    func: &InterfaceFunc,
-    reply: Option<&D::Value>,
-    call: CallRow<'_, TypeRef>,
-) -> Result<Option<Vec<D::Value>>, OutOfMemory>
-    ensures noted { IfOk result (λ noted. Replies (D.domain domain.now) D.value_of D.word_of D.memory_of
-        «module».now (called func.now) (reply_of D.value_of reply.entry) call.entry.owner.now call.entry.name.now
-        (map tree_of call.entry.params.now) (map tree_of call.entry.results.now) machine.old machine.new noted) }
-    ensures answer { machine.new.answer ≡ machine.old.answer }
-    ensures blocks { machine.new.blocks ≡ machine.old.blocks }
-{
-    if names_function(module, func, &call) {
-        reply_on(alloc, domain, &mut machine.stack, func, reply)
-    } else {
-        Ok(None)
+impl<'a, D: Domain> Host<'a, D> {
+    /// Calls the interface's function in the callee's trace, which hasn't called it yet: takes the values off,
+    /// and pushes the reply. Answers the values; none where the call has no rule.
+    pub(crate) fn reply_to(
+        &self,
+        machine: &mut MachineOf<D>,
+        func: &InterfaceFunc,
+        call: CallRow<'_, TypeRef>,
+    ) -> Result<Option<Vec<D::Value>>, OutOfMemory>
+        ensures noted { IfOk result (λ noted. HostReplies D.Domain self.now (called func.now) call.entry
+            machine.old machine.new noted) }
+        ensures answer { machine.new.answer ≡ machine.old.answer }
+        ensures blocks { machine.new.blocks ≡ machine.old.blocks }
+    {
+        if names_function(self.owner, func, &call) {
+            reply_on(
+                self.alloc,
+                self.domain,
+                &mut machine.stack,
+                func,
+                self.reply,
+            )
+        } else {
+            Ok(None)
+        }
+    }
+
+    /// Takes the words of a call off in the caller's trace, which hasn't made its call yet, where they are words of
+    /// the callee's types; none where the call has no rule.
+    pub(crate) fn take_words(
+        &self,
+        machine: &mut MachineOf<D>,
+        func: &InterfaceFunc,
+        call: CallRow<'_, WasmType>,
+    ) -> Result<Option<Vec<D::Word>>, OutOfMemory>
+        ensures words { IfOk result (λ words. HostHandsOn D.Domain self.now (called func.now) call.entry
+            machine.old machine.new words) }
+        ensures answer { machine.new.answer ≡ machine.old.answer }
+        ensures blocks { machine.new.blocks ≡ machine.old.blocks }
+    {
+        if names_words(self.alloc, self.owner, func, &call)? {
+            typed_words_off(self.alloc, self.domain, &mut machine.stack, call.params)
+        } else {
+            Ok(None)
+        }
+    }
+
+    /// Takes back in the caller's trace what came of the callee's run. None where the items that it gave back aren't
+    /// words of the result types: then the call has no rule.
+    pub(crate) fn take_back(
+        &self,
+        machine: &mut MachineOf<D>,
+        func: &InterfaceFunc,
+        words: Vec<D::Word>,
+        returned: ReturnedOf<D>,
+    ) -> Result<Option<CallMadeOf<D>>, OutOfMemory>
+        ensures made { IfOk result (λ call. HostTakesBack D.Domain self.now (called func.now)
+            (map D.word_of words.items) returned machine.old machine.new call) }
+        ensures answer { machine.new.answer ≡ machine.old.answer }
+        ensures blocks { machine.new.blocks ≡ machine.old.blocks }
+    {
+        let Returned {
+            noted,
+            back,
+            memory,
+        } = returned;
+        match typed_words(self.alloc, self.domain, func, back.as_slice())? {
+            Some(callee_words) => {
+                let call = made_call(self.domain, machine, words, noted, callee_words, memory)?;
+                Ok(Some(call))
+            }
+            None => Ok(None),
+        }
     }
 }
 
 // The values that the call takes off, where the reply is one that the function has.
-#[tactic(auto, using(crate::proofs::CallLemmas::call_rules))]
 fn reply_on<D: Domain>(
     alloc: Global,
     domain: &D,
@@ -66,8 +119,10 @@ fn reply_on<D: Domain>(
     func: &InterfaceFunc,
     reply: Option<&D::Value>,
 ) -> Result<Option<Vec<D::Value>>, OutOfMemory>
-    ensures { IfOk result (λ noted. option_map (λ vs. (map D.value_of vs.items, stack_of D.value_of D.word_of stack.new.items)) noted
-        ≡ reply_row (called func.now) (reply_of D.value_of reply.entry) (stack_of D.value_of D.word_of stack.old.items)) }
+    ensures { IfOk result (λ noted.
+        option_map (λ vs. (map D.value_of vs.items, stack_of D.value_of D.word_of stack.new.items)) noted
+        ≡ reply_row (called func.now) (reply_of D.value_of reply.entry)
+        (stack_of D.value_of D.word_of stack.old.items)) }
 {
     match values_off::<D>(alloc, stack, func.params.len())? {
         Some(values) => push_reply_for(domain, stack, func.results.as_slice(), reply, values),
@@ -75,7 +130,6 @@ fn reply_on<D: Domain>(
     }
 }
 
-#[tactic(auto, using(crate::proofs::CallLemmas::call_rules))]
 fn push_reply_for<D: Domain>(
     domain: &D,
     stack: &mut Stack<D>,
@@ -83,7 +137,8 @@ fn push_reply_for<D: Domain>(
     reply: Option<&D::Value>,
     values: Vec<D::Value>,
 ) -> Result<Option<Vec<D::Value>>, OutOfMemory>
-    ensures { IfOk result (λ noted. option_map (λ vs. (map D.value_of vs.items, stack_of D.value_of D.word_of stack.new.items)) noted
+    ensures { IfOk result (λ noted.
+        option_map (λ vs. (map D.value_of vs.items, stack_of D.value_of D.word_of stack.new.items)) noted
         ≡ reply_on (reply_items (param_types results.now) (reply_of D.value_of reply.entry))
         (map D.value_of values.items, stack_of D.value_of D.word_of stack.old.items)) }
 {
@@ -96,7 +151,6 @@ fn push_reply_for<D: Domain>(
 
 /// Pushes the reply as a call of the interface leaves it, and answers whether there is one exactly where the
 /// function has a result.
-#[tactic(auto, using(crate::proofs::CallLemmas::call_rules))]
 fn push_reply<D: Domain>(
     domain: &D,
     stack: &mut Stack<D>,
@@ -113,7 +167,6 @@ fn push_reply<D: Domain>(
     }
 }
 
-#[tactic(auto, using(crate::proofs::CallLemmas::call_rules))]
 fn push_result<D: Domain>(
     domain: &D,
     stack: &mut Stack<D>,
@@ -133,37 +186,14 @@ fn push_result<D: Domain>(
     }
 }
 
-/// Takes the words of a call off in the caller's trace, which hasn't made its call yet, where they are words of
-/// the callee's types; none where the call has no rule.
-#[tactic(auto, using(crate::proofs::CallLemmas::call_rules))]
-pub(crate) fn take_words<D: Domain>(
-    alloc: Global,
-    domain: &D,
-    machine: &mut MachineOf<D>,
-    module: &Id,
-    func: &InterfaceFunc,
-    call: CallRow<'_, WasmType>,
-) -> Result<Option<Vec<D::Word>>, OutOfMemory>
-    ensures words { IfOk result (λ words. HandsOn (D.domain domain.now) D.value_of D.word_of D.memory_of «module».now (called func.now)
-        call.entry.owner.now call.entry.name.now call.entry.params.now call.entry.results.now machine.old machine.new words) }
-    ensures answer { machine.new.answer ≡ machine.old.answer }
-    ensures blocks { machine.new.blocks ≡ machine.old.blocks }
-{
-    if names_words(alloc, module, func, &call)? {
-        typed_words_off(alloc, domain, &mut machine.stack, call.params)
-    } else {
-        Ok(None)
-    }
-}
-
-#[tactic(auto, using(crate::proofs::CallLemmas::call_rules))]
 fn typed_words_off<D: Domain>(
     alloc: Global,
     domain: &D,
     stack: &mut Stack<D>,
     types: &WasmTypes,
 ) -> Result<Option<Vec<D::Word>>, OutOfMemory>
-    ensures { IfOk result (λ words. option_map (λ ws. (map D.word_of ws.items, stack_of D.value_of D.word_of stack.new.items)) words
+    ensures { IfOk result (λ words.
+        option_map (λ ws. (map D.word_of ws.items, stack_of D.value_of D.word_of stack.new.items)) words
         ≡ words_row (D.domain domain.now) types.now (stack_of D.value_of D.word_of stack.old.items)) }
 {
     let Some(words) = words_off::<D>(alloc, stack, types.len())? else {
@@ -173,13 +203,13 @@ fn typed_words_off<D: Domain>(
 }
 
 /// The words, if they are of these types, one for each.
-#[tactic(auto, using(crate::proofs::CallLemmas::call_rules))]
 fn words_of_types<D: Domain>(
     domain: &D,
     types: &WasmTypes,
     words: Vec<D::Word>,
 ) -> Option<Vec<D::Word>>
-    ensures { option_map (λ ws. map D.word_of ws.items) result ≡ typed_only (D.domain domain.now) types.now (map D.word_of words.items) }
+    ensures { option_map (λ ws. map D.word_of ws.items) result
+        ≡ typed_only (D.domain domain.now) types.now (map D.word_of words.items) }
 {
     if are_typed(domain, types.as_slice(), words.as_slice()) {
         Some(words)
@@ -189,7 +219,6 @@ fn words_of_types<D: Domain>(
 }
 
 /// Whether these are words of these types, one for each.
-#[tactic(auto, using(crate::proofs::CallLemmas::call_rules))]
 fn are_typed<D: Domain>(domain: &D, types: &[WasmType], words: &[D::Word]) -> bool
     ensures { result ≡ typed (D.domain domain.now) types.now (map D.word_of words.now) }
 {
@@ -204,37 +233,7 @@ fn are_typed<D: Domain>(domain: &D, types: &[WasmType], words: &[D::Word]) -> bo
     true
 }
 
-/// Takes back in the caller's trace what came of the callee's run: the values that it noted, the items that it
-/// gave back, and what stood at the addresses. None where they aren't words of the result types: then the call
-/// has no rule.
-#[tactic(auto, using(crate::proofs::CallLemmas::call_rules))]
-pub(crate) fn take_back<D: Domain>(
-    alloc: Global,
-    domain: &D,
-    machine: &mut MachineOf<D>,
-    func: &InterfaceFunc,
-    words: Vec<D::Word>,
-    noted: Vec<D::Value>,
-    back: Stack<D>,
-    memory: D::Memory,
-) -> Result<Option<CallMadeOf<D>>, OutOfMemory>
-    ensures made { IfOk result (λ call. TakesBack (D.domain domain.now) D.value_of D.word_of D.memory_of (called func.now)
-        (map D.word_of words.items) (map D.value_of noted.items) (items_of D.value_of D.word_of back.items) (D.memory_of memory)
-        machine.old machine.new call) }
-    ensures answer { machine.new.answer ≡ machine.old.answer }
-    ensures blocks { machine.new.blocks ≡ machine.old.blocks }
-{
-    match typed_words(alloc, domain, func, back.as_slice())? {
-        Some(callee_words) => {
-            let call = made_call(domain, machine, words, noted, callee_words, memory)?;
-            Ok(Some(call))
-        }
-        None => Ok(None),
-    }
-}
-
 // The items that came back, where they are words of the result types and nothing else.
-#[tactic(auto, using(crate::proofs::CallLemmas::call_rules))]
 fn typed_words<D: Domain>(
     alloc: Global,
     domain: &D,
@@ -252,13 +251,13 @@ fn typed_words<D: Domain>(
 }
 
 /// The words that these items are; none where there is a value among them.
-#[tactic(auto, using(crate::proofs::CallLemmas::call_rules))]
 fn only_words<D: Domain>(
     alloc: Global,
     domain: &D,
     items: &[Item<D::Value, D::Word>],
 ) -> Result<Option<Vec<D::Word>>, OutOfMemory>
-    ensures { IfOk result (λ words. option_map (λ ws. map D.word_of ws.items) words ≡ words_in (items_of D.value_of D.word_of items.now)) }
+    ensures { IfOk result (λ words. option_map (λ ws. map D.word_of ws.items) words
+        ≡ words_in (items_of D.value_of D.word_of items.now)) }
 {
     let mut words = Vec::new(alloc);
     for item in items {
@@ -270,7 +269,6 @@ fn only_words<D: Domain>(
     Ok(Some(words))
 }
 
-#[tactic(auto, using(crate::proofs::CallLemmas::call_rules))]
 fn made_call<D: Domain>(
     domain: &D,
     machine: &mut MachineOf<D>,
@@ -280,7 +278,8 @@ fn made_call<D: Domain>(
     at_return: D::Memory,
 ) -> Result<CallMadeOf<D>, OutOfMemory>
     ensures made { IfOk result (λ call. IsAnswered (D.domain domain.now) D.value_of D.word_of D.memory_of
-        (map D.word_of words.items) (map D.value_of noted.items) (map D.word_of callee_words.items) (D.memory_of at_return)
+        (map D.word_of words.items) (map D.value_of noted.items) (map D.word_of callee_words.items)
+        (D.memory_of at_return)
         machine.old machine.new call) }
     ensures answer { machine.new.answer ≡ machine.old.answer }
     ensures blocks { machine.new.blocks ≡ machine.old.blocks }
@@ -297,7 +296,6 @@ fn made_call<D: Domain>(
 
 // The caller's machine with the words that came back and what stood at the addresses then; what stood there
 // before is given back.
-#[tactic(auto, using(crate::proofs::CallLemmas::call_rules))]
 fn put_back<D: Domain>(
     domain: &D,
     machine: &mut MachineOf<D>,
@@ -307,7 +305,8 @@ fn put_back<D: Domain>(
     ensures before { IfOk result (λ memory. memory ≡ machine.old.memory) }
     ensures stack { IfOk result (λ _. stack_of D.value_of D.word_of machine.new.stack.items
         ≡ pushed (map word_item (map D.word_of words.now)) (stack_of D.value_of D.word_of machine.old.stack.items)) }
-    ensures returned { IfOk result (λ _. option_map D.word_of machine.new.returned ≡ one_word (map D.word_of words.now)) }
+    ensures returned { IfOk result (λ _. option_map D.word_of machine.new.returned
+        ≡ one_word (map D.word_of words.now)) }
     ensures memory { IfOk result (λ _. D.memory_of machine.new.memory ≡ D.memory_of at_return.now) }
     ensures slots { machine.new.slots ≡ machine.old.slots }
     ensures answer { machine.new.answer ≡ machine.old.answer }
@@ -319,7 +318,6 @@ fn put_back<D: Domain>(
     Ok(replace(&mut machine.memory, memory))
 }
 
-#[tactic(auto, using(crate::proofs::CallLemmas::call_rules))]
 fn push_words<D: Domain>(
     domain: &D,
     stack: &mut Stack<D>,
@@ -335,7 +333,6 @@ fn push_words<D: Domain>(
 }
 
 // The word, where there is just one.
-#[tactic(auto, using(crate::proofs::CallLemmas::call_rules))]
 fn one_word<D: Domain>(domain: &D, words: &[D::Word]) -> Result<Option<D::Word>, OutOfMemory>
     ensures { IfOk result (λ word. option_map D.word_of word ≡ one_word (map D.word_of words.now)) }
 {

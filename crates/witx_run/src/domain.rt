@@ -64,7 +64,8 @@ pub trait Domain {
         conversion: Conversion<'_>,
         value: &Self::Value,
     ) -> Result<Option<Self::Word>, OutOfMemory>
-        ensures { IfOk result (λ word. option_map word_of word ≡ (domain self.now).lower (scalar_of conversion.entry) (value_of value.now)) };
+        ensures { IfOk result (λ word. option_map word_of word
+            ≡ (domain self.now).lower (scalar_of conversion.entry) (value_of value.now)) };
 
     /// The value whose word it is, by a conversion.
     fn lift(
@@ -72,14 +73,16 @@ pub trait Domain {
         conversion: Conversion<'_>,
         word: &Self::Word,
     ) -> Result<Option<Self::Value>, OutOfMemory>
-        ensures { IfOk result (λ value. option_map value_of value ≡ (domain self.now).lift (scalar_of conversion.entry) (word_of word.now)) };
+        ensures { IfOk result (λ value. option_map value_of value
+            ≡ (domain self.now).lift (scalar_of conversion.entry) (word_of word.now)) };
 
     /// The address and the length of a list.
     fn list_words(
         &self,
         value: &Self::Value,
     ) -> Result<Option<(Self::Word, Self::Word)>, OutOfMemory>
-        ensures { IfOk result (λ words. option_map (λ p. (word_of p.0, word_of p.1)) words ≡ (domain self.now).list_words (value_of value.now)) };
+        ensures { IfOk result (λ words. option_map (λ p. (word_of p.0, word_of p.1)) words
+            ≡ (domain self.now).list_words (value_of value.now)) };
 
     /// The list of this address and this length.
     fn list_value(
@@ -87,7 +90,8 @@ pub trait Domain {
         address: &Self::Word,
         length: &Self::Word,
     ) -> Result<Option<Self::Value>, OutOfMemory>
-        ensures { IfOk result (λ value. option_map value_of value ≡ (domain self.now).list_value (word_of address.now) (word_of length.now)) };
+        ensures { IfOk result (λ value. option_map value_of value
+            ≡ (domain self.now).list_value (word_of address.now) (word_of length.now)) };
 
     /// The tuple of these.
     fn tuple(&self, values: Vec<Self::Value>) -> Result<Self::Value, OutOfMemory>
@@ -99,7 +103,8 @@ pub trait Domain {
         count: usize,
         value: Self::Value,
     ) -> Result<Option<Vec<Self::Value>>, OutOfMemory>
-        ensures { IfOk result (λ values. option_map (λ vs. map value_of vs.items) values ≡ (domain self.now).parts count (value_of value)) };
+        ensures { IfOk result (λ values. option_map (λ vs. map value_of vs.items) values
+            ≡ (domain self.now).parts count (value_of value)) };
 
     /// The next address, made for a type, with nothing there.
     fn give(

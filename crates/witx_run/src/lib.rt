@@ -3,6 +3,7 @@
 #![tactic(auto)]
 
 mod blocks;
+mod callee;
 mod calls;
 mod cases;
 mod conversion;
@@ -17,6 +18,7 @@ mod outcome;
 mod progress;
 mod row;
 mod script;
+mod side;
 mod sides;
 mod slots;
 mod stack;

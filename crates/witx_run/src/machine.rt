@@ -129,7 +129,8 @@ pub fn perform<D: Domain>(
 
 /// The payload, in a block that result_lower runs on one.
 fn payload_in<D: Domain>(inside: &Inside<D::Value, D::Word>) -> Option<&Item<D::Value, D::Word>>
-    ensures { option_map (λ x. item_of D.value_of D.word_of x.now) result ≡ payload_in (inside_of D.value_of D.word_of inside.now) }
+    ensures { option_map (λ x. item_of D.value_of D.word_of x.now) result
+        ≡ payload_in (inside_of D.value_of D.word_of inside.now) }
 {
     match inside {
         Inside::Lower(Some(item)) => Some(item),
@@ -145,8 +146,10 @@ fn return_items<D: Domain>(
     has_called: bool,
     inside: &Inside<D::Value, D::Word>,
 ) -> Result<bool, OutOfMemory>
-    ensures performs { IfOk result (λ went. (domain : machine_specs.Domain D.V D.W D.M) (arguments : List (declared_item.Item D.Value D.Word))
-        → Performs domain D.value_of D.word_of D.memory_of arguments has_called inside.now (returns count) machine.old machine.new went) }
+    ensures performs { IfOk result (λ went.
+        (domain : machine_specs.Domain D.V D.W D.M) (arguments : List (declared_item.Item D.Value D.Word)) →
+        Performs domain D.value_of D.word_of D.memory_of arguments has_called inside.now (returns count)
+        machine.old machine.new went) }
     ensures blocks { machine.new.blocks ≡ machine.old.blocks }
 {
     match inside {
@@ -161,8 +164,10 @@ fn answer_with<D: Domain>(
     count: usize,
     has_called: bool,
 ) -> Result<bool, OutOfMemory>
-    ensures performs { IfOk result (λ went. (domain : machine_specs.Domain D.V D.W D.M) (arguments : List (declared_item.Item D.Value D.Word))
-        → Performs domain D.value_of D.word_of D.memory_of arguments has_called Outside (returns count) machine.old machine.new went) }
+    ensures performs { IfOk result (λ went.
+        (domain : machine_specs.Domain D.V D.W D.M) (arguments : List (declared_item.Item D.Value D.Word)) →
+        Performs domain D.value_of D.word_of D.memory_of arguments has_called Outside (returns count)
+        machine.old machine.new went) }
     ensures blocks { machine.new.blocks ≡ machine.old.blocks }
 {
     let Some(items) = items_off::<D>(alloc, &mut machine.stack, count)? else {

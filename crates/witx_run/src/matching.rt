@@ -1,4 +1,5 @@
 //! Where the blocks of a trace end.
+#![tactic(auto, using(crate::proofs::EndLemmas::end_rules))]
 
 ghost use Rattle.std.specs.Prelude.{◌≡◌, IfOk, map, reverse};
 ghost use Rattle.witx_instructions.specs.Views.{event_of};
@@ -10,7 +11,6 @@ use witx_instructions::Event;
 
 /// For each event, the number of the event that ends a block which would begin there; none where
 /// nothing does. One pass, from the last event to the first.
-#[tactic(auto, using(crate::proofs::EndLemmas::end_rules))]
 pub(crate) fn ends_of_blocks(
     alloc: Global,
     events: &[Event],
@@ -30,7 +30,6 @@ pub(crate) fn ends_of_blocks(
 }
 
 // What an event makes of the ends that are still to be matched, the nearest last.
-#[tactic(auto, using(crate::proofs::EndLemmas::end_rules))]
 fn match_end(event: &Event, i: usize, left: &mut Vec<usize>) -> Result<(), OutOfMemory>
     ensures { IfOk result (λ _. reverse left.new.items ≡ unmatched (event_of event.now) i (reverse left.old.items)) }
 {

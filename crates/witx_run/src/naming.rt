@@ -1,4 +1,5 @@
 //! Whether a call is of the function, by its names and types.
+#![tactic(auto, using(crate::proofs::NameLemmas::name_rules))]
 
 ghost use Rattle.std.specs.Prelude.{◌≡◌, ◌&&◌, IfOk, map};
 ghost use Rattle.witx_ast.specs.Same.{same_bytes, same_tree};
@@ -8,7 +9,9 @@ ghost use Rattle.witx_machine.specs.Signature.{signature_params, signature_resul
 ghost use Rattle.witx_machine.specs.Words.{same_types};
 ghost use Rattle.witx_instructions.specs.Views.{called, param_types};
 ghost use Rattle.witx_run.specs.CallViews.{names_function, names_words};
+ghost use Rattle.witx_run.specs.Stops.{interface_at, wasm_at};
 
+use crate::progress::Stop;
 use std::alloc::Global;
 use witx_ast::{InterfaceFunc, InterfaceFuncParam, TypeRef};
 use witx_base::{Id, Items, OutOfMemory};
@@ -25,8 +28,51 @@ pub(crate) struct CallRow<'a, T> {
     pub(crate) results: &'a Items<T>,
 }
 
+impl<'a> CallRow<'a, TypeRef> {
+    /// The call of the interface in front of which a run has halted.
+    pub(crate) fn of_interface(stop: Stop<'a>) -> Option<CallRow<'a, TypeRef>>
+        ensures { result ≡ interface_at stop.entry }
+    {
+        match stop {
+            Stop::Interface {
+                module,
+                name,
+                params,
+                results,
+            } => Some(CallRow {
+                owner: module,
+                name,
+                params,
+                results,
+            }),
+            _ => None,
+        }
+    }
+}
+
+impl<'a> CallRow<'a, WasmType> {
+    /// The call of WebAssembly in front of which a run has halted.
+    pub(crate) fn of_wasm(stop: Stop<'a>) -> Option<CallRow<'a, WasmType>>
+        ensures { result ≡ wasm_at stop.entry }
+    {
+        match stop {
+            Stop::Wasm {
+                module,
+                name,
+                params,
+                results,
+            } => Some(CallRow {
+                owner: module,
+                name,
+                params,
+                results,
+            }),
+            _ => None,
+        }
+    }
+}
+
 /// Whether the call is of the function of this module, by its names and with its types.
-#[tactic(auto, using(crate::proofs::NameLemmas::name_rules))]
 pub(crate) fn names_function(module: &Id, func: &InterfaceFunc, call: &CallRow<'_, TypeRef>) -> bool
     ensures { result ≡ names_function «module».now (called func.now)
         call.now.owner.now call.now.name.now (map tree_of call.now.params.now) (map tree_of call.now.results.now) }
@@ -40,7 +86,6 @@ fn is_name(a: &Id, b: &Id) -> bool
     *a == *b
 }
 
-#[tactic(auto, using(crate::proofs::NameLemmas::name_rules))]
 fn has_signature(func: &InterfaceFunc, call: &CallRow<'_, TypeRef>) -> bool
     ensures { result ≡ same_bytes call.now.name.now (called func.now).name
         && (same_trees (map tree_of call.now.params.now) (called func.now).params
@@ -49,7 +94,6 @@ fn has_signature(func: &InterfaceFunc, call: &CallRow<'_, TypeRef>) -> bool
     is_name(call.name, &func.name) && has_types(func, call)
 }
 
-#[tactic(auto, using(crate::proofs::NameLemmas::name_rules))]
 fn has_types(func: &InterfaceFunc, call: &CallRow<'_, TypeRef>) -> bool
     ensures { result ≡ same_trees (map tree_of call.now.params.now) (called func.now).params
         && same_trees (map tree_of call.now.results.now) (called func.now).results }
@@ -59,7 +103,6 @@ fn has_types(func: &InterfaceFunc, call: &CallRow<'_, TypeRef>) -> bool
 }
 
 /// Whether these are the types of the parameters, or of the results, documentation included.
-#[tactic(auto, using(crate::proofs::NameLemmas::name_rules))]
 fn same_trees(types: &[TypeRef], params: &[InterfaceFuncParam]) -> bool
     ensures { result ≡ same_trees (map tree_of types.now) (param_types params.now) }
 {
@@ -81,7 +124,6 @@ fn is_type(ty: &TypeRef, param: &InterfaceFuncParam) -> bool
 }
 
 /// Whether the call is of the function of this module, by its names and with the types of its words.
-#[tactic(auto, using(crate::proofs::NameLemmas::name_rules))]
 pub(crate) fn names_words(
     alloc: Global,
     module: &Id,
@@ -98,7 +140,6 @@ pub(crate) fn names_words(
     }
 }
 
-#[tactic(auto, using(crate::proofs::NameLemmas::name_rules))]
 fn has_word_types(
     alloc: Global,
     func: &InterfaceFunc,
@@ -112,7 +153,6 @@ fn has_word_types(
     Ok(same_types(call.params, &params) && same_types(call.results, &results))
 }
 
-#[tactic(auto, using(crate::proofs::NameLemmas::name_rules))]
 fn same_types(a: &WasmTypes, b: &WasmTypes) -> bool
     ensures { result ≡ same_types a.now b.now }
 {

@@ -10,9 +10,9 @@ ghost use Rattle.witx_run.specs.Nearing.{Falls};
 ghost use Rattle.witx_run.specs.RowViews.{row_view, runs_nothing};
 ghost use Rattle.witx_run.specs.ScriptParts.{event_below};
 ghost use Rattle.witx_run.specs.StackRows.{tried_if};
-ghost use Rattle.witx_run.specs.Turns.{ComesTo, HaltsAt, IsHere, TurnsHere, events_of, run_start, whole, whole_behind, whole_at, space_at, turned};
+ghost use Rattle.witx_run.specs.Turns.{ComesTo, FramesFit, HaltsAt, IsHere, TurnsHere, events_of, run_start, whole, whole_behind, whole_at, space_at, turned};
 
-use crate::blocks::{leave, lift_result, lower_result, set_aside};
+use crate::blocks::{Cases, leave, lift_result, lower_result, set_aside};
 use crate::domain::Domain;
 use crate::frame::Frame;
 use crate::machine::{Inside, Machine, give_slot as machine_give, perform as machine_perform};
@@ -112,7 +112,8 @@ pub fn run<'a, D: Domain>(
     has_called: bool,
 ) -> Result<Stop<'a>, OutOfMemory>
     requires { length progress.old.frames.items ≤ length script.now.events.now }
-    ensures halts { IfOk result (λ stop. HaltsAt (D.domain domain.now) D.value_of D.word_of D.memory_of script.now has_called
+    ensures halts { IfOk result (λ stop.
+        HaltsAt (D.domain domain.now) D.value_of D.word_of D.memory_of script.now has_called
         (λ x es. whole (D.domain domain.now) D.value_of D.word_of D.memory_of x es progress.old) progress.new stop) }
     ensures deep { IfOk result (λ _. length progress.new.frames.items ≤ length script.now.events.now) }
     ensures here { IfOk result (λ stop. IsHere progress.new stop) }
@@ -151,11 +152,12 @@ fn take_turn<'a, D: Domain>(
     script: &ScriptOf<'a, D>,
     has_called: bool,
 ) -> Result<Turn<'a>, OutOfMemory>
-    requires { length progress.old.frames.items ≤ length script.now.events.now }
-    ensures comes { IfOk result (λ turn. ComesTo (D.domain domain.now) D.value_of D.word_of D.memory_of script.now has_called
+    requires { FramesFit script.now progress.old }
+    ensures comes { IfOk result (λ turn.
+        ComesTo (D.domain domain.now) D.value_of D.word_of D.memory_of script.now has_called
         (λ x es. whole (D.domain domain.now) D.value_of D.word_of D.memory_of x es progress.old) progress.new turn) }
     ensures falls { IfOk result (λ turn. Falls 0 progress.old progress.new turn) }
-    ensures deep { IfOk result (λ _. length progress.new.frames.items ≤ length script.now.events.now) }
+    ensures deep { IfOk result (λ _. FramesFit script.now progress.new) }
     ensures here { IfOk result (λ turn. TurnsHere progress.new turn) }
 {
     match script.event_at(progress.at, progress.end) {
@@ -183,15 +185,19 @@ fn run_step<'a, D: Domain>(
     row: Row<'a>,
 ) -> Result<Turn<'a>, OutOfMemory>
     requires here { progress.old.at < progress.old.end }
-    requires deep { length progress.old.frames.items ≤ length script.now.events.now }
-    ensures comes { IfOk result (λ turn. ComesTo (D.domain domain.now) D.value_of D.word_of D.memory_of script.now has_called
-        (λ x es. whole_at (D.domain domain.now) D.value_of D.word_of D.memory_of x es progress.old (row_view row.entry)) progress.new turn) }
+    requires deep { FramesFit script.now progress.old }
+    ensures comes { IfOk result (λ turn.
+        ComesTo (D.domain domain.now) D.value_of D.word_of D.memory_of script.now has_called
+        (λ x es. whole_at (D.domain domain.now) D.value_of D.word_of D.memory_of x es progress.old
+        (row_view row.entry)) progress.new turn) }
     ensures falls { IfOk result (λ turn. Falls 0 progress.old progress.new turn) }
-    ensures deep { IfOk result (λ _. length progress.new.frames.items ≤ length script.now.events.now) }
+    ensures deep { IfOk result (λ _. FramesFit script.now progress.new) }
     ensures here { IfOk result (λ turn. TurnsHere progress.new turn) }
 {
     match row {
-        Row::ResultLower { ok, err } => lower_result(alloc, domain, progress, script, ok, err),
+        Row::ResultLower { ok, err } => {
+            lower_result(alloc, domain, progress, script, Cases { ok, err })
+        }
         Row::ResultLift => lift_result(alloc, domain, progress, script),
         Row::CallWasm {
             module,
@@ -230,8 +236,10 @@ fn perform_plain<'a, D: Domain>(
 ) -> Result<Turn<'a>, OutOfMemory>
     requires here { progress.old.at < progress.old.end }
     requires plain { runs_nothing (row_view row) ≡ true }
-    ensures comes { IfOk result (λ turn. ComesTo (D.domain domain.now) D.value_of D.word_of D.memory_of script.now has_called
-        (λ x es. whole_at (D.domain domain.now) D.value_of D.word_of D.memory_of x es progress.old (row_view row.entry)) progress.new turn) }
+    ensures comes { IfOk result (λ turn.
+        ComesTo (D.domain domain.now) D.value_of D.word_of D.memory_of script.now has_called
+        (λ x es. whole_at (D.domain domain.now) D.value_of D.word_of D.memory_of x es progress.old
+        (row_view row.entry)) progress.new turn) }
     ensures falls { IfOk result (λ turn. Falls 0 progress.old progress.new turn) }
     ensures frames { IfOk result (λ _. progress.new.frames ≡ progress.old.frames) }
     ensures here { IfOk result (λ turn. TurnsHere progress.new turn) }
@@ -257,7 +265,8 @@ fn give_space<'a, D: Domain>(
 ) -> Result<Turn<'a>, OutOfMemory>
     requires { progress.old.at < progress.old.end }
     ensures comes { IfOk result (λ turn. (x : Setting D.V D.W D.M) →
-        space_at (D.domain domain.now) D.value_of D.word_of D.memory_of x (events_of script.now) progress.old slot (named_tree ty.now.value)
+        space_at (D.domain domain.now) D.value_of D.word_of D.memory_of x (events_of script.now) progress.old
+        slot (named_tree ty.now.value)
         ≡ turned (D.domain domain.now) D.value_of D.word_of D.memory_of x (events_of script.now) progress.new turn) }
     ensures falls { IfOk result (λ turn. Falls 0 progress.old progress.new turn) }
     ensures frames { IfOk result (λ _. progress.new.frames ≡ progress.old.frames) }
@@ -295,7 +304,8 @@ pub(crate) fn settle<'a, D: Domain>(
 
 /// Whether the trace hasn't returned yet, or has no event of this number.
 fn goes_to<D: Domain>(progress: &ProgressOf<D>, script: &ScriptOf<'_, D>, next: usize) -> bool
-    ensures { result ≡ (is_none progress.now.machine.answer || is_none (event_below (events_of script.now) next progress.now.end)) }
+    ensures { result ≡ (is_none progress.now.machine.answer
+        || is_none (event_below (events_of script.now) next progress.now.end)) }
 {
     progress.machine.answer.is_none() || script.event_at(next, progress.end).is_none()
 }

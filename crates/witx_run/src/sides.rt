@@ -1,4 +1,5 @@
 //! What the side of a trace is given: its arguments, as they lie on a stack.
+#![tactic(auto, using(crate::proofs::SideLemmas::side_rules))]
 
 ghost use Rattle.std.specs.Prelude.{◌≡◌, IfOk, map};
 ghost use Rattle.witx_ast.specs.Views.{tree_of};
@@ -18,7 +19,6 @@ use witx_base::OutOfMemory;
 
 /// The arguments as the caller has them, each with its type's name if it has one; as many as there are
 /// parameters and arguments.
-#[tactic(auto, using(crate::proofs::SideLemmas::side_rules))]
 pub(crate) fn argument_items<D: Domain>(
     alloc: Global,
     domain: &D,
@@ -36,13 +36,13 @@ pub(crate) fn argument_items<D: Domain>(
 }
 
 /// A value with the name of its type, if that is a name.
-#[tactic(auto, using(crate::proofs::SideLemmas::side_rules))]
 pub(crate) fn argument_item<D: Domain>(
     domain: &D,
     ty: &TypeRef,
     argument: &D::Value,
 ) -> Result<Item<D::Value, D::Word>, OutOfMemory>
-    ensures { IfOk result (λ item. item_of D.value_of D.word_of item ≡ value_item (D.value_of argument.now) (name_of (tree_of ty.now))) }
+    ensures { IfOk result (λ item. item_of D.value_of D.word_of item
+        ≡ value_item (D.value_of argument.now) (name_of (tree_of ty.now))) }
 {
     let name = name_of(ty)?;
     let value = domain.copy_value(argument)?;
@@ -50,13 +50,13 @@ pub(crate) fn argument_item<D: Domain>(
 }
 
 /// The arguments as the callee has them: its words.
-#[tactic(auto, using(crate::proofs::SideLemmas::side_rules))]
 pub(crate) fn word_items<D: Domain>(
     alloc: Global,
     domain: &D,
     words: &[D::Word],
 ) -> Result<Stack<D>, OutOfMemory>
-    ensures { IfOk result (λ items. items_of D.value_of D.word_of items.items ≡ map word_item (map D.word_of words.now)) }
+    ensures { IfOk result (λ items. items_of D.value_of D.word_of items.items
+        ≡ map word_item (map D.word_of words.now)) }
 {
     let mut items = Vec::new(alloc);
     for word in words {
@@ -66,7 +66,6 @@ pub(crate) fn word_items<D: Domain>(
 }
 
 /// A word as it lies on a stack.
-#[tactic(auto, using(crate::proofs::SideLemmas::side_rules))]
 pub(crate) fn word_item<D: Domain>(
     domain: &D,
     word: &D::Word,

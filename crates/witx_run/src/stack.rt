@@ -1,9 +1,10 @@
 //! The rows that look at the stack, and at the memory and the slots that they name.
+#![tactic(auto, using(crate::proofs::StackLemmas::stack_rules))]
 
 ghost use Rattle.std.specs.Prelude.{◌≡◌, ◌∷◌, [], Some, None, IfOk, MatchOption, map, option_map, slice_get};
 ghost use Rattle.witx_ast.specs.Views.{named_tree};
 ghost use Rattle.witx_machine.specs.Machine.{pushed, plain_item, values_off, words_off, items_off, slot_word};
-ghost use Rattle.witx_machine.specs.Words.{when};
+ghost use Rattle.witx_run.specs.RowEnds.{Makes, MakesBoth};
 ghost use Rattle.witx_run.specs.SlotViews.{given_slots};
 ghost use Rattle.witx_run.specs.StackRows.{top_word_of, top_named_of, top_value_of, pushed_item, pushed_word, pushed_value, pushed_words, lowering_row, lifting_row, list_words_row, list_value_row, load_row, store_row, addr_row, put_named, tuple_row, parts_row};
 ghost use Rattle.witx_run.specs.Views.{item_of, items_of, name_tree, scalar_of, stack_of};
@@ -22,10 +23,10 @@ use witx_base::OutOfMemory;
 pub(crate) type Stack<D> = Vec<Item<<D as Domain>::Value, <D as Domain>::Word>>;
 
 /// The word on top, taken off.
-#[tactic(auto, using(crate::proofs::StackLemmas::stack_rules))]
 pub(crate) fn pop_word<D: Domain>(stack: &mut Stack<D>) -> Option<D::Word>
     ensures { MatchOption result (top_word_of (stack_of D.value_of D.word_of stack.old.items) ≡ None)
-        (λ w. top_word_of (stack_of D.value_of D.word_of stack.old.items) ≡ Some (D.word_of w, stack_of D.value_of D.word_of stack.new.items)) }
+        (λ w. top_word_of (stack_of D.value_of D.word_of stack.old.items)
+        ≡ Some (D.word_of w, stack_of D.value_of D.word_of stack.new.items)) }
 {
     match stack.pop() {
         Some(Item::Word(word)) => Some(word),
@@ -35,7 +36,6 @@ pub(crate) fn pop_word<D: Domain>(stack: &mut Stack<D>) -> Option<D::Word>
 }
 
 /// The value on top with its name, taken off.
-#[tactic(auto, using(crate::proofs::StackLemmas::stack_rules))]
 pub(crate) fn pop_named<D: Domain>(
     stack: &mut Stack<D>,
 ) -> Option<(D::Value, Option<Rc<NamedType>>)>
@@ -51,10 +51,10 @@ pub(crate) fn pop_named<D: Domain>(
 }
 
 /// The value on top, taken off.
-#[tactic(auto, using(crate::proofs::StackLemmas::stack_rules))]
 pub(crate) fn pop_value<D: Domain>(stack: &mut Stack<D>) -> Option<D::Value>
     ensures { MatchOption result (top_value_of (stack_of D.value_of D.word_of stack.old.items) ≡ None)
-        (λ v. top_value_of (stack_of D.value_of D.word_of stack.old.items) ≡ Some (D.value_of v, stack_of D.value_of D.word_of stack.new.items)) }
+        (λ v. top_value_of (stack_of D.value_of D.word_of stack.old.items)
+        ≡ Some (D.value_of v, stack_of D.value_of D.word_of stack.new.items)) }
 {
     match stack.pop() {
         Some(Item::Value { value, name: _ }) => Some(value),
@@ -64,13 +64,12 @@ pub(crate) fn pop_value<D: Domain>(stack: &mut Stack<D>) -> Option<D::Value>
 }
 
 /// Pushes what there is; or the step has no rule.
-#[tactic(auto, using(crate::proofs::StackLemmas::stack_rules))]
 pub(crate) fn push_word<D: Domain>(
     stack: &mut Stack<D>,
     word: Option<D::Word>,
 ) -> Result<bool, OutOfMemory>
-    ensures { IfOk result (λ went. when went (Some (stack_of D.value_of D.word_of stack.new.items))
-        ≡ pushed_word (option_map D.word_of word) (stack_of D.value_of D.word_of stack.old.items)) }
+    ensures { IfOk result (Makes D.Domain stack.old.items stack.new.items
+        (pushed_word (option_map D.word_of word))) }
 {
     match word {
         Some(word) => {
@@ -82,13 +81,12 @@ pub(crate) fn push_word<D: Domain>(
 }
 
 /// Pushes the value that there is; or the step has no rule.
-#[tactic(auto, using(crate::proofs::StackLemmas::stack_rules))]
 pub(crate) fn push_value<D: Domain>(
     stack: &mut Stack<D>,
     value: Option<D::Value>,
 ) -> Result<bool, OutOfMemory>
-    ensures { IfOk result (λ went. when went (Some (stack_of D.value_of D.word_of stack.new.items))
-        ≡ pushed_value (option_map D.value_of value) (stack_of D.value_of D.word_of stack.old.items)) }
+    ensures { IfOk result (Makes D.Domain stack.old.items stack.new.items
+        (pushed_value (option_map D.value_of value))) }
 {
     match value {
         Some(value) => {
@@ -100,15 +98,14 @@ pub(crate) fn push_value<D: Domain>(
 }
 
 /// Pushes an argument, by its number; or the step has no rule.
-#[tactic(auto, using(crate::proofs::StackLemmas::stack_rules))]
 pub(crate) fn get_arg<D: Domain>(
     domain: &D,
     stack: &mut Stack<D>,
     arguments: &[Item<D::Value, D::Word>],
     nth: usize,
 ) -> Result<bool, OutOfMemory>
-    ensures { IfOk result (λ went. when went (Some (stack_of D.value_of D.word_of stack.new.items))
-        ≡ pushed_item (slice_get (items_of D.value_of D.word_of arguments.now) nth) (stack_of D.value_of D.word_of stack.old.items)) }
+    ensures { IfOk result (Makes D.Domain stack.old.items stack.new.items
+        (pushed_item (slice_get (items_of D.value_of D.word_of arguments.now) nth))) }
 {
     match arguments.get(nth) {
         Some(item) => {
@@ -120,14 +117,13 @@ pub(crate) fn get_arg<D: Domain>(
 }
 
 /// A value becomes the address at which it is put; or the step has no rule.
-#[tactic(auto, using(crate::proofs::StackLemmas::stack_rules))]
 pub(crate) fn addr_of<D: Domain>(
     domain: &D,
     stack: &mut Stack<D>,
     memory: &mut D::Memory,
 ) -> Result<bool, OutOfMemory>
-    ensures { IfOk result (λ went. when went (Some (stack_of D.value_of D.word_of stack.new.items, D.memory_of memory.new))
-        ≡ addr_row (D.domain domain.now) (D.memory_of memory.old) (stack_of D.value_of D.word_of stack.old.items)) }
+    ensures { IfOk result (MakesBoth D.Domain stack.old.items stack.new.items memory.new
+        (addr_row (D.domain domain.now) (D.memory_of memory.old))) }
 {
     match pop_named::<D>(stack) {
         Some((value, name)) => put_by_name(domain, stack, memory, value, name),
@@ -135,7 +131,6 @@ pub(crate) fn addr_of<D: Domain>(
     }
 }
 
-#[tactic(auto, using(crate::proofs::StackLemmas::stack_rules))]
 fn put_by_name<D: Domain>(
     domain: &D,
     stack: &mut Stack<D>,
@@ -143,8 +138,8 @@ fn put_by_name<D: Domain>(
     value: D::Value,
     name: Option<Rc<NamedType>>,
 ) -> Result<bool, OutOfMemory>
-    ensures { IfOk result (λ went. when went (Some (stack_of D.value_of D.word_of stack.new.items, D.memory_of memory.new))
-        ≡ put_named (D.domain domain.now) (name_tree name) (D.value_of value) (D.memory_of memory.old) (stack_of D.value_of D.word_of stack.old.items)) }
+    ensures { IfOk result (MakesBoth D.Domain stack.old.items stack.new.items memory.new
+        (put_named (D.domain domain.now) (name_tree name) (D.value_of value) (D.memory_of memory.old))) }
 {
     match name {
         Some(named) => {
@@ -156,14 +151,13 @@ fn put_by_name<D: Domain>(
 }
 
 /// A value becomes its one word; or the step has no rule.
-#[tactic(auto, using(crate::proofs::StackLemmas::stack_rules))]
 pub(crate) fn lowering<D: Domain>(
     domain: &D,
     stack: &mut Stack<D>,
     conversion: Conversion<'_>,
 ) -> Result<bool, OutOfMemory>
-    ensures { IfOk result (λ went. when went (Some (stack_of D.value_of D.word_of stack.new.items))
-        ≡ lowering_row (D.domain domain.now) (scalar_of conversion.entry) (stack_of D.value_of D.word_of stack.old.items)) }
+    ensures { IfOk result (Makes D.Domain stack.old.items stack.new.items
+        (lowering_row (D.domain domain.now) (scalar_of conversion.entry))) }
 {
     match pop_value::<D>(stack) {
         Some(value) => {
@@ -175,14 +169,13 @@ pub(crate) fn lowering<D: Domain>(
 }
 
 /// A word becomes the value whose word it is; or the step has no rule.
-#[tactic(auto, using(crate::proofs::StackLemmas::stack_rules))]
 pub(crate) fn lifting<D: Domain>(
     domain: &D,
     stack: &mut Stack<D>,
     conversion: Conversion<'_>,
 ) -> Result<bool, OutOfMemory>
-    ensures { IfOk result (λ went. when went (Some (stack_of D.value_of D.word_of stack.new.items))
-        ≡ lifting_row (D.domain domain.now) (scalar_of conversion.entry) (stack_of D.value_of D.word_of stack.old.items)) }
+    ensures { IfOk result (Makes D.Domain stack.old.items stack.new.items
+        (lifting_row (D.domain domain.now) (scalar_of conversion.entry))) }
 {
     match pop_word::<D>(stack) {
         Some(word) => {
@@ -194,13 +187,12 @@ pub(crate) fn lifting<D: Domain>(
 }
 
 /// A list becomes its address and its length; or the step has no rule.
-#[tactic(auto, using(crate::proofs::StackLemmas::stack_rules))]
 pub(crate) fn list_pointer_length<D: Domain>(
     domain: &D,
     stack: &mut Stack<D>,
 ) -> Result<bool, OutOfMemory>
-    ensures { IfOk result (λ went. when went (Some (stack_of D.value_of D.word_of stack.new.items))
-        ≡ list_words_row (D.domain domain.now) (stack_of D.value_of D.word_of stack.old.items)) }
+    ensures { IfOk result (Makes D.Domain stack.old.items stack.new.items
+        (list_words_row (D.domain domain.now))) }
 {
     match pop_value::<D>(stack) {
         Some(value) => {
@@ -211,13 +203,12 @@ pub(crate) fn list_pointer_length<D: Domain>(
     }
 }
 
-#[tactic(auto, using(crate::proofs::StackLemmas::stack_rules))]
 fn push_words<D: Domain>(
     stack: &mut Stack<D>,
     words: Option<(D::Word, D::Word)>,
 ) -> Result<bool, OutOfMemory>
-    ensures { IfOk result (λ went. when went (Some (stack_of D.value_of D.word_of stack.new.items))
-        ≡ pushed_words (option_map (λ p. (D.word_of p.0, D.word_of p.1)) words) (stack_of D.value_of D.word_of stack.old.items)) }
+    ensures { IfOk result (Makes D.Domain stack.old.items stack.new.items
+        (pushed_words (option_map (λ p. (D.word_of p.0, D.word_of p.1)) words))) }
 {
     match words {
         Some((address, length)) => {
@@ -230,13 +221,12 @@ fn push_words<D: Domain>(
 }
 
 /// An address and a length become their list; or the step has no rule.
-#[tactic(auto, using(crate::proofs::StackLemmas::stack_rules))]
 pub(crate) fn list_from_pointer_length<D: Domain>(
     domain: &D,
     stack: &mut Stack<D>,
 ) -> Result<bool, OutOfMemory>
-    ensures { IfOk result (λ went. when went (Some (stack_of D.value_of D.word_of stack.new.items))
-        ≡ list_value_row (D.domain domain.now) (stack_of D.value_of D.word_of stack.old.items)) }
+    ensures { IfOk result (Makes D.Domain stack.old.items stack.new.items
+        (list_value_row (D.domain domain.now))) }
 {
     let Some(length) = pop_word::<D>(stack) else {
         return Ok(false);
@@ -249,15 +239,14 @@ pub(crate) fn list_from_pointer_length<D: Domain>(
 }
 
 /// Pushes the address of a slot; or the step has no rule.
-#[tactic(auto, using(crate::proofs::StackLemmas::stack_rules))]
 pub(crate) fn return_pointer_get<D: Domain>(
     domain: &D,
     stack: &mut Stack<D>,
     slots: &Slots<D::Word>,
     slot: usize,
 ) -> Result<bool, OutOfMemory>
-    ensures { IfOk result (λ went. when went (Some (stack_of D.value_of D.word_of stack.new.items))
-        ≡ pushed_word (slot_word slot (given_slots D.word_of slots.now.in_order.items)) (stack_of D.value_of D.word_of stack.old.items)) }
+    ensures { IfOk result (Makes D.Domain stack.old.items stack.new.items
+        (pushed_word (slot_word slot (given_slots D.word_of slots.now.in_order.items)))) }
 {
     match slots.get(slot) {
         Some(address) => {
@@ -269,15 +258,14 @@ pub(crate) fn return_pointer_get<D: Domain>(
 }
 
 /// An address becomes the value that stands there; or the step has no rule.
-#[tactic(auto, using(crate::proofs::StackLemmas::stack_rules))]
 pub(crate) fn load<D: Domain>(
     domain: &D,
     stack: &mut Stack<D>,
     memory: &D::Memory,
     ty: &Rc<NamedType>,
 ) -> Result<bool, OutOfMemory>
-    ensures { IfOk result (λ went. when went (Some (stack_of D.value_of D.word_of stack.new.items))
-        ≡ load_row (D.domain domain.now) (named_tree ty.now.value) (D.memory_of memory.now) (stack_of D.value_of D.word_of stack.old.items)) }
+    ensures { IfOk result (Makes D.Domain stack.old.items stack.new.items
+        (load_row (D.domain domain.now) (named_tree ty.now.value) (D.memory_of memory.now))) }
 {
     let Some(word) = pop_word::<D>(stack) else {
         return Ok(false);
@@ -293,15 +281,14 @@ pub(crate) fn load<D: Domain>(
 }
 
 /// A value is put at an address; or the step has no rule.
-#[tactic(auto, using(crate::proofs::StackLemmas::stack_rules))]
 pub(crate) fn store<D: Domain>(
     domain: &D,
     stack: &mut Stack<D>,
     memory: &mut D::Memory,
     ty: &Rc<NamedType>,
 ) -> Result<bool, OutOfMemory>
-    ensures { IfOk result (λ went. when went (Some (stack_of D.value_of D.word_of stack.new.items, D.memory_of memory.new))
-        ≡ store_row (D.domain domain.now) (named_tree ty.now.value) (D.memory_of memory.old) (stack_of D.value_of D.word_of stack.old.items)) }
+    ensures { IfOk result (MakesBoth D.Domain stack.old.items stack.new.items memory.new
+        (store_row (D.domain domain.now) (named_tree ty.now.value) (D.memory_of memory.old))) }
 {
     let Some(word) = pop_word::<D>(stack) else {
         return Ok(false);
@@ -313,13 +300,13 @@ pub(crate) fn store<D: Domain>(
 }
 
 /// So many values, taken off in the order in which they were pushed; none where there aren't so many.
-#[tactic(auto, using(crate::proofs::StackLemmas::stack_rules))]
 pub(crate) fn values_off<D: Domain>(
     alloc: Global,
     stack: &mut Stack<D>,
     count: usize,
 ) -> Result<Option<Vec<D::Value>>, OutOfMemory>
-    ensures { IfOk result (λ values. option_map (λ vs. (map D.value_of vs.items, stack_of D.value_of D.word_of stack.new.items)) values
+    ensures { IfOk result (λ values.
+        option_map (λ vs. (map D.value_of vs.items, stack_of D.value_of D.word_of stack.new.items)) values
         ≡ values_off count [] (stack_of D.value_of D.word_of stack.old.items)) }
 {
     let mut values = Vec::new(alloc);
@@ -334,13 +321,13 @@ pub(crate) fn values_off<D: Domain>(
 }
 
 /// So many words, in the same way.
-#[tactic(auto, using(crate::proofs::StackLemmas::stack_rules))]
 pub(crate) fn words_off<D: Domain>(
     alloc: Global,
     stack: &mut Stack<D>,
     count: usize,
 ) -> Result<Option<Vec<D::Word>>, OutOfMemory>
-    ensures { IfOk result (λ words. option_map (λ ws. (map D.word_of ws.items, stack_of D.value_of D.word_of stack.new.items)) words
+    ensures { IfOk result (λ words.
+        option_map (λ ws. (map D.word_of ws.items, stack_of D.value_of D.word_of stack.new.items)) words
         ≡ words_off count [] (stack_of D.value_of D.word_of stack.old.items)) }
 {
     let mut words = Vec::new(alloc);
@@ -355,22 +342,22 @@ pub(crate) fn words_off<D: Domain>(
 }
 
 /// The item on top, taken off.
-#[tactic(auto, using(crate::proofs::StackLemmas::stack_rules))]
 fn pop_item<D: Domain>(stack: &mut Stack<D>) -> Option<Item<D::Value, D::Word>>
     ensures { MatchOption result (stack_of D.value_of D.word_of stack.old.items ≡ [])
-        (λ x. stack_of D.value_of D.word_of stack.old.items ≡ item_of D.value_of D.word_of x ∷ stack_of D.value_of D.word_of stack.new.items) }
+        (λ x. stack_of D.value_of D.word_of stack.old.items
+        ≡ item_of D.value_of D.word_of x ∷ stack_of D.value_of D.word_of stack.new.items) }
 {
     stack.pop()
 }
 
 /// So many items, in the same way.
-#[tactic(auto, using(crate::proofs::StackLemmas::stack_rules))]
 pub(crate) fn items_off<D: Domain>(
     alloc: Global,
     stack: &mut Stack<D>,
     count: usize,
 ) -> Result<Option<Stack<D>>, OutOfMemory>
-    ensures { IfOk result (λ items. option_map (λ xs. (items_of D.value_of D.word_of xs.items, stack_of D.value_of D.word_of stack.new.items)) items
+    ensures { IfOk result (λ items.
+        option_map (λ xs. (items_of D.value_of D.word_of xs.items, stack_of D.value_of D.word_of stack.new.items)) items
         ≡ items_off count [] (stack_of D.value_of D.word_of stack.old.items)) }
 {
     let mut items = Vec::new(alloc);
@@ -385,15 +372,14 @@ pub(crate) fn items_off<D: Domain>(
 }
 
 /// So many values become their tuple; or the step has no rule.
-#[tactic(auto, using(crate::proofs::StackLemmas::stack_rules))]
 pub(crate) fn tuple_lift<D: Domain>(
     alloc: Global,
     domain: &D,
     stack: &mut Stack<D>,
     count: usize,
 ) -> Result<bool, OutOfMemory>
-    ensures { IfOk result (λ went. when went (Some (stack_of D.value_of D.word_of stack.new.items))
-        ≡ tuple_row (D.domain domain.now) count (stack_of D.value_of D.word_of stack.old.items)) }
+    ensures { IfOk result (Makes D.Domain stack.old.items stack.new.items
+        (tuple_row (D.domain domain.now) count)) }
 {
     match values_off::<D>(alloc, stack, count)? {
         Some(values) => {
@@ -406,14 +392,13 @@ pub(crate) fn tuple_lift<D: Domain>(
 }
 
 /// A tuple becomes its members; or the step has no rule.
-#[tactic(auto, using(crate::proofs::StackLemmas::stack_rules))]
 pub(crate) fn tuple_lower<D: Domain>(
     domain: &D,
     stack: &mut Stack<D>,
     count: usize,
 ) -> Result<bool, OutOfMemory>
-    ensures { IfOk result (λ went. when went (Some (stack_of D.value_of D.word_of stack.new.items))
-        ≡ parts_row (D.domain domain.now) count (stack_of D.value_of D.word_of stack.old.items)) }
+    ensures { IfOk result (Makes D.Domain stack.old.items stack.new.items
+        (parts_row (D.domain domain.now) count)) }
 {
     let Some(value) = pop_value::<D>(stack) else {
         return Ok(false);
@@ -427,7 +412,6 @@ pub(crate) fn tuple_lower<D: Domain>(
     }
 }
 
-#[tactic(auto, using(crate::proofs::StackLemmas::stack_rules))]
 fn push_all<D: Domain>(stack: &mut Stack<D>, parts: Vec<D::Value>) -> Result<(), OutOfMemory>
     ensures { IfOk result (λ _. stack_of D.value_of D.word_of stack.new.items
         ≡ pushed (map plain_item (map D.value_of parts.items)) (stack_of D.value_of D.word_of stack.old.items)) }
@@ -441,14 +425,13 @@ fn push_all<D: Domain>(stack: &mut Stack<D>, parts: Vec<D::Value>) -> Result<(),
 }
 
 /// Pushes the payload of a block that result_lower runs; or the step has no rule.
-#[tactic(auto, using(crate::proofs::StackLemmas::stack_rules))]
 pub(crate) fn variant_payload<D: Domain>(
     domain: &D,
     stack: &mut Stack<D>,
     payload: Option<&Item<D::Value, D::Word>>,
 ) -> Result<bool, OutOfMemory>
-    ensures { IfOk result (λ went. when went (Some (stack_of D.value_of D.word_of stack.new.items))
-        ≡ pushed_item (option_map (λ x. item_of D.value_of D.word_of x.now) payload.entry) (stack_of D.value_of D.word_of stack.old.items)) }
+    ensures { IfOk result (Makes D.Domain stack.old.items stack.new.items
+        (pushed_item (option_map (λ x. item_of D.value_of D.word_of x.now) payload.entry))) }
 {
     match payload {
         Some(item) => {
@@ -460,14 +443,13 @@ pub(crate) fn variant_payload<D: Domain>(
 }
 
 /// Pushes the one word that the call gave; or the step has no rule.
-#[tactic(auto, using(crate::proofs::StackLemmas::stack_rules))]
 pub(crate) fn reuse_return<D: Domain>(
     domain: &D,
     stack: &mut Stack<D>,
     returned: &Option<D::Word>,
 ) -> Result<bool, OutOfMemory>
-    ensures { IfOk result (λ went. when went (Some (stack_of D.value_of D.word_of stack.new.items))
-        ≡ pushed_word (option_map D.word_of returned.now) (stack_of D.value_of D.word_of stack.old.items)) }
+    ensures { IfOk result (Makes D.Domain stack.old.items stack.new.items
+        (pushed_word (option_map D.word_of returned.now))) }
 {
     match returned {
         Some(word) => {

@@ -10,14 +10,14 @@ use Rattle.witx_run.proofs.blocks.enter.Goals as goal
 
 pub returns-then-len-script-clause-comes : goal.returns-then-len-script-clause-comes
 returns-then-len-script-clause-comes g c = λ d x.
-    too-deep d g.D.Domain.value_of g.D.Domain.word_of g.D.Domain.memory_of x (events_of c.args.script.now) c.args.progress.now (inside_of g.D.Domain.value_of g.D.Domain.word_of c.args.inside) c.args.lowers c.args.error (block_of (spot_in x.trace) (events_of c.args.script.now) c.args.block)
+    too-deep d g.D.Domain.value_of g.D.Domain.word_of g.D.Domain.memory_of x (events_of c.args.script.now) c.args.progress.now (inside_of g.D.Domain.value_of g.D.Domain.word_of c.args.inside) c.args.step.lowers c.args.step.error (block_of (spot_in x.trace) (events_of c.args.script.now) c.args.step.block)
     (stack_of g.D.Domain.value_of g.D.Domain.word_of c.args.progress.now.machine.stack.items) (omega (arith, c.if-len-script.true, c.len.ensures, length-map event_of c.args.script.now.events.now))
 
 pub returns-clause-comes : goal.returns-clause-comes
 returns-clause-comes g c = λ d x.
-    enters d g.D.Domain.value_of g.D.Domain.word_of g.D.Domain.memory_of x (events_of c.args.script.now) c.args.progress.now c.replace.new.dest c.args.inside c.args.lowers c.args.error c.args.block _ c.push.new.self c.replace-2.new.dest
+    enters d g.D.Domain.value_of g.D.Domain.word_of g.D.Domain.memory_of x (events_of c.args.script.now) c.args.progress.now c.replace.new.dest c.args.inside c.args.step.lowers c.args.step.error c.args.step.block _ c.push.new.self c.replace-2.new.dest
     (omega (arith, c.if-len-script.false, c.len.ensures, length-map event_of c.args.script.now.events.now)) c.replace.ensures.after
     c.replace.ensures.value refl refl c.replace-2.ensures.value refl refl refl refl c.in_ok-push.ensures.items (ap (λ v. v.items) c.replace-2.ensures.after ∙ c.new.ensures.items)
 
 pub returns-clause-falls : goal.returns-clause-falls
-returns-clause-falls g c = block-entered c.args.progress.now c.args.block c.push.new.self.items _ c.in_ok-push.ensures.items refl refl
+returns-clause-falls g c = block-entered c.args.progress.now c.args.step.block c.push.new.self.items _ c.in_ok-push.ensures.items refl refl
