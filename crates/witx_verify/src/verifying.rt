@@ -114,7 +114,7 @@ fn doubt_in(
     let arguments = symbols.as_slice();
     let pointers = return_pointers(alloc, func.abi, &func.results)?;
     let run = run_in(alloc, world, module_name, func, caller, callee, arguments)?;
-    let doubt = judged(world, func, pointers.as_slice(), arguments, &run);
+    let doubt = judged(alloc, world, func, pointers.as_slice(), arguments, &run);
     drop(run);
     doubt
 }
