@@ -101,7 +101,7 @@ parts-done vs ms i common l e h z = sym (parts-whole vs ms z) ∙ h z ∙ ap (λ
 
 pub parts-longer : (vs : List Shared) (ms : List RecordMember) (z : Source) (j : ℕ) → length vs ≢ length ms → same_members (symbols_read vs) (parts_from (members_plain ms) z j) ≡ false
 parts-longer [] [] z j n = absurd (n refl)
-parts-longer [] (m ∷ ms) z j n = rw (tree-RecordMember m) refl
+parts-longer [] (m ∷ ms) z j n = refl
 parts-longer (v ∷ vs) [] z j n = refl
 parts-longer (v ∷ vs) (m ∷ ms) z j n =
     rw (tree-RecordMember m) (both (same_symbol (symbol_of v.value) (symbol_from (plain (tree_of m.tref)) (part z j))) (parts-longer vs ms z (j + 1) (λ e. n (ap suc e))))

@@ -10,7 +10,7 @@ use Rattle.witx_symbols.specs.Typing.{is_tuple_type}
 use Rattle.witx_symbols.specs.Wholes.{same_whole, same_wholes, has_no_atom, have_no_atom}
 use Rattle.witx_symbols.proofs.SymbolLaws.{source_same, source_refl, symbol_same, symbol_refl}
 
-atom-is : (t u : Plain) (s : Source) → is_of u (atom s t) ≡ not (is_tuple_type u) && same_plain t u
+pub atom-is : (t u : Plain) (s : Source) → is_of u (atom s t) ≡ not (is_tuple_type u) && same_plain t u
 atom-is t (Plain.record_of RecordKind.Tuple ns) s = refl
 atom-is t (Plain.record_of (RecordKind.Bitflags r) ns) s = refl
 atom-is t (Plain.record_of RecordKind.Other ns) s = refl
@@ -57,15 +57,12 @@ flip true false = refl
 flip false true = refl
 flip false false = refl
 
-and_true : (b : Bool) → b && true ≡ b
+pub and_true : (b : Bool) → b && true ≡ b
 and_true true = refl
 and_true false = refl
 
-and_false : (b : Bool) → b && false ≡ false
-and_false true = refl
-and_false false = refl
 
-atom-from : (t u : Plain) (s z : Source) → same_symbol (atom s t) (symbol_from u z) ≡ (not (is_tuple_type u) && same_plain t u) && same_source s z
+pub atom-from : (t u : Plain) (s z : Source) → same_symbol (atom s t) (symbol_from u z) ≡ (not (is_tuple_type u) && same_plain t u) && same_source s z
 atom-from t (Plain.record_of RecordKind.Tuple ns) s z = refl
 atom-from t (Plain.record_of (RecordKind.Bitflags r) ns) s z = flip (same_source s z) (same_plain t (Plain.record_of (RecordKind.Bitflags r) ns))
 atom-from t (Plain.record_of RecordKind.Other ns) s z = flip (same_source s z) (same_plain t (Plain.record_of RecordKind.Other ns))
@@ -76,7 +73,7 @@ atom-from t (Plain.const_pointer_to u) s z = flip (same_source s z) (same_plain 
 atom-from t (Plain.list_of u) s z = flip (same_source s z) (same_plain t (Plain.list_of u))
 atom-from t (Plain.variant_of r cs) s z = flip (same_source s z) (same_plain t (Plain.variant_of r cs))
 
-mix : (a b c d q : Bool) → (a && cond b true q) && (c && cond d true q) ≡ (a && c) && cond (b && d) true q
+pub mix : (a b c d q : Bool) → (a && cond b true q) && (c && cond d true q) ≡ (a && c) && cond (b && d) true q
 mix false b c d q = refl
 mix true true c d q = refl
 mix true false c true true = refl

@@ -252,7 +252,7 @@ fn origin_of_parts<'a>(parts: &'a [Rc<Symbol>], members: &[RecordMember]) -> Ori
 /// What a part at this place comes from, where it comes from a member there.
 #[tactic(auto, using(crate::proofs::OriginLemmas::origin_rules))]
 fn whole_behind(part: Origin<'_>, place: usize) -> Origin<'_>
-    ensures { (z : symbols.Source) → comes_from result z ≡ comes_from part (symbols.part z place) }
+    ensures { (z : symbols.Source) → comes_from result z ≡ comes_from part.entry (symbols.part z place) }
 {
     match part {
         Origin::Nowhere => Origin::Nowhere,
@@ -273,14 +273,16 @@ fn source_behind(source: &Source, place: usize) -> Origin<'_>
                 Origin::Nowhere
             }
         }
-        Source::Argument(_) | Source::Payload | Source::Reply => Origin::Nowhere,
+        Source::Argument(_) => Origin::Nowhere,
+        Source::Payload => Origin::Nowhere,
+        Source::Reply => Origin::Nowhere,
     }
 }
 
 /// Where both come from.
 #[tactic(auto, using(crate::proofs::OriginLemmas::origin_rules))]
 fn both<'a>(one: Origin<'a>, other: Origin<'a>) -> Origin<'a>
-    ensures { (z : symbols.Source) → comes_from result z ≡ comes_from one z && comes_from other z }
+    ensures { (z : symbols.Source) → comes_from result z ≡ comes_from one.entry z && comes_from other.entry z }
 {
     match one {
         Origin::Nowhere => Origin::Nowhere,
