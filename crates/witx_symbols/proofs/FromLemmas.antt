@@ -81,7 +81,7 @@ parts-done done ms s i l h = ap symbols_of (sym (append-none (shared_symbols don
 -- the parts of a tuple of such members, where they are so many
 part-count : (ms : List RecordMember) (s : Source) (j : ℕ) → length (listed (parts_from (members_plain ms) s j)) ≡ length ms
 part-count [] s j = refl
-part-count (m ∷ ms) s j = rw (tree-RecordMember m) (ap suc (part-count ms s (j + 1)))
+part-count (m ∷ ms) s j = ap suc (part-count ms s (j + 1))
 
 made-count : (vs : List Shared) (ms : List RecordMember) (s : Source) → symbols_read vs ≡ parts_from (members_plain ms) s 0 → length vs ≡ length ms
 made-count vs ms s e = sym (shared-length vs) ∙ ap length (sym (listed-read vs)) ∙ ap (λ p. length (listed p)) e ∙ part-count ms s 0
