@@ -6,8 +6,8 @@ use witx_ast::{InterfaceFunc, InterfaceFuncParam, TypeRef};
 use witx_base::OutOfMemory;
 use witx_extent::Allowance;
 
-/// How many names may stand one for the other, and how many types lie one in the other: comparing types takes up to 96
-/// bytes of the stack for each name and for each type.
+/// How many names may stand one for the other, and how many types lie one in the other: `==` of types,
+/// which takes most, needs 259 bytes of the stack for a name and a type, as LLVM builds it.
 const DEEPEST: usize = 30_100;
 
 /// What there may be to the types of a function, which are gone through some ten times in each of three worlds; also to
