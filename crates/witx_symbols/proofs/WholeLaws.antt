@@ -61,7 +61,6 @@ pub and_true : (b : Bool) → b && true ≡ b
 and_true true = refl
 and_true false = refl
 
-
 pub atom-from : (t u : Plain) (s z : Source) → same_symbol (atom s t) (symbol_from u z) ≡ (not (is_tuple_type u) && same_plain t u) && same_source s z
 atom-from t (Plain.record_of RecordKind.Tuple ns) s z = refl
 atom-from t (Plain.record_of (RecordKind.Bitflags r) ns) s z = flip (same_source s z) (same_plain t (Plain.record_of (RecordKind.Bitflags r) ns))
