@@ -1,5 +1,6 @@
 -- The symbol of a type that comes from somewhere: a tuple is made part by part.
-use Rattle.std.proofs.Common.{◌≡◌, ℕ, ◌+◌, ◌<◌, ◌≤◌, true, false, refl, sym, ap, ◌∙◌, List, [], ◌∷◌, ◌++◌, append_assoc, drop, map, length, get_or}
+use Rattle.std.proofs.Common.{◌≡◌, ◌≢◌, ℕ, suc, ◌+◌, ◌<◌, ◌≤◌, Bool, true, false, refl, sym, ap, ◌∙◌, List, [], ◌∷◌, ◌++◌, append_assoc, drop, map, length, get_or, Some, None, nat_eq}
+use Rattle.std.proofs.lemmas.Bool.{eqb-true}
 use Rattle.std.proofs.lemmas.List.{drop_more, drop_all}
 use Rattle.witx_ast.specs.declared.function.InterfaceFuncParam.{InterfaceFuncParam}
 use Rattle.witx_ast.specs.declared.types.RecordKind.{RecordKind}
@@ -15,7 +16,9 @@ use Rattle.witx_symbols.specs.Symbols as symbols
 use Rattle.witx_symbols.specs.Verdicts.{arguments_from}
 use Rattle.witx_symbols.specs.SymbolViews.{symbols_read}
 use Rattle.witx_symbols.specs.WordViews.{Shared, shared_of, shared_symbols}
-use Rattle.witx_symbols.proofs.WordLemmas.{word_rules}
+use Rattle.witx_machine.specs.Words.{when}
+use Rattle.witx_symbols.specs.Symbolic.{parts_of}
+use Rattle.witx_symbols.proofs.WordLemmas.{word_rules, listed-read, shared-length, parts-all}
 
 pub from-tuple : (k : RecordKind) (ms : Fields) (s : Source) → is_tuple_kind k ≡ true → symbol_from (Plain.record_of k ms) s ≡ tuple (parts_from ms s 0)
 from-tuple RecordKind.Tuple ms s e = refl
@@ -75,6 +78,27 @@ parts-done done ms s i l h = ap symbols_of (sym (append-none (shared_symbols don
     ends : shared_symbols done ++ [] ≡ parts_left done ms s i
     ends = rw (drop_all i ms l) refl
 
+-- the parts of a tuple of such members, where they are so many
+part-count : (ms : List RecordMember) (s : Source) (j : ℕ) → length (listed (parts_from (members_plain ms) s j)) ≡ length ms
+part-count [] s j = refl
+part-count (m ∷ ms) s j = ap suc (part-count ms s (j + 1))
+
+made-count : (vs : List Shared) (ms : List RecordMember) (s : Source) → symbols_read vs ≡ parts_from (members_plain ms) s 0 → length vs ≡ length ms
+made-count vs ms s e = sym (shared-length vs) ∙ ap length (sym (listed-read vs)) ∙ ap (λ p. length (listed p)) e ∙ part-count ms s 0
+
+pub members-parts : (n : ℕ) (ms : List RecordMember) (s : Source) (vs : List Shared) → length ms ≡ n → symbols_read vs ≡ parts_from (members_plain ms) s 0 → Some (shared_symbols vs) ≡ parts_of n (tuple (parts_from (members_plain ms) s 0))
+members-parts n ms s vs l e = sym (ap (λ p. parts_of n (tuple p)) (sym e) ∙ parts-all n vs (made-count vs ms s e ∙ l))
+
+pub members-none : (n : ℕ) (ms : List RecordMember) (s : Source) → length ms ≢ n → parts_of n (tuple (parts_from (members_plain ms) s 0)) ≡ None
+members-none n ms s ne = ap (λ k. when (nat_eq n k) (Some all)) (part-count ms s 0) ∙ go (nat_eq n (length ms)) refl
+  where
+    all : List symbols.Symbol
+    all = listed (parts_from (members_plain ms) s 0)
+
+    go : (b : Bool) → nat_eq n (length ms) ≡ b → when b (Some all) ≡ None
+    go false e = refl
+    go true e = absurd (ne (sym (eqb-true n (length ms) e)))
+
 -- the arguments made so far, and those to come
 abbrev pub types_of : List InterfaceFuncParam → List Tree
 types_of ps = map (λ p. tree_of p.tref) ps
@@ -98,4 +122,4 @@ arguments-done done ps i l h = sym (append-none (shared_symbols done)) ∙ ends 
     ends : shared_symbols done ++ [] ≡ arguments_left done ps i
     ends = rw (drop_all i ps l) refl
 
-pub ruleset from_rules = (word_rules, from-tuple, from-record, from-variant, part-made, parts-done, argument-made, arguments-done)
+pub ruleset from_rules = (word_rules, from-tuple, from-record, from-variant, part-made, parts-done, members-parts, members-none, argument-made, arguments-done)

@@ -25,3 +25,7 @@ pub mod MisfitLemmas
 pub mod AdaptedLemmas
 pub mod PutLemmas
 pub mod LettingGo
+pub mod WholeLaws
+pub mod WholeLemmas
+pub mod OriginLemmas
+pub mod SameLemmas

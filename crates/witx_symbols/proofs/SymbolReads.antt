@@ -34,7 +34,7 @@ pub read-part : (s : Rc Source Global) (j : ℕ) → source_of (source.Part s j)
 unfolding source_of
 read-part s j = search (rules, declared_source.the_lemmas)
 
-pub read-atom : (s : Rc Source Global) (t : TypeRef) → symbol_of (symbol.Atom s t) ≡ symbols.atom (source_of s.value) (plain (tree_of t))
+pub read-atom : (s : Rc Source Global) (t : TypeRef) → symbol_of (symbol.Atom s t) ≡ symbols.symbol_from (plain (tree_of t)) (source_of s.value)
 unfolding symbol_of
 read-atom s t = search (rules, declared_symbol.the_lemmas)
 

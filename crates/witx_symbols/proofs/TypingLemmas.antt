@@ -10,63 +10,13 @@ use Rattle.witx_ast.specs.Views.{tree_of, members_plain}
 use Rattle.witx_ast.specs.Words.{is_tuple_kind}
 use Rattle.witx_ast.proofs.TreeKinds.{kind_rules}
 use Rattle.witx_ast.proofs.Trees.{tree-RecordMember}
-use Rattle.witx_ast.specs.Alike.{same_plain}
-use Rattle.witx_symbols.specs.Symbols.{Source, Symbols, atom, tuple, made, bare_made, is_of, are_of}
+use Rattle.witx_symbols.specs.Symbols.{Symbols, tuple, made, bare_made, is_of, are_of}
 use Rattle.witx_symbols.specs.Symbols as specs
 use Rattle.witx_symbols.specs.SymbolViews.{symbol_of, symbols_read}
-use Rattle.witx_symbols.specs.Typing.{is_tuple_type}
 use Rattle.witx_symbols.specs.declared.symbol.Symbol.{Symbol}
 use Rattle.witx_symbols.proofs.AlikeTypes.{plain-of-behind}
 use Rattle.witx_symbols.proofs.SymbolReads.{symbol_rules}
-
-pub atom-of : (t u : Plain) (s : Source) → is_tuple_type t ≡ false → is_of t (atom s u) ≡ same_plain u t
-atom-of (Plain.record_of RecordKind.Tuple ms) u s e = absurd (clash e)
-  where
-    clash : true ≡ false → ⊥
-    clash e = cc
-atom-of (Plain.record_of (RecordKind.Bitflags r) ms) u s e = refl
-atom-of (Plain.record_of RecordKind.Other ms) u s e = refl
-atom-of (Plain.builtin b) u s e = refl
-atom-of Plain.handle u s e = refl
-atom-of (Plain.pointer_to t) u s e = refl
-atom-of (Plain.const_pointer_to t) u s e = refl
-atom-of (Plain.list_of t) u s e = refl
-atom-of (Plain.variant_of r cs) u s e = refl
-
-pub atom-tuple : (t u : Plain) (s : Source) → is_tuple_type t ≡ true → is_of t (atom s u) ≡ false
-atom-tuple (Plain.record_of RecordKind.Tuple ms) u s e = refl
-atom-tuple (Plain.record_of (RecordKind.Bitflags r) ms) u s e = absurd (clash e)
-  where
-    clash : false ≡ true → ⊥
-    clash e = cc
-atom-tuple (Plain.record_of RecordKind.Other ms) u s e = absurd (clash e)
-  where
-    clash : false ≡ true → ⊥
-    clash e = cc
-atom-tuple (Plain.builtin b) u s e = absurd (clash e)
-  where
-    clash : false ≡ true → ⊥
-    clash e = cc
-atom-tuple Plain.handle u s e = absurd (clash e)
-  where
-    clash : false ≡ true → ⊥
-    clash e = cc
-atom-tuple (Plain.pointer_to t) u s e = absurd (clash e)
-  where
-    clash : false ≡ true → ⊥
-    clash e = cc
-atom-tuple (Plain.const_pointer_to t) u s e = absurd (clash e)
-  where
-    clash : false ≡ true → ⊥
-    clash e = cc
-atom-tuple (Plain.list_of t) u s e = absurd (clash e)
-  where
-    clash : false ≡ true → ⊥
-    clash e = cc
-atom-tuple (Plain.variant_of r cs) u s e = absurd (clash e)
-  where
-    clash : false ≡ true → ⊥
-    clash e = cc
+use Rattle.witx_symbols.proofs.WholeLaws.{whole-is}
 
 pub tuple-of : (k : RecordKind) (ms : Fields) (vs : Symbols) → is_tuple_kind k ≡ true → is_of (Plain.record_of k ms) (tuple vs) ≡ are_of ms vs
 tuple-of RecordKind.Tuple ms vs e = refl
@@ -146,4 +96,4 @@ of-longer (m ∷ ms) (v ∷ vs) n = rw (tree-RecordMember m) (both (one_of m v) 
     both true e = e
     both false e = refl
 
-pub ruleset typing_rules = (kind_rules, symbol_rules, plain-of-behind, atom-of, atom-tuple, tuple-of, tuple-other, of-made, of-bare, of-left, of-done, of-longer)
+pub ruleset typing_rules = (kind_rules, symbol_rules, plain-of-behind, whole-is, tuple-of, tuple-other, of-made, of-bare, of-left, of-done, of-longer)

@@ -1,13 +1,14 @@
 -- Words, lists and tuples of symbols.
 use Rattle.std.proofs.Common.{◌≡◌, ◌≢◌, ℕ, suc, Bool, true, false, refl, sym, ap, ◌∙◌, List, [], ◌∷◌, length, Some, None, nat_eq}
 use Rattle.std.proofs.lemmas.Bool.{eq-eqb, eqb-true}
+use Rattle.witx_ast.specs.declared.types.RecordKind.{RecordKind}
 use Rattle.witx_ast.specs.Plain.{Plain}
 use Rattle.witx_machine.specs.Words.{when}
-use Rattle.witx_symbols.specs.Symbols.{Symbol, atom, tuple, made, bare_made, list_address, list_length, listed}
+use Rattle.witx_symbols.specs.Symbols.{Source, Symbol, atom, tuple, made, bare_made, list_address, list_length, listed, symbol_from}
 use Rattle.witx_symbols.specs.Symbolic.{list_words, parts_of}
 use Rattle.witx_symbols.specs.SymbolViews.{symbols_read}
 use Rattle.witx_symbols.specs.WordViews.{Shared, shared_of, shared_symbols}
-use Rattle.witx_symbols.specs.Typing.{is_list_symbol}
+use Rattle.witx_symbols.specs.Typing.{is_list_type, is_list_symbol}
 use Rattle.witx_symbols.proofs.KindLemmas.{kind_rules}
 
 pub words-list : (v : Symbol) → is_list_symbol v ≡ true → list_words v ≡ Some (list_address v, list_length v)
@@ -64,11 +65,22 @@ words-none (tuple vs) e = refl
 words-none (made i v) e = refl
 words-none (bare_made i) e = refl
 
+pub from-list : (t : Plain) (s : Source) → is_list_symbol (symbol_from t s) ≡ is_list_type t
+from-list (Plain.record_of RecordKind.Tuple ms) s = refl
+from-list (Plain.record_of (RecordKind.Bitflags r) ms) s = refl
+from-list (Plain.record_of RecordKind.Other ms) s = refl
+from-list (Plain.builtin b) s = refl
+from-list Plain.handle s = refl
+from-list (Plain.pointer_to t) s = refl
+from-list (Plain.const_pointer_to t) s = refl
+from-list (Plain.list_of t) s = refl
+from-list (Plain.variant_of r cs) s = refl
+
 pub listed-read : (vs : List Shared) → listed (symbols_read vs) ≡ shared_symbols vs
 listed-read [] = refl
 listed-read (v ∷ vs) = ap (λ l. shared_of v ∷ l) (listed-read vs)
 
-shared-length : (vs : List Shared) → length (shared_symbols vs) ≡ length vs
+pub shared-length : (vs : List Shared) → length (shared_symbols vs) ≡ length vs
 shared-length [] = refl
 shared-length (v ∷ vs) = ap suc (shared-length vs)
 
@@ -84,4 +96,4 @@ parts-none n vs ne = ap (λ l. when (nat_eq n (length l)) (Some l)) (listed-read
     go false e = refl
     go true e = absurd (ne (sym (eqb-true n (length vs) e)))
 
-pub ruleset word_rules = (kind_rules, words-list, words-none, parts-all, parts-none)
+pub ruleset word_rules = (kind_rules, words-list, words-none, from-list, parts-all, parts-none)

@@ -11,3 +11,4 @@ pub mod Typing
 pub mod WordViews
 pub mod WorldViews
 pub mod Putting
+pub mod Wholes

@@ -21,7 +21,7 @@ unfoldable pub source_of : Source → symbols.Source
 source_of = fold-Source symbols.Source source_step
 
 abbrev pub symbol_step : Symbol-F symbols.Symbol → symbols.Symbol
-symbol_step (Symbol-F.Atom s t) = symbols.atom (source_of s.value) (plain (tree_of t))
+symbol_step (Symbol-F.Atom s t) = symbols.symbol_from (plain (tree_of t)) (source_of s.value)
 symbol_step (Symbol-F.Tuple vs) = symbols.tuple (symbols_of (map (λ v. v.value) vs))
 symbol_step (Symbol-F.Made i v) = symbols.made i v.value
 symbol_step (Symbol-F.BareMade i) = symbols.bare_made i

@@ -20,6 +20,7 @@ use crate::outcome::Outcome;
 use crate::symbol::Symbol;
 use crate::words::{Word, parts_of};
 use crate::world::{Picked, World};
+use std::alloc::Global;
 use std::rc::Rc;
 use witx_abi::{err_type, is_tuple, ok_type, result_cases, tuple_members};
 use witx_ast::{Abi, InterfaceFunc, InterfaceFuncParam, TypeRef, Variant};
@@ -29,6 +30,7 @@ use witx_base::OutOfMemory;
 /// reply; without a result there is no word.
 #[tactic(auto, using(crate::proofs::ReturnLemmas::return_rules))]
 pub fn gives_back(
+    alloc: Global,
     world: &World,
     func: &InterfaceFunc,
     outcome: &Outcome,
@@ -37,7 +39,7 @@ pub fn gives_back(
         gives_back func.now.abi (world_of world.now) (param_types func.now.results) (option_of world.now.whole) (outcome_of outcome.now)) }
 {
     match &world.whole {
-        Some(reply) => reply_returns(world, func, reply, outcome),
+        Some(reply) => reply_returns(alloc, world, func, reply, outcome),
         None => Ok(nothing_returns(func.results.as_slice(), outcome)),
     }
 }
@@ -51,6 +53,7 @@ fn nothing_returns(results: &[InterfaceFuncParam], outcome: &Outcome) -> bool
 
 #[tactic(auto, using(crate::proofs::ReturnLemmas::return_rules))]
 fn reply_returns(
+    alloc: Global,
     world: &World,
     func: &InterfaceFunc,
     reply: &Symbol,
@@ -60,13 +63,14 @@ fn reply_returns(
         gives_back func.now.abi (world_of world.now) (param_types func.now.results) (Some (symbol_of reply.now)) (outcome_of outcome.now)) }
 {
     match func.results.as_slice() {
-        [only] => result_returns(world, func.abi, &only.tref, reply, outcome),
+        [only] => result_returns(alloc, world, func.abi, &only.tref, reply, outcome),
         _ => Ok(false),
     }
 }
 
 #[tactic(auto, using(crate::proofs::ReturnLemmas::return_rules))]
 fn result_returns(
+    alloc: Global,
     world: &World,
     abi: Abi,
     ty: &TypeRef,
@@ -77,7 +81,7 @@ fn result_returns(
         returns_under abi (world_of world.now) (tree_of ty.now) (symbol_of reply.now) (outcome_of outcome.now)) }
 {
     match abi {
-        Abi::Preview1 => word_returns(world, ty, reply, outcome),
+        Abi::Preview1 => word_returns(alloc, world, ty, reply, outcome),
         Abi::Stored => Ok(whole_returns(reply, outcome)),
     }
 }
@@ -105,6 +109,7 @@ fn last_words(words: &[Word], count: usize) -> &[Word]
 
 #[tactic(auto, using(crate::proofs::ReturnLemmas::return_rules))]
 fn word_returns(
+    alloc: Global,
     world: &World,
     ty: &TypeRef,
     reply: &Symbol,
@@ -114,13 +119,14 @@ fn word_returns(
         returns_by (world_of world.now) (result_cases (tree_of ty.now)) (tree_of ty.now) (symbol_of reply.now) (outcome_of outcome.now)) }
 {
     match result_cases(ty) {
-        Some(variant) => case_returns(world, variant, reply, outcome),
+        Some(variant) => case_returns(alloc, world, variant, reply, outcome),
         None => Ok(direct_are(ty, reply, outcome.call.callee_words.as_slice())),
     }
 }
 
 #[tactic(auto, using(crate::proofs::ReturnLemmas::return_rules))]
 fn case_returns(
+    alloc: Global,
     world: &World,
     variant: &Variant,
     reply: &Symbol,
@@ -132,32 +138,33 @@ fn case_returns(
     let ok = ok_type(variant);
     let err = err_type(variant);
     match world.picks(ok, err, reply)? {
-        Some(picked) => Ok(picked_returns(ok, err, &picked, outcome)),
+        Some(picked) => picked_returns(alloc, ok, err, &picked, outcome),
         None => Ok(false),
     }
 }
 
 #[tactic(auto, using(crate::proofs::ReturnLemmas::return_rules))]
 fn picked_returns(
+    alloc: Global,
     ok: Option<&TypeRef>,
     err: Option<&TypeRef>,
     picked: &Picked,
     outcome: &Outcome,
-) -> bool
-    ensures { result ≡
+) -> Result<bool, OutOfMemory>
+    ensures { IfOk result (λ fine. fine ≡
         returns_case (payload_tree ok.entry) (payload_tree err.entry)
         (last_words (length (ok_pointers (payload_tree ok.entry))) (words_of outcome.now.call.words.items))
-        picked.now.error (payload_pair picked.now.payload) (memory_of outcome.now.call.at_return) (words_of outcome.now.call.callee_words.items) }
+        picked.now.error (payload_pair picked.now.payload) (memory_of outcome.now.call.at_return) (words_of outcome.now.call.callee_words.items)) }
 {
     let words = outcome.call.callee_words.as_slice();
     match &picked.payload {
-        None => is_case_word(picked.error, words),
+        None => Ok(is_case_word(picked.error, words)),
         Some((payload, _)) => {
             if picked.error {
-                err_returns(err, payload, &outcome.call.at_return, words)
+                Ok(err_returns(err, payload, &outcome.call.at_return, words))
             } else {
                 let pointers = last_words(outcome.call.words.as_slice(), pointer_count(ok));
-                ok_returns(ok, pointers, payload, &outcome.call.at_return, words)
+                ok_returns(alloc, ok, pointers, payload, &outcome.call.at_return, words)
             }
         }
     }
@@ -220,41 +227,60 @@ fn err_returns(err: Option<&TypeRef>, payload: &Symbol, cells: &Cells, words: &[
 
 #[tactic(auto, using(crate::proofs::ReturnLemmas::return_rules))]
 fn ok_returns(
+    alloc: Global,
     ok: Option<&TypeRef>,
     pointers: &[Word],
     payload: &Symbol,
     cells: &Cells,
     words: &[Word],
-) -> bool
-    ensures { result ≡
-        ok_returns (payload_tree ok.entry) (words_of pointers.now) (symbol_of payload.now) (memory_of cells.now) (words_of words.now) }
+) -> Result<bool, OutOfMemory>
+    ensures { IfOk result (λ fine. fine ≡
+        ok_returns (payload_tree ok.entry) (words_of pointers.now) (symbol_of payload.now) (memory_of cells.now) (words_of words.now)) }
 {
     match ok {
-        Some(ty) => is_case_word(false, words) && parts_stand(cells, pointers, ty, payload),
-        None => false,
+        Some(ty) => {
+            if is_case_word(false, words) {
+                parts_stand(alloc, cells, pointers, ty, payload)
+            } else {
+                Ok(false)
+            }
+        }
+        None => Ok(false),
     }
 }
 
 // Whether a payload stands at these addresses: a tuple's members, each at its own, or the payload at the one.
 #[tactic(auto, using(crate::proofs::ReturnLemmas::return_rules))]
-fn parts_stand(cells: &Cells, pointers: &[Word], ty: &TypeRef, payload: &Symbol) -> bool
-    ensures { result ≡ hold_parts (memory_of cells.now) (words_of pointers.now)
-        (ok_parts (is_tuple (tree_of ty.now)) (length (words_of pointers.now)) (symbol_of payload.now)) }
+fn parts_stand(
+    alloc: Global,
+    cells: &Cells,
+    pointers: &[Word],
+    ty: &TypeRef,
+    payload: &Symbol,
+) -> Result<bool, OutOfMemory>
+    ensures { IfOk result (λ fine. fine ≡ hold_parts (memory_of cells.now) (words_of pointers.now)
+        (ok_parts (is_tuple (tree_of ty.now)) (length (words_of pointers.now)) (symbol_of payload.now))) }
 {
     if is_tuple(ty) {
-        members_stand(cells, pointers, payload)
+        members_stand(alloc, cells, pointers, payload)
     } else {
-        holds_one(cells, payload, pointers)
+        Ok(holds_one(cells, payload, pointers))
     }
 }
 
 #[tactic(auto, using(crate::proofs::ReturnLemmas::return_rules))]
-fn members_stand(cells: &Cells, pointers: &[Word], tuple: &Symbol) -> bool
-    ensures { result ≡ hold_parts (memory_of cells.now) (words_of pointers.now) (symbol_parts (length (words_of pointers.now)) (symbol_of tuple.now)) }
+fn members_stand(
+    alloc: Global,
+    cells: &Cells,
+    pointers: &[Word],
+    tuple: &Symbol,
+) -> Result<bool, OutOfMemory>
+    ensures { IfOk result (λ fine. fine ≡
+        hold_parts (memory_of cells.now) (words_of pointers.now) (symbol_parts (length (words_of pointers.now)) (symbol_of tuple.now))) }
 {
-    match parts_of(pointers.len(), tuple) {
-        Some(parts) => hold_all(cells, pointers, parts),
-        None => false,
+    match parts_of(alloc, pointers.len(), tuple)? {
+        Some(parts) => Ok(hold_all(cells, pointers, parts.as_slice())),
+        None => Ok(false),
     }
 }
 

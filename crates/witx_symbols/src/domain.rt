@@ -1,7 +1,7 @@
 //! The machine over symbols, in one world.
 
-ghost use Rattle.std.specs.Prelude.{◌≡◌, IfOk, option_map};
-ghost use Rattle.witx_symbols.specs.Symbolic.{SymbolMemory, symbols, parts_of, result_in};
+ghost use Rattle.std.specs.Prelude.{◌≡◌, IfOk};
+ghost use Rattle.witx_symbols.specs.Symbolic.{SymbolMemory, symbols, result_in};
 ghost use Rattle.witx_symbols.specs.Symbols as symbol_words;
 ghost use Rattle.witx_symbols.specs.Symbols.{SymbolWord, tuple, symbols_of};
 ghost use Rattle.witx_symbols.specs.WordViews.{shared_of, option_of, shared_symbols, word_of, memory_of, world_of};
@@ -92,7 +92,7 @@ impl Domain for Symbolic<'_> {
         count: usize,
         value: Rc<Symbol>,
     ) -> Result<Option<Vec<Rc<Symbol>>>, OutOfMemory> {
-        copied_parts(self.alloc, count, &value)
+        parts_of(self.alloc, count, &value)
     }
 
     fn give(&self, memory: &mut Cells, ty: &Rc<NamedType>) -> Result<Option<Word>, OutOfMemory> {
@@ -162,31 +162,4 @@ fn tuple_of(alloc: Global, values: Vec<Rc<Symbol>>) -> Result<Rc<Symbol>, OutOfM
     ensures { IfOk result (λ made. shared_of made ≡ tuple (symbols_of (shared_symbols values.items))) }
 {
     Ok(Rc::new(alloc, Symbol::Tuple(Items::from_vec(values)))?)
-}
-
-/// The members of a tuple of so many, once more.
-#[tactic(auto, using(crate::proofs::WordLemmas::word_rules))]
-fn copied_parts(
-    alloc: Global,
-    count: usize,
-    symbol: &Rc<Symbol>,
-) -> Result<Option<Vec<Rc<Symbol>>>, OutOfMemory>
-    ensures { IfOk result (λ parts. option_map (λ vs. shared_symbols vs.items) parts ≡ parts_of count (shared_of symbol.now)) }
-{
-    match parts_of(count, symbol) {
-        Some(parts) => Ok(Some(copies(alloc, parts)?)),
-        None => Ok(None),
-    }
-}
-
-/// Symbols once more.
-#[tactic(auto, using(crate::proofs::WordLemmas::word_rules))]
-fn copies(alloc: Global, symbols: &[Rc<Symbol>]) -> Result<Vec<Rc<Symbol>>, OutOfMemory>
-    ensures { IfOk result (λ made. shared_symbols made.items ≡ shared_symbols symbols.now) }
-{
-    let mut made = Vec::new(alloc);
-    for symbol in symbols {
-        made.push(Rc::clone(symbol)?)?;
-    }
-    Ok(made)
 }

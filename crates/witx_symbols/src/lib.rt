@@ -19,6 +19,7 @@ mod surface;
 mod symbol;
 mod types;
 mod typing;
+mod wholes;
 mod words;
 mod world;
 

@@ -6,7 +6,7 @@ ghost use Rattle.witx_symbols.specs.SymbolViews.{source_of, symbol_of, symbols_r
 ghost use Rattle.witx_symbols.specs.Symbols.{same_source, same_symbol, same_members};
 
 use crate::lists::{joined, with_last, without_last};
-use crate::types::alike;
+use crate::wholes::origin_of;
 use std::rc::Rc;
 use witx_ast::TypeRef;
 use witx_base::Items;
@@ -30,9 +30,9 @@ pub enum Source {
 /// the other.
 #[cycle(symbol)]
 pub enum Symbol {
-    /// A value of a type that is no tuple.
+    /// A value of a type; of a tuple type it stands for all its parts.
     Atom { source: Rc<Source>, ty: TypeRef },
-    /// A tuple of these; a value of a tuple type is the tuple of its parts.
+    /// A tuple of these; that of all parts of a value of a tuple type is the same as that value.
     Tuple(Symbols),
     /// What a result was lifted to, where that isn't the reply: a case with what it carries.
     Made { case: usize, payload: Rc<Symbol> },
@@ -138,43 +138,35 @@ pub(crate) fn same_source(a: &Source, b: &Source) -> bool
 
 /// Whether two symbols are the same.
 #[cycle(symbol)]
-#[tactic(auto, using(crate::proofs::SymbolReads::symbol_rules))]
+#[tactic(auto, using(crate::proofs::SameLemmas::same_rules))]
 pub fn same(a: &Symbol, b: &Symbol) -> bool
     ensures { result ≡ same_symbol (symbol_of a.now) (symbol_of b.now) }
 {
-    match a {
-        Symbol::Atom { source: s, ty: t } => match b {
-            Symbol::Atom { source: z, ty: u } => same_source(s, z) && alike(t, u),
-            Symbol::Tuple(_)
-            | Symbol::Made {
-                case: _,
-                payload: _,
-            }
-            | Symbol::BareMade { case: _ } => { false }
-        },
-        Symbol::Tuple(vs) => match b {
-            Symbol::Tuple(us) => all_same(vs.as_slice(), us.as_slice()),
-            Symbol::Atom { source: _, ty: _ }
-            | Symbol::Made {
+    match b {
+        Symbol::Atom { source, ty } => origin_of(a, ty).is(source),
+        Symbol::Tuple(us) => match a {
+            Symbol::Atom { source, ty } => origin_of(b, ty).is(source),
+            Symbol::Tuple(vs) => all_same(vs.as_slice(), us.as_slice()),
+            Symbol::Made {
                 case: _,
                 payload: _,
             }
             | Symbol::BareMade { case: _ } => false,
         },
         Symbol::Made {
-            case: i,
-            payload: v,
-        } => match b {
+            case: j,
+            payload: u,
+        } => match a {
             Symbol::Made {
-                case: j,
-                payload: u,
+                case: i,
+                payload: v,
             } => *i == *j && same(v, u),
             Symbol::Atom { source: _, ty: _ } | Symbol::Tuple(_) | Symbol::BareMade { case: _ } => {
                 false
             }
         },
-        Symbol::BareMade { case: i } => match b {
-            Symbol::BareMade { case: j } => *i == *j,
+        Symbol::BareMade { case: j } => match a {
+            Symbol::BareMade { case: i } => *i == *j,
             Symbol::Atom { source: _, ty: _ }
             | Symbol::Tuple(_)
             | Symbol::Made {

@@ -24,9 +24,10 @@ pub fn alike(a: &TypeRef, b: &TypeRef) -> bool
     }
 }
 
+/// The same of types that are written out.
 #[cycle(alike)]
 #[tactic(auto, using(crate::proofs::AlikeTypes::alike_rules))]
-fn datatypes_alike(a: &Datatype, b: &Datatype) -> bool
+pub(crate) fn datatypes_alike(a: &Datatype, b: &Datatype) -> bool
     ensures { result ≡ same_plain (plain (datatype_tree a.now)) (plain (datatype_tree b.now)) }
 {
     match (a, b) {

@@ -8,7 +8,7 @@ ghost use Rattle.witx_symbols.specs.SymbolViews.{symbol_of, symbols_read};
 ghost use Rattle.witx_symbols.specs.Typing.{is_tuple_type};
 
 use crate::symbol::Symbol;
-use crate::types::alike;
+use crate::wholes::same_whole;
 use std::rc::Rc;
 use witx_ast::{Datatype, RecordMember, TypeRef};
 
@@ -19,13 +19,7 @@ pub fn is_of(symbol: &Symbol, ty: &TypeRef) -> bool
     ensures { result ≡ is_of (plain (tree_of ty.now)) (symbol_of symbol.now) }
 {
     match symbol {
-        Symbol::Atom { source: _, ty: own } => {
-            if is_tuple(ty.type_()) {
-                false
-            } else {
-                alike(own, ty)
-            }
-        }
+        Symbol::Atom { source: _, ty: own } => same_whole(own, ty),
         Symbol::Tuple(parts) => parts_are(parts.as_slice(), ty.type_()),
         Symbol::Made {
             case: _,
@@ -35,8 +29,9 @@ pub fn is_of(symbol: &Symbol, ty: &TypeRef) -> bool
     }
 }
 
+/// Whether a type is a tuple.
 #[tactic(auto, using(crate::proofs::TypingLemmas::typing_rules))]
-fn is_tuple(datatype: &Datatype) -> bool
+pub(crate) fn is_tuple(datatype: &Datatype) -> bool
     ensures { result ≡ is_tuple_type (plain (datatype_tree datatype.now)) }
 {
     match datatype {

@@ -2,14 +2,20 @@
 
 ghost use Rattle.std.specs.Prelude.{◌≡◌, IfOk, option_map};
 ghost use Rattle.witx_symbols.specs.Symbolic.{lower_symbol, lift_word, list_words, list_of_words, parts_of, word_has_type};
-ghost use Rattle.witx_symbols.specs.SymbolViews.{symbol_of};
+ghost use Rattle.witx_ast.specs.Plain.{plain};
+ghost use Rattle.witx_ast.specs.Views.{datatype_tree, members_plain};
+ghost use Rattle.witx_symbols.specs.Symbols.{tuple, symbol_from, parts_from};
+ghost use Rattle.witx_symbols.specs.SymbolViews.{source_of, symbol_of, symbols_read};
 ghost use Rattle.witx_symbols.specs.Typing.{is_list_symbol};
 ghost use Rattle.witx_run.specs.Views.{scalar_of};
 ghost use Rattle.witx_symbols.specs.WordViews.{word_of, shared_of, option_of, shared_symbols};
 
+use crate::from::parts_from;
 use crate::kinds::{converts, is_list};
-use crate::symbol::{Symbol, same};
+use crate::symbol::{Source, Symbol, same};
+use std::alloc::Global;
 use std::rc::Rc;
+use witx_ast::{Datatype, RecordMember};
 use witx_base::OutOfMemory;
 use witx_machine::WasmType;
 use witx_run::{Conversion, same_type};
@@ -142,23 +148,92 @@ pub fn list_of_words(address: &Word, length: &Word) -> Result<Option<Rc<Symbol>>
 }
 
 /// The members of a tuple of so many; none of another symbol.
-#[tactic(auto, using(crate::proofs::WordLemmas::word_rules))]
-pub fn parts_of(count: usize, symbol: &Symbol) -> Option<&[Rc<Symbol>]>
-    ensures { option_map (λ parts. shared_symbols parts.now) result ≡ parts_of count (symbol_of symbol.now) }
+#[tactic(auto, using(crate::proofs::FromLemmas::from_rules))]
+pub fn parts_of(
+    alloc: Global,
+    count: usize,
+    symbol: &Symbol,
+) -> Result<Option<Vec<Rc<Symbol>>>, OutOfMemory>
+    ensures { IfOk result (λ parts. option_map (λ vs. shared_symbols vs.items) parts ≡ parts_of count (symbol_of symbol.now)) }
 {
     match symbol {
-        Symbol::Tuple(parts) => {
-            if parts.len() == count {
-                Some(parts.as_slice())
-            } else {
-                None
-            }
-        }
-        Symbol::Atom { source: _, ty: _ }
-        | Symbol::Made {
+        Symbol::Tuple(parts) => copied_parts(alloc, count, parts.as_slice()),
+        Symbol::Atom { source, ty } => whole_parts(alloc, count, source, ty.type_()),
+        Symbol::Made {
             case: _,
             payload: _,
+        } => Ok(None),
+        Symbol::BareMade { case: _ } => Ok(None),
+    }
+}
+
+#[tactic(auto, using(crate::proofs::FromLemmas::from_rules))]
+fn copied_parts(
+    alloc: Global,
+    count: usize,
+    parts: &[Rc<Symbol>],
+) -> Result<Option<Vec<Rc<Symbol>>>, OutOfMemory>
+    ensures { IfOk result (λ copied. option_map (λ vs. shared_symbols vs.items) copied ≡ parts_of count (tuple (symbols_read parts.now))) }
+{
+    if parts.len() == count {
+        Ok(Some(copies(alloc, parts)?))
+    } else {
+        Ok(None)
+    }
+}
+
+/// Symbols once more.
+#[tactic(auto, using(crate::proofs::WordLemmas::word_rules))]
+fn copies(alloc: Global, symbols: &[Rc<Symbol>]) -> Result<Vec<Rc<Symbol>>, OutOfMemory>
+    ensures { IfOk result (λ made. shared_symbols made.items ≡ shared_symbols symbols.now) }
+{
+    let mut made = Vec::new(alloc);
+    for symbol in symbols {
+        made.push(Rc::clone(symbol)?)?;
+    }
+    Ok(made)
+}
+
+#[tactic(auto, using(crate::proofs::FromLemmas::from_rules))]
+fn whole_parts(
+    alloc: Global,
+    count: usize,
+    source: &Rc<Source>,
+    datatype: &Datatype,
+) -> Result<Option<Vec<Rc<Symbol>>>, OutOfMemory>
+    ensures { IfOk result (λ parts. option_map (λ vs. shared_symbols vs.items) parts
+        ≡ parts_of count (symbol_from (plain (datatype_tree datatype.now)) (source_of source.now.value))) }
+{
+    match datatype {
+        Datatype::Record(record) => {
+            if record.is_tuple() {
+                member_parts(alloc, count, source, record.members.as_slice())
+            } else {
+                Ok(None)
+            }
         }
-        | Symbol::BareMade { case: _ } => None,
+        Datatype::Variant(_)
+        | Datatype::Handle(_)
+        | Datatype::List(_)
+        | Datatype::Pointer(_)
+        | Datatype::ConstPointer(_)
+        | Datatype::Builtin(_) => Ok(None),
+    }
+}
+
+#[tactic(auto, using(crate::proofs::FromLemmas::from_rules))]
+fn member_parts(
+    alloc: Global,
+    count: usize,
+    source: &Rc<Source>,
+    members: &[RecordMember],
+) -> Result<Option<Vec<Rc<Symbol>>>, OutOfMemory>
+    ensures { IfOk result (λ parts. option_map (λ vs. shared_symbols vs.items) parts
+        ≡ parts_of count (tuple (parts_from (members_plain members.now) (source_of source.now.value) 0))) }
+{
+    if members.len() == count {
+        Ok(Some(parts_from(alloc, members, source)?))
+    } else {
+        Ok(None)
     }
 }

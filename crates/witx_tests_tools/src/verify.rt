@@ -58,9 +58,15 @@ fn are_parts(parts: &[Rc<Symbol>]) -> bool {
     true
 }
 
-fn is_made(symbol: &Symbol, count: Option<usize>) -> bool {
+fn has_parts(alloc: Global, symbol: &Symbol, count: usize) -> bool {
+    parts_of(alloc, count, symbol).is_ok_and(|parts| parts.is_some_and(|parts| are_parts(
+        parts.as_slice(),
+    )))
+}
+
+fn is_made(alloc: Global, symbol: &Symbol, count: Option<usize>) -> bool {
     match count {
-        Some(count) => parts_of(count, symbol).is_some_and(are_parts),
+        Some(count) => has_parts(alloc, symbol, count),
         None => is_argument(symbol, 2),
     }
 }
@@ -68,7 +74,7 @@ fn is_made(symbol: &Symbol, count: Option<usize>) -> bool {
 fn symbol_is(alloc: Global, text: &str, count: Option<usize>) -> Option<bool> {
     let named = typename_of(alloc, text)?;
     let symbol = argument(alloc, &named, 2).ok()?;
-    Some(is_made(&symbol, count) && is_of(&symbol, &named.tref))
+    Some(is_made(alloc, &symbol, count) && is_of(&symbol, &named.tref))
 }
 
 fn all_symbols_are(alloc: Global) -> bool {

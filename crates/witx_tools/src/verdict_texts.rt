@@ -23,7 +23,7 @@ use witx_base::{OutOfMemory, Text};
 use witx_commands::text_alone;
 use witx_files::MockFs;
 use witx_traces::{TracePair, TracePairs, TracesError, read_traces};
-use witx_verify::{Doubt, Verdict, verify};
+use witx_verify::{Allotment, Doubt, Verdict, verify_within};
 
 /// A line for each function of the document of the files behind the listing: the verdict on the traces
 /// that the listing gives it.
@@ -94,8 +94,9 @@ fn put_verdicts(
     ensures { OnOk result (string_bytes text.new ≡ string_bytes text.old
         ++ flat_map (λ p. judged_line p.0 p.1) (zip (map owned_of functions.now) (map sides_of pairs.now))) }
 {
+    let mut allotment = Allotment::new();
     for (entry, pair) in functions.iter().zip(pairs) {
-        put_judged(alloc, text, entry, pair)?;
+        put_judged(alloc, &mut allotment, text, entry, pair)?;
     }
     Ok(())
 }
@@ -103,6 +104,7 @@ fn put_verdicts(
 /// The line of a function with its traces.
 fn put_judged(
     alloc: Global,
+    allotment: &mut Allotment,
     text: &mut String,
     entry: &AdaptedFunc,
     pair: &TracePair,
@@ -111,7 +113,8 @@ fn put_judged(
         ++ judged_line (owned_of entry.now) (sides_of pair.now)) }
 {
     functions_are_read_as_their_trees();
-    let found = verify(
+    let found = verify_within(
+        allotment,
         alloc,
         &entry.module.name,
         &entry.func,

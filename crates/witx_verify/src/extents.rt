@@ -6,31 +6,55 @@ use witx_ast::{InterfaceFunc, InterfaceFuncParam, TypeRef};
 use witx_base::OutOfMemory;
 use witx_extent::Allowance;
 
-/// How many names may stand one for the other, and how many types lie one in the other: making a symbol takes 224 bytes
-/// of the stack for each tuple, comparing types 96 for each name and for each type.
+/// How many names may stand one for the other, and how many types lie one in the other: `==` of types,
+/// which takes most, needs 259 bytes of the stack for a name and a type, as LLVM builds it.
 const DEEPEST: usize = 30_100;
 
-/// What there may be to the types of a function, whose symbols are made part by part.
+/// What there may be to the types of a function, which are gone through some ten times in each of three worlds; also to
+/// those of all functions together that share an allotment.
 const MOST_OF_FUNCTION: usize = 1 << 22;
 
-/// What there may be to the types that its events go through, each event anew.
+/// What there may be to the types that its events go through, each event anew; also to those of all functions together
+/// that share an allotment.
 const MOST_OF_EVENTS: usize = 1 << 25;
 
-/// Want of memory where there is more to the types of a function, or to those that the events of its traces go
-/// through.
-pub(crate) fn check_types(
-    alloc: Global,
-    func: &InterfaceFunc,
-    caller: &Events,
-    callee: &Events,
-) -> Result<(), OutOfMemory> {
-    let mut function = Allowance::new(MOST_OF_FUNCTION, DEEPEST);
-    let params = take_params(&mut function, alloc, func.params.as_slice())?;
-    let results = take_params(&mut function, alloc, func.results.as_slice())?;
-    let widest = if params > results { params } else { results };
-    let mut events = Allowance::new(MOST_OF_EVENTS, DEEPEST);
-    take_events(&mut events, alloc, widest, caller.as_slice())?;
-    take_events(&mut events, alloc, widest, callee.as_slice())
+/// How much of types verdicts may still go through: those on all functions of a document share one, so that a type that
+/// many functions have takes no longer than one that is as large as all.
+#[derive(Debug, Drop)]
+pub struct Allotment {
+    of_functions: usize,
+    of_events: usize,
+}
+
+impl Allotment {
+    /// As much as one function's verdict may go through.
+    pub fn new() -> Allotment {
+        Allotment {
+            of_functions: MOST_OF_FUNCTION,
+            of_events: MOST_OF_EVENTS,
+        }
+    }
+
+    /// Takes the types of a function, and those that the events of its traces go through. Want of memory where there is
+    /// more to them than is left, or where they are deeper.
+    pub(crate) fn take(
+        &mut self,
+        alloc: Global,
+        func: &InterfaceFunc,
+        caller: &Events,
+        callee: &Events,
+    ) -> Result<(), OutOfMemory> {
+        let mut function = Allowance::new(self.of_functions, DEEPEST);
+        let params = take_params(&mut function, alloc, func.params.as_slice())?;
+        let results = take_params(&mut function, alloc, func.results.as_slice())?;
+        let widest = if params > results { params } else { results };
+        let mut events = Allowance::new(self.of_events, DEEPEST);
+        take_events(&mut events, alloc, widest, caller.as_slice())?;
+        take_events(&mut events, alloc, widest, callee.as_slice())?;
+        self.of_functions = function.left();
+        self.of_events = events.left();
+        Ok(())
+    }
 }
 
 // What there is to the widest type of some parameters or results.

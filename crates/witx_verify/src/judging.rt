@@ -9,6 +9,7 @@ ghost use Rattle.witx_symbols.specs.OutcomeViews.{outcome_of, run_of};
 ghost use Rattle.witx_symbols.specs.WordViews.{option_of, shared_symbols, world_of};
 
 use crate::going_in::passes;
+use std::alloc::Global;
 use std::rc::Rc;
 use witx_ast::{InterfaceFunc, NamedType};
 use witx_base::OutOfMemory;
@@ -17,6 +18,7 @@ use witx_symbols::{Doubt, Outcome, Run, Symbol, World, all_same, gives_back, is_
 /// The doubt that a run in a world leaves; none where it ended as it should.
 #[tactic(auto, using(witx_symbols::proofs::JudgeLemmas::judge_rules))]
 pub(crate) fn judged(
+    alloc: Global,
     world: &World,
     func: &InterfaceFunc,
     pointers: &[&Rc<NamedType>],
@@ -30,12 +32,13 @@ pub(crate) fn judged(
     match run {
         Run::StuckInCaller(i) => Ok(Some(Doubt::Caller(*i))),
         Run::StuckInCallee(i) => Ok(Some(Doubt::Callee(*i))),
-        Run::Ended(outcome) => outcome_judged(world, func, pointers, arguments, outcome),
+        Run::Ended(outcome) => outcome_judged(alloc, world, func, pointers, arguments, outcome),
     }
 }
 
 #[tactic(auto, using(witx_symbols::proofs::JudgeLemmas::judge_rules))]
 fn outcome_judged(
+    alloc: Global,
     world: &World,
     func: &InterfaceFunc,
     pointers: &[&Rc<NamedType>],
@@ -51,7 +54,7 @@ fn outcome_judged(
     if !passes(&outcome.call.at_call, pointers, params, arguments, words) {
         return Ok(Some(Doubt::Passes));
     }
-    if !gives_back(world, func, outcome)? {
+    if !gives_back(alloc, world, func, outcome)? {
         return Ok(Some(Doubt::Returns));
     }
     if !all_same(outcome.call.noted.as_slice(), arguments) {

@@ -8,7 +8,8 @@ mod spaces;
 mod verifying;
 mod worlds;
 
-pub use verifying::verify;
+pub use extents::Allotment;
+pub use verifying::{verify, verify_within};
 pub use witx_run::Conversion;
 pub use witx_symbols::{
     Cells, Doubt, Picked, Source, Symbol, Symbols, Verdict, Word, World,

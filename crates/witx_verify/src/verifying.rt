@@ -11,7 +11,7 @@ ghost use Rattle.witx_symbols.specs.Verdicts.{doubt, doubt_in, first_doubt, verd
 ghost use Rattle.witx_symbols.specs.WordViews.{option_of, world_of};
 ghost use Rattle.witx_symbols.specs.WorldViews.{AreOf, worlds_read};
 
-use crate::extents::check_types;
+use crate::extents::Allotment;
 use crate::judging::judged;
 use crate::worlds::worlds;
 use std::alloc::Global;
@@ -43,7 +43,29 @@ pub fn verify(
     ensures adapted { IfOk result (λ found.
         AdaptedGetsYes found module_name.now (called func.now) (map event_of caller.now) (map event_of callee.now)) }
 {
-    check_types(alloc, func, caller, callee)?;
+    let mut allotment = Allotment::new();
+    verify_within(&mut allotment, alloc, module_name, func, caller, callee)
+}
+
+/// The same verdict, where those on all functions of a document share what they may go through. `OutOfMemory` comes also
+/// where too much of it was taken by earlier ones.
+#[tactic(auto, using(crate::proofs::VerifyLemmas::verify_rules))]
+pub fn verify_within(
+    allotment: &mut Allotment,
+    alloc: Global,
+    module_name: &Id,
+    func: &InterfaceFunc,
+    caller: &Events,
+    callee: &Events,
+) -> Result<Verdict, OutOfMemory>
+    ensures verdict { IfOk result (λ found. found ≡
+        verdict module_name.now (called func.now) (map event_of caller.now) (map event_of callee.now)) }
+    ensures faithful { IfOk result (λ found. found ≡ Yes →
+        Faithful module_name.now (called func.now) (map event_of caller.now) (map event_of callee.now)) }
+    ensures adapted { IfOk result (λ found.
+        AdaptedGetsYes found module_name.now (called func.now) (map event_of caller.now) (map event_of callee.now)) }
+{
+    allotment.take(alloc, func, caller, callee)?;
     match doubt(alloc, module_name, func, caller, callee)? {
         Some(doubt) => Ok(Verdict::No(doubt)),
         None => Ok(Verdict::Yes),
@@ -114,7 +136,7 @@ fn doubt_in(
     let arguments = symbols.as_slice();
     let pointers = return_pointers(alloc, func.abi, &func.results)?;
     let run = run_in(alloc, world, module_name, func, caller, callee, arguments)?;
-    let doubt = judged(world, func, pointers.as_slice(), arguments, &run);
+    let doubt = judged(alloc, world, func, pointers.as_slice(), arguments, &run);
     drop(run);
     doubt
 }

@@ -2,7 +2,7 @@ use Rattle.std.proofs.Common.{sym, ◌∙◌, map}
 use Rattle.witx_instructions.specs.Views.{called, event_of}
 use Rattle.witx_symbols.specs.declared.surface.Verdict.{Verdict}
 use Rattle.witx_verify.proofs.VerifyLemmas.{verdict-no, yes-faithful, adapted-yes}
-use Rattle.witx_verify.proofs.verifying.verify.Goals as goal
+use Rattle.witx_verify.proofs.verifying.verify_within.Goals as goal
 
 pub returns-in-Some-clause-adapted : goal.returns-in-Some-clause-adapted
 returns-in-Some-clause-adapted c =
