@@ -11,6 +11,7 @@ use witx_ast::NamedType;
 use witx_base::OutOfMemory;
 use witx_instructions::{Bindgen, Instruction, Trace};
 
+/// A trace that tells this instruction and nothing else.
 pub fn told_instruction(alloc: Global, inst: &Instruction<'_>) -> Result<Trace, OutOfMemory>
     ensures { IfOk result (λ told. map event_of told.events ≡ emit (step_of inst.now) ∷ []) }
 {
@@ -23,6 +24,7 @@ pub fn told_instruction(alloc: Global, inst: &Instruction<'_>) -> Result<Trace, 
     Ok(told)
 }
 
+/// A trace that tells that space for a value of this named type is taken, at this place among the spaces.
 pub fn told_space(alloc: Global, slot: usize, ty: &Rc<NamedType>) -> Result<Trace, OutOfMemory>
     ensures { IfOk result (λ told. map event_of told.events ≡ space slot (named_tree ty.now.value) ∷ []) }
 {
@@ -33,6 +35,7 @@ pub fn told_space(alloc: Global, slot: usize, ty: &Rc<NamedType>) -> Result<Trac
     Ok(told)
 }
 
+/// A trace that tells that a block begins.
 pub fn told_block(alloc: Global) -> Result<Trace, OutOfMemory>
     ensures { IfOk result (λ told. map event_of told.events ≡ push ∷ []) }
 {
@@ -43,6 +46,7 @@ pub fn told_block(alloc: Global) -> Result<Trace, OutOfMemory>
     Ok(told)
 }
 
+/// A trace that tells that a block ends, with a value or without one.
 pub fn told_end(alloc: Global, value: bool) -> Result<Trace, OutOfMemory>
     ensures { IfOk result (λ told. map event_of told.events ≡ finish value ∷ []) }
 {
