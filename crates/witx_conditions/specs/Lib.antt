@@ -1,0 +1,2 @@
+pub mod FittingEvents
+pub mod NameTests

@@ -1,0 +1,15 @@
+//! Tests of the conditions that calls ask for, for values made by hand: an `if` on one meets the condition.
+#![tactic(auto)]
+
+mod documents;
+mod functions;
+mod items;
+mod lookup;
+mod names;
+mod traces;
+mod values;
+
+pub use documents::{is_closed, is_ordered};
+pub use functions::is_mapped;
+pub use traces::allocate_writable;
+pub use values::{are_values, takes_values};
