@@ -33,7 +33,7 @@ use witx_tools::{
     WasmTypes, WitxError, WitxIo, WitxPath, Word, Words, Writing, adapt, adapt_document,
     adapted_meets_conditions, allocate_writable, are_values, callee_trace, caller_trace,
     check_imports, closed_document_md, commands_of_both, constants_have_typenames, document_md,
-    document_text, documentation, fits_tags, given_values_meet_conditions, has_form,
+    document_of, document_text, documentation, fits_tags, given_values_meet_conditions, has_form,
     invoke, is_closed, is_mapped, is_ordered, is_value, layouts, layouts_text, lex, line_column,
     listing, lowerable, mapped_module_meets_conditions, new_validator_meets_conditions,
     ordered_layouts_text, output_or_refusal, parse, parse_document, parse_witx_with,

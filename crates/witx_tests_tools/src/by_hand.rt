@@ -2,29 +2,67 @@
 
 use std::alloc::Global;
 use std::rc::Rc;
-use witx_ast::{BuiltinType, InterfaceFunc};
-use witx_base::Duplicate;
+use witx_ast::{BuiltinType, Definitions, Document, InterfaceFunc};
+use witx_base::{Duplicate, OutOfMemory};
 use witx_bytes::{Value, Values};
 use witx_fixtures_run::func_of;
 use witx_tools::{
-    FuncPolyfill, adapt_document, allocate_writable, are_values, is_closed, is_mapped, is_ordered,
-    parse, takes_values,
+    FuncPolyfill, adapt_document, allocate_writable, are_values, document_of, is_closed, is_mapped,
+    is_ordered, parse, takes_values,
 };
 
-/// Whether the document of a text, which is both, is told to be ordered and closed.
-fn is_told_closed(alloc: Global, text: &str) -> Option<bool> {
-    let document = parse(alloc, text).ok()?;
-    Some(is_ordered(&document) && is_closed(&document))
+/// Texts, and of the document of their definitions the other way round whether it is ordered, and closed.
+#[rattlefmt::skip]
+const TURNED: &[(&str, bool, bool)] = &[
+    ("(typename $a u8) (typename $b u16)", true, true),
+    ("(typename $a u8) (typename $b (list $a))", false, false),
+    (r#"(typename $a u8) (module $m (@interface func (export "f") (param $x $a)))"#, true, false),
+    (r#"(module $m (@interface func (export "f"))) (typename $a u8)"#, true, true),
+];
+
+fn turned(alloc: Global, document: &Document) -> Result<Definitions, OutOfMemory> {
+    let mut definitions = Definitions::new(alloc);
+    for definition in document.definitions().as_slice().iter().rev() {
+        definitions.push(definition.copy()?)?;
+    }
+    Ok(definitions)
 }
 
-const NAMES: &str = r#"
-(typename $a u8)
-(typename $b (record (field $x $a) (field $y (list $a))))
-(module $m (@interface func (export "f") (param $x $b)))"#;
+fn document_turned(alloc: Global, text: &str) -> Option<Document> {
+    let document = parse(alloc, text).ok()?;
+    let definitions = turned(alloc, &document).ok()?;
+    document_of(alloc, definitions).ok()?
+}
+
+fn are_turned(alloc: Global) -> bool {
+    for (text, ordered, closed) in TURNED {
+        if !document_turned(alloc, text).is_some_and(|it| is_ordered(&it) == *ordered
+            && is_closed(&it) == *closed)
+        {
+            return false;
+        }
+    }
+    true
+}
 
 #[test]
-fn names_that_stand_before(rt: HostRuntime) {
-    assert!(rt; is_told_closed(rt.alloc(), NAMES).unwrap_or(false));
+fn documents_turned_round(rt: HostRuntime) {
+    assert!(rt; are_turned(rt.alloc()));
+}
+
+/// Whether there is no document of the definitions of the text, each twice.
+fn has_none_twice(alloc: Global, text: &str) -> Option<bool> {
+    let document = parse(alloc, text).ok()?;
+    let mut definitions = turned(alloc, &document).ok()?;
+    for definition in document.definitions().as_slice() {
+        definitions.push(definition.copy().ok()?).ok()?;
+    }
+    Some(document_of(alloc, definitions).ok()?.is_none())
+}
+
+#[test]
+fn names_that_stand_twice(rt: HostRuntime) {
+    assert!(rt; has_none_twice(rt.alloc(), "(typename $a u8)").unwrap_or(false));
 }
 
 const TAKES_A_BYTE: &str =
