@@ -1,24 +1,18 @@
 //! The front door: `run`, which reads a bundle of interface texts and writes what its command asks for; `adapt`,
 //! the call behind the first command; and again, under their own names, the calls and types that a caller of
 //! these needs of the crates below. Not here: the laws of those crates about their definitions, and calls that they
-//! have for each other. `witx_tools` gives all of this on, with the calls of the further commands.
+//! have for each other. `witx_tools` gives all of this on, with the calls of the further commands. What a run is made
+//! of, for a program that runs further commands, stands in `program` and `commands`, and in `witx_commands`.
 #![tactic(auto)]
 
-mod commands;
+pub mod commands;
 mod output;
-mod program;
+pub mod program;
 mod refused;
 
-pub use commands::{adapt_files, perform, print_files};
-pub use output::{put_text, put_whole};
-pub use program::{Ran, files_for, finish, run};
-pub use refused::put_refusal;
-pub use witx_commands::{
-    AdaptError, Command, DONE, Forms, InputError, NO_BUNDLE, NO_FORM, NO_MEMORY, Output, OwnFile,
-    REFUSED, Refusal, Stop, TwoFiles, UNREAD, UNWRITTEN, adapt, adapted_or_stop, command_of,
-    constants_have_typenames, has_form, mapped_modules, output_or_refusal, paths_of, read_bundle,
-    text_stop, valid_files_are_not_refused, valid_is_not_refused,
-};
+pub use output::put_text;
+pub use program::{Ran, run};
+pub use witx_commands::{AdaptError, InputError, adapt, has_form, read_bundle};
 // By hand, since more than a hundred names would be laid out one a line.
 #[rattlefmt::skip]
 pub use witx_base::{

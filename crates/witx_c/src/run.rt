@@ -8,9 +8,8 @@ use crate::devices::{SliceSource, VecSink};
 use crate::words::texts_in;
 use std::alloc::Global;
 use std::str::from_utf8;
-use witx::{NO_MEMORY, UNWRITTEN};
 use witx_base::Text;
-use witx_commands::let_go;
+use witx_commands::{NO_MEMORY, UNWRITTEN, let_go};
 use witx_tools::run_all;
 
 /// What a run wrote, and its status.

@@ -9,7 +9,8 @@ use std::alloc::Global;
 use std::env;
 use std::io::ErrorKind;
 use std::process::ExitCode;
-use witx::{Items, NO_FORM, NO_MEMORY, OutOfMemory, Reading, Text, Writing};
+use witx::{Items, OutOfMemory, Reading, Text, Writing};
+use witx_commands::{NO_FORM, NO_MEMORY};
 
 fn main(rt: HostRuntime) -> ExitCode {
     let alloc = rt.alloc();

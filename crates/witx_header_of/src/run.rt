@@ -7,10 +7,9 @@ ghost use Rattle.witx_commands.specs.Words.{paths_of};
 ghost use Rattle.witx_header_of.specs.HeaderRuns.{HeaderFails, IsHeader, IsHeaderRun, header_task};
 
 use std::alloc::Global;
-use witx::{
-    MockFs, Output, Ran, Sink, Source, Stop, Text, adapted_or_stop, finish, paths_of, read_bundle,
-};
-use witx_commands::{stop_of, text_alone, too_large};
+use witx::program::finish;
+use witx::{MockFs, Ran, Sink, Source, Text, read_bundle};
+use witx_commands::{Output, Stop, adapted_or_stop, paths_of, stop_of, text_alone, too_large};
 use witx_header::header_text;
 use witx_layout::LayoutError;
 

@@ -3,9 +3,8 @@
 use crate::bounds::{equal, error};
 use std::alloc::Global;
 use witx::{
-    AdaptError, Adapted, AdaptedFuncs, Bundle, BundleError, InputError, Ran, Stop, WitxError,
-    adapt, has_form, listing, parse, parse_witx_with, put_text, read_bundle, run, sample_bundle,
-    summary,
+    AdaptError, Adapted, AdaptedFuncs, Bundle, BundleError, InputError, Ran, WitxError, adapt,
+    has_form, listing, parse, parse_witx_with, put_text, read_bundle, run, sample_bundle, summary,
 };
 use witx_ast::Document;
 use witx_base::{Failed, MemSink, MemSource, OutOfMemory, Text, WitxPath};
@@ -28,5 +27,4 @@ pub fn pairs_of(adapted: &Adapted) -> &AdaptedFuncs {
 /// The program, and the calls that make tools.
 pub fn program() {
     equal::<InputError>();
-    equal::<Stop>();
 }

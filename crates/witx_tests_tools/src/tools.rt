@@ -1,8 +1,8 @@
 //! The program's top call: tools over devices that fail, and which words ask for which command.
 
 use std::alloc::Global;
-use witx::{Command, Forms, command_of};
 use witx_base::{MemSink, MemSource, OutOfMemory, Text};
+use witx_commands::{Command, Forms, command_of};
 use witx_fixtures_run::{Case, Gave, sink_of, source_of, words_of};
 use witx_tools::run_all;
 

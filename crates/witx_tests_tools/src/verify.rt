@@ -6,9 +6,10 @@ use witx_ast::{Abi, BuiltinType, InterfaceFunc, NamedType, TypeRef};
 use witx_base::OutOfMemory;
 use witx_fixtures_run::{func_of, typename_of};
 use witx_machine::WasmType;
-use witx_verify::{
-    Cells, Conversion, Picked, Source, Symbol, Word, World, arguments_from, is_of, lift,
-    list_of_words, list_words, lower, parts_of, same, symbol_from,
+use witx_run::Conversion;
+use witx_symbols::{
+    Cells, Picked, Source, Symbol, Word, World, arguments_from, is_of, lift, list_of_words,
+    list_words, lower, parts_of, same, symbol_from,
 };
 
 /// The symbol of what a name stands for, from the argument of this number.

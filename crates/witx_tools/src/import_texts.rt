@@ -15,10 +15,9 @@ ghost use Rattle.witx_tools.specs.ToolRuns.{ToolTells};
 
 use crate::own::opened_file;
 use std::alloc::{AllocError, Global};
-use witx::{Output, OwnFile, Refusal, Stop};
 use witx_adapt::{Adapted, AdaptedFunc, put_quoted, put_signature};
 use witx_base::{OutOfMemory, Text, WitxPath};
-use witx_commands::text_alone;
+use witx_commands::{Output, OwnFile, Refusal, Stop, text_alone};
 use witx_files::MockFs;
 use witx_imports::{
     ImportFault, ImportsError, WasmImport, WasmImports, check_imports, read_imports,

@@ -23,12 +23,11 @@ ghost use Rattle.witx_tools.specs.ToolRuns.{ToolTells};
 use crate::own::opened_file;
 use std::alloc::{AllocError, Global};
 use std::fmt::Write;
-use witx::{Output, OwnFile, Refusal, Stop};
 use witx_abi::WasmType;
 use witx_adapt::AdaptedFunc;
 use witx_base::{OutOfMemory, Text};
 use witx_bytes::{ByteMemory, Value, traces_take_writable};
-use witx_commands::text_alone;
+use witx_commands::{Output, OwnFile, Refusal, Stop, text_alone};
 use witx_files::MockFs;
 use witx_invoke::{
     GivenValues, InvokeError, Invoked, Placed, ValuesError, Word, invoke, read_values, value_text,

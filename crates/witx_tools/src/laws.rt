@@ -3,7 +3,7 @@
 
 ghost use Rattle.witx_tools.specs.ToolLaws.{AllKnowCommands, OthersAreTools, RunsAlike, ShimsTellTwoRefusals, ValidIsNotRefusedByTools};
 
-use witx::valid_is_not_refused;
+use witx_commands::valid_is_not_refused;
 use witx_imports::no_fault_where_imports_are_read;
 use witx_invoke::lines_tell_values;
 use witx_traces::traces_leave_no_line_unfit;

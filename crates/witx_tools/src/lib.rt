@@ -19,6 +19,9 @@ pub use conditions::{
 };
 pub use laws::{commands_of_both, shims_tell_two_refusals, valid_is_not_refused_by_tools};
 pub use program::run_all;
+pub use witx_conditions::{
+    allocate_writable, are_values, document_of, is_closed, is_mapped, is_ordered, takes_values,
+};
 pub use witx_error_texts::ErrorText;
 pub use witx_imports::{
     ImportFault, ImportFaults, ImportsError, WasmImport, WasmImports, check_imports, read_imports,
@@ -27,19 +30,18 @@ pub use witx_invoke::{
     GivenValues, InvokeError, Invoked, Placed, PlacedRanges, ValuesError, Word, Words, invoke,
     read_values, value_text,
 };
+// The names of a run's statuses, and what its definitions decide.
+pub use witx_commands::{
+    DONE, NO_BUNDLE, NO_FORM, NO_MEMORY, REFUSED, UNREAD, UNWRITTEN, constants_have_typenames,
+    output_or_refusal, valid_files_are_not_refused, valid_is_not_refused,
+};
 pub use witx_shim::{Places, Shim, ShimError, shim};
 pub use witx_traces::{TracePair, TracePairs, TracesError, read_traces};
 pub use witx_verify::{Doubt, Verdict, verify};
-// All that `witx` gives on, by hand, since more than two hundred names would be laid out one a line: first its own calls
-// and those of a run, then what it has of the crates below, a list for each.
+// All that `witx` gives on, by hand, since more than two hundred names would be laid out one a line: first its own calls,
+// then what it has of the crates below, a list for each.
 #[rattlefmt::skip]
-pub use witx::{
-    AdaptError, Command, DONE, Forms, InputError, NO_BUNDLE, NO_FORM, NO_MEMORY, Output, OwnFile,
-    REFUSED, Ran, Refusal, Stop, TwoFiles, UNREAD, UNWRITTEN, adapt, adapt_files, adapted_or_stop,
-    command_of, constants_have_typenames, files_for, finish, has_form, mapped_modules,
-    output_or_refusal, paths_of, perform, print_files, put_refusal, put_text, put_whole,
-    read_bundle, run, text_stop, valid_files_are_not_refused, valid_is_not_refused,
-};
+pub use witx::{AdaptError, InputError, Ran, adapt, has_form, put_text, read_bundle, run};
 #[rattlefmt::skip]
 pub use witx::{
     Bytes, CallCounter, Calls, Duplicate, Failed, Id, Items, MemSink, MemSource, NameMap,

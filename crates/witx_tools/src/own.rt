@@ -12,9 +12,9 @@ ghost use Rattle.witx_commands.specs.Words.{own_file, paths_of};
 ghost use Rattle.witx_tools.specs.ToolCauses.{LacksOwn, OpeningFails};
 
 use std::alloc::Global;
-use witx::{OwnFile, Stop, adapted_or_stop, paths_of, text_stop};
 use witx_adapt::Adapted;
 use witx_base::{Duplicate, Text, WitxPath};
+use witx_commands::{OwnFile, Stop, adapted_or_stop, paths_of, text_stop};
 use witx_files::{IoError, IoFault, MockFs, WitxIo};
 use witx_walk::WitxError;
 

@@ -10,8 +10,10 @@ use crate::invoke_texts::call_of_files;
 use crate::shim_texts::shims_of_files;
 use crate::verdict_texts::verdicts_of_files;
 use std::alloc::Global;
-use witx::{Command, Output, Stop, adapt_files, print_files};
-use witx_commands::{layouts_of_files, page_of_files, polyfill_files, summary_of_files};
+use witx::commands::{adapt_files, print_files};
+use witx_commands::{
+    Command, Output, Stop, layouts_of_files, page_of_files, polyfill_files, summary_of_files,
+};
 use witx_files::MockFs;
 
 /// The output of a command over the files of a bundle: a row for each.

@@ -8,12 +8,13 @@ ghost use Rattle.witx_tools.specs.ToolRuns.{any_task, task_of_all};
 use crate::laws::valid_is_not_refused_by_tools;
 use crate::performing::perform_any;
 use std::alloc::Global;
-use witx::{
-    Command, Forms, Output, Ran, Refusal, Stop, command_of, files_for, finish, output_or_refusal,
+use witx::Ran;
+use witx::program::{files_for, finish};
+use witx_base::{Sink, Source, Text};
+use witx_commands::{
+    Command, Forms, Output, Refusal, Stop, command_of, output_or_refusal, stop_of,
     valid_is_not_refused,
 };
-use witx_base::{Sink, Source, Text};
-use witx_commands::stop_of;
 
 /// The program: reads the words, then the source where what they ask for works on it, and writes what that
 /// tells on `out` or what is refused on `err`. Words that have a form of [`run`](witx::run) end as there; for

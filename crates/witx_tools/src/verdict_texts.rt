@@ -16,11 +16,10 @@ ghost use Rattle.witx_tools.specs.VerdictTexts.{IsUnfitListing, doubt_text, foun
 use crate::own::opened_file;
 use std::alloc::{AllocError, Global};
 use std::fmt::Write;
-use witx::{Output, OwnFile, Refusal, Stop};
 use witx_abi::functions_are_read_as_their_trees;
 use witx_adapt::{Adapted, AdaptedFunc, put_quoted};
 use witx_base::{OutOfMemory, Text};
-use witx_commands::text_alone;
+use witx_commands::{Output, OwnFile, Refusal, Stop, text_alone};
 use witx_files::MockFs;
 use witx_traces::{TracePair, TracePairs, TracesError, read_traces};
 use witx_verify::{Allotment, Doubt, Verdict, verify_within};

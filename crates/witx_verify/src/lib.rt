@@ -10,11 +10,8 @@ mod worlds;
 
 pub use extents::Allotment;
 pub use verifying::{verify, verify_within};
-pub use witx_run::Conversion;
 pub use witx_symbols::{
-    Cells, Doubt, Picked, Source, Symbol, Symbols, Verdict, Word, World,
-    a_stuck_run_names_its_event, a_yes_is_faithful, alike, arguments_from, converts, fits, is_of,
-    lift, list_of_words, list_words, lower, own_traces_get_a_yes, parts_of, same, symbol_from,
+    Doubt, Verdict, a_stuck_run_names_its_event, a_yes_is_faithful, own_traces_get_a_yes,
     tests_tell_what_passes, traces_of_an_adapted_get_a_yes,
 };
 pub use witx_traces::{TracePair, TracePairs, TracesError, read_traces};

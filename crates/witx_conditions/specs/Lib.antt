@@ -1,0 +1,3 @@
+pub mod FittingEvents
+pub mod Making
+pub mod NameTests
