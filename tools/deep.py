@@ -10,8 +10,8 @@ MOST = 4 << 20
 # Names, types, and what there may be to all types that are asked of. Below this many levels a value is read.
 LIMITS = {"invoke": (40_000, 13_333, 2 ** 20), "verify": (30_100, 30_100, 2 ** 22),
           "polyfill": (30_100, 30_100, 2 ** 25), "shim": (30_100, 30_100, 2 ** 25)}
-# Commands that take two documents.
-PAIRS = ("polyfill", "shim")
+# Commands that take two documents, and those that refuse sizes from 2^64 on.
+PAIRS, SIZED = ("polyfill", "shim"), ("adapt", "layouts", "docs", "shim", "verify", "invoke", "imports")
 COMMANDS = ["adapt", "layouts", "print", "docs", "polyfill", "shim", "verify", "invoke", "imports"]
 
 
@@ -41,9 +41,10 @@ def behind(it):
     return Measure(it.names, it.types + 1, it.extent + 1, 1)
 
 
-def nested(it):
-    """Forty tuples, each of the next."""
-    return Measure(it.names, it.types + 40, min(it.extent + 40, ENDLESS), it.levels + 40)
+def nested(count):
+    """So many tuples that are written out in one another: the type, the value, and what measures it."""
+    return ("(tuple " * count + "${0}" + ")" * count, "(" * count + "{0}" + ")" * count,
+            lambda it: Measure(it.names, it.types + count, min(it.extent + count, ENDLESS), it.levels + count))
 
 
 ERROR = named(Measure(0, 0, 3, 1))
@@ -53,7 +54,8 @@ KINDS = {
     "names": ("${0}", "{0}", lambda it: it),
     "tuples": ("(tuple ${0})", "({0})", around),
     "tuples of two": ("(tuple $t0 ${0})", "(7 {0})", lambda it: around(named(NUMBER), it)),
-    "tuples, 40 a name": ("(tuple " * 40 + "${0}" + ")" * 40, "(" * 40 + "{0}" + ")" * 40, nested),
+    "tuples, 40 a name": nested(40),
+    "tuples, 99 a name": nested(99),
     "records": ("(record (field $a ${0}))", "({0})", around),
     "variants": ("(variant (@witx tag u8) (case $a ${0}))", "(#0 {0})", lambda it: around(it, cases=1)),
     "unions": ("(union (@witx tag u8) ${0})", "(#0 {0})", lambda it: around(it, cases=1)),
@@ -77,9 +79,9 @@ PLACES = {
     "stored": ("(result $r {0}) (@witx stored)", "{0}", lambda it: it),
 }
 # Sizes that double at each step end at 2^64, and values that do are written out to so many steps.
-GROWING, LARGEST, SPELLED = ("doubled tuples", "doubled records"), 60, 15
+GROWING, LARGEST, SPELLED = ("doubled tuples", "doubled records"), 60, 18
 # What these have isn't the name of a type, so that none of them is given back in an `expected`.
-NAMELESS = ("tuples, 40 a name", "doubled lists")
+NAMELESS = ("tuples, 40 a name", "tuples, 99 a name", "doubled lists")
 # Lines of events in front and behind, that are repeated in a function's listing.
 EVENTS = {
     "blocks": (["push_block"], ["finish_block none"]),
@@ -92,7 +94,11 @@ EVENTS = {
     "results lifted": (["result_lift"], []),
     "returns": (["return 0"], []),
     "arguments": (["get_arg 0"], []),
+    "calls": (['call_wasm "m" "f" (i32) -> ()'], []),
+    "calls of the interface": (['call_interface "m" "f"'], []),
 }
+# A run is slow that takes so long, and longer than what it writes takes at so many seconds a byte.
+SLOW, A_BYTE = 2.0, 40e-9
 
 
 @functools.cache
@@ -131,9 +137,17 @@ class Document:
     def measure(self):
         return PLACES[self.place][2](named(measure(self.kind, self.count)))
 
+    def is_valid(self):
+        """Whether the function can give the type back where it has it."""
+        return not (self.count and self.place == "result" and self.kind in NAMELESS)
+
     def is_adapted(self):
-        """Whether the document can be adapted: its function can be lowered, and its sizes end below 2^64."""
-        return not (self.place == "result" and self.kind in NAMELESS or self.kind in GROWING and self.count > LARGEST)
+        """Whether the document can be adapted: it is valid, and its sizes end below 2^64."""
+        return self.is_valid() and not (self.kind in GROWING and self.count > LARGEST)
+
+    def is_spelled(self):
+        """Whether the line of a value has that of the type, whose text isn't too long."""
+        return self.count <= SPELLED or KINDS[self.kind][1].count("{0}") < 2 or self.place.startswith("behind")
 
     def value(self):
         """The line of a value of the type, or of a number where its text is too long."""
@@ -150,8 +164,26 @@ class Document:
 
     def is_beyond(self, command, other=None):
         """Whether the command answers want of memory, of this document or of it and another."""
+        return self.status(command, other) == 5
+
+    def status(self, command, other=None):
+        """The status with which the command ends, asked of this document or of it and another."""
         asked = (self, other or self) if command in PAIRS else (self,)
-        return self.is_adapted() and exceeds(command, [it.measure() for it in asked])
+        if not all(it.is_adapted() if command in SIZED else it.is_valid() for it in asked):
+            return 1
+        if exceeds(command, [it.measure() for it in asked]):
+            return 5
+        return 1 if command == "invoke" and not self.is_spelled() else 0
+
+
+def levels(kind):
+    """How many types a step of a kind puts one in the other."""
+    return max(KINDS[kind][0].count("(tuple "), 1)
+
+
+def is_slow(seconds, written):
+    """Whether a run that wrote so many bytes was slow."""
+    return seconds >= max(SLOW, A_BYTE * written)
 
 
 def bundle(files):
@@ -199,6 +231,12 @@ def most_steps(command, kind, place="parameter"):
         if command in LIMITS and exceeds(command, [Document(kind, count + 1, place).measure()] * (1 + (command in PAIRS))):
             return count, True
         count += 1
+
+
+def most_events(name):
+    """How often these events can be repeated in a bundle."""
+    front, end = EVENTS[name]
+    return (MOST - 1_000) // sum(len(it) + 3 for it in front + end)
 
 
 def traced(name, count):
