@@ -131,13 +131,13 @@ class Product(typing.NamedTuple):
 ADAPT, DOCS, INVOKE, VERIFY, IMPORTS = ["adapt", "/a"], ["docs", "/a"], ["invoke", "m", "f0", "/v", "/a"], ["verify", "/l", "/a"], ["imports", "/l", "/a"]
 POLYFILL, SHIM = ["polyfill", "/n", "/o", "m", "m"], ["shim", "/n", "/o", "m", "m"]
 PRODUCTS = [
-    Product("names in a chain", "parameters", ADAPT, of_one(named_parameters)),
-    Product("names in a chain", "lists", ADAPT, of_one(listed_parameters)),
+    Product("names in a chain", "parameters", ADAPT, of_one(named_parameters), (1_400, 1_400)),
+    Product("names in a chain", "lists", ADAPT, of_one(listed_parameters), (1_400, 1_400)),
     Product("bytes of a module's name", "functions", ADAPT, of_one(long_module)),
     Product("bytes of a list's type", "lists", ADAPT, of_one(long_element)),
     Product("members of a tuple", "functions", ADAPT, of_one(shared_tuple), (680, 680)),
     Product("files", "folders", ADAPT, files_by_folders, (1_000, 1_000), 1_022),
-    Product("names in a chain", "lists", DOCS, of_one(listed_parameters)),
+    Product("names in a chain", "lists", DOCS, of_one(listed_parameters), (1_400, 1_400)),
     Product("bytes of a record's name", "fields", DOCS, of_one(long_record)),
     Product("tuples in one another", "typenames", DOCS, of_one(nested), (98, 1_600), 98),
     *(Product("names in a chain", "lists", words, of_two(listed_parameters), (2_000, 2_000), deep.LIMITS[words[0]][0] - 1_000) for words in (POLYFILL, SHIM)),
