@@ -1,8 +1,11 @@
 """Proves crates side by side, each as soon as those below it are: `./witx --prove`, which then builds the program of them.
 
-Each is proved by `rt lib` in its folder. What that leaves in out/ stands until a source changes, also for whoever works in the
-crates above; and of a crate in which it is stopped, what was checked stays. So this can be stopped and begun again."""
+`rt lib`, which proves a crate, lets no other run into the crates below it. So each of those that run side by side has a copy of
+the sources of its own, a lane; `rt` takes a library that is proved in one lane, of the same text, into all others and into the
+repository. What it leaves in out/ stands until a source changes, also for whoever works in the crates above; and the lanes stay
+until all is proved, with what was checked of a crate in which this is stopped. So it can be stopped and begun again."""
 import functools
+import hashlib
 import os
 import re
 import shutil
@@ -12,12 +15,15 @@ import tempfile
 import time
 
 import programs
-from repository import TOP, libraries, with_libraries
+from repository import TOP, libraries, read, with_libraries
 
 # The program, the one behind tools/imports-of, and the one that writes headers; with words by which each ends at once on no input.
 PROGRAMS = {"witx_cli": ["print"], "witx_imports_of": [], "witx_header_of": []}
 # The memory that one proof may take, in bytes.
 MEMORY = 4 << 30
+# Where the lanes of this repository lie.
+CACHE = os.environ.get("XDG_CACHE_HOME") or os.path.expanduser("~/.cache")
+LANES = f"{CACHE}/witx-proofs/{hashlib.sha256(TOP.encode()).hexdigest()[:16]}"
 # Seconds of a processor for a line of code, and as many lines as if a proof of them had told it.
 A_LINE, TOLD = 0.2, 3000
 
@@ -50,17 +56,55 @@ def size(name):
     return 100 + sum(open(it, "rb").read().count(b"\n") for it in files)
 
 
-class Proof:
-    """A run of `rt` in a crate's folder, with what it says in a file."""
+def sources(top, names):
+    """The files of these crates that proofs read, as paths below the top."""
+    parts = [f"{top}/crates/{name}/{part}" for name in names for part in ("src", "specs", "proofs")]
+    return {os.path.relpath(f"{at}/{it}", top) for part in parts for at, _, files in os.walk(part) for it in files}
 
-    def __init__(self, name, words):
-        self.name, self.began = name, time.time()
+
+def content(path):
+    """What a file holds; nothing where there is none."""
+    if not os.path.exists(path):
+        return None
+    with open(path, "rb") as file:
+        return file.read()
+
+
+def make_lane(number, names):
+    """A copy of the sources of these crates, in which what an earlier run left stands. Gives its path."""
+    lane = f"{LANES}/{number}"
+    os.makedirs(lane, mode=0o700, exist_ok=True)
+    wanted = {it: content(f"{TOP}/{it}") for it in {"HANDLES", *sources(TOP, names)}}
+    wanted["crates.txt"] = "".join(it for it in read("crates.txt").splitlines(True) if it.split(":")[0] in names).encode()
+    for it in sources(lane, names) - wanted.keys():
+        os.remove(f"{lane}/{it}")
+    for it, text in wanted.items():
+        if content(f"{lane}/{it}") != text:
+            os.makedirs(os.path.dirname(f"{lane}/{it}"), exist_ok=True)
+            with open(f"{lane}/{it}", "wb") as file:
+                file.write(text)
+    return lane
+
+
+class Proof:
+    """A run of `rt` in a crate's folder below a top, with what it says in a file."""
+
+    def __init__(self, name, words, top=TOP):
+        self.name, self.top, self.began = name, top, time.time()
         self.said = tempfile.TemporaryFile("w+", errors="replace")
-        self.run = subprocess.Popen(["rt", *words], cwd=f"{TOP}/crates/{name}", stdin=subprocess.DEVNULL, stdout=self.said, stderr=self.said)
+        self.run = subprocess.Popen(["rt", *words], cwd=f"{top}/crates/{name}", stdin=subprocess.DEVNULL, stdout=self.said, stderr=self.said)
 
     def text(self):
         self.said.seek(0)
         return self.said.read()
+
+    def holds(self):
+        """Whether the run, once it has ended, has proved the crate; if not, what it said last is told."""
+        if self.run.wait() == 0:
+            return True
+        sys.stderr.write("".join(self.text().splitlines(True)[-20:]))
+        say(f"{self.name} NOT PROVED")
+        return False
 
     def stop(self):
         self.run.terminate()
@@ -68,12 +112,13 @@ class Proof:
 
 
 class Proofs:
-    """The proofs of some libraries: which are left, which run, and how long those took that have ended."""
+    """The proofs of some libraries: which are left, which run, in which lanes, and how long those took that have ended."""
 
     def __init__(self, names):
         self.count, self.left, self.running = len(names), [*names], []
         self.below = {name: [it for it in below if it in names] for name, below in libraries().items() if name in names}
         self.sizes, self.lanes = {it: size(it) for it in names}, lanes()
+        self.free = [make_lane(it, names) for it in range(self.lanes)]
         self.spent, self.done = A_LINE * TOLD, TOLD
 
     def waits(self, name):
@@ -85,7 +130,7 @@ class Proofs:
         for name in ready:
             jobs = max(1, min(4, (self.lanes - len(self.running)) // len(ready)))
             self.left.remove(name)
-            self.running.append(Proof(name, ["lib", "--jobs", str(jobs)]))
+            self.running.append(Proof(name, ["lib", "--jobs", str(jobs)], self.free.pop()))
 
     def minutes_left(self):
         """How long it takes still: all on these processors, or the longest chain one after the other."""
@@ -101,12 +146,11 @@ class Proofs:
     def end(self, proof):
         """Tells of a proof that has ended, and gives whether it is one."""
         self.running.remove(proof)
-        text = proof.text()
-        if proof.run.returncode:
-            sys.stderr.write("".join(text.splitlines(True)[-20:]))
-            say(f"{proof.name} NOT PROVED")
+        self.free.append(proof.top)
+        # (the repository takes the library from the lane)
+        if not proof.holds() or not Proof(proof.name, ["lib"]).holds():
             return False
-        is_new = "logic=proved" in text
+        is_new = "logic=proved" in proof.text()
         self.spent += (time.time() - proof.began) * is_new
         self.done += self.sizes[proof.name] * is_new
         proved = self.count - len(self.left) - len(self.running)
@@ -136,7 +180,10 @@ def prove_libraries(names):
     programs.end_by_exit()
     proofs = Proofs(names)
     say(f"proving {proofs.count} crates, {proofs.lanes} at a time, in about {proofs.minutes_left()} minutes; what is proved stays so if this is stopped")
-    return proofs.run()
+    if not proofs.run():
+        return False
+    shutil.rmtree(LANES, ignore_errors=True)
+    return True
 
 
 def build(name, words, began):
