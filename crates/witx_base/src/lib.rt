@@ -13,6 +13,7 @@ mod name;
 mod name_map;
 mod path;
 mod path_text;
+mod store;
 mod streams;
 mod text;
 

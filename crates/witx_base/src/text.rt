@@ -10,25 +10,27 @@ ghost use Rattle.std.proofs.Common.{rules};
 
 use crate::duplicate::Duplicate;
 use crate::memory::OutOfMemory;
+use crate::store::Store;
 use std::alloc::Global;
 use std::cmp::Ordering;
+use std::fmt;
 use std::hash::{Hash, Hasher};
 use std::marker::Model;
 
 /// An owned text, which contracts see as the list of its bytes. Texts are compared, ordered and
-/// hashed by their bytes.
-#[derive(Debug, Drop)]
+/// hashed by their bytes. The copies of a shared text lie where it lies.
+#[derive(Drop)]
 pub struct Text {
-    string: String,
+    store: Store,
 }
 
 impl Model for Text {
     ghost use Rattle.std.specs.Prelude.{List, ℕ};
-    ghost use Rattle.std.specs.String.{string_bytes};
+    ghost use Rattle.witx_base.specs.Stores.{bytes_in};
 
     ghost Value = { List ℕ };
 
-    ghost view = { λ t. string_bytes t.string };
+    ghost view = { λ t. bytes_in t.store };
 }
 
 impl Text {
@@ -37,7 +39,7 @@ impl Text {
         ensures { IfOk result (λ t. t ≡ s.now) }
     {
         Ok(Text {
-            string: String::from_str(alloc, s)?,
+            store: Store::Own(String::from_str(alloc, s)?),
         })
     }
 
@@ -45,33 +47,44 @@ impl Text {
     pub fn from_string(string: String) -> Text
         ensures { result ≡ string_bytes string }
     {
-        Text { string }
+        Text {
+            store: Store::Own(string),
+        }
+    }
+
+    /// The same text, to be shared: neither this nor its copies copy the bytes.
+    pub fn share(self) -> Result<Text, OutOfMemory>
+        ensures { IfOk result (λ t. t ≡ self) }
+    {
+        Ok(Text {
+            store: self.store.share()?,
+        })
     }
 
     /// Where the text takes its memory from.
     pub fn allocator(&self) -> Global {
-        *self.string.allocator()
+        *self.store.string().allocator()
     }
 
     /// The text, borrowed.
     pub fn as_str(&self) -> &str
         ensures { result.now ≡ self.now }
     {
-        self.string.as_str()
+        self.store.string().as_str()
     }
 
     /// Whether there is no byte.
     pub fn is_empty(&self) -> bool
         ensures { result ≡ (length self.now == 0) }
     {
-        self.string.is_empty()
+        self.store.string().is_empty()
     }
 
     /// The number of bytes.
     pub fn len(&self) -> usize
         ensures { result ≡ length self.now }
     {
-        self.string.len()
+        self.store.string().len()
     }
 }
 
@@ -80,8 +93,16 @@ impl Duplicate for Text {
 
     fn copy(&self) -> Result<Text, OutOfMemory> {
         Ok(Text {
-            string: self.string.clone()?,
+            store: self.store.copy()?,
         })
+    }
+}
+
+impl fmt::Debug for Text {
+    fn fmt<W: fmt::Write>(&self, f: &mut fmt::Formatter<W>) -> fmt::Result {
+        f.debug_struct("Text")
+            .field("string", self.store.string())
+            .finish()
     }
 }
 

@@ -12,7 +12,8 @@ use std::collections::BTreeMap;
 use std::marker::Model;
 use witx_base::{Duplicate, OutOfMemory, Text, WitxPath};
 
-/// Files in memory. They are told, no path stands for another, and no read fails.
+/// Files in memory. They are told, no path stands for another, and no read fails. What `fgets` answers shares
+/// the text that was put in, which isn't copied again.
 #[derive(Drop)]
 pub struct MockFs {
     files: BTreeMap<WitxPath, Text>,
@@ -42,7 +43,8 @@ impl MockFs {
         ensures put { OnOk result ((q : Path) → held self.new q ≡ (if same_path path q then Some text else held self.old q)) }
         ensures kept { OnErr result (self.new ≡ self.old) }
     {
-        match self.files.insert(path, text) {
+        let shared = text.share()?;
+        match self.files.insert(path, shared) {
             Ok(_) => Ok(()),
             Err(_) => Err(OutOfMemory),
         }
