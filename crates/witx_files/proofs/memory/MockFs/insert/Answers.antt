@@ -4,5 +4,5 @@ use Rattle.witx_files.proofs.memory.MockFs.insert.Goals as goal
 
 pub returns-in-Ok-clause-put : goal.returns-in-Ok-clause-put
 returns-in-Ok-clause-put c = λ q. c.in-Ok.ensures.updates.0 q
-  ∙ ap (λ es. cond (same_path c.args.path q) (Some c.in_ok-shared.shared) (held es q)) c.self.view_is
-  ∙ ap (λ t. cond (same_path c.args.path q) (Some t) (held c.args.self.now q)) c.in_ok-shared.ensures
+    ∙ ap (λ es. cond (same_path c.args.path q) (Some c.in_ok-shared.shared) (held es q)) c.self.view_is
+    ∙ ap (λ t. cond (same_path c.args.path q) (Some t) (held c.args.self.now q)) c.in_ok-shared.ensures
