@@ -1,6 +1,6 @@
 -- The derived comparisons say whether the trees are the same.
 use Rattle.std.specs.Prelude.{◌≡◌, ℕ, true, List, [], ◌∷◌, Bool, false, ◌&&◌, map, Option, None, Some, option_map}
-use Rattle.std.proofs.Common.{refl, sym}
+use Rattle.std.proofs.Common.{arith, refl, sym}
 use Rattle.std.specs.Cmp.Lexicographic.{pointwise}
 use Rattle.witx_ast.specs.Tree.{Tree, Arms, no_arms, arm, fields_of, arms_of}
 use Rattle.witx_ast.specs.Views.{tree_of, datatype_tree, named_tree, member_field, case_arm}
@@ -55,6 +55,27 @@ arms-same (x ∷ xs) (y ∷ ys) = rw (tree-Case x, tree-Case y) (arm-same _ _ _ 
 
 pub named-same : (m n : NamedType) → names.ghosts.eq m n ≡ same_tree (named_tree m) (named_tree n)
 named-same m n = rw (tree-NamedType m, tree-NamedType n) refl
+
+pub past : (a b c : Bool) → (a && b) ≡ true → (a && (c && b)) ≡ c
+past true true true h = refl
+past true true false h = refl
+past true false c h = grind arith
+past false b c h = grind arith
+
+pub apart : (a b c : Bool) → (a && b) ≡ false → (a && (c && b)) ≡ false
+apart true true c h = grind arith
+apart true false true h = refl
+apart true false false h = refl
+apart false b c h = refl
+
+-- names that are called alike are the same where what they stand for is
+pub names-past : (m n : NamedType) → (same_bytes m.name n.name && same_bytes m.docs n.docs) ≡ true
+    → same_tree (named_tree m) (named_tree n) ≡ same_tree (tree_of m.tref) (tree_of n.tref)
+names-past m n h = rw (tree-NamedType m, tree-NamedType n) (past (same_bytes m.name n.name) (same_bytes m.docs n.docs) (same_tree (tree_of m.tref) (tree_of n.tref)) h)
+
+pub names-apart : (m n : NamedType) → (same_bytes m.name n.name && same_bytes m.docs n.docs) ≡ false
+    → same_tree (named_tree m) (named_tree n) ≡ false
+names-apart m n h = rw (tree-NamedType m, tree-NamedType n) (apart (same_bytes m.name n.name) (same_bytes m.docs n.docs) (same_tree (tree_of m.tref) (tree_of n.tref)) h)
 
 pub datatype-same : (d e : Datatype) → datatypes.ghosts.eq d e ≡ same_tree (datatype_tree d) (datatype_tree e)
 datatype-same (Record r1) (Record r2) = rw (tree-Record r1, tree-RecordDatatype r1, tree-Record r2, tree-RecordDatatype r2, ← rows-same (out-RecordDatatype r1).members (out-RecordDatatype r2).members) refl
@@ -128,4 +149,4 @@ value-name n (Builtin b) = rw (tree-NamedType n, tree-Builtin b) refl
 pub trefs-decide : (b : Bool) (x y : TypeRef) → b ≡ same_tree (tree_of x) (tree_of y) → (IsTrue b → tree_of x ≡ tree_of y) × (tree_of x ≡ tree_of y → IsTrue b)
 trefs-decide b x y e = same-decides b (tree_of x) (tree_of y) e
 
-pub ruleset same_rules = (tree-Name, tree-Value, named-same, datatype-same, name-value, value-name)
+pub ruleset same_rules = (tree-Name, tree-Value, names-past, names-apart, datatype-same, name-value, value-name)

@@ -1,3 +1,4 @@
+pub mod Sizes
 pub mod Trees
 pub mod TreeKinds
 pub mod Parts

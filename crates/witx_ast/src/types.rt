@@ -65,13 +65,24 @@ impl PartialEq for TypeRef {
 
     ghost laws = { on_per tree_of (partial_equiv_from_equiv tree_equivalence) };
 
+    // Along a chain of names by a loop, so that however long it is, it takes no stack.
     #[cycle(ast)]
-    #[tactic(auto, using(crate::proofs::Equal::same_rules))]
+    #[tactic(auto, using(crate::proofs::Equal::same_rules, crate::proofs::Sizes::size_rules))]
     fn eq(&self, other: &TypeRef) -> bool {
-        match (self, other) {
-            (TypeRef::Name(a), TypeRef::Name(b)) => **a == **b,
-            (TypeRef::Value(a), TypeRef::Value(b)) => **a == **b,
-            _ => false,
+        let mut left = self;
+        let mut right = other;
+        loop {
+            match (left, right) {
+                (TypeRef::Name(a), TypeRef::Name(b)) => {
+                    if !a.is_called_as(b) {
+                        return false;
+                    }
+                    left = &a.tref;
+                    right = &b.tref;
+                }
+                (TypeRef::Value(a), TypeRef::Value(b)) => return **a == **b,
+                _ => return false,
+            }
         }
     }
 }
@@ -105,6 +116,18 @@ pub struct NamedType {
     pub name: Id,
     pub tref: TypeRef,
     pub docs: Text,
+}
+
+impl NamedType {
+    ghost use Rattle.std.specs.Prelude.{◌≡◌, ◌&&◌};
+    ghost use Rattle.witx_ast.specs.Same.{same_bytes};
+
+    // Whether the name and the documentation are the same, whatever the names stand for.
+    fn is_called_as(&self, other: &NamedType) -> bool
+        ensures { result ≡ (same_bytes self.now.name other.now.name && same_bytes self.now.docs other.now.docs) }
+    {
+        self.name == other.name && self.docs == other.docs
+    }
 }
 
 /// A type that is written out.
