@@ -10,6 +10,9 @@ MOST = 4 << 20
 # Names, types, and what there may be to all types that are asked of. Below this many levels a value is read.
 LIMITS = {"invoke": (40_000, 13_333, 2 ** 20), "verify": (30_100, 30_100, 2 ** 22),
           "polyfill": (30_100, 30_100, 2 ** 25), "shim": (30_100, 30_100, 2 ** 25)}
+# How many bytes `docs` shows of types, and how many lines of a listing, times the types of the function that has most,
+# `verify` reads.
+PAGE, READ = 2 ** 26, 2 ** 25
 # Commands that take two documents, and those that refuse sizes from 2^64 on.
 PAIRS, SIZED = ("polyfill", "shim"), ("adapt", "layouts", "docs", "shim", "verify", "invoke", "imports")
 COMMANDS = ["adapt", "layouts", "print", "docs", "polyfill", "shim", "verify", "invoke", "imports"]
@@ -114,6 +117,28 @@ def measure(kind, count):
     return found[count]
 
 
+def shown(name, depth, inner):
+    """How many bytes a typename of so many tuples that are written out in one another shows on a page, as crates/witx_extent
+    counts it: a line for each with its path, in which all that it lies in stand too. What lies in all of them has so many."""
+    lines = sum(64 + 2 * (len(name) + 2 * it) for it in range(depth + 1))
+    return lines + sum(4 * (it + 1) for it in range(depth)) + inner * (depth + 1)
+
+
+@functools.cache
+def pages(kind):
+    """What the first typenames of a kind that is written out show, as many as were asked for: none, one, and so on."""
+    return [0]
+
+
+def page(kind, count):
+    """How many bytes so many typenames of a kind show; of most kinds it's never too much, and isn't counted."""
+    depth, found = levels(kind), pages(kind)
+    while len(found) <= count and depth > 1:
+        number = len(found)
+        found.append(found[-1] + shown(f"t{number}", depth, 2 * len(f"t{number - 1}")))
+    return found[count] + 210 + 2 * len(f"t{count}") if depth > 1 else 0
+
+
 def exceeds(command, found):
     """Whether types of these measures are more than the command goes through."""
     names, types, extent = LIMITS.get(command, [float("inf")] * 3)
@@ -171,7 +196,7 @@ class Document:
         asked = (self, other or self) if command in PAIRS else (self,)
         if not all(it.is_adapted() if command in SIZED else it.is_valid() for it in asked):
             return 1
-        if exceeds(command, [it.measure() for it in asked]):
+        if exceeds(command, [it.measure() for it in asked]) or command == "docs" and page(self.kind, self.count) > PAGE:
             return 5
         return 1 if command == "invoke" and not self.is_spelled() else 0
 
@@ -229,6 +254,8 @@ def most_steps(command, kind, place="parameter"):
         if left < 0 or count == LARGEST and kind in GROWING:
             return count, False
         if command in LIMITS and exceeds(command, [Document(kind, count + 1, place).measure()] * (1 + (command in PAIRS))):
+            return count, True
+        if command == "docs" and page(kind, count + 1) > PAGE:
             return count, True
         count += 1
 

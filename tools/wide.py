@@ -1,5 +1,5 @@
 """What costs the product of two numbers (docs/HOSTILE.md, "Growth"): documents in which they stand, and what each command is
-asked of them. Each is valid, so that the command ends with status 0."""
+asked of them. Each is valid, so that the command ends with status 0, or 5 beyond its limits."""
 import typing
 
 import deep
@@ -117,15 +117,27 @@ def files_by_folders(_, files, folders):
     return {"a": f'(use "{folder}a")', f"{folder}a": uses, **{f"{folder}b{it}": f"(typename $t{it} u8)" for it in range(files)}}
 
 
+def nested_beyond(_, depth, count):
+    return sum(deep.shown(f"t{it}", depth, 4) for it in range(count)) > deep.PAGE
+
+
+def listing_beyond(files, _, types):
+    return files["l"].count("\n") * types > deep.READ
+
+
 class Product(typing.NamedTuple):
     """What is multiplied, the words, what makes the files where it is so much, by the program; how much `tools/bench` shows at
-    most, and how much the first may be."""
+    most, how much the first may be, and whether files of so much are beyond the limits of the command."""
     one: str
     other: str
     words: list
     files: typing.Callable
     shown: tuple = (4_000, 4_000)
     most: int = 1 << 15
+    is_beyond: typing.Callable = lambda _, one, other: False
+
+    def status(self, files, one, other):
+        return 5 if self.is_beyond(files, one, other) else 0
 
 
 ADAPT, DOCS, INVOKE, VERIFY, IMPORTS = ["adapt", "/a"], ["docs", "/a"], ["invoke", "m", "f0", "/v", "/a"], ["verify", "/l", "/a"], ["imports", "/l", "/a"]
@@ -139,13 +151,13 @@ PRODUCTS = [
     Product("files", "folders", ADAPT, files_by_folders, (1_000, 1_000), 1_022),
     Product("names in a chain", "lists", DOCS, of_one(listed_parameters), (1_400, 1_400)),
     Product("bytes of a record's name", "fields", DOCS, of_one(long_record)),
-    Product("tuples in one another", "typenames", DOCS, of_one(nested), (98, 1_600), 98),
+    Product("tuples in one another", "typenames", DOCS, of_one(nested), (98, 1_400), 98, nested_beyond),
     *(Product("names in a chain", "lists", words, of_two(listed_parameters), (2_000, 2_000), deep.LIMITS[words[0]][0] - 1_000) for words in (POLYFILL, SHIM)),
     *(Product("members of a record", "functions", words, of_two(shared_record), (3_000, 3_000)) for words in (POLYFILL, SHIM)),
     Product("members of a record", "functions", VERIFY, of_listing(shared_record), (2_000, 2_000)),
     Product("members of a tuple", "functions", VERIFY, of_listing(shared_tuple), (180, 180)),
-    Product("lines", "types that are held", VERIFY, lines_by_types),
-    Product("lines of calls", "parameters", VERIFY, calls_by_parameters),
+    Product("lines", "types that are held", VERIFY, lines_by_types, (2_000, 2_000), is_beyond=listing_beyond),
+    Product("lines of calls", "parameters", VERIFY, calls_by_parameters, (2_000, 2_000), is_beyond=listing_beyond),
     Product("fields", "cases", INVOKE, fields_by_cases, (700, 700)),
     Product("imports", "words", IMPORTS, imports_by_words),
 ]

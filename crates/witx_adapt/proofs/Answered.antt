@@ -38,8 +38,11 @@ lower-refused ds u (document_error.TooLarge n) m l h = absurd h
 lower-refused ds u (document_error.Unlowerable o f p) m l h = (no-misfit (first_misfit ds) u m, l, h)
 lower-refused ds u document_error.OutOfMemory m l h = tt
 
+pub memory-refused : (ds : List DefinitionTree) (e : DocumentError) → e ≡ document_error.OutOfMemory → Refuses ds e
+memory-refused ds e q = subst (Refuses ds) (sym q) tt
+
 pub every-pair : (ds : List DefinitionTree) (u : Unit {0}) (fs : List AdaptedFunc) → Ok u ≡ tag_refusal (first_misfit ds) → first_unlowered (all_functions ds) ≡ None
     → map entry_of fs ≡ map entry_for (all_functions ds) → IsClosed ds → All IsFaithful fs
 every-pair ds u fs t l e = all-faithful ds fs e (no-misfit (first_misfit ds) u t) l
 
-pub ruleset answer_rules = (adaptable, every-pair, narrow-refused, large-refused, lower-refused)
+pub ruleset answer_rules = (adaptable, every-pair, narrow-refused, large-refused, lower-refused, memory-refused)

@@ -19,7 +19,12 @@ use std::rc::Rc;
 use witx_abi::{Place, callee_trace, caller_trace, lowerable, words_back, words_in};
 use witx_ast::{Definition, Document, InterfaceFunc, Module, ModuleDefinition};
 use witx_base::{Duplicate, Items, OutOfMemory};
+use witx_extent::check_lowering;
 use witx_layout::{SizeAligns, fits_tags, uncounted_layouts};
+
+/// What lowering may go through, in bytes or what takes as long: a million members of tuples that functions give back, or
+/// eight million names that are looked through.
+const MOST: usize = 1 << 27;
 
 /// What is made of a document.
 #[derive(Drop)]
@@ -32,7 +37,8 @@ struct Parts {
 /// both sides of each function.
 ///
 /// Refused for the first type that doesn't fit its tag, else for the first typename that is too
-/// large, else for the first function that can't be lowered.
+/// large, else for the first function that can't be lowered. Want of memory also where lowering goes through too much,
+/// since functions share long chains of names or large tuples.
 pub fn adapt_document(alloc: Global, document: Document) -> Result<Adapted, RefusedDocument>
     requires ordered { IsOrdered (map definition_tree document.definitions) }
     ensures document { IfOk result (λ adapted. adapted.document ≡ document) }
@@ -65,6 +71,7 @@ fn document_parts(alloc: Global, document: &Document) -> Result<Parts, DocumentE
 {
     fits_tags(document)?;
     let layouts = uncounted_layouts(alloc, document)?;
+    check_lowering(alloc, document, MOST)?;
     let functions = document_functions(alloc, document.definitions().as_slice())?;
     Ok(Parts { functions, layouts })
 }

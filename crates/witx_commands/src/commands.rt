@@ -22,9 +22,13 @@ use std::alloc::Global;
 use witx_adapt::{Adapted, listing};
 use witx_ast::Document;
 use witx_base::{Text, WitxPath};
+use witx_extent::check_layouts;
 use witx_files::MockFs;
 use witx_layout::{LayoutError, ordered_layouts_text};
 use witx_sample::summary;
+
+/// What layouts may show below the lines of typenames, in bytes: of a record that has many names under each of them.
+const MOST: usize = 1 << 26;
 
 /// The layouts of the typenames of the document that the files at these paths mean.
 #[tactic(auto, using(crate::proofs::Refusing::command_rules))]
@@ -127,7 +131,7 @@ fn summarized(alloc: Global, adapted: Adapted) -> Result<Output, Stop>
     }
 }
 
-/// The layouts of an ordered document.
+/// The layouts of an ordered document. Want of memory also where they would be too long.
 #[tactic(auto, using(crate::proofs::Refusing::size_rules))]
 fn document_layouts(alloc: Global, document: &Document) -> Result<Output, Stop>
     requires { IsOrdered (map definition_tree document.now.definitions) }
@@ -137,6 +141,9 @@ fn document_layouts(alloc: Global, document: &Document) -> Result<Output, Stop>
     ensures value { IfOk result (λ o. (o.notes ≡ []) × (o.adapted ≡ None)) }
     ensures too_large { IfErr result (StopsWith (IsSizeReport (map definition_tree document.now.definitions))) }
 {
+    if check_layouts(alloc, document, MOST).is_err() {
+        return Err(Stop::OutOfMemory);
+    }
     match ordered_layouts_text(alloc, document) {
         Ok(text) => Ok(Output {
             text,

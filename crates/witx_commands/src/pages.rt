@@ -18,7 +18,11 @@ use std::fmt::Write;
 use witx_ast::Document;
 use witx_base::{Id, OutOfMemory, Text};
 use witx_docs::{DocsError, MissingLinks, closed_document_md};
+use witx_extent::check_page;
 use witx_files::MockFs;
+
+/// What a page may show of types, in bytes. So much is made within two seconds.
+const MOST: usize = 1 << 26;
 
 /// The page of the document that the files at these paths mean, with a note for each missing link.
 #[tactic(auto, using(crate::proofs::Noting::output_rules))]
@@ -32,7 +36,7 @@ pub fn page_of_files(alloc: Global, words: &[Text], files: &mut MockFs) -> Resul
     }
 }
 
-/// The page of a document.
+/// The page of a document. Want of memory also where it would be too long.
 #[tactic(auto, using(crate::proofs::Noting::page_rules))]
 fn document_page(alloc: Global, document: &Document) -> Result<Output, Stop>
     requires closed { IsClosed (map definition_tree document.now.definitions) }
@@ -40,6 +44,9 @@ fn document_page(alloc: Global, document: &Document) -> Result<Output, Stop>
     ensures value { IfOk result (λ o. o.adapted ≡ None) }
     ensures refused { IfErr result (StopsWith (IsPageReport (map definition_tree document.now.definitions))) }
 {
+    if check_page(alloc, document, MOST).is_err() {
+        return Err(Stop::OutOfMemory);
+    }
     match closed_document_md(alloc, document) {
         Ok((text, missing)) => noted(alloc, text, &missing),
         Err(error) => Err(page_stop(alloc, &error)),

@@ -23,6 +23,9 @@ use witx_imports::{
     ImportFault, ImportsError, WasmImport, WasmImports, check_imports, read_imports,
 };
 
+/// How long a text of faults may be, but for its last line.
+const LONGEST: usize = 1 << 26;
+
 /// A line for each fault of the imports that the list says, held against the document of the files
 /// behind it.
 #[tactic(auto, using(crate::proofs::Telling::import_rules))]
@@ -84,18 +87,22 @@ fn faults_text(alloc: Global, adapted: &Adapted, imports: &WasmImports) -> Resul
     Ok(Text::from_string(text))
 }
 
+/// Want of memory also where they take more than `LONGEST` bytes, as many imports differ from a function of many words.
 #[tactic(auto, using(witx_adapt::proofs::Appending::appending_rules))]
 fn put_faults(
     text: &mut String,
     functions: &[AdaptedFunc],
     imports: &[WasmImport],
     faults: &[ImportFault],
-) -> Result<(), AllocError>
+) -> Result<(), OutOfMemory>
     ensures { OnOk result (string_bytes text.new ≡ string_bytes text.old
         ++ flat_map (fault_line (map offered functions.now) imports.now) faults.now) }
 {
     for fault in faults {
         put_fault(text, functions, imports, fault)?;
+        if text.len() > LONGEST {
+            return Err(OutOfMemory);
+        }
     }
     Ok(())
 }

@@ -24,6 +24,9 @@ use witx_files::MockFs;
 use witx_traces::{TracePair, TracePairs, TracesError, read_traces};
 use witx_verify::{Allotment, Doubt, Verdict, verify_within};
 
+/// How much reading a listing may go through: each line, times the types of the function that has most.
+const MOST: usize = 1 << 25;
+
 /// A line for each function of the document of the files behind the listing: the verdict on the traces
 /// that the listing gives it.
 #[tactic(auto, using(crate::proofs::Telling::verdict_rules))]
@@ -43,18 +46,42 @@ pub fn verdicts_of_files(
 }
 
 /// The traces that a listing gives an adapted document, or the end of a run with the first line that
-/// can't stand there.
+/// can't stand there. Want of memory also where there are too many lines for the types of a function.
 #[tactic(auto, using(crate::proofs::Telling::listing_rules))]
 fn listed_traces(alloc: Global, adapted: &Adapted, listing: &str) -> Result<TracePairs, Stop>
     requires { IsAdapted adapted.now }
     ensures traces { IfOk result (λ pairs. GivesTraces (listed adapted.now) listing.now (map sides_of pairs)) }
     ensures stopped { IfErr result (StopsWith (IsUnfitListing (listed adapted.now) listing.now)) }
 {
+    if line_count(listing.as_bytes()).saturating_mul(most_types(adapted.functions.as_slice()))
+        > MOST
+    {
+        return Err(Stop::OutOfMemory);
+    }
     match read_traces(alloc, adapted, listing) {
         Ok(pairs) => Ok(pairs),
         Err(TracesError::Line { line }) => Err(unfit_stop(alloc, line)),
         Err(TracesError::OutOfMemory) => Err(Stop::OutOfMemory),
     }
+}
+
+fn line_count(listing: &[u8]) -> usize {
+    listing.iter().filter(|byte| **byte == b'\n').count()
+}
+
+/// How many parameters and results the function has that has most.
+fn most_types(functions: &[AdaptedFunc]) -> usize {
+    let mut most = 0usize;
+    for entry in functions {
+        most = most.max(
+            entry
+                .func
+                .params
+                .len()
+                .saturating_add(entry.func.results.len()),
+        );
+    }
+    most
 }
 
 /// The end of a run whose listing has this line where it can't stand.
