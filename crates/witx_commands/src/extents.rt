@@ -11,7 +11,8 @@ const MOST: usize = 1 << 25;
 
 /// How many names may stand one for the other, and how many types lie one in the other. How one type is represented by
 /// another takes 48 bytes of the stack for each type as LLVM builds it, and 208 as Rattle's own compiler does. Where two
-/// conversions are equal, `==` takes at most 96 for each name and 128 for each type by LLVM, and 144 and 257 by the other.
+/// conversions are equal, `==` takes at most 112 for each type by LLVM (in a program that only compares) and 256 by the
+/// other, and none for names.
 const DEEPEST: usize = 30_100;
 
 /// Want of memory where there is more than that to the types of mapped modules, or where they are too deep.

@@ -6,8 +6,9 @@ use witx_ast::{InterfaceFunc, InterfaceFuncParam, TypeRef};
 use witx_base::OutOfMemory;
 use witx_extent::Allowance;
 
-/// How many names may stand one for the other, and how many types lie one in the other: `==` of types,
-/// which takes most, needs 259 bytes of the stack for a name and a type, as LLVM builds it.
+/// How many names may stand one for the other, and how many types lie one in the other: what goes through types recurses
+/// once for each type. `==` needs at most 112 bytes of the stack for it as LLVM builds it (in a program that only
+/// compares), 256 as Rattle's own compiler does, and none for names.
 const DEEPEST: usize = 30_100;
 
 /// What there may be to the types of a function, which are gone through some ten times in each of three worlds; also to
