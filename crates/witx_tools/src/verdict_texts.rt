@@ -66,20 +66,25 @@ fn listed_traces(alloc: Global, adapted: &Adapted, listing: &str) -> Result<Trac
 }
 
 fn line_count(listing: &[u8]) -> usize {
-    listing.iter().filter(|byte| **byte == b'\n').count()
+    let mut count = 0usize;
+    for byte in listing {
+        if *byte == b'\n' {
+            count = count.saturating_add(1);
+        }
+    }
+    count
 }
 
 /// How many parameters and results the function has that has most.
 fn most_types(functions: &[AdaptedFunc]) -> usize {
     let mut most = 0usize;
     for entry in functions {
-        most = most.max(
-            entry
-                .func
-                .params
-                .len()
-                .saturating_add(entry.func.results.len()),
-        );
+        let types = entry
+            .func
+            .params
+            .len()
+            .saturating_add(entry.func.results.len());
+        most = most.max(types);
     }
     most
 }
