@@ -5,7 +5,8 @@ use Rattle.std.specs.Bool.{Decides}
 use Rattle.witx_ast.specs.declared.types.BuiltinType.{BuiltinType}
 use Rattle.witx_ast.specs.Plain.{Plain, Fields, Arms}
 use Rattle.witx_ast.specs.Alike.{same_builtin, same_plain, same_plain_fields, same_plain_arms}
-use Rattle.witx_ast.specs.SameLaws.{false-true, both, builtin-to, builtin-self, kind-to, kind-self, repr-to, repr-self, bytes-to, bytes-self}
+use Rattle.witx_base.specs.SameBytes.{false-true, both, bytes-to, bytes-self}
+use Rattle.witx_ast.specs.SameLaws.{builtin-to, builtin-self, kind-to, kind-self, repr-to, repr-self}
 
 mutual
   alike-to : (x y : Plain) → same_plain x y ≡ true → x ≡ y

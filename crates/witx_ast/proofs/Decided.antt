@@ -4,7 +4,7 @@ use Rattle.std.proofs.Common.{refl, inl, inr}
 use Rattle.std.specs.Bool.{Decides}
 use Rattle.std.proofs.lemmas.Bool.{leb-true, le-leb}
 use Rattle.std.proofs.lemmas.Bool.Decides.{Decides-ltb, Decides-eqb}
-use Rattle.witx_ast.specs.SameLaws.{false-true, both}
+use Rattle.witx_base.specs.SameBytes.{false-true, both}
 
 pub always : Decides true (Unit {0})
 always = (λ h. tt, λ h. refl)

@@ -12,7 +12,7 @@ use Rattle.std.proofs.lemmas.Bool.Decides.{Decides-at, same_from_decides}
 use Rattle.std.proofs.lemmas.List.Elements.{filter_map-append}
 use Rattle.witx_base.specs.Texts.{same_text}
 use Rattle.witx_base.specs.Found.{found}
-use Rattle.witx_ast.specs.SameLaws.{bytes-to, false-true}
+use Rattle.witx_base.specs.SameBytes.{bytes-to, false-true}
 use Rattle.witx_ast.specs.Entries.{by_name, Fits}
 
 -- the test by which a map tells its names apart

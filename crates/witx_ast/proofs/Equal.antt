@@ -4,7 +4,8 @@ use Rattle.std.proofs.Common.{arith, refl, sym}
 use Rattle.std.specs.Cmp.Lexicographic.{pointwise}
 use Rattle.witx_ast.specs.Tree.{Tree, Arms, no_arms, arm, fields_of, arms_of}
 use Rattle.witx_ast.specs.Views.{tree_of, datatype_tree, named_tree, member_field, case_arm}
-use Rattle.witx_ast.specs.Same.{same_bytes, same_tree, same_fields, same_arms}
+use Rattle.witx_base.specs.SameBytes.{same_bytes}
+use Rattle.witx_ast.specs.Same.{same_tree, same_fields, same_arms}
 use Rattle.witx_ast.proofs.Trees.{tree-Name, tree-Value, tree-NamedType, tree-Record, tree-Variant, tree-Handle, tree-List, tree-Pointer, tree-ConstPointer, tree-Builtin, tree-RecordDatatype, tree-VariantDatatype, tree-RecordMember, tree-Case}
 use Rattle.witx_ast.specs.declared.types.Datatype.{Datatype, Record, Variant, Handle, List as ListOf, Pointer, ConstPointer, Builtin}
 use Rattle.witx_ast.specs.declared.types.NamedType.{NamedType}

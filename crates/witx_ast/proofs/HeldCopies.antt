@@ -9,8 +9,7 @@ use Rattle.witx_base.specs.Copies.{IsCopyOfEntries}
 use Rattle.witx_ast.specs.Entries.{Fits}
 use Rattle.witx_ast.proofs.Copied.{copied}
 use Rattle.witx_ast.specs.Copies.{HoldSameItem, HoldSameItemEntry, HoldSame, HoldSameEntry}
-use Rattle.witx_ast.specs.Same.{same_bytes}
-use Rattle.witx_ast.specs.SameLaws.{bytes-self}
+use Rattle.witx_base.specs.SameBytes.{same_bytes, bytes-self}
 use Rattle.witx_ast.specs.Views.{tree_of}
 use Rattle.witx_ast.specs.Functions.{func_tree}
 use Rattle.witx_ast.specs.Items.{import_of, func_of, item_tree, entry_item, ItemsFit}

@@ -7,8 +7,9 @@ use Rattle.std.specs.Bool.{beq}
 use Rattle.witx_ast.specs.Tree.{Tree, Field, Arm}
 use Rattle.witx_ast.specs.Views.{tree_of, record_tree, variant_tree, member_field, case_arm}
 use Rattle.witx_ast.specs.Functions.{param_field, func_tree}
-use Rattle.witx_ast.specs.Same.{same_bytes, same_tree}
-use Rattle.witx_ast.specs.SameLaws.{bytes-self, same-self}
+use Rattle.witx_base.specs.SameBytes.{same_bytes, bytes-self}
+use Rattle.witx_ast.specs.Same.{same_tree}
+use Rattle.witx_ast.specs.SameLaws.{same-self}
 use Rattle.witx_ast.proofs.Equal.{datatype-same}
 use Rattle.witx_ast.proofs.Trees.{tree-Record, tree-Variant, tree-RecordMember, tree-Case}
 use Rattle.witx_ast.specs.declared.types.Datatype.TheVariants as datatype

@@ -2,7 +2,7 @@
 use Rattle.std.specs.Prelude.{Bool, true, false, ◌&&◌}
 use Rattle.witx_ast.specs.declared.types.BuiltinType.{BuiltinType}
 use Rattle.witx_ast.specs.Plain.{Plain, Fields, Arms}
-use Rattle.witx_ast.specs.Same.{same_bytes}
+use Rattle.witx_base.specs.SameBytes.{same_bytes}
 use Rattle.witx_ast.specs.contracts.types.BuiltinTypePartialEq.TheImpl as builtins
 use Rattle.witx_ast.specs.contracts.types.IntReprPartialEq.TheImpl as reprs
 use Rattle.witx_ast.specs.contracts.types.RecordKindPartialEq.TheImpl as kinds

@@ -6,7 +6,8 @@ use Rattle.witx_ast.specs.declared.types.BuiltinType.{BuiltinType}
 use Rattle.witx_ast.specs.declared.types.IntRepr.{IntRepr}
 use Rattle.witx_ast.specs.declared.types.RecordKind.{RecordKind}
 use Rattle.witx_ast.specs.Tree.{Tree, Fields, Arms}
-use Rattle.witx_ast.specs.Same.{same_tree, same_fields, same_arms, same_bytes}
+use Rattle.witx_base.specs.SameBytes.{bool-iff, both, bytes-self, bytes-to, false-true}
+use Rattle.witx_ast.specs.Same.{same_tree, same_fields, same_arms}
 use Rattle.witx_ast.specs.contracts.types.BuiltinTypePartialEq.TheImpl as builtins
 use Rattle.witx_ast.specs.contracts.types.IntReprPartialEq.TheImpl as reprs
 use Rattle.witx_ast.specs.contracts.types.RecordKindPartialEq.TheImpl as kinds
@@ -25,19 +26,6 @@ builtin-self b = search rules
 
 pub kind-self : (b : RecordKind) → kinds.ghosts.eq b b ≡ true
 kind-self b = search rules
-
-pub bytes-to : (xs ys : List ℕ) → same_bytes xs ys ≡ true → xs ≡ ys
-bytes-to xs ys h = search rules
-
-pub bytes-self : (xs : List ℕ) → same_bytes xs xs ≡ true
-bytes-self xs = search rules
-
-pub false-true : false ≡ true → ⊥
-false-true h = cc
-
-pub both : (a b : Bool) → a && b ≡ true → (a ≡ true) × (b ≡ true)
-both true b h = (refl, h)
-both false b h = absurd (false-true h)
 
 mutual
   pub same-to : (x y : Tree) → same_tree x y ≡ true → x ≡ y
@@ -94,12 +82,6 @@ mutual
   arms-self Arms.no_arms = refl
   arms-self (Arms.bare n d cs) = rw (bytes-self n, bytes-self d, arms-self cs) refl
   arms-self (Arms.carries n t d cs) = rw (bytes-self n, same-self t, bytes-self d, arms-self cs) refl
-
-pub bool-iff : (a b : Bool) → (a ≡ true → b ≡ true) → (b ≡ true → a ≡ true) → a ≡ b
-bool-iff true true f g = refl
-bool-iff true false f g = sym (f refl)
-bool-iff false true f g = g refl
-bool-iff false false f g = refl
 
 pub same-from : (x y : Tree) → x ≡ y → same_tree x y ≡ true
 same-from x y e = rw (← e) (same-self x)

@@ -120,7 +120,7 @@ pub struct NamedType {
 
 impl NamedType {
     ghost use Rattle.std.specs.Prelude.{◌≡◌, ◌&&◌};
-    ghost use Rattle.witx_ast.specs.Same.{same_bytes};
+    ghost use Rattle.witx_base.specs.SameBytes.{same_bytes};
 
     // Whether the name and the documentation are the same, whatever the names stand for.
     fn is_called_as(&self, other: &NamedType) -> bool

@@ -3,7 +3,7 @@ use Rattle.std.proofs.Common.{◌≡◌, ◌≢◌, ℕ, zero, suc, ◌+◌, ◌
 use Rattle.witx_bytes.specs.Bytes.{Bytes, Image, Agrees, written, placed, all_held, none_held}
 use Rattle.witx_bytes.specs.Images.{gap, padded_to}
 use Rattle.witx_ast.proofs.Decided.{decides-lt, decides-le, decides-eq, both-then}
-use Rattle.witx_ast.specs.SameLaws.{false-true, both}
+use Rattle.witx_base.specs.SameBytes.{false-true, both}
 
 -- the address counts up
 pub step : (at n : ℕ) → suc at + n ≡ at + suc n

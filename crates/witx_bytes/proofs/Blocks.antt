@@ -5,7 +5,7 @@ use Rattle.std.specs.declared.cmp.Ordering.TheVariants.{Less, Equal, Greater}
 use Rattle.std.specs.BTreeMap.{is_at}
 use Rattle.std.proofs.lemmas.List.{get_or-drop, get_or-take, length-take-le}
 use Rattle.witx_ast.proofs.Decided.{decides-eq, decides-lt}
-use Rattle.witx_ast.specs.SameLaws.{false-true}
+use Rattle.witx_base.specs.SameBytes.{false-true}
 use Rattle.witx_bytes.specs.Bytes.{Bytes, Image, Blocks, block_of, HasBlock, HasBlocks, in_block, place, held, written, all_held, none_held, RunAt, Filled, IsByteMemory}
 use Rattle.witx_bytes.specs.Images.{little}
 use Rattle.witx_bytes.specs.Writes.{HasRange, Writes}

@@ -1,7 +1,7 @@
 -- Members written one after the other, and the parts of variants.
 use Rattle.std.proofs.Common.{◌≡◌, ℕ, ◌+◌, ◌-◌, ◌^◌, ◌<◌, ◌≤◌, max, Bool, true, false, ◌&&◌, refl, sym, ap, ◌∙◌, subst, arith, Option, Some, None, List, [], ◌∷◌, ◌++◌, length, map, drop, get_or, nat_le}
 use Rattle.std.proofs.lemmas.List.{drop_more, drop_all}
-use Rattle.witx_ast.specs.SameLaws.{false-true, both}
+use Rattle.witx_base.specs.SameBytes.{false-true, both}
 use Rattle.std.proofs.Common.{ℤ, option_map, not, nat_eq, nat_lt, ◌||◌}
 use Rattle.witx_ast.specs.declared.types.TypeRef.{TypeRef}
 use Rattle.witx_ast.specs.declared.types.Case.{Case}

@@ -104,7 +104,7 @@ flags-bits (suc n) x h =
   where
     go : (b : Bool) → nat_eq (x % 2) 1 ≡ b → bits_of_flags (flags_from n (x / 2)) ≡ x / 2 → cond b 1 0 + 2 * bits_of_flags (flags_from n (x / 2)) ≡ x
     go true e k = let low : x % 2 ≡ 1 = (Rattle.witx_ast.proofs.Decided.decides-eq (x % 2) 1).0 e in omega (arith, low, k)
-    go false e k = let low : x % 2 ≢ 1 = λ s. Rattle.witx_ast.specs.SameLaws.false-true (sym e ∙ (Rattle.witx_ast.proofs.Decided.decides-eq (x % 2) 1).1 s) in omega (arith, low, k)
+    go false e k = let low : x % 2 ≢ 1 = λ s. Rattle.witx_base.specs.SameBytes.false-true (sym e ∙ (Rattle.witx_ast.proofs.Decided.decides-eq (x % 2) 1).1 s) in omega (arith, low, k)
 
 -- builtins
 size-some : (b : BuiltinType) → 0 < 256 ^ builtin_size b

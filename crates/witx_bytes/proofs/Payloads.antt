@@ -2,7 +2,7 @@
 use Rattle.std.proofs.Common.{◌≡◌, ℕ, zero, suc, ◌<◌, ◌≤◌, Bool, true, false, refl, sym, ◌∙◌, subst, arith, Option, Some, None, is_none, List, [], ◌∷◌, length, get_or}
 use Rattle.witx_ast.specs.Plain.{plain, Arms, arm_count}
 use Rattle.witx_ast.specs.Views.{tree_of, cases_plain}
-use Rattle.witx_ast.specs.SameLaws.{both}
+use Rattle.witx_base.specs.SameBytes.{both}
 use Rattle.witx_ast.specs.Tags.{fits, arms_fit}
 use Rattle.witx_ast.specs.Values.{Value}
 use Rattle.witx_ast.specs.ValueTests.{is_bare_case, is_case_with}

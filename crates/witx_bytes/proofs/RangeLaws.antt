@@ -3,7 +3,7 @@ use Rattle.std.proofs.Common.{◌≡◌, ◌≢◌, ℕ, ◌+◌, ◌<◌, ◌�
 use Rattle.witx_ast.specs.Plain.{Plain}
 use Rattle.witx_ast.specs.Values.{Value}
 use Rattle.witx_ast.specs.ValueTests.{is_value}
-use Rattle.witx_ast.specs.SameLaws.{false-true, both}
+use Rattle.witx_base.specs.SameBytes.{false-true, both}
 use Rattle.witx_ast.proofs.ValueLaws.{value-decides}
 use Rattle.witx_ast.proofs.Decided.{decides-lt, decides-eq, both-then}
 use Rattle.witx_layout.specs.Numbers.{size_of}

@@ -1,7 +1,7 @@
 -- Loops over the bytes of a range.
 use Rattle.std.proofs.Common.{◌≡◌, ◌≢◌, ℕ, ◌+◌, ◌<◌, ◌≤◌, Bool, true, false, refl, sym, ap, ◌∙◌, arith, Option, Some, None, is_some, is_none, ◌⊎◌, inl, inr, subst, nat_eq, nat_lt, nat_le}
 use Rattle.witx_ast.proofs.Decided.{decides-eq, decides-lt, decides-le}
-use Rattle.witx_ast.specs.SameLaws.{false-true}
+use Rattle.witx_base.specs.SameBytes.{false-true}
 use Rattle.witx_bytes.specs.Bytes.{Bytes, all_held, none_held, placed, Filled}
 use Rattle.witx_bytes.proofs.Agreement.{held-from, held-at, free-from, free-at, placed-outside, placed-own}
 

@@ -1,6 +1,6 @@
 -- Flags that are read, from the lowest bit on.
 use Rattle.std.proofs.Common.{◌≡◌, ℕ, suc, ◌+◌, ◌-◌, ◌/◌, ◌%◌, ◌^◌, ◌<◌, ◌≤◌, Bool, true, false, refl, sym, ap, ◌∙◌, arith, Some, None, List, [], ◌∷◌, ◌++◌, append-nil, append_assoc, pow-suc, nat_eq, nat_lt}
-use Rattle.witx_ast.specs.SameLaws.{false-true}
+use Rattle.witx_base.specs.SameBytes.{false-true}
 use Rattle.witx_ast.proofs.Decided.{decides-lt}
 use Rattle.witx_ast.specs.Values as plain
 use Rattle.witx_machine.specs.Words.{flags_from, when}

@@ -1,6 +1,6 @@
 -- Images written one part after the other.
 use Rattle.std.proofs.Common.{◌≡◌, ◌≢◌, ℕ, zero, suc, ◌+◌, ◌-◌, ◌%◌, ◌/◌, ◌<◌, ◌≤◌, Bool, true, false, cond, refl, sym, ap, ◌∙◌, subst, arith, Some, None, is_some, [], ◌∷◌, ◌++◌, length, nat_eq, nat_lt, ◌⊎◌, inl, inr}
-use Rattle.witx_ast.specs.SameLaws.{false-true}
+use Rattle.witx_base.specs.SameBytes.{false-true}
 use Rattle.witx_ast.proofs.Decided.{decides-eq, decides-lt}
 use Rattle.witx_bytes.specs.Bytes.{Bytes, Image, written, AreHeld}
 use Rattle.witx_bytes.specs.Images.{little, gap, padded_to}

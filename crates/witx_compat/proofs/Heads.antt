@@ -4,8 +4,7 @@ use Rattle.std.proofs.Common.{refl, sym, ◌∙◌, ap, get_or}
 use Rattle.std.proofs.lemmas.Bool.{eqb-true}
 use Rattle.witx_ast.specs.Plain.{Plain, plain, Fields, Arms}
 use Rattle.witx_ast.specs.Views.{members_plain, cases_plain, tree_of, record_tree}
-use Rattle.witx_ast.specs.Same.{same_bytes}
-use Rattle.witx_ast.specs.SameLaws.{both, false-true}
+use Rattle.witx_base.specs.SameBytes.{same_bytes, both, false-true}
 use Rattle.witx_ast.specs.contracts.types.RecordKindPartialEq.TheImpl as kinds
 use Rattle.witx_ast.specs.declared.types.Case.{Case}
 use Rattle.witx_ast.specs.declared.types.RecordDatatype.{RecordDatatype, out-RecordDatatype}

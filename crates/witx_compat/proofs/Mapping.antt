@@ -8,7 +8,7 @@ use Rattle.std.proofs.lemmas.List.{drop_more, drop_all, map-append, append_assoc
 use Rattle.witx_ast.specs.Tree.{Field}
 use Rattle.witx_ast.specs.Functions.{param_field}
 use Rattle.witx_ast.specs.declared.function.InterfaceFuncParam.{InterfaceFuncParam}
-use Rattle.witx_ast.specs.SameLaws.{false-true}
+use Rattle.witx_base.specs.SameBytes.{false-true}
 use Rattle.witx_ast.proofs.Trees.{tree_rules}
 use Rattle.witx_base.specs.Found.{found}
 use Rattle.witx_compat.specs.declared.conversion.ParamPolyfill.{ParamPolyfill}

@@ -8,7 +8,8 @@ use Rattle.std.specs.List.{list_any, flat_map}
 use Rattle.std.specs.HashSet.{HashSet, IsEmpty, Updates}
 use Rattle.witx_ast.specs.Tree.{Tree}
 use Rattle.witx_ast.specs.Same.{same_tree}
-use Rattle.witx_ast.specs.SameLaws.{same-to, same-self, bool-iff, both, false-true}
+use Rattle.witx_base.specs.SameBytes.{bool-iff, both, false-true}
+use Rattle.witx_ast.specs.SameLaws.{same-to, same-self}
 use Rattle.witx_compat.specs.declared.conversion.TypePolyfill.{TypePolyfill}
 use Rattle.witx_compat.specs.declared.conversion.ParamPolyfill.{ParamPolyfill}
 use Rattle.witx_compat.specs.declared.functions.FuncPolyfill.{FuncPolyfill}

@@ -10,8 +10,7 @@ use Rattle.witx_ast.specs.Tree.{Tree, arm, behind}
 use Rattle.std.proofs.lemmas.Bool.{ltb-true}
 use Rattle.witx_ast.specs.declared.types.Variant.{Variant, out-Variant}
 use Rattle.witx_ast.specs.Views.{cases_plain, tree_of, case_arm, datatype_tree, variant_tree}
-use Rattle.witx_ast.specs.Same.{same_bytes}
-use Rattle.witx_ast.specs.SameLaws.{bytes-to, bytes-self, both, false-true}
+use Rattle.witx_base.specs.SameBytes.{same_bytes, bytes-to, bytes-self, both, false-true}
 use Rattle.witx_ast.specs.declared.types.Case.{Case}
 use Rattle.witx_ast.specs.declared.types.Datatype.{Datatype}
 use Rattle.witx_ast.specs.declared.types.TypeRef.{TypeRef}

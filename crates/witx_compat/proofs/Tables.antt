@@ -10,8 +10,7 @@ use Rattle.std.proofs.Common.{refl, sym, ◌∙◌, ap, get_or}
 use Rattle.std.proofs.lemmas.List.{drop_more, drop_all}
 use Rattle.witx_base.specs.Found.{found}
 use Rattle.witx_ast.specs.Tree.{Field}
-use Rattle.witx_ast.specs.Same.{same_bytes}
-use Rattle.witx_ast.specs.SameLaws.{bytes-to, bytes-self, false-true}
+use Rattle.witx_base.specs.SameBytes.{same_bytes, bytes-to, bytes-self, false-true}
 use Rattle.witx_ast.specs.Functions.{param_field}
 use Rattle.witx_ast.specs.declared.function.InterfaceFuncParam.{InterfaceFuncParam}
 use Rattle.witx_ast.proofs.EntryLaws.{key-decides}

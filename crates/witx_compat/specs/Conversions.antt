@@ -2,7 +2,7 @@
 use Rattle.std.specs.Prelude.{ℕ, List, codes, Option, Some, None, Bool, ◌&&◌}
 use Rattle.witx_ast.specs.Tree.{Tree, Field}
 use Rattle.witx_ast.specs.Plain.{plain}
-use Rattle.witx_ast.specs.Same.{same_bytes}
+use Rattle.witx_base.specs.SameBytes.{same_bytes}
 use Rattle.witx_compat.specs.declared.answer.RepEquality.{RepEquality}
 use Rattle.witx_compat.specs.Answers.{is_same}
 use Rattle.witx_compat.specs.Represents.{represented}

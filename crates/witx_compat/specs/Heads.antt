@@ -1,7 +1,7 @@
 -- What two records, or two variants, have in common beside the types in them.
 use Rattle.std.specs.Prelude.{ℕ, ◌+◌, ◌==◌, ◌&&◌, Option, Some, None, Bool, true, false}
 use Rattle.witx_ast.specs.Plain.{Fields, Arms}
-use Rattle.witx_ast.specs.Same.{same_bytes}
+use Rattle.witx_base.specs.SameBytes.{same_bytes}
 use Rattle.witx_compat.specs.Represents.{last_place}
 
 -- as many members, and member by member their names are equal

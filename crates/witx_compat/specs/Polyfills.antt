@@ -2,7 +2,7 @@
 use Rattle.std.specs.Prelude.{ℕ, ◌==◌, List, [], ◌∷◌, ◌++◌, map, length, Option, Some, None, Bool, true, false, ◌&&◌, option_map, Result, Ok, Err}
 use Rattle.std.specs.List.{filter_map, list_all}
 use Rattle.witx_ast.specs.Tree.{Field}
-use Rattle.witx_ast.specs.Same.{same_bytes}
+use Rattle.witx_base.specs.SameBytes.{same_bytes}
 use Rattle.witx_ast.specs.Functions.{FunctionTree}
 use Rattle.witx_ast.specs.Items.{funcs_of, func_called}
 use Rattle.witx_ast.specs.Definitions.{ModuleTree, DefinitionTree, module_called}

@@ -2,7 +2,7 @@
 
 ghost use Rattle.std.specs.Prelude.{◌≡◌, ◌&&◌, length};
 ghost use Rattle.witx_ast.specs.Plain.{plain};
-ghost use Rattle.witx_ast.specs.Same.{same_bytes};
+ghost use Rattle.witx_base.specs.SameBytes.{same_bytes};
 ghost use Rattle.witx_ast.specs.Views.{tree_of, datatype_tree, named_tree, record_tree, variant_tree, members_plain};
 ghost use Rattle.witx_ast.specs.contracts.types.RecordKindPartialEq.TheImpl as kinds;
 ghost use Rattle.witx_ast.specs.declared.types.RecordDatatype.{out-RecordDatatype};

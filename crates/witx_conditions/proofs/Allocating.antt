@@ -3,7 +3,7 @@ use Rattle.std.specs.Prelude.{◌≡◌, ℕ, ◌+◌, ◌<◌, ◌≤◌, List,
 use Rattle.std.proofs.Common.{refl, sym, ◌∙◌, get_or}
 use Rattle.witx_ast.specs.Functions.{func_tree, param_field}
 use Rattle.witx_ast.specs.Plain.{plain}
-use Rattle.witx_ast.specs.SameLaws.{both}
+use Rattle.witx_base.specs.SameBytes.{both}
 use Rattle.witx_ast.specs.Tags.{fits, function_fits, types_fit}
 use Rattle.witx_ast.specs.Tree.{Tree}
 use Rattle.witx_ast.specs.Views.{tree_of}

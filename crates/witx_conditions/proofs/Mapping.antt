@@ -2,8 +2,9 @@
 use Rattle.std.specs.Prelude.{◌≡◌, List, [], ◌∷◌, Bool, true, ◌&&◌, map}
 use Rattle.std.proofs.Common.{refl, ap, sym, ◌∙◌}
 use Rattle.std.specs.Cmp.Lexicographic.{pointwise}
-use Rattle.witx_ast.specs.Same.{same_bytes, same_tree}
-use Rattle.witx_ast.specs.SameLaws.{both, bytes-to, false-true, same-to}
+use Rattle.witx_base.specs.SameBytes.{same_bytes, both, bytes-to, false-true}
+use Rattle.witx_ast.specs.Same.{same_tree}
+use Rattle.witx_ast.specs.SameLaws.{same-to}
 use Rattle.witx_ast.specs.Views.{tree_of}
 use Rattle.witx_ast.specs.Functions.{func_tree, param_field}
 use Rattle.witx_ast.specs.declared.function.InterfaceFuncParam.{InterfaceFuncParam}

@@ -8,7 +8,8 @@ use Rattle.witx_ast.specs.Closed.{AllNamesStand, ClosedAfter, IsClosed, ItemName
 use Rattle.witx_ast.specs.Definitions.{DefinitionTree, typename_of, module_of, constant_of, definition_tree, typename_called}
 use Rattle.witx_ast.specs.Items.{ItemTree, import_of, func_of}
 use Rattle.witx_ast.specs.Ordered.{ArmNamesStand, DefinitionStands, FieldNamesStand, IsOrdered, NamesStand, OrderedAfter, StandsBefore}
-use Rattle.witx_ast.specs.SameLaws.{false-true, same-to, same-from}
+use Rattle.witx_base.specs.SameBytes.{false-true}
+use Rattle.witx_ast.specs.SameLaws.{same-to, same-from}
 use Rattle.witx_ast.specs.Tree.{Tree, Fields, Arms, Field, behind}
 use Rattle.witx_ast.specs.declared.definition.Definition.{Definition}
 use Rattle.witx_ast.proofs.Decided.{always, decides-and}

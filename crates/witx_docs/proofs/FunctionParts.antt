@@ -5,8 +5,7 @@ use Rattle.std.proofs.Common.{arith, get_or, refl, ap, sym, ◌∙◌, append_as
 use Rattle.std.proofs.lemmas.List.{drop_more, drop_all, map-append}
 use Rattle.std.proofs.lemmas.List.Concat.{flat_map-append}
 use Rattle.witx_base.proofs.Cuts.{suc-full}
-use Rattle.witx_ast.specs.Same.{same_bytes}
-use Rattle.witx_ast.specs.SameLaws.{false-true}
+use Rattle.witx_base.specs.SameBytes.{same_bytes, false-true}
 use Rattle.witx_compat.specs.declared.conversion.ParamPolyfill.{ParamPolyfill}
 use Rattle.witx_compat.specs.declared.conversion.ParamUnknown.{ParamUnknown}
 use Rattle.witx_compat.specs.Conversions.{is_compatible}

@@ -6,7 +6,7 @@ use Rattle.std.proofs.lemmas.List.{drop_more, drop_all, map-append}
 use Rattle.witx_base.specs.Found.{found}
 use Rattle.witx_base.specs.Texts.{same_text}
 use Rattle.witx_ast.proofs.EntryLaws.{is_key, key-decides, unlike}
-use Rattle.witx_ast.specs.SameLaws.{bytes-self}
+use Rattle.witx_base.specs.SameBytes.{bytes-self}
 use Rattle.witx_ast.specs.declared.definition.Constant.{Constant}
 use Rattle.witx_ast.specs.declared.definition.Definition.{Definition}
 use Rattle.witx_ast.specs.declared.definition.Definition.TheVariants as definition

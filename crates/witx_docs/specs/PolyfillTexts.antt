@@ -2,7 +2,7 @@
 use Rattle.std.specs.Prelude.{ℕ, List, [], ◌∷◌, ◌++◌, map, not, codes, if◌then◌else◌}
 use Rattle.std.specs.List.{filter, flat_map, join_by}
 use Rattle.witx_ast.specs.Tree.{Tree}
-use Rattle.witx_ast.specs.Same.{same_bytes}
+use Rattle.witx_base.specs.SameBytes.{same_bytes}
 use Rattle.witx_ast.specs.TypeNames.{type_text}
 use Rattle.witx_compat.specs.declared.answer.RepEquality.{RepEquality}
 use Rattle.witx_compat.specs.Answers.{is_same}

@@ -3,7 +3,7 @@
 ghost use Rattle.std.specs.Prelude.{◌≡◌, ◌==◌, ◌&&◌, ◌++◌, IfOk, OnOk, codes, length, map, string_bytes};
 ghost use Rattle.std.specs.List.{flat_map, list_all};
 ghost use Rattle.witx_ast.specs.Functions.{func_tree};
-ghost use Rattle.witx_ast.specs.Same.{same_bytes};
+ghost use Rattle.witx_base.specs.SameBytes.{same_bytes};
 ghost use Rattle.witx_ast.specs.Views.{tree_of};
 ghost use Rattle.witx_ast.specs.TypeNames.{type_text};
 ghost use Rattle.witx_compat.specs.Conversions.{is_compatible};

@@ -7,7 +7,7 @@ use Rattle.witx_ast.specs.Alike.{same_plain}
 use Rattle.witx_ast.specs.Values.{Value}
 use Rattle.witx_ast.specs.ValueTests.{is_value}
 use Rattle.witx_ast.specs.Tags.{fits, AllFit}
-use Rattle.witx_ast.specs.SameLaws.{false-true, both}
+use Rattle.witx_base.specs.SameBytes.{false-true, both}
 use Rattle.witx_ast.proofs.Decided.{decides-eq, decides-le}
 use Rattle.witx_ast.proofs.ValueLaws.{value-decides}
 use Rattle.witx_ast.proofs.AlikeLaws.{alike-decides}

@@ -6,7 +6,7 @@ use Rattle.witx_ast.specs.Alike.{same_plain}
 use Rattle.witx_ast.specs.Values.{Value}
 use Rattle.witx_ast.specs.ValueTests.{is_value}
 use Rattle.witx_ast.specs.Tags.{fits, AllFit}
-use Rattle.witx_ast.specs.SameLaws.{both}
+use Rattle.witx_base.specs.SameBytes.{both}
 use Rattle.witx_ast.proofs.Decided.{both-then, decides-lt, decides-le}
 use Rattle.witx_ast.proofs.AlikeLaws.{alike-decides}
 use Rattle.witx_ast.proofs.TagLaws.{fits-decides}

@@ -1,7 +1,7 @@
 -- The number of more flags than a word of the program's has bits.
 use Rattle.std.proofs.Common.{◌≡◌, ℕ, zero, suc, ◌+◌, ◌*◌, ◌^◌, ◌<◌, ◌≤◌, Bool, true, false, cond, refl, sym, ap, ◌∙◌, arith, List, [], ◌∷◌, take, drop, nat_eq, pow-suc, subst}
 use Rattle.witx_ast.proofs.Decided.{decides-eq}
-use Rattle.witx_ast.specs.SameLaws.{false-true}
+use Rattle.witx_base.specs.SameBytes.{false-true}
 use Rattle.witx_machine.specs.Words.{bits_of_flags}
 
 -- none from the n-th on is set

@@ -5,7 +5,7 @@ use Rattle.witx_ast.specs.Plain.{plain}
 use Rattle.witx_ast.specs.Values.{Value}
 use Rattle.witx_ast.specs.ValueTests.{is_value}
 use Rattle.witx_ast.specs.Tags.{fits}
-use Rattle.witx_ast.specs.SameLaws.{both}
+use Rattle.witx_base.specs.SameBytes.{both}
 use Rattle.witx_ast.proofs.Decided.{both-then, decides-le}
 use Rattle.witx_machine.specs.Words.{Word, i32, is_u32, when}
 use Rattle.witx_machine.specs.Functions.{by_address}

@@ -4,7 +4,7 @@ use Rattle.std.specs.Prelude.{take}
 use Rattle.std.proofs.lemmas.List.{length-take-le}
 use Rattle.witx_ast.specs.Tree.{Tree}
 use Rattle.witx_ast.specs.Plain.{plain}
-use Rattle.witx_ast.specs.SameLaws.{both}
+use Rattle.witx_base.specs.SameBytes.{both}
 use Rattle.witx_ast.proofs.Decided.{both-then, decides-lt, decides-le}
 use Rattle.witx_layout.specs.Numbers.{align_to}
 use Rattle.witx_machine.specs.Run.{numbers}

@@ -9,7 +9,7 @@ use Rattle.std.proofs.lemmas.List.{drop_more, drop_all, take_more, map-append}
 use Rattle.std.proofs.lemmas.List.Elements.{filter_map-append}
 use Rattle.witx_base.specs.Texts.{same_text}
 use Rattle.witx_base.specs.Found.{found}
-use Rattle.witx_ast.specs.SameLaws.{bytes-self, false-true}
+use Rattle.witx_base.specs.SameBytes.{bytes-self, false-true}
 use Rattle.witx_ast.specs.Tree.{Tree, Fields, Arms, behind}
 use Rattle.witx_ast.specs.Plain.{Plain, plain}
 use Rattle.witx_ast.specs.Entries.{by_name}

@@ -1,8 +1,8 @@
 -- The callee's whole run.
 use Rattle.std.proofs.Common.{◌≡◌, ℕ, suc, ◌+◌, true, T, refl, sym, ap, ◌∙◌, subst, Option, Some, None, List, [], ◌∷◌, ◌++◌, append_assoc, append-nil, map, length, slice_get, length-append}
 use Rattle.witx_ast.specs.Tree.{Tree}
-use Rattle.witx_ast.specs.Same.{same_bytes}
-use Rattle.witx_ast.specs.SameLaws.{bytes-self, same-self}
+use Rattle.witx_base.specs.SameBytes.{same_bytes, bytes-self}
+use Rattle.witx_ast.specs.SameLaws.{same-self}
 use Rattle.witx_machine.specs.Events.{Step, Event, emit}
 use Rattle.witx_machine.specs.Functions.{Function}
 use Rattle.witx_machine.specs.Signature.{signature_results}

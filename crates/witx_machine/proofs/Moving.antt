@@ -1,7 +1,8 @@
 -- Each row of the machine takes its operands off the stack and leaves its results there, as the table says.
 use Rattle.std.proofs.Common.{◌≡◌, ℕ, zero, suc, Bool, true, false, ◌&&◌, T, refl, sym, ap, ◌∙◌, subst, arith, Option, Some, None, is_some, is_none, slice_get, nat_eq, eqb→eq, List, [], ◌∷◌, ◌++◌, append_assoc, length, length-append, map, cond}
 use Rattle.witx_ast.specs.Tree.{Tree}
-use Rattle.witx_ast.specs.Same.{same_bytes, same_tree}
+use Rattle.witx_base.specs.SameBytes.{same_bytes}
+use Rattle.witx_ast.specs.Same.{same_tree}
 use Rattle.witx_ast.specs.Values.{Value}
 use Rattle.witx_machine.specs.declared.surface.WasmType.{WasmType}
 use Rattle.witx_machine.specs.Words.{Word, Scalar, same_types, when}

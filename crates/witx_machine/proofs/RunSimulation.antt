@@ -1,7 +1,7 @@
 -- The two sides together: a whole run is followed by a run over a related domain, with the same receiver.
 use Rattle.std.proofs.Common.{◌≡◌, ℕ, zero, suc, Bool, true, false, ◌&&◌, T, refl, sym, ap, ◌∙◌, subst, Option, Some, None, option_and_then, List, [], ◌∷◌, slice_get, map, length}
 use Rattle.witx_ast.specs.Tree.{Tree}
-use Rattle.witx_ast.specs.Same.{same_bytes}
+use Rattle.witx_base.specs.SameBytes.{same_bytes}
 use Rattle.witx_machine.specs.declared.surface.WasmType.{WasmType}
 use Rattle.witx_machine.specs.Events.{Event}
 use Rattle.witx_machine.specs.Functions.{Function}

@@ -6,7 +6,8 @@
 -- its function's; the run ends where both traces have made their call and reached their return.
 use Rattle.std.specs.Prelude.{ℕ, zero, suc, ◌+◌, List, [], ◌∷◌, ◌++◌, length, Bool, true, false, ◌&&◌, Option, Some, None, is_none, map, slice_get, option_and_then}
 use Rattle.witx_ast.specs.Tree.{Tree, Arms}
-use Rattle.witx_ast.specs.Same.{same_bytes, same_tree}
+use Rattle.witx_base.specs.SameBytes.{same_bytes}
+use Rattle.witx_ast.specs.Same.{same_tree}
 use Rattle.witx_machine.specs.declared.surface.WasmType.{WasmType}
 use Rattle.witx_machine.specs.Words.{same_types}
 use Rattle.witx_machine.specs.Events.{Event}

@@ -3,7 +3,7 @@
 use Rattle.std.specs.Prelude.{◌≡◌, ℕ, ◌+◌, List, [], ◌∷◌, ◌++◌, length, position, Option, Some, option_map, option_and_then}
 use Rattle.std.specs.List.{concat}
 use Rattle.witx_ast.specs.Tree.{Tree, Field}
-use Rattle.witx_ast.specs.Same.{same_bytes}
+use Rattle.witx_base.specs.SameBytes.{same_bytes}
 use Rattle.witx_ast.specs.Plain.{plain}
 use Rattle.witx_machine.specs.Events.{Event}
 use Rattle.witx_machine.specs.Functions.{Function}

@@ -3,7 +3,7 @@ use Rattle.std.specs.Prelude.{◌≡◌, ℕ, List, [], ◌∷◌, true, ◌&&�
 use Rattle.std.proofs.Common.{ap, sym, subst, ◌∙◌}
 use Rattle.std.specs.Cmp.Lexicographic.{pointwise}
 use Rattle.std.specs.Global.{Box}
-use Rattle.witx_ast.specs.SameLaws.{bytes-self}
+use Rattle.witx_base.specs.SameBytes.{bytes-self}
 use Rattle.witx_ast.proofs.HeldCopies.{both-hold}
 use Rattle.witx_render.specs.Expressions.{SExpr, exprs_of}
 use Rattle.witx_render.specs.ExpressionViews.{expr_step, expr_view}

@@ -2,7 +2,7 @@
 use Rattle.std.specs.Prelude.{◌≡◌, ℕ, List, [], ◌++◌, length, map, Bool, ◌&&◌, Option, Some, None, option_and_then, option_map}
 use Rattle.std.specs.Global.{Vec}
 use Rattle.witx_ast.specs.Tree.{Tree}
-use Rattle.witx_ast.specs.Same.{same_bytes}
+use Rattle.witx_base.specs.SameBytes.{same_bytes}
 use Rattle.witx_machine.specs.declared.surface.WasmType.{WasmType}
 use Rattle.witx_machine.specs.Words.{same_types, when}
 use Rattle.witx_machine.specs.Events.{Event}

@@ -2,7 +2,8 @@
 #![tactic(auto, using(crate::proofs::NameLemmas::name_rules))]
 
 ghost use Rattle.std.specs.Prelude.{◌≡◌, ◌&&◌, IfOk, map};
-ghost use Rattle.witx_ast.specs.Same.{same_bytes, same_tree};
+ghost use Rattle.witx_base.specs.SameBytes.{same_bytes};
+ghost use Rattle.witx_ast.specs.Same.{same_tree};
 ghost use Rattle.witx_ast.specs.Views.{tree_of};
 ghost use Rattle.witx_machine.specs.Run.{same_trees};
 ghost use Rattle.witx_machine.specs.Signature.{signature_params, signature_results};

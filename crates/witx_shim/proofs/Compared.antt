@@ -6,8 +6,7 @@ use Rattle.std.proofs.lemmas.Bool.{eqb-true}
 use Rattle.std.proofs.lemmas.Option.{none-some}
 use Rattle.witx_ast.specs.Tree.{Tree, Field}
 use Rattle.witx_ast.specs.Plain.{Plain, plain}
-use Rattle.witx_ast.specs.Same.{same_bytes}
-use Rattle.witx_ast.specs.SameLaws.{bytes-to, both}
+use Rattle.witx_base.specs.SameBytes.{same_bytes, bytes-to, both}
 use Rattle.witx_compat.specs.Answers.{is_same}
 use Rattle.witx_compat.specs.Represents.{represented}
 use Rattle.witx_compat.specs.Conversions.{Unknown, targets, or_both, converted, param_mapped, result_mapped, is_compatible, of_new}

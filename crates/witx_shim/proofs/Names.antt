@@ -6,7 +6,7 @@ use Rattle.std.proofs.Math.Bool.{or-false, or-true}
 use Rattle.std.proofs.lemmas.List.{drop_more, drop_all, take_more, map-append}
 use Rattle.std.proofs.lemmas.List.Folds.{list_any-append}
 use Rattle.std.proofs.lemmas.Option.{none-some}
-use Rattle.witx_ast.specs.Same.{same_bytes}
+use Rattle.witx_base.specs.SameBytes.{same_bytes}
 use Rattle.witx_ast.specs.Functions.{param_field}
 use Rattle.witx_ast.specs.declared.function.InterfaceFuncParam.{InterfaceFuncParam}
 use Rattle.witx_shim.specs.Refusals.{Refusal, repeated, repeated_after, repeated_param, Says, first_of}

@@ -7,8 +7,7 @@ use Rattle.std.proofs.lemmas.List.{drop_more, drop_all, append_assoc, append-nil
 use Rattle.witx_base.specs.Found.{found}
 use Rattle.witx_ast.specs.Tree.{Tree, Field, behind}
 use Rattle.witx_ast.specs.Plain.{plain, Plain, Fields}
-use Rattle.witx_ast.specs.Same.{same_bytes}
-use Rattle.witx_ast.specs.SameLaws.{bytes-to, false-true}
+use Rattle.witx_base.specs.SameBytes.{same_bytes, bytes-to, false-true}
 use Rattle.witx_ast.specs.Views.{tree_of}
 use Rattle.witx_ast.specs.Functions.{param_field}
 use Rattle.witx_ast.specs.declared.types.RecordKind.{RecordKind}

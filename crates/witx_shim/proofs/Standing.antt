@@ -7,8 +7,7 @@ use Rattle.std.proofs.lemmas.List.{append_assoc, map-append}
 use Rattle.std.proofs.lemmas.Option.{none-some}
 use Rattle.witx_ast.specs.Tree.{Tree, Field}
 use Rattle.witx_ast.specs.Plain.{plain}
-use Rattle.witx_ast.specs.Same.{same_bytes}
-use Rattle.witx_ast.specs.SameLaws.{bytes-self, false-true}
+use Rattle.witx_base.specs.SameBytes.{same_bytes, bytes-self, false-true}
 use Rattle.witx_compat.specs.Conversions.{is_compatible}
 use Rattle.witx_compat.specs.Polyfills.{first_called, prefer, mapped_params}
 use Rattle.witx_machine.specs.Run.{numbers, in_order}

@@ -4,7 +4,7 @@ use Rattle.std.specs.List.{flat_map}
 use Rattle.witx_base.specs.Found.{found}
 use Rattle.witx_ast.specs.Tree.{Field}
 use Rattle.witx_ast.specs.Plain.{plain}
-use Rattle.witx_ast.specs.Same.{same_bytes}
+use Rattle.witx_base.specs.SameBytes.{same_bytes}
 use Rattle.witx_machine.specs.Signature.{param_words}
 use Rattle.witx_machine.specs.Run.{numbers}
 use Rattle.witx_shim.specs.declared.spans.Span.{Span}

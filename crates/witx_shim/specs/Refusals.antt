@@ -2,7 +2,7 @@
 use Rattle.std.specs.Prelude.{◌≡◌, ℕ, List, [], ◌∷◌, ◌++◌, map, Bool, true, false, Option, Some, None, option_map, if◌then◌else◌, Result, Ok, Err}
 use Rattle.std.specs.List.{list_any}
 use Rattle.witx_ast.specs.Tree.{Field}
-use Rattle.witx_ast.specs.Same.{same_bytes}
+use Rattle.witx_base.specs.SameBytes.{same_bytes}
 use Rattle.witx_ast.specs.contracts.function.AbiPartialEq.TheImpl as abis
 use Rattle.witx_machine.specs.declared.surface.Place.{Place}
 use Rattle.witx_machine.specs.Functions.{function_of}

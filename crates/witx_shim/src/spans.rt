@@ -3,7 +3,7 @@
 ghost use Rattle.std.specs.Prelude.{◌≡◌, ◌+◌, ◌≤◌, ℕ, List, IfOk, OnOk, None, Some, cond, is_some, length, map, option_map};
 ghost use Rattle.witx_ast.specs.Functions.{param_field};
 ghost use Rattle.witx_ast.specs.Plain.{plain};
-ghost use Rattle.witx_ast.specs.Same.{same_bytes};
+ghost use Rattle.witx_base.specs.SameBytes.{same_bytes};
 ghost use Rattle.witx_ast.specs.Views.{tree_of, datatype_tree};
 ghost use Rattle.witx_machine.specs.Run.{numbers};
 ghost use Rattle.witx_machine.specs.Signature.{param_words};

@@ -4,7 +4,7 @@ use Rattle.std.proofs.lemmas.List.{drop_more, drop_all}
 use Rattle.witx_ast.specs.Tree.{Tree, Arms, behind, arm, arms_of}
 use Rattle.witx_ast.specs.Plain.{plain, plain_arms}
 use Rattle.witx_ast.specs.Views.{tree_of, case_arm, members_plain, cases_plain}
-use Rattle.witx_ast.specs.Same.{same_bytes}
+use Rattle.witx_base.specs.SameBytes.{same_bytes}
 use Rattle.witx_ast.specs.declared.types.RecordMember.{RecordMember}
 use Rattle.witx_ast.specs.declared.types.Case.{Case}
 use Rattle.witx_ast.proofs.TreeKinds.{kind_rules, plain-behind}

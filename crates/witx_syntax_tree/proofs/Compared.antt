@@ -10,7 +10,8 @@ use Rattle.witx_comments.specs.Copies.{IsCopyOfDocumented}
 use Rattle.witx_comments.specs.contracts.comment.CommentSyntaxPartialEq.TheImpl as comments
 use Rattle.witx_syntax_tree.specs.Trees.{Maybe, Name}
 use Rattle.witx_syntax_tree.specs.Same.{same_type}
-use Rattle.witx_syntax_tree.specs.SameLaws.{false-true, builtin-to, builtin-self, type-to, type-from}
+use Rattle.witx_base.specs.SameBytes.{false-true}
+use Rattle.witx_syntax_tree.specs.SameLaws.{builtin-to, builtin-self, type-to, type-from}
 use Rattle.witx_syntax_tree.specs.Unplaced.{unplaced, unplaced_maybe, unplaced_name, unplaced_decl, unplaced_item, unplaced_document}
 use Rattle.witx_syntax_tree.specs.Views.{CaseView, FieldView, type_view, optional_view, field_view, case_view, decl_view, declaration_view, item_view, document_view}
 use Rattle.witx_syntax_tree.specs.Compared.{Compares, documented_reading, field_reading, case_reading, constant_reading}

@@ -5,8 +5,8 @@ use Rattle.std.specs.Bool.{Decides}
 use Rattle.std.specs.Cmp.Lexicographic.{pointwise}
 use mathlib.Core.Bool.{beq}
 use Rattle.witx_syntax_tree.specs.Trees.{QuotedText, Fields, DeclTree, ItemTree}
-use Rattle.witx_syntax_tree.specs.Same.{same_bytes}
-use Rattle.witx_syntax_tree.specs.SameLaws.{both, false-true, bytes-to, bytes-self, comments-to, comments-self, type-to, type-from, fields-to, fields-self, fields-unplaced}
+use Rattle.witx_base.specs.SameBytes.{same_bytes, both, false-true, bytes-to, bytes-self}
+use Rattle.witx_syntax_tree.specs.SameLaws.{comments-to, comments-self, type-to, type-from, fields-to, fields-self, fields-unplaced}
 use Rattle.witx_syntax_tree.specs.Unplaced.{unplaced, unplaced_name, unplaced_fields, unplaced_decl, unplaced_noted_decl, unplaced_item, unplaced_noted_item, unplaced_document}
 use Rattle.witx_comments.specs.Comments.{comments_view}
 use Rattle.witx_syntax_tree.specs.Views.{name_view, type_view, fields_view, decl_view, noted_decl, declaration_view, item_view, noted_item, document_view}

@@ -7,22 +7,10 @@ use Rattle.std.specs.Cmp.Lexicographic.{pointwise}
 use Rattle.witx_syntax_tree.specs.declared.tree.BuiltinSyntax.{BuiltinSyntax}
 use Rattle.witx_comments.specs.Comments.{Comments}
 use Rattle.witx_syntax_tree.specs.Trees.{Name, Member, TypeTree, Maybe, Types, Fields, UnionFields, Cases}
-use Rattle.witx_syntax_tree.specs.Same.{same_bytes, same_comments, same_name, same_member, same_type, same_maybe, same_types, same_fields, same_union_fields, same_cases}
+use Rattle.witx_base.specs.SameBytes.{bool-iff, both, bytes-self, bytes-to, false-true}
+use Rattle.witx_syntax_tree.specs.Same.{same_comments, same_name, same_member, same_type, same_maybe, same_types, same_fields, same_union_fields, same_cases}
 use Rattle.witx_syntax_tree.specs.Unplaced.{unplaced_name, unplaced_member, unplaced, unplaced_maybe, unplaced_types, unplaced_fields, unplaced_union_fields, unplaced_cases}
 use Rattle.witx_syntax_tree.specs.contracts.tree.BuiltinSyntaxPartialEq.TheImpl as builtins
-
-pub false-true : false ≡ true → ⊥
-false-true h = cc
-
-pub both : (a b : Bool) → a && b ≡ true → (a ≡ true) × (b ≡ true)
-both true b h = (refl, h)
-both false b h = absurd (false-true h)
-
-pub bytes-to : (xs ys : List ℕ) → same_bytes xs ys ≡ true → xs ≡ ys
-bytes-to xs ys h = search rules
-
-pub bytes-self : (xs : List ℕ) → same_bytes xs xs ≡ true
-bytes-self xs = search rules
 
 pub comments-to : (xs ys : Comments) → same_comments xs ys ≡ true → xs ≡ ys
 comments-to [] [] h = refl
@@ -204,12 +192,6 @@ mutual
 
 pub type-from : (x y : TypeTree) → unplaced x ≡ unplaced y → same_type x y ≡ true
 type-from x y e = type-unplaced x y ∙ (rw e (type-self (unplaced y)))
-
-pub bool-iff : (a b : Bool) → (a ≡ true → b ≡ true) → (b ≡ true → a ≡ true) → a ≡ b
-bool-iff true true f g = refl
-bool-iff true false f g = sym (f refl)
-bool-iff false true f g = g refl
-bool-iff false false f g = refl
 
 pub type_equivalence : IsEquivalence same_type
 type_equivalence = record {

@@ -5,7 +5,7 @@ use Rattle.std.proofs.Common.{refl, sym, ap, ◌∙◌, subst, inl, inr}
 use Rattle.std.specs.List.{find}
 use Rattle.witx_ast.specs.Functions.{FunctionTree}
 use Rattle.witx_ast.specs.Plain.{plain}
-use Rattle.witx_ast.specs.SameLaws.{both, false-true}
+use Rattle.witx_base.specs.SameBytes.{both, false-true}
 use Rattle.witx_ast.specs.Tags.{fits, function_fits, types_fit}
 use Rattle.witx_ast.specs.Tree.{Field, Tree}
 use Rattle.witx_ast.specs.ValueTests.{is_value}

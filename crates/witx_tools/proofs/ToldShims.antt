@@ -17,7 +17,7 @@ use Rattle.witx_ast.specs.Definitions as definitions
 use Rattle.witx_ast.specs.Entries.{by_name}
 use Rattle.witx_ast.specs.Functions.{FunctionTree}
 use Rattle.witx_ast.specs.Items.{ItemTree, as_func, func_called, func_of, funcs_of, import_of, item_name}
-use Rattle.witx_ast.specs.Same.{same_bytes}
+use Rattle.witx_base.specs.SameBytes.{same_bytes}
 use Rattle.witx_ast.specs.Tree.{Field}
 use Rattle.witx_ast.specs.contracts.function.AbiPartialEq.TheImpl as abis
 use Rattle.witx_machine.specs.Functions.{function_of}

@@ -1,7 +1,7 @@
 use Rattle.std.proofs.Common.{◌≡◌, ◌+◌, ℕ, List, drop, take, map, is_some}
 use Rattle.std.specs.List.{list_any}
 use Rattle.witx_ast.specs.Functions.{param_field}
-use Rattle.witx_ast.specs.Same.{same_bytes}
+use Rattle.witx_base.specs.SameBytes.{same_bytes}
 use Rattle.witx_shim.specs.Numbers.{earlier, numbers_called, span_called, widths}
 use Rattle.witx_shim.specs.Refusals.{repeated_after, repeated_param}
 use Rattle.witx_shim.proofs.Names.{names_of}
