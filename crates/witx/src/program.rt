@@ -3,8 +3,8 @@
 ghost use Rattle.std.specs.Prelude.{◌≡◌, ◌<◌, ◌≤◌, ◌+◌, ◌⊎◌, [], None, Some, Ok, IfErr, IfOk, OnOk, true, false, ◌==◌, if◌then◌else◌};
 ghost use Rattle.std.specs.Io.KnownBytes.{Appends};
 ghost use Rattle.witx_base.specs.Causes.{Rose};
-ghost use Rattle.witx_commands.specs.Causes.{FilesCause, Reads};
-ghost use Rattle.witx_commands.specs.Runs.{IsPrepared, IsRun, IsWritten, command_task, run_input, seen, task_of};
+ghost use Rattle.witx_commands.specs.Causes.{FilesCause, IsBundle};
+ghost use Rattle.witx_commands.specs.Runs.{IsPrepared, IsRun, IsWritten, command_task, run_input, sink_seen, task_of};
 ghost use Rattle.witx_commands.specs.Streams.{Finished, TookInput, TookPrefix, source_seen};
 ghost use Rattle.witx_commands.specs.Words.{IsBounded, asked_by, bundle_bytes, is_of_run, reads_source};
 
@@ -49,7 +49,7 @@ pub fn run<S: Source, O: Sink, E: Sink>(
 ) -> Ran
     ensures { IsRun (run_input (task_of words.now) S.left S.faults S.reads source.old source.new)
         result.status result.adapted
-        (seen O.taken O.faults out.old out.new) (seen E.taken E.faults err.old err.new)
+        (sink_seen O.taken O.faults out.old out.new) (sink_seen E.taken E.faults err.old err.new)
         (source.new ≡ source.old) (out.new ≡ out.old) (err.new ≡ err.old) }
 {
     output_or_refusal();
@@ -96,7 +96,7 @@ pub fn files_for<S: Source>(
     source: &mut S,
 ) -> Result<MockFs, InputError>
     requires { IsBounded (asked_by command.now) }
-    ensures files { IfOk result (λ files. Reads (bundle_bytes (asked_by command.now) (S.left source.old)) (Ok files)) }
+    ensures files { IfOk result (λ files. IsBundle (bundle_bytes (asked_by command.now) (S.left source.old)) (Ok files)) }
     ensures finished { OnOk result (reads_source (asked_by command.now) ≡ true
         → Finished (S.left source.old) (S.left source.new)) }
     ensures nothing_read { reads_source (asked_by command.now) ≡ false → source.new ≡ source.old }
@@ -132,7 +132,7 @@ pub fn finish<O: Sink, E: Sink>(
     err: &mut E,
 ) -> Ran
     ensures { IsWritten answer result.status result.adapted
-        (seen O.taken O.faults out.old out.new) (seen E.taken E.faults err.old err.new)
+        (sink_seen O.taken O.faults out.old out.new) (sink_seen E.taken E.faults err.old err.new)
         (out.new ≡ out.old) (err.new ≡ err.old) }
 {
     match answer {

@@ -7,7 +7,7 @@ ghost use Rattle.witx_machine.specs.Lowerable.{unlowerable};
 ghost use Rattle.witx_machine.specs.Traces.{caller_events, callee_events};
 ghost use Rattle.witx_instructions.specs.Views.{called};
 ghost use Rattle.witx_instructions.specs.Handed.{OperandsInOrder, FrontInOrder};
-ghost use Rattle.witx_instructions.specs.Told.{after, TellsFront, is_bindgen_fault, Counts, unlowerable_place, signature_place};
+ghost use Rattle.witx_instructions.specs.Told.{told_further, TellsFront, is_bindgen_fault, Counts, unlowerable_place, signature_place};
 
 use crate::signature::signature;
 use std::alloc::Global;
@@ -42,7 +42,7 @@ pub trait AbiFunc {
         module: &Id,
         bindgen: &mut B,
     ) -> Result<(), AbiError>
-        ensures events { OnOk result (B.told bindgen.new ≡ after (B.told bindgen.old) (caller_events «module».now (function self.now))) }
+        ensures events { OnOk result (B.told bindgen.new ≡ told_further (B.told bindgen.old) (caller_events «module».now (function self.now))) }
         ensures front { OnErr result (TellsFront (caller_events «module».now (function self.now)) (B.told bindgen.old) (B.told bindgen.new)) }
         ensures operands { OnOk result (OperandsInOrder (caller_events «module».now (function self.now)) (B.calls bindgen.old) (B.calls bindgen.new)) }
         ensures front_operands { OnErr result (FrontInOrder (caller_events «module».now (function self.now)) (B.calls bindgen.old) (B.calls bindgen.new) []) }
@@ -57,7 +57,7 @@ pub trait AbiFunc {
         module: &Id,
         bindgen: &mut B,
     ) -> Result<(), AbiError>
-        ensures events { OnOk result (B.told bindgen.new ≡ after (B.told bindgen.old) (callee_events «module».now (function self.now))) }
+        ensures events { OnOk result (B.told bindgen.new ≡ told_further (B.told bindgen.old) (callee_events «module».now (function self.now))) }
         ensures front { OnErr result (TellsFront (callee_events «module».now (function self.now)) (B.told bindgen.old) (B.told bindgen.new)) }
         ensures operands { OnOk result (OperandsInOrder (callee_events «module».now (function self.now)) (B.calls bindgen.old) (B.calls bindgen.new)) }
         ensures front_operands { OnErr result (FrontInOrder (callee_events «module».now (function self.now)) (B.calls bindgen.old) (B.calls bindgen.new) []) }
@@ -109,7 +109,7 @@ fn play_caller<B: Bindgen>(
     bindgen: &mut B,
 ) -> Result<(), AbiError>
     requires { unlowerable (called func.now) ≡ None }
-    ensures events { OnOk result (B.told bindgen.new ≡ after (B.told bindgen.old) (caller_events module_name.now (called func.now))) }
+    ensures events { OnOk result (B.told bindgen.new ≡ told_further (B.told bindgen.old) (caller_events module_name.now (called func.now))) }
     ensures front { OnErr result (TellsFront (caller_events module_name.now (called func.now)) (B.told bindgen.old) (B.told bindgen.new)) }
     ensures operands { OnOk result (OperandsInOrder (caller_events module_name.now (called func.now)) (B.calls bindgen.old) (B.calls bindgen.new)) }
     ensures front_operands { OnErr result (FrontInOrder (caller_events module_name.now (called func.now)) (B.calls bindgen.old) (B.calls bindgen.new) []) }
@@ -134,7 +134,7 @@ fn play_call<'a, B: Bindgen>(
     requires lowerable { unlowerable (called func.now) ≡ None }
     requires params { params.now ≡ signature_params (called func.now) }
     requires results { results.now ≡ signature_results (called func.now) }
-    ensures events { OnOk result (B.told bindgen.new ≡ after (B.told bindgen.old) (caller_events module_name.now (called func.now))) }
+    ensures events { OnOk result (B.told bindgen.new ≡ told_further (B.told bindgen.old) (caller_events module_name.now (called func.now))) }
     ensures front { OnErr result (TellsFront (caller_events module_name.now (called func.now)) (B.told bindgen.old) (B.told bindgen.new)) }
     ensures operands { OnOk result (OperandsInOrder (caller_events module_name.now (called func.now)) (B.calls bindgen.old) (B.calls bindgen.new)) }
     ensures front_operands { OnErr result (FrontInOrder (caller_events module_name.now (called func.now)) (B.calls bindgen.old) (B.calls bindgen.new) []) }
@@ -156,7 +156,7 @@ fn play_callee<'a, B: Bindgen>(
     bindgen: &mut B,
 ) -> Result<(), AbiError>
     requires { unlowerable (called func.now) ≡ None }
-    ensures events { OnOk result (B.told bindgen.new ≡ after (B.told bindgen.old) (callee_events module_name.now (called func.now))) }
+    ensures events { OnOk result (B.told bindgen.new ≡ told_further (B.told bindgen.old) (callee_events module_name.now (called func.now))) }
     ensures front { OnErr result (TellsFront (callee_events module_name.now (called func.now)) (B.told bindgen.old) (B.told bindgen.new)) }
     ensures operands { OnOk result (OperandsInOrder (callee_events module_name.now (called func.now)) (B.calls bindgen.old) (B.calls bindgen.new)) }
     ensures front_operands { OnErr result (FrontInOrder (callee_events module_name.now (called func.now)) (B.calls bindgen.old) (B.calls bindgen.new) []) }

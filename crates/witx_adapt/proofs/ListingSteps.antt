@@ -17,7 +17,7 @@ use Rattle.witx_ast.specs.Definitions.{definition_tree, module_tree}
 use Rattle.witx_layout.specs.declared.layout.SizeAlign.{SizeAlign}
 use Rattle.witx_adapt.specs.declared.adapted.AdaptedFunc.{AdaptedFunc}
 use Rattle.witx_adapt.specs.Entries.{Lowered, lowered}
-use Rattle.witx_adapt.specs.Listings.{item_lines, func_count, import_line, next_func_lines, definition_lines, typename_lines, module_line, constant_line}
+use Rattle.witx_adapt.specs.Listings.{item_lines, func_count, import_line, next_func_lines, listed_definition_lines, listed_typename_lines, module_line, constant_line}
 
 trees-drop : {A B : Type 0} (f : A → B) (xs : List A) (i : ℕ) (x : A) → i < length xs → x ≡ get_or xs i x → map f (drop i xs) ≡ f x ∷ map f (drop (i + 1) xs)
 trees-drop f xs i x l p = ap (map f) (drop_more xs i x l ∙ ap (λ y. y ∷ drop (i + 1) xs) (sym p))
@@ -75,35 +75,35 @@ next-tree : (xs : List definition.Definition) (i : ℕ) (x y : definition.Defini
 next-tree xs i x y l p q = trees-drop definition_tree xs i x l p ∙ ap (λ z. definition_tree z ∷ map definition_tree (drop (i + 1) xs)) q
 
 pub typename-step : (xs : List definition.Definition) (i : ℕ) (x : definition.Definition) (r : Rc NamedType Global) (fs : List Lowered) (ls ms : List SizeAlign) (done now total : List ℕ)
-    → i < length xs → x ≡ get_or xs i x → x ≡ definition_variant.Typename r → now ≡ done ++ typename_lines r.value.name ls → ms ≡ drop 1 ls
-    → done ++ definition_lines (map definition_tree (drop i xs)) fs ls ≡ total
-    → now ++ definition_lines (map definition_tree (drop (i + 1) xs)) fs ms ≡ total
+    → i < length xs → x ≡ get_or xs i x → x ≡ definition_variant.Typename r → now ≡ done ++ listed_typename_lines r.value.name ls → ms ≡ drop 1 ls
+    → done ++ listed_definition_lines (map definition_tree (drop i xs)) fs ls ≡ total
+    → now ++ listed_definition_lines (map definition_tree (drop (i + 1) xs)) fs ms ≡ total
 typename-step xs i x r fs ls ms done now total l p q w d e =
-    joined done now (typename_lines r.value.name ls) (definition_lines (map definition_tree (drop (i + 1) xs)) fs ms) total w
-    (ap (λ ks. done ++ (typename_lines r.value.name ls ++ definition_lines (map definition_tree (drop (i + 1) xs)) fs ks)) d
-    ∙ ap (λ ts. done ++ definition_lines ts fs ls) (sym (next-tree xs i x (definition_variant.Typename r) l p q)) ∙ e)
+    joined done now (listed_typename_lines r.value.name ls) (listed_definition_lines (map definition_tree (drop (i + 1) xs)) fs ms) total w
+    (ap (λ ks. done ++ (listed_typename_lines r.value.name ls ++ listed_definition_lines (map definition_tree (drop (i + 1) xs)) fs ks)) d
+    ∙ ap (λ ts. done ++ listed_definition_lines ts fs ls) (sym (next-tree xs i x (definition_variant.Typename r) l p q)) ∙ e)
 
 pub module-step : (xs : List definition.Definition) (i : ℕ) (x : definition.Definition) (r : Rc Module Global) (fs gs : List AdaptedFunc) (ls : List SizeAlign) (done now total : List ℕ)
     → i < length xs → x ≡ get_or xs i x → x ≡ definition_variant.Module r
     → now ≡ done ++ (module_line r.value.name ++ item_lines (module_tree r.value).items (map lowered fs)) → gs ≡ drop (func_count (module_tree r.value).items) fs
-    → done ++ definition_lines (map definition_tree (drop i xs)) (map lowered fs) ls ≡ total
-    → now ++ definition_lines (map definition_tree (drop (i + 1) xs)) (map lowered gs) ls ≡ total
+    → done ++ listed_definition_lines (map definition_tree (drop i xs)) (map lowered fs) ls ≡ total
+    → now ++ listed_definition_lines (map definition_tree (drop (i + 1) xs)) (map lowered gs) ls ≡ total
 module-step xs i x r fs gs ls done now total l p q w d e =
     let lines = module_line r.value.name ++ item_lines (module_tree r.value).items (map lowered fs) in
     let n = func_count (module_tree r.value).items in
-    joined done now lines (definition_lines (map definition_tree (drop (i + 1) xs)) (map lowered gs) ls) total w
-    (ap (λ hs. done ++ (lines ++ definition_lines (map definition_tree (drop (i + 1) xs)) hs ls)) (ap (map lowered) d ∙ map-drop lowered n fs)
-    ∙ ap (λ ts. done ++ definition_lines ts (map lowered fs) ls) (sym (next-tree xs i x (definition_variant.Module r) l p q)) ∙ e)
+    joined done now lines (listed_definition_lines (map definition_tree (drop (i + 1) xs)) (map lowered gs) ls) total w
+    (ap (λ hs. done ++ (lines ++ listed_definition_lines (map definition_tree (drop (i + 1) xs)) hs ls)) (ap (map lowered) d ∙ map-drop lowered n fs)
+    ∙ ap (λ ts. done ++ listed_definition_lines ts (map lowered fs) ls) (sym (next-tree xs i x (definition_variant.Module r) l p q)) ∙ e)
 
 pub constant-step : (xs : List definition.Definition) (i : ℕ) (x : definition.Definition) (c : Constant) (fs : List Lowered) (ls : List SizeAlign) (done now total : List ℕ)
     → i < length xs → x ≡ get_or xs i x → x ≡ definition_variant.Constant c → now ≡ done ++ constant_line c
-    → done ++ definition_lines (map definition_tree (drop i xs)) fs ls ≡ total
-    → now ++ definition_lines (map definition_tree (drop (i + 1) xs)) fs ls ≡ total
+    → done ++ listed_definition_lines (map definition_tree (drop i xs)) fs ls ≡ total
+    → now ++ listed_definition_lines (map definition_tree (drop (i + 1) xs)) fs ls ≡ total
 constant-step xs i x c fs ls done now total l p q w e =
-    joined done now (constant_line c) (definition_lines (map definition_tree (drop (i + 1) xs)) fs ls) total w
-    (ap (λ ts. done ++ definition_lines ts fs ls) (sym (next-tree xs i x (definition_variant.Constant c) l p q)) ∙ e)
+    joined done now (constant_line c) (listed_definition_lines (map definition_tree (drop (i + 1) xs)) fs ls) total w
+    (ap (λ ts. done ++ listed_definition_lines ts fs ls) (sym (next-tree xs i x (definition_variant.Constant c) l p q)) ∙ e)
 
-pub definitions-end : (xs : List definition.Definition) (i : ℕ) (fs : List Lowered) (ls : List SizeAlign) (done total : List ℕ) → length xs ≤ i → done ++ definition_lines (map definition_tree (drop i xs)) fs ls ≡ total → done ≡ total
-definitions-end xs i fs ls done total l e = sym (append-nil done) ∙ ap (λ ys. done ++ definition_lines (map definition_tree ys) fs ls) (sym (drop_all i xs l)) ∙ e
+pub definitions-end : (xs : List definition.Definition) (i : ℕ) (fs : List Lowered) (ls : List SizeAlign) (done total : List ℕ) → length xs ≤ i → done ++ listed_definition_lines (map definition_tree (drop i xs)) fs ls ≡ total → done ≡ total
+definitions-end xs i fs ls done total l e = sym (append-nil done) ∙ ap (λ ys. done ++ listed_definition_lines (map definition_tree ys) fs ls) (sym (drop_all i xs l)) ∙ e
 
 pub ruleset definition_rules = (typename-step, module-step, constant-step, definitions-end)

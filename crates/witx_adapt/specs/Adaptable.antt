@@ -36,13 +36,13 @@ pub record IsAdaptable (ds : List DefinitionTree) : Type 0 where
   pub lowerable : first_unlowered (all_functions ds) ≡ None
 
 -- what a refusal says of the document
-abbrev pub Refuses : List DefinitionTree → DocumentError → Type 0
-Refuses ds (document_error.TagTooNarrow t) = tag_refusal (first_misfit ds) ≡ Err t
-Refuses ds (document_error.TooLarge definition) = (first_misfit ds ≡ None) × (first_large ds ≡ Some definition)
-Refuses ds (document_error.Unlowerable owner function place) =
+abbrev pub RefusesDocument : List DefinitionTree → DocumentError → Type 0
+RefusesDocument ds (document_error.TagTooNarrow t) = tag_refusal (first_misfit ds) ≡ Err t
+RefusesDocument ds (document_error.TooLarge definition) = (first_misfit ds ≡ None) × (first_large ds ≡ Some definition)
+RefusesDocument ds (document_error.Unlowerable owner function place) =
     (first_misfit ds ≡ None) × (first_large ds ≡ None)
     × (first_unlowered (all_functions ds) ≡ Some (record { owner = owner; function = function; place = place }))
-Refuses ds document_error.OutOfMemory = Unit {0}
+RefusesDocument ds document_error.OutOfMemory = Unit {0}
 
 -- what a refusal of the layouts becomes
 abbrev pub layouts_refusal : LayoutsError → DocumentError

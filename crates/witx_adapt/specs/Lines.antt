@@ -5,7 +5,7 @@ use Rattle.std.specs.List.{flat_map}
 use Rattle.witx_ast.specs.Tree.{Tree}
 use Rattle.witx_ast.specs.TypeNames.{type_text}
 use Rattle.witx_machine.specs.Events.{Step, Event, emit, space, push, finish}
-use Rattle.witx_adapt.specs.Names.{quoted, signature}
+use Rattle.witx_adapt.specs.Names.{in_quotes, signature}
 
 -- the instruction's name in snake case
 abbrev pub step_name : Step → List ℕ
@@ -77,7 +77,7 @@ payload_field word (Some t) = codes " " ++ word ++ type_field t
 
 -- two quoted names
 abbrev pub two_names : List ℕ → List ℕ → List ℕ
-two_names module_name name = codes " " ++ quoted module_name ++ codes " " ++ quoted name
+two_names module_name name = codes " " ++ in_quotes module_name ++ codes " " ++ in_quotes name
 
 abbrev pub step_fields : Step → List ℕ
 step_fields (Step.GetArg n) = number_field n

@@ -14,7 +14,7 @@ use Rattle.witx_layout.specs.declared.layout.SizeAlign.{SizeAlign}
 use Rattle.witx_layout.specs.LayoutsText.{typename_line}
 use Rattle.witx_adapt.specs.declared.adapted.Adapted.{Adapted}
 use Rattle.witx_adapt.specs.Entries.{Lowered, lowered}
-use Rattle.witx_adapt.specs.Names.{quoted, signature}
+use Rattle.witx_adapt.specs.Names.{in_quotes, signature}
 use Rattle.witx_adapt.specs.Lines.{event_lines}
 
 abbrev pub constant_line : Constant → List ℕ
@@ -24,27 +24,27 @@ abbrev pub module_line : List ℕ → List ℕ
 module_line name = codes "module " ++ name ++ codes "\n"
 
 abbrev pub import_line : List ℕ → List ℕ
-import_line name = codes "import " ++ quoted name ++ codes " memory" ++ codes "\n"
+import_line name = codes "import " ++ in_quotes name ++ codes " memory" ++ codes "\n"
 
 -- behind the signature of a function that stores its whole result
 abbrev pub stored_mark : Abi → List ℕ
 stored_mark Abi.Preview1 = []
 stored_mark Abi.Stored = codes " stored"
 
-abbrev pub func_line : List ℕ → Abi → (params results : List WasmType) → List ℕ
-func_line name abi params results = codes "func " ++ quoted name ++ codes " " ++ signature params results ++ stored_mark abi ++ codes "\n"
+abbrev pub listed_func_line : List ℕ → Abi → (params results : List WasmType) → List ℕ
+listed_func_line name abi params results = codes "func " ++ in_quotes name ++ codes " " ++ signature params results ++ stored_mark abi ++ codes "\n"
 
 -- the events of one side, under its name
 abbrev pub side_lines : List ℕ → List Event → List ℕ
 side_lines side events = side ++ codes "\n" ++ event_lines events
 
 abbrev pub func_lines : List ℕ → Abi → Lowered → List ℕ
-func_lines name abi f = func_line name abi f.params f.results ++ side_lines (codes "caller") f.caller ++ side_lines (codes "callee") f.callee
+func_lines name abi f = listed_func_line name abi f.params f.results ++ side_lines (codes "caller") f.caller ++ side_lines (codes "callee") f.callee
 
 -- with the first of the layouts, where there is one
-abbrev pub typename_lines : List ℕ → List SizeAlign → List ℕ
-typename_lines name [] = []
-typename_lines name (l ∷ ls) = typename_line name l.size l.align
+abbrev pub listed_typename_lines : List ℕ → List SizeAlign → List ℕ
+listed_typename_lines name [] = []
+listed_typename_lines name (l ∷ ls) = typename_line name l.size l.align
 
 -- with the first of the functions, where there is one
 abbrev pub next_func_lines : List ℕ → Abi → List Lowered → List ℕ
@@ -63,11 +63,11 @@ func_count [] = 0
 func_count (import_of i ∷ items) = func_count items
 func_count (func_of f ∷ items) = 1 + func_count items
 
-abbrev pub definition_lines : List DefinitionTree → List Lowered → List SizeAlign → List ℕ
-definition_lines [] fs ls = []
-definition_lines (typename_of name t docs ∷ ds) fs ls = typename_lines name ls ++ definition_lines ds fs (drop 1 ls)
-definition_lines (module_of m ∷ ds) fs ls = (module_line m.name ++ item_lines m.items fs) ++ definition_lines ds (drop (func_count m.items) fs) ls
-definition_lines (constant_of c ∷ ds) fs ls = constant_line c ++ definition_lines ds fs ls
+abbrev pub listed_definition_lines : List DefinitionTree → List Lowered → List SizeAlign → List ℕ
+listed_definition_lines [] fs ls = []
+listed_definition_lines (typename_of name t docs ∷ ds) fs ls = listed_typename_lines name ls ++ listed_definition_lines ds fs (drop 1 ls)
+listed_definition_lines (module_of m ∷ ds) fs ls = (module_line m.name ++ item_lines m.items fs) ++ listed_definition_lines ds (drop (func_count m.items) fs) ls
+listed_definition_lines (constant_of c ∷ ds) fs ls = constant_line c ++ listed_definition_lines ds fs ls
 
 unfoldable pub listing_text : Adapted → List ℕ
-listing_text a = definition_lines (map definition_tree a.document.definitions) (map lowered a.functions) a.layouts
+listing_text a = listed_definition_lines (map definition_tree a.document.definitions) (map lowered a.functions) a.layouts

@@ -16,8 +16,8 @@ escaped c =
     else (if nat_lt c 32 || c == 127 then 92 ∷ digit (c / 16) ∷ digit (c % 16) ∷ [] else encode_utf8 c)
 
 -- a name, character by character
-abbrev pub quoted : List ℕ → List ℕ
-quoted name = codes "\"" ++ flat_map escaped (chars name) ++ codes "\""
+abbrev pub in_quotes : List ℕ → List ℕ
+in_quotes name = codes "\"" ++ flat_map escaped (chars name) ++ codes "\""
 
 abbrev pub wasm_word : WasmType → List ℕ
 wasm_word WasmType.I32 = codes "i32"

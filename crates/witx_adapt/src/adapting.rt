@@ -10,7 +10,7 @@ ghost use Rattle.witx_ast.specs.Closed.{IsClosed};
 ghost use Rattle.witx_ast.specs.Ordered.{IsOrdered};
 ghost use Rattle.witx_layout.specs.Layouts.{all_layouts};
 ghost use Rattle.witx_adapt.specs.Entries.{IsFaithful, all_functions, entry_for, entry_of, module_functions, owned_functions, owned_item};
-ghost use Rattle.witx_adapt.specs.Adaptable.{IsAdaptable, Refuses, UnlowerableAt, first_unlowered, unlowered};
+ghost use Rattle.witx_adapt.specs.Adaptable.{IsAdaptable, RefusesDocument, UnlowerableAt, first_unlowered, unlowered};
 
 use crate::adapted::{Adapted, AdaptedFunc, AdaptedFuncs};
 use crate::error::{DocumentError, RefusedDocument};
@@ -46,7 +46,7 @@ pub fn adapt_document(alloc: Global, document: Document) -> Result<Adapted, Refu
     ensures functions { IfOk result (λ adapted. map entry_of adapted.functions ≡ map entry_for (all_functions (map definition_tree document.definitions))) }
     ensures faithful { IfOk result (λ adapted. IsClosed (map definition_tree document.definitions) → All IsFaithful adapted.functions) }
     ensures adaptable { OnOk result (IsAdaptable (map definition_tree document.definitions)) }
-    ensures refused { IfErr result (λ e. Refuses (map definition_tree document.definitions) e.error) }
+    ensures refused { IfErr result (λ e. RefusesDocument (map definition_tree document.definitions) e.error) }
     ensures handed_back { IfErr result (λ e. e.document ≡ document) }
 {
     match document_parts(alloc, &document) {
@@ -67,7 +67,7 @@ fn document_parts(alloc: Global, document: &Document) -> Result<Parts, DocumentE
     ensures functions { IfOk result (λ parts. map entry_of parts.functions ≡ map entry_for (all_functions (map definition_tree document.now.definitions))) }
     ensures faithful { IfOk result (λ parts. IsClosed (map definition_tree document.now.definitions) → All IsFaithful parts.functions) }
     ensures adaptable { OnOk result (IsAdaptable (map definition_tree document.now.definitions)) }
-    ensures refused { IfErr result (Refuses (map definition_tree document.now.definitions)) }
+    ensures refused { IfErr result (RefusesDocument (map definition_tree document.now.definitions)) }
 {
     fits_tags(document)?;
     let layouts = uncounted_layouts(alloc, document)?;

@@ -6,7 +6,7 @@ ghost use Rattle.witx_ast.specs.Definitions.{definition_tree, module_tree};
 ghost use Rattle.witx_instructions.specs.Views.{event_of};
 ghost use Rattle.witx_layout.specs.LayoutsText.{typename_line};
 ghost use Rattle.witx_adapt.specs.Entries.{lowered};
-ghost use Rattle.witx_adapt.specs.Listings.{constant_line, definition_lines, func_count, func_line, func_lines, import_line, item_lines, listing_text, module_line, next_func_lines, side_lines, stored_mark, typename_lines};
+ghost use Rattle.witx_adapt.specs.Listings.{constant_line, listed_definition_lines, func_count, listed_func_line, func_lines, import_line, item_lines, listing_text, module_line, next_func_lines, side_lines, stored_mark, listed_typename_lines};
 
 use crate::adapted::{Adapted, AdaptedFunc};
 use crate::event_lines::put_events;
@@ -45,7 +45,7 @@ fn put_definitions(
     layouts: &[SizeAlign],
 ) -> Result<(), OutOfMemory>
     ensures { OnOk result (string_bytes text.new ≡ string_bytes text.old
-        ++ definition_lines (map definition_tree definitions.now) (map lowered functions.now) layouts.now) }
+        ++ listed_definition_lines (map definition_tree definitions.now) (map lowered functions.now) layouts.now) }
 {
     let mut functions = functions;
     let mut layouts = layouts;
@@ -74,7 +74,7 @@ fn put_typename<'a>(
     name: &str,
     layouts: &'a [SizeAlign],
 ) -> Result<&'a [SizeAlign], AllocError>
-    ensures lines { IfOk result (λ rest. string_bytes text.new ≡ string_bytes text.old ++ typename_lines name.now layouts.now) }
+    ensures lines { IfOk result (λ rest. string_bytes text.new ≡ string_bytes text.old ++ listed_typename_lines name.now layouts.now) }
     ensures rest { IfOk result (λ rest. rest.now ≡ drop 1 layouts.now) }
 {
     if layouts.is_empty() {
@@ -206,7 +206,7 @@ pub fn put_func_line(
     params: &[WasmType],
     results: &[WasmType],
 ) -> Result<(), AllocError>
-    ensures { OnOk result (string_bytes text.new ≡ string_bytes text.old ++ func_line func.now.name func.now.abi params.now results.now) }
+    ensures { OnOk result (string_bytes text.new ≡ string_bytes text.old ++ listed_func_line func.now.name func.now.abi params.now results.now) }
 {
     text.push_str("func ")?;
     put_quoted(text, func.name.as_str())?;

@@ -3,7 +3,7 @@
 ghost use Rattle.std.specs.Prelude.{◌≡◌, ◌++◌, ◌<◌, ◌/◌, ◌%◌, ◌∷◌, [], OnOk, string_bytes, codes};
 ghost use Rattle.std.specs.List.{flat_map};
 ghost use Rattle.std.specs.Str.{chars};
-ghost use Rattle.witx_adapt.specs.Names.{digit, escaped, quoted, signature, spaced, wasm_word, wasm_words};
+ghost use Rattle.witx_adapt.specs.Names.{digit, escaped, in_quotes, signature, spaced, wasm_word, wasm_words};
 
 use std::alloc::AllocError;
 use witx_abi::WasmType;
@@ -11,7 +11,7 @@ use witx_abi::WasmType;
 /// Appends a name in double quotes: its own quotes and backslashes behind a backslash, its control
 /// characters as a backslash and two hexadecimal digits.
 pub fn put_quoted(text: &mut String, name: &str) -> Result<(), AllocError>
-    ensures { OnOk result (string_bytes text.new ≡ string_bytes text.old ++ quoted name.now) }
+    ensures { OnOk result (string_bytes text.new ≡ string_bytes text.old ++ in_quotes name.now) }
 {
     text.push('"')?;
     put_escaped(text, name)?;

@@ -11,7 +11,7 @@ use Rattle.witx_ast.specs.TypeNames.{type_text}
 use Rattle.witx_ast.specs.Results.{results_reason, more_than_one, invalid_return, only_named}
 use Rattle.witx_ast.specs.Definitions.{typename_of}
 use Rattle.witx_ast.specs.Misfits.{first_misfit}
-use Rattle.witx_ast.specs.ErrorTypes.{each_once}
+use Rattle.witx_ast.specs.ErrorTypes.{each_type_once}
 
 abbrev u8 : Tree
 u8 = Tree.builtin (BuiltinType.U8 false)
@@ -219,5 +219,5 @@ first-narrow = refl
 name-not-entered : first_misfit (typename_of (codes "b") (Tree.pointer_to (Tree.named (codes "n") nine_flags [])) [] ∷ []) ≡ None
 name-not-entered = refl
 
-each-error-once : each_once (errno ∷ size ∷ errno ∷ []) ≡ errno ∷ size ∷ []
+each-error-once : each_type_once (errno ∷ size ∷ errno ∷ []) ≡ errno ∷ size ∷ []
 each-error-once = refl

@@ -40,13 +40,13 @@ all_errors [] = []
 all_errors (d ∷ ds) = definition_errors d ++ all_errors ds
 
 -- those that stand nowhere before, of a list that follows the list before
-abbrev pub new_after : List Tree → List Tree → List Tree
-new_after before [] = []
-new_after before (x ∷ xs) = if list_any (same_tree x) before then new_after (before ++ x ∷ []) xs else x ∷ new_after (before ++ x ∷ []) xs
+abbrev pub new_types_after : List Tree → List Tree → List Tree
+new_types_after before [] = []
+new_types_after before (x ∷ xs) = if list_any (same_tree x) before then new_types_after (before ++ x ∷ []) xs else x ∷ new_types_after (before ++ x ∷ []) xs
 
 -- each of a list once, at its first appearance
-abbrev pub each_once : List Tree → List Tree
-each_once = new_after []
+abbrev pub each_type_once : List Tree → List Tree
+each_type_once = new_types_after []
 
 abbrev pub error_types_of : List DefinitionTree → List Tree
-error_types_of ds = each_once (all_errors ds)
+error_types_of ds = each_type_once (all_errors ds)

@@ -7,13 +7,13 @@ use Rattle.witx_ast.specs.Views.{tree_of}
 use Rattle.witx_ast.specs.Same.{same_tree}
 use Rattle.witx_ast.specs.declared.types.TypeRef.{TypeRef}
 
-abbrev pub Tells : {S : Type 0} → HashSet TypeRef S → List TypeRef → Type 0
-Tells seen kept = (t : TypeRef) → contains (λ a b. same_tree (tree_of a) (tree_of b)) seen t ≡ list_any (same_tree (tree_of t)) (map tree_of kept)
+abbrev pub TellsTypes : {S : Type 0} → HashSet TypeRef S → List TypeRef → Type 0
+TellsTypes seen kept = (t : TypeRef) → contains (λ a b. same_tree (tree_of a) (tree_of b)) seen t ≡ list_any (same_tree (tree_of t)) (map tree_of kept)
 
 -- one more, unless it is there
-abbrev pub taken : List Tree → Tree → List Tree
-taken kept x = if list_any (same_tree x) kept then kept else kept ++ x ∷ []
+abbrev pub and_type : List Tree → Tree → List Tree
+and_type kept x = if list_any (same_tree x) kept then kept else kept ++ x ∷ []
 
-abbrev pub all_taken : List Tree → List Tree → List Tree
-all_taken kept [] = kept
-all_taken kept (x ∷ xs) = all_taken (taken kept x) xs
+abbrev pub and_types : List Tree → List Tree → List Tree
+and_types kept [] = kept
+and_types kept (x ∷ xs) = and_types (and_type kept x) xs

@@ -8,7 +8,7 @@ ghost use Rattle.witx_ast.specs.Functions.{func_tree};
 ghost use Rattle.witx_ast.specs.Items.{item_tree};
 ghost use Rattle.witx_ast.specs.Definitions.{definition_tree};
 ghost use Rattle.witx_ast.specs.ErrorTypes.{type_error, function_error, item_errors, definition_errors, all_errors, error_types_of};
-ghost use Rattle.witx_ast.specs.Seen.{Tells, taken, all_taken};
+ghost use Rattle.witx_ast.specs.Seen.{TellsTypes, and_type, and_types};
 
 use crate::definition::Definition;
 use crate::document::Document;
@@ -47,8 +47,8 @@ struct Found {
 impl Found {
     #[tactic(auto, using(crate::proofs::ErrorLaws::error_rules))]
     fn add_all(&mut self, definitions: &[Definition]) -> Result<(), OutOfMemory>
-        requires { Tells self.old.seen self.old.types }
-        ensures { OnOk result (map tree_of self.new.types ≡ all_taken (map tree_of self.old.types) (all_errors (map definition_tree definitions.now))) }
+        requires { TellsTypes self.old.seen self.old.types }
+        ensures { OnOk result (map tree_of self.new.types ≡ and_types (map tree_of self.old.types) (all_errors (map definition_tree definitions.now))) }
     {
         for definition in definitions {
             self.add_definition(definition)?;
@@ -58,9 +58,9 @@ impl Found {
 
     #[tactic(auto, using(crate::proofs::ErrorLaws::error_rules))]
     fn add_definition(&mut self, definition: &Definition) -> Result<(), OutOfMemory>
-        requires { Tells self.old.seen self.old.types }
-        ensures told { OnOk result (Tells self.new.seen self.new.types) }
-        ensures types { OnOk result (map tree_of self.new.types ≡ all_taken (map tree_of self.old.types) (definition_errors (definition_tree definition.now))) }
+        requires { TellsTypes self.old.seen self.old.types }
+        ensures told { OnOk result (TellsTypes self.new.seen self.new.types) }
+        ensures types { OnOk result (map tree_of self.new.types ≡ and_types (map tree_of self.old.types) (definition_errors (definition_tree definition.now))) }
     {
         match definition {
             Definition::Module(module) => self.add_items(module.definitions().as_slice()),
@@ -70,9 +70,9 @@ impl Found {
 
     #[tactic(auto, using(crate::proofs::ErrorLaws::error_rules))]
     fn add_items(&mut self, items: &[ModuleDefinition]) -> Result<(), OutOfMemory>
-        requires { Tells self.old.seen self.old.types }
-        ensures told { OnOk result (Tells self.new.seen self.new.types) }
-        ensures types { OnOk result (map tree_of self.new.types ≡ all_taken (map tree_of self.old.types) (item_errors (map item_tree items.now))) }
+        requires { TellsTypes self.old.seen self.old.types }
+        ensures told { OnOk result (TellsTypes self.new.seen self.new.types) }
+        ensures types { OnOk result (map tree_of self.new.types ≡ and_types (map tree_of self.old.types) (item_errors (map item_tree items.now))) }
     {
         for item in items {
             if let ModuleDefinition::Func(func) = item {
@@ -86,9 +86,9 @@ impl Found {
 
     #[tactic(auto, using(crate::proofs::ErrorLaws::error_rules))]
     fn add(&mut self, error: &TypeRef) -> Result<(), OutOfMemory>
-        requires { Tells self.old.seen self.old.types }
-        ensures told { OnOk result (Tells self.new.seen self.new.types) }
-        ensures types { OnOk result (map tree_of self.new.types ≡ taken (map tree_of self.old.types) (tree_of error.now)) }
+        requires { TellsTypes self.old.seen self.old.types }
+        ensures told { OnOk result (TellsTypes self.new.seen self.new.types) }
+        ensures types { OnOk result (map tree_of self.new.types ≡ and_type (map tree_of self.old.types) (tree_of error.now)) }
     {
         if self.seen.insert(error.clone()?)? {
             self.types.push(error.clone()?)?;

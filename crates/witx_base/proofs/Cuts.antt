@@ -9,7 +9,7 @@ use Rattle.std.proofs.lemmas.List.Splits.{slice_split-cons_yes, slice_split-cons
 use Rattle.std.proofs.lemmas.Str.Pattern.{IsSplitOnceResult, split_parts, drop_at_char, NoCharPasses-char}
 use Rattle.std.specs.List.{join_with_byte}
 use Rattle.witx_base.specs.Paths.{Path, all_but_last, behind_slashes, components_of, file_name, is_kept, is_root, last_component, name_among, parent, parts_of, path_of, path_text}
-use Rattle.witx_base.specs.PathTexts.{HasNoSlash, IsPathText, parts}
+use Rattle.witx_base.specs.PathTexts.{HasNoSlash, IsPathText, path_text_parts}
 use Rattle.witx_base.proofs.PathTexts.{AreParts, IsWell, no-root, parts-free, parts-of-text, parts-other, read-well, text-other, text-parts}
 
 -- ---- the parts of what stands before a slash and behind it
@@ -97,13 +97,13 @@ last-full c (d ∷ ds) b f h e = last-full d ds b (kept-full d h.1) h.2 e
 named-last : (o : Option (List ℕ)) (b : List ℕ) → (length b == 0) ≡ false → o ≡ Some b → (if length b == 0 then None else name_among (Some b)) ≡ name_among o
 named-last o b f e = ap (λ t. if t then None else name_among (Some b)) f ∙ ap name_among (sym e)
 
-name-of : (p : Path) (b : List ℕ) → IsWell p → last_component (parts p) ≡ Some b → (if length b == 0 then None else name_among (Some b)) ≡ file_name p
+name-of : (p : Path) (b : List ℕ) → IsWell p → last_component (path_text_parts p) ≡ Some b → (if length b == 0 then None else name_among (Some b)) ≡ file_name p
 name-of [] b h e = ap (λ x. if length x == 0 then None else name_among (Some x)) (sym (some-is [] b e))
 name-of (c ∷ []) b (inl q, k) e =
-    let none : [] ≡ b = some-is [] b (subst (λ r. last_component (parts (r ∷ [])) ≡ Some b) q e) in
+    let none : [] ≡ b = some-is [] b (subst (λ r. last_component (path_text_parts (r ∷ [])) ≡ Some b) q e) in
     ap (λ x. if length x == 0 then None else name_among (Some x)) (sym none) ∙ ap (λ r. file_name (r ∷ [])) (sym q)
 name-of (c ∷ d ∷ ds) b (inl q, k) e =
-    let last : last_component (d ∷ ds) ≡ Some b = subst (λ r. last_component (parts (r ∷ d ∷ ds)) ≡ Some b) q e in
+    let last : last_component (d ∷ ds) ≡ Some b = subst (λ r. last_component (path_text_parts (r ∷ d ∷ ds)) ≡ Some b) q e in
     named-last (last_component (d ∷ ds)) b (last-full d ds b (kept-full d k.1) k.2 last) last
 name-of (c ∷ cs) b (inr f, k) e =
     let last : last_component (c ∷ cs) ≡ Some b = ap last_component (sym (parts-other c cs (no-root c f.0))) ∙ e in
@@ -152,33 +152,33 @@ other-full : (c : List ℕ) (cs : Path) → HasNoSlash c → (length c == 0) ≡
 other-full c [] h f = f
 other-full c (d ∷ ds) h f = ap (λ x. length x == 0) (text-other c d ds (no-root c h)) ∙ append-full c _ f
 
-front-is : (front : List ℕ) (q : Path) → IsWell q → parts q ≡ parts_of front → front ≡ path_text q
+front-is : (front : List ℕ) (q : Path) → IsWell q → path_text_parts q ≡ parts_of front → front ≡ path_text q
 front-is front q h e = same-parts front (path_text q) (sym e ∙ sym (text-parts q h))
 
 -- `whole` is the parts without the last
-above-of : (p : Path) (front b : List ℕ) → IsWell p → all_but_last (parts p) ≡ parts_of front → last_component (parts p) ≡ Some b
+above-of : (p : Path) (front b : List ℕ) → IsWell p → all_but_last (path_text_parts p) ≡ parts_of front → last_component (path_text_parts p) ≡ Some b
     → above_in front b ≡ option_map path_text (parent p)
 unfolding above_in
 above-of [] front b h e l = absurd (no-parts front e)
 above-of (c ∷ []) front b (inl q, k) e l =
-    let none : [] ≡ b = some-is [] b (subst (λ r. last_component (parts (r ∷ [])) ≡ Some b) q l) in
-    let empty : [] ≡ front = same-parts [] front (subst (λ r. all_but_last (parts (r ∷ [])) ≡ parts_of front) q e) in
+    let none : [] ≡ b = some-is [] b (subst (λ r. last_component (path_text_parts (r ∷ [])) ≡ Some b) q l) in
+    let empty : [] ≡ front = same-parts [] front (subst (λ r. all_but_last (path_text_parts (r ∷ [])) ≡ parts_of front) q e) in
     (λ i. above_in (sym empty i) (sym none i)) ∙ ap (λ r. option_map path_text (parent (r ∷ []))) (sym q)
 above-of (c ∷ d ∷ []) front b (inl q, k) e l =
-    let last : last_component (d ∷ []) ≡ Some b = subst (λ r. last_component (parts (r ∷ d ∷ [])) ≡ Some b) q l in
-    let empty : [] ≡ front = same-parts [] front (subst (λ r. all_but_last (parts (r ∷ d ∷ [])) ≡ parts_of front) q e) in
+    let last : last_component (d ∷ []) ≡ Some b = subst (λ r. last_component (path_text_parts (r ∷ d ∷ [])) ≡ Some b) q l in
+    let empty : [] ≡ front = same-parts [] front (subst (λ r. all_but_last (path_text_parts (r ∷ d ∷ [])) ≡ parts_of front) q e) in
     ap (λ x. above_in x b) (sym empty) ∙ ap (λ t. if t then None else Some (47 ∷ [])) (last-full d [] b (kept-full d k.1) k.2 last)
     ∙ ap (λ r. option_map path_text (parent (r ∷ d ∷ []))) (sym q)
 above-of (c ∷ d ∷ x ∷ xs) front b (inl q, k) e l =
     let up : Path = (47 ∷ []) ∷ d ∷ all_but_last (x ∷ xs) in
     let well : IsWell up = (inl refl, (k.0, k.1, front-parts (x ∷ xs) k.2)) in
-    let same : parts up ≡ parts_of front = subst (λ r. all_but_last (parts (r ∷ d ∷ x ∷ xs)) ≡ parts_of front) q e in
+    let same : path_text_parts up ≡ parts_of front = subst (λ r. all_but_last (path_text_parts (r ∷ d ∷ x ∷ xs)) ≡ parts_of front) q e in
     above-is front b (path_text up) (front-is front up well same) (suc-full 47 (d ++ behind_slashes (all_but_last (x ∷ xs))))
     ∙ ap (λ r. option_map path_text (parent (r ∷ d ∷ x ∷ xs))) (sym q)
 above-of (c ∷ []) front b (inr f, k) e l = absurd (no-parts front (ap all_but_last (sym (parts-other c [] (no-root c f.0))) ∙ e))
 above-of (c ∷ d ∷ ds) front b (inr f, k) e l =
     let up : Path = c ∷ all_but_last (d ∷ ds) in
-    let same : parts up ≡ parts_of front = parts-other c (all_but_last (d ∷ ds)) (no-root c f.0) ∙ ap all_but_last (sym (parts-other c (d ∷ ds) (no-root c f.0))) ∙ e in
+    let same : path_text_parts up ≡ parts_of front = parts-other c (all_but_last (d ∷ ds)) (no-root c f.0) ∙ ap all_but_last (sym (parts-other c (d ∷ ds) (no-root c f.0))) ∙ e in
     above-is front b (path_text up) (front-is front up (inr f, front-parts (d ∷ ds) k) same) (other-full c (all_but_last (d ∷ ds)) f.0 f.1)
 
 pub above-cut : (text front b : List ℕ) → IsPathText text → parts_of text ≡ parts_of front ++ b ∷ []

@@ -6,7 +6,7 @@ use Rattle.std.specs.BTreeMap.{insert_entry}
 use Rattle.witx_base.specs.Calls.{counted, fails_next, no_calls}
 use Rattle.witx_base.specs.Causes.{one_more}
 use Rattle.witx_base.specs.Found.{found}
-use Rattle.witx_base.specs.MemDevices.{SourceState, SinkState, after_read, after_write, fails_write, given}
+use Rattle.witx_base.specs.MemDevices.{SourceState, SinkState, after_read, after_write, fails_write, bytes_given}
 use Rattle.witx_base.specs.Paths.{file_name, join, parent, path_of, path_text}
 
 -- ---- paths: components
@@ -171,15 +171,15 @@ then-works = refl
 source : List ℕ → SourceState
 source fails = record { left = 1 ∷ 2 ∷ 3 ∷ 4 ∷ 5 ∷ []; gives = 2; calls = no_calls fails }
 
-gives-two : given (source []) 8 ≡ 2
+gives-two : bytes_given (source []) 8 ≡ 2
 unfolding source
 gives-two = refl
 
-gives-one : given (source []) 1 ≡ 1
+gives-one : bytes_given (source []) 1 ≡ 1
 unfolding source
 gives-one = refl
 
-gives-none : given (source (0 ∷ [])) 8 ≡ 0
+gives-none : bytes_given (source (0 ∷ [])) 8 ≡ 0
 unfolding source
 gives-none = refl
 

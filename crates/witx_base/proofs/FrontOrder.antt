@@ -3,7 +3,7 @@ use Rattle.std.proofs.Common.{◌≡◌, ℕ, zero, suc, List, [], ◌∷◌, �
 use Rattle.std.specs.Cmp.Lexicographic.{slice_cmp}
 use Rattle.std.specs.Cmp.{nat_cmp_is, ranks}
 use Rattle.std.specs.Ordering.{MatchOrdering, ordering_then}
-use Rattle.witx_base.specs.Fronts.{behind, front_of}
+use Rattle.witx_base.specs.Fronts.{with_bytes_behind, front_of}
 
 abbrev pub AreBytes : List ℕ → Type 0
 AreBytes xs = (k : ℕ) → Fits w8 (get_or xs k 0)
@@ -30,14 +30,14 @@ unfolding front_of
 spelt xs = omega (arith, peeled 1 xs, peeled 2 xs, peeled 3 xs, peeled 4 xs, peeled 5 xs, peeled 6 xs, peeled 7 xs)
 
 -- a lesser number stays less, whatever bytes come behind both
-rising : (count a b : ℕ) (xs ys : List ℕ) → AreBytes xs → a < b → behind a count xs < behind b count ys
+rising : (count a b : ℕ) (xs ys : List ℕ) → AreBytes xs → a < b → with_bytes_behind a count xs < with_bytes_behind b count ys
 rising zero a b xs ys h l = l
 rising (suc count) a b xs ys h l =
     let small : get_or xs 0 0 < 256 = (h 0).fits in
     rising count (a * 256 + get_or xs 0 0) (b * 256 + get_or ys 0 0) (drop 1 xs) (drop 1 ys) (left-bytes xs h) (omega arith)
 
 -- nothing behind a number is the least
-least : (count a b : ℕ) (ys : List ℕ) → a ≤ b → behind a count [] ≤ behind b count ys
+least : (count a b : ℕ) (ys : List ℕ) → a ≤ b → with_bytes_behind a count [] ≤ with_bytes_behind b count ys
 least zero a b ys l = l
 least (suc count) a b ys l = least count (a * 256 + 0) (b * 256 + get_or ys 0 0) (drop 1 ys) (omega arith)
 
@@ -55,8 +55,8 @@ under x y l f = by (nat_cmp x y) (ranks x y)
     by Equal h = absurd (f h)
     by Greater h = let over : y < x = h in absurd (omega arith)
 
-told : (count a : ℕ) (xs ys : List ℕ) → AreBytes xs → AreBytes ys → (behind a count xs ≡ behind a count ys → ⊥)
-    → slice_cmp nat_cmp xs ys ≡ nat_cmp (behind a count xs) (behind a count ys)
+told : (count a : ℕ) (xs ys : List ℕ) → AreBytes xs → AreBytes ys → (with_bytes_behind a count xs ≡ with_bytes_behind a count ys → ⊥)
+    → slice_cmp nat_cmp xs ys ≡ nat_cmp (with_bytes_behind a count xs) (with_bytes_behind a count ys)
 told zero a xs ys g h f = absurd (f refl)
 told (suc count) a [] [] g h f = absurd (f refl)
 told (suc count) a [] (y ∷ ys) g h f = below _ _ (under _ _ (least count (a * 256 + 0) (a * 256 + y) ys (omega arith)) f)
@@ -64,8 +64,8 @@ told (suc count) a (x ∷ xs) [] g h f = above _ _ (under _ _ (least count (a * 
 told (suc count) a (x ∷ xs) (y ∷ ys) g h f = by (nat_cmp x y) refl (ranks x y) (told count (a * 256 + x) xs ys (λ k. g (suc k)) (λ k. h (suc k)))
   where
     by : (r : Ordering) → nat_cmp x y ≡ r → MatchOrdering r (x < y) (x ≡ y) (y < x)
-        → ((behind (a * 256 + x) count xs ≡ behind (a * 256 + x) count ys → ⊥) → slice_cmp nat_cmp xs ys ≡ nat_cmp (behind (a * 256 + x) count xs) (behind (a * 256 + x) count ys))
-        → slice_cmp nat_cmp (x ∷ xs) (y ∷ ys) ≡ nat_cmp (behind (a * 256 + x) count xs) (behind (a * 256 + y) count ys)
+        → ((with_bytes_behind (a * 256 + x) count xs ≡ with_bytes_behind (a * 256 + x) count ys → ⊥) → slice_cmp nat_cmp xs ys ≡ nat_cmp (with_bytes_behind (a * 256 + x) count xs) (with_bytes_behind (a * 256 + x) count ys))
+        → slice_cmp nat_cmp (x ∷ xs) (y ∷ ys) ≡ nat_cmp (with_bytes_behind (a * 256 + x) count xs) (with_bytes_behind (a * 256 + y) count ys)
     by Less e l rest =
         let fewer : x < y = l in
         ap (λ r. ordering_then r (slice_cmp nat_cmp xs ys)) e ∙ below _ _ (rising count (a * 256 + x) (a * 256 + y) xs ys (λ k. g (suc k)) (omega arith))
@@ -75,8 +75,8 @@ told (suc count) a (x ∷ xs) (y ∷ ys) g h f = by (nat_cmp x y) refl (ranks x 
     by Equal e l rest =
         let same : x ≡ y = l in
         ap (λ r. ordering_then r (slice_cmp nat_cmp xs ys)) e
-        ∙ rest (λ s. f (s ∙ ap (λ z. behind (a * 256 + z) count ys) same))
-        ∙ ap (λ z. nat_cmp (behind (a * 256 + x) count xs) (behind (a * 256 + z) count ys)) same
+        ∙ rest (λ s. f (s ∙ ap (λ z. with_bytes_behind (a * 256 + z) count ys) same))
+        ∙ ap (λ z. nat_cmp (with_bytes_behind (a * 256 + x) count xs) (with_bytes_behind (a * 256 + z) count ys)) same
 
 pub front-decides : (xs ys : List ℕ) → AreBytes xs → AreBytes ys → (front_of xs ≡ front_of ys → ⊥) → nat_cmp (front_of xs) (front_of ys) ≡ slice_cmp nat_cmp xs ys
 unfolding front_of

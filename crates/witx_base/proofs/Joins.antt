@@ -3,7 +3,7 @@ use Rattle.std.proofs.Common.{◌≡◌, ℕ, List, [], ◌∷◌, ◌++◌, Boo
 use Rattle.std.specs.Prelude.{◌==◌}
 use Rattle.std.specs.Cmp.Lexicographic.{pointwise}
 use Rattle.witx_base.specs.Paths.{Path, behind_slashes, is_absolute, is_current_dir, is_kept, is_root, join, join_to, parts_of, path_of, path_text, without_current_dir}
-use Rattle.witx_base.specs.PathTexts.{HasNoSlash, IsPathText, or_empty, parts}
+use Rattle.witx_base.specs.PathTexts.{HasNoSlash, IsPathText, or_empty, path_text_parts}
 use Rattle.witx_base.proofs.PathTexts.{AreParts, IsFirst, IsWell, no-root, parts-of-text, parts-other, read-well, text-other, text-parts}
 use Rattle.witx_base.proofs.Cuts.{no-parts, one-free, read-one, same-parts, suc-full, kept-full}
 
@@ -15,10 +15,10 @@ tail-is x y xs ys e = cc
 
 -- ---- whether a path is absolute
 
-absolute-of : (p : Path) (first : List ℕ) (more : Path) → IsWell p → parts p ≡ first ∷ more → ([] ≡ more → ⊥) → (length first == 0) ≡ is_absolute p
+absolute-of : (p : Path) (first : List ℕ) (more : Path) → IsWell p → path_text_parts p ≡ first ∷ more → ([] ≡ more → ⊥) → (length first == 0) ≡ is_absolute p
 absolute-of [] first more h e some = absurd (some (tail-is [] first [] more e))
 absolute-of (c ∷ cs) first more (inl q, k) e some =
-    let same : [] ∷ or_empty cs ≡ first ∷ more = subst (λ r. parts (r ∷ cs) ≡ first ∷ more) q e in
+    let same : [] ∷ or_empty cs ≡ first ∷ more = subst (λ r. path_text_parts (r ∷ cs) ≡ first ∷ more) q e in
     ap (λ x. length x == 0) (sym (head-is [] first (or_empty cs) more same)) ∙ ap is_root (sym q)
 absolute-of (c ∷ cs) first more (inr f, k) e some =
     let same : c ∷ cs ≡ first ∷ more = sym (parts-other c cs (no-root c f.0)) ∙ e in
@@ -45,11 +45,11 @@ rest-well : (cs : Path) → AreParts cs → IsWell cs
 rest-well [] h = tt
 rest-well (c ∷ cs) h = first-full c cs h
 
-rest-parts : (cs : Path) → AreParts cs → ([] ≡ cs → ⊥) → parts cs ≡ cs
+rest-parts : (cs : Path) → AreParts cs → ([] ≡ cs → ⊥) → path_text_parts cs ≡ cs
 rest-parts [] h some = absurd (some refl)
 rest-parts (c ∷ cs) h some = parts-other c cs (no-root c h.0)
 
-dir-yes : (t : Bool) (text first rest : List ℕ) (p : Path) → path_text p ≡ text → IsWell p → parts p ≡ first ∷ parts_of rest → is_absolute p ≡ false
+dir-yes : (t : Bool) (text first rest : List ℕ) (p : Path) → path_text p ≡ text → IsWell p → path_text_parts p ≡ first ∷ parts_of rest → is_absolute p ≡ false
     → is_current_dir first ≡ t → (if t then rest else text) ≡ path_text (without_current_dir p)
 dir-yes t text first rest [] w h e a d = absurd (no-parts rest (tail-is [] first [] (parts_of rest) e))
 dir-yes t text first rest (c ∷ cs) w (inl q, k) e a d = let no : true ≡ false = ap is_root (sym q) ∙ a in absurd (cc)

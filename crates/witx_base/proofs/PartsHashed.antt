@@ -5,7 +5,7 @@ use Rattle.std.specs.Hash as fed
 use Rattle.std.specs.List.{flat_map, fold}
 use Rattle.std.proofs.lemmas.List.Sums.{fold-append}
 use Rattle.witx_base.specs.Paths.{Path, parts_of, path_of, root}
-use Rattle.witx_base.specs.PathTexts.{IsPathText, or_empty, parts}
+use Rattle.witx_base.specs.PathTexts.{IsPathText, or_empty, path_text_parts}
 use Rattle.witx_base.proofs.PathTexts.{IsWell, no-root, parts-of-text, parts-other, read-well}
 use Rattle.witx_base.proofs.Cuts.{kept-full, no-parts, read-one, same-parts, suc-full}
 use Rattle.witx_base.proofs.Joins.{head-is, tail-is}
@@ -56,10 +56,10 @@ pub ruleset loop_rules = (hash-step, hash-end, fewer-parts)
 
 -- ---- which parts are the components
 
-relative-of : (p : Path) (first rest : List ℕ) → IsWell p → parts p ≡ first ∷ parts_of rest → (length first == 0) ≡ false → parts p ≡ p
+relative-of : (p : Path) (first rest : List ℕ) → IsWell p → path_text_parts p ≡ first ∷ parts_of rest → (length first == 0) ≡ false → path_text_parts p ≡ p
 relative-of [] first rest h e f = absurd (no-parts rest (tail-is [] first [] (parts_of rest) e))
 relative-of (c ∷ cs) first rest (inl q, k) e f =
-    let same : [] ∷ or_empty cs ≡ first ∷ parts_of rest = subst (λ r. parts (r ∷ cs) ≡ first ∷ parts_of rest) q e in
+    let same : [] ∷ or_empty cs ≡ first ∷ parts_of rest = subst (λ r. path_text_parts (r ∷ cs) ≡ first ∷ parts_of rest) q e in
     let no : true ≡ false = ap (λ x. length x == 0) (head-is [] first (or_empty cs) (parts_of rest) same) ∙ f in absurd (cc)
 relative-of (c ∷ cs) first rest (inr g, k) e f = parts-other c cs (no-root c g.0)
 
@@ -71,14 +71,14 @@ empty-is : (c : List ℕ) → (length c == 0) ≡ true → c ≡ []
 empty-is [] e = refl
 empty-is (b ∷ bs) e = let no : false ≡ true = sym (suc-full b bs) ∙ e in absurd (cc)
 
-rooted-of : (p : Path) (first rest : List ℕ) → IsWell p → parts p ≡ first ∷ parts_of rest → (length first == 0) ≡ true → (length rest == 0) ≡ false → p ≡ root ∷ parts_of rest
+rooted-of : (p : Path) (first rest : List ℕ) → IsWell p → path_text_parts p ≡ first ∷ parts_of rest → (length first == 0) ≡ true → (length rest == 0) ≡ false → p ≡ root ∷ parts_of rest
 rooted-of [] first rest h e f g = absurd (no-parts rest (tail-is [] first [] (parts_of rest) e))
 rooted-of (c ∷ []) first rest (inl q, k) e f g =
-    let same : [] ∷ [] ∷ [] ≡ first ∷ parts_of rest = subst (λ r. parts (r ∷ []) ≡ first ∷ parts_of rest) q e in
+    let same : [] ∷ [] ∷ [] ≡ first ∷ parts_of rest = subst (λ r. path_text_parts (r ∷ []) ≡ first ∷ parts_of rest) q e in
     let empty : [] ≡ rest = same-parts [] rest (tail-is [] first ([] ∷ []) (parts_of rest) same) in
     let no : true ≡ false = ap (λ x. length x == 0) empty ∙ g in absurd (cc)
 rooted-of (c ∷ d ∷ ds) first rest (inl q, k) e f g =
-    let same : [] ∷ d ∷ ds ≡ first ∷ parts_of rest = subst (λ r. parts (r ∷ d ∷ ds) ≡ first ∷ parts_of rest) q e in
+    let same : [] ∷ d ∷ ds ≡ first ∷ parts_of rest = subst (λ r. path_text_parts (r ∷ d ∷ ds) ≡ first ∷ parts_of rest) q e in
     λ i. q i ∷ tail-is [] first (d ∷ ds) (parts_of rest) same i
 rooted-of (c ∷ cs) first rest (inr w, k) e f g =
     let same : c ∷ cs ≡ first ∷ parts_of rest = sym (parts-other c cs (no-root c w.0)) ∙ e in
@@ -88,11 +88,11 @@ pub rooted-parts : (text first rest : List ℕ) → IsPathText text → parts_of
     → path_of text ≡ root ∷ parts_of rest
 rooted-parts text first rest h e f g = rooted-of (path_of text) first rest (read-well text) (sym (parts-of-text text h) ∙ e) f g
 
-root-of : (p : Path) (first : List ℕ) → IsWell p → parts p ≡ first ∷ [] ∷ [] → (length first == 0) ≡ true → p ≡ root ∷ []
+root-of : (p : Path) (first : List ℕ) → IsWell p → path_text_parts p ≡ first ∷ [] ∷ [] → (length first == 0) ≡ true → p ≡ root ∷ []
 root-of [] first h e f = absurd (no-parts [] (tail-is [] first [] ([] ∷ []) e))
 root-of (c ∷ []) first (inl q, k) e f = ap (λ r. r ∷ []) q
 root-of (c ∷ d ∷ ds) first (inl q, k) e f =
-    let same : [] ∷ d ∷ ds ≡ first ∷ [] ∷ [] = subst (λ r. parts (r ∷ d ∷ ds) ≡ first ∷ [] ∷ []) q e in
+    let same : [] ∷ d ∷ ds ≡ first ∷ [] ∷ [] = subst (λ r. path_text_parts (r ∷ d ∷ ds) ≡ first ∷ [] ∷ []) q e in
     let none : d ≡ [] = head-is d [] ds [] (tail-is [] first (d ∷ ds) ([] ∷ []) same) in
     let no : true ≡ false = ap (λ x. length x == 0) (sym none) ∙ kept-full d k.1 in absurd (cc)
 root-of (c ∷ cs) first (inr w, k) e f =

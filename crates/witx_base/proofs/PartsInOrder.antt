@@ -8,7 +8,7 @@ use Rattle.std.specs.Cmp.Lexicographic.{lists_total, nat_list_cmp_total, pointwi
 use Rattle.std.proofs.lemmas.Slice.Eq.{bytes_eq-Decides}
 use Rattle.std.proofs.lemmas.Bool.{eq-eqb, eqb-true}
 use Rattle.witx_base.specs.Paths.{Path, behind_slashes, is_absolute, is_root, parts_of, path_of, path_text}
-use Rattle.witx_base.specs.PathTexts.{HasNoSlash, IsPathText, or_empty, parts}
+use Rattle.witx_base.specs.PathTexts.{HasNoSlash, IsPathText, or_empty, path_text_parts}
 use Rattle.witx_base.proofs.PathTexts.{AreParts, IsWell, no-root, parts-of-text, parts-other, read-well, text-other}
 use Rattle.witx_base.proofs.Cuts.{kept-full}
 
@@ -32,7 +32,7 @@ or-order [] (d ∷ ds) h k = above-empty d ds (kept-full d k.1)
 or-order (c ∷ cs) [] h k = below-empty c cs (kept-full c h.1)
 or-order (c ∷ cs) (d ∷ ds) h k = refl
 
-like-order : (p q : Path) → IsWell p → IsWell q → is_absolute p ≡ is_absolute q → in_order (parts p) (parts q) ≡ in_order p q
+like-order : (p q : Path) → IsWell p → IsWell q → is_absolute p ≡ is_absolute q → in_order (path_text_parts p) (path_text_parts q) ≡ in_order p q
 unfolding in_order
 like-order [] [] h k a = refl
 like-order [] (d ∷ ds) h (inl e, k) a = let no : false ≡ true = a ∙ ap is_root e in absurd (cc)
@@ -40,7 +40,7 @@ like-order [] (d ∷ ds) h (inr f, k) a = ap (in_order ([] ∷ [])) (parts-other
 like-order (c ∷ cs) [] (inl e, h) k a = let no : true ≡ false = ap is_root (sym e) ∙ a in absurd (cc)
 like-order (c ∷ cs) [] (inr f, h) k a = ap (λ x. in_order x ([] ∷ [])) (parts-other c cs (no-root c f.0)) ∙ below-empty c cs f.1
 like-order (c ∷ cs) (d ∷ ds) (inl e, h) (inl g, k) a =
-    (λ i. in_order (parts (e i ∷ cs)) (parts (g i ∷ ds))) ∙ or-order cs ds h k ∙ (λ i. in_order (sym e i ∷ cs) (sym g i ∷ ds))
+    (λ i. in_order (path_text_parts (e i ∷ cs)) (path_text_parts (g i ∷ ds))) ∙ or-order cs ds h k ∙ (λ i. in_order (sym e i ∷ cs) (sym g i ∷ ds))
 like-order (c ∷ cs) (d ∷ ds) (inl e, h) (inr g, k) a = let no : true ≡ false = ap is_root (sym e) ∙ a ∙ no-root d g.0 in absurd (cc)
 like-order (c ∷ cs) (d ∷ ds) (inr f, h) (inl g, k) a = let no : false ≡ true = sym (no-root c f.0) ∙ a ∙ ap is_root g in absurd (cc)
 like-order (c ∷ cs) (d ∷ ds) (inr f, h) (inr g, k) a = λ i. in_order (parts-other c cs (no-root c f.0) i) (parts-other d ds (no-root d g.0) i)

@@ -4,7 +4,7 @@ use Rattle.std.specs.Prelude.{◌==◌, filter}
 use Rattle.std.specs.List.{AllByRecursion}
 use Rattle.std.proofs.lemmas.Bool.{eqb-true}
 use Rattle.std.proofs.lemmas.List.{drop_all, drop_more}
-use Rattle.witx_base.specs.Paths.{Path, behind_slashes, components_of, is_kept, kept, parts_of, path_text, root}
+use Rattle.witx_base.specs.Paths.{Path, behind_slashes, components_of, is_kept, kept_parts, parts_of, path_text, root}
 use Rattle.witx_base.specs.PathTexts.{HasNoSlash}
 use Rattle.witx_base.proofs.PathTexts.{no-root, parts-free, text-other}
 use Rattle.witx_base.proofs.Cuts.{append-full, suc-full}
@@ -22,24 +22,24 @@ filter-no : (p : List ℕ → Bool) (x : List ℕ) (xs : List (List ℕ)) → p 
 filter-no p x xs h = rw h refl
 
 pub piece-yes : (xs : List (Bor (List ℕ))) (i : ℕ) (x : Bor (List ℕ)) (text total : List ℕ) → i < length xs → x ≡ get_or xs i x → is_kept x.now ≡ true
-    → text ++ behind_slashes (kept (texts_of (drop i xs))) ≡ total
-    → ((text ++ 47 ∷ []) ++ x.now) ++ behind_slashes (kept (texts_of (drop (i + 1) xs))) ≡ total
+    → text ++ behind_slashes (kept_parts (texts_of (drop i xs))) ≡ total
+    → ((text ++ 47 ∷ []) ++ x.now) ++ behind_slashes (kept_parts (texts_of (drop (i + 1) xs))) ≡ total
 piece-yes xs i x text total l p k e =
-    let rest = kept (texts_of (drop (i + 1) xs)) in
-    let step : kept (texts_of (drop i xs)) ≡ x.now ∷ rest = ap kept (texts-drop xs i x l p) ∙ filter-yes is_kept x.now (texts_of (drop (i + 1) xs)) k in
+    let rest = kept_parts (texts_of (drop (i + 1) xs)) in
+    let step : kept_parts (texts_of (drop i xs)) ≡ x.now ∷ rest = ap kept_parts (texts-drop xs i x l p) ∙ filter-yes is_kept x.now (texts_of (drop (i + 1) xs)) k in
     let f : text ++ behind_slashes (x.now ∷ rest) ≡ total = ap (λ ys. text ++ behind_slashes ys) (sym step) ∙ e in
     simp append_assoc f
 
 pub piece-no : (xs : List (Bor (List ℕ))) (i : ℕ) (x : Bor (List ℕ)) (text total : List ℕ) → i < length xs → x ≡ get_or xs i x → is_kept x.now ≡ false
-    → text ++ behind_slashes (kept (texts_of (drop i xs))) ≡ total
-    → text ++ behind_slashes (kept (texts_of (drop (i + 1) xs))) ≡ total
+    → text ++ behind_slashes (kept_parts (texts_of (drop i xs))) ≡ total
+    → text ++ behind_slashes (kept_parts (texts_of (drop (i + 1) xs))) ≡ total
 piece-no xs i x text total l p k e =
-    let step : kept (texts_of (drop i xs)) ≡ kept (texts_of (drop (i + 1) xs)) = ap kept (texts-drop xs i x l p) ∙ filter-no is_kept x.now (texts_of (drop (i + 1) xs)) k in
+    let step : kept_parts (texts_of (drop i xs)) ≡ kept_parts (texts_of (drop (i + 1) xs)) = ap kept_parts (texts-drop xs i x l p) ∙ filter-no is_kept x.now (texts_of (drop (i + 1) xs)) k in
     ap (λ ys. text ++ behind_slashes ys) (sym step) ∙ e
 
 pub piece-end : (xs : List (Bor (List ℕ))) (i : ℕ) (text total : List ℕ) → length xs ≤ i
-    → text ++ behind_slashes (kept (texts_of (drop i xs))) ≡ total → text ≡ total
-piece-end xs i text total q e = sym (append-nil text) ∙ ap (λ ys. text ++ behind_slashes (kept (texts_of ys))) (sym (drop_all i xs q)) ∙ e
+    → text ++ behind_slashes (kept_parts (texts_of (drop i xs))) ≡ total → text ≡ total
+piece-end xs i text total q e = sym (append-nil text) ∙ ap (λ ys. text ++ behind_slashes (kept_parts (texts_of ys))) (sym (drop_all i xs q)) ∙ e
 
 one-text : (t : Bool) (c : List ℕ) → (length c == 0) ≡ t → c ≡ path_text (if t then [] else c ∷ [])
 one-text true [] e = refl
@@ -61,10 +61,10 @@ more-text false c (k ∷ ks) e h = ap (λ b. if b then root else c ++ behind_sla
 
 -- more pieces
 pub more-pieces : (c : List ℕ) (others : List (Bor (List ℕ))) (made : List ℕ) → (length others == 0) ≡ false → HasNoSlash c
-    → made ≡ (if length (c ++ behind_slashes (kept (texts_of others))) == 0 then root else c ++ behind_slashes (kept (texts_of others)))
+    → made ≡ (if length (c ++ behind_slashes (kept_parts (texts_of others))) == 0 then root else c ++ behind_slashes (kept_parts (texts_of others)))
     → made ≡ path_text (components_of (c ∷ texts_of others))
 more-pieces c [] made l h e = let no : true ≡ false = l in absurd (cc)
-more-pieces c (z ∷ zs) made l h e = e ∙ more-text (length c == 0) c (kept (texts_of (z ∷ zs))) refl h
+more-pieces c (z ∷ zs) made l h e = e ∙ more-text (length c == 0) c (kept_parts (texts_of (z ∷ zs))) refl h
 
 -- what is first, and what is left
 pub first-free : (xs : List (Bor (List ℕ))) (x : Bor (List ℕ)) (ys : List (Bor (List ℕ))) → xs ≡ x ∷ ys → AllByRecursion HasNoSlash (texts_of xs) → HasNoSlash x.now

@@ -9,12 +9,12 @@ pub record SourceState : Type 0 where
   pub calls : CallCount
 
 -- how many bytes a read into a buffer of `room` bytes moves: none where the call fails
-abbrev pub given : SourceState → ℕ → ℕ
-given source room = (if fails_next source.calls then 0 else min (min (length source.left) room) source.gives)
+abbrev pub bytes_given : SourceState → ℕ → ℕ
+bytes_given source room = (if fails_next source.calls then 0 else min (min (length source.left) room) source.gives)
 
 -- the source after that read
 abbrev pub after_read : SourceState → ℕ → SourceState
-after_read source room = record source { left = drop (given source room) source.left; calls = counted (fails_next source.calls) source.calls }
+after_read source room = record source { left = drop (bytes_given source room) source.left; calls = counted (fails_next source.calls) source.calls }
 
 -- a sink: the bytes taken, how many it can take in all and at most in one call, and its calls
 pub record SinkState : Type 0 where
@@ -28,9 +28,9 @@ abbrev pub fails_write : SinkState → Bool
 fails_write sink = fails_next sink.calls || length sink.bytes == sink.room
 
 -- how many bytes a write of a piece of `size` bytes takes: none where the call fails
-abbrev pub accepted : SinkState → ℕ → ℕ
-accepted sink size = (if fails_write sink then 0 else min (min size (sink.room - length sink.bytes)) sink.takes)
+abbrev pub bytes_accepted : SinkState → ℕ → ℕ
+bytes_accepted sink size = (if fails_write sink then 0 else min (min size (sink.room - length sink.bytes)) sink.takes)
 
 -- the sink after that write
 abbrev pub after_write : SinkState → List ℕ → SinkState
-after_write sink piece = record sink { bytes = sink.bytes ++ take (accepted sink (length piece)) piece; calls = counted (fails_write sink) sink.calls }
+after_write sink piece = record sink { bytes = sink.bytes ++ take (bytes_accepted sink (length piece)) piece; calls = counted (fails_write sink) sink.calls }

@@ -17,9 +17,9 @@ abbrev pub or_empty : Path → List (List ℕ)
 or_empty [] = [] ∷ []
 or_empty (c ∷ cs) = c ∷ cs
 
-abbrev pub parts : Path → List (List ℕ)
-parts [] = [] ∷ []
-parts (c ∷ cs) = (if is_root c then [] ∷ or_empty cs else c ∷ cs)
+abbrev pub path_text_parts : Path → List (List ℕ)
+path_text_parts [] = [] ∷ []
+path_text_parts (c ∷ cs) = (if is_root c then [] ∷ or_empty cs else c ∷ cs)
 
 -- bytes in the order in which a slash stands before every other byte
 abbrev pub rank : ℕ → ℕ

@@ -2,7 +2,7 @@
 
 ghost use Rattle.std.specs.Prelude.{◌≡◌, ◌<◌, ◌≤◌, ◌+◌, ◌++◌, [], Some, length, take, drop, is_err, IfOk};
 ghost use Rattle.witx_base.specs.Calls.{fails_next, no_calls};
-ghost use Rattle.witx_base.specs.MemDevices.{accepted, after_read, after_write, fails_write, given};
+ghost use Rattle.witx_base.specs.MemDevices.{bytes_accepted, after_read, after_write, fails_write, bytes_given};
 
 use crate::calls::CallCounter;
 use crate::device::{Sink, Source};
@@ -64,8 +64,8 @@ impl Source for MemSource {
     fn read(&mut self, buf: &mut [u8]) -> Result<usize, Failed>
         requires { 0 < length buf.old }
         ensures fails { is_err result ≡ fails_next self.old.calls }
-        ensures count { IfOk result (λ n. n ≡ given self.old (length buf.old)) }
-        ensures buffer { let n = given self.old (length buf.old) in buf.new ≡ take n self.old.left ++ drop n buf.old }
+        ensures count { IfOk result (λ n. n ≡ bytes_given self.old (length buf.old)) }
+        ensures buffer { let n = bytes_given self.old (length buf.old) in buf.new ≡ take n self.old.left ++ drop n buf.old }
         ensures after { self.new ≡ after_read self.old (length buf.old) }
         ensures end { IfOk result (λ n. n ≡ 0 → self.old.left ≡ []) }
         ensures later { self.old.calls.faults ≤ self.new.calls.faults }
@@ -142,7 +142,7 @@ impl Sink for MemSink {
     fn write(&mut self, piece: &[u8]) -> Result<usize, Failed>
         requires { 0 < length piece.now }
         ensures fails { is_err result ≡ fails_write self.old }
-        ensures count { IfOk result (λ n. n ≡ accepted self.old (length piece.now)) }
+        ensures count { IfOk result (λ n. n ≡ bytes_accepted self.old (length piece.now)) }
         ensures after { self.new ≡ after_write self.old piece.now }
         ensures some { IfOk result (λ n. 0 < n) }
         ensures later { self.old.calls.faults ≤ self.new.calls.faults }

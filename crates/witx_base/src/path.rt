@@ -1,7 +1,7 @@
 //! Paths as owned values, whose contracts speak of their components.
 
 ghost use Rattle.std.specs.Prelude.{◌≡◌, ◌==◌, ◌<◌, ◌++◌, length, map, IfOk, option_copied, Some, None, string_bytes};
-ghost use Rattle.witx_base.specs.Paths.{behind_slashes, components_of, file_name, has_parent, is_absolute, is_kept, is_name, join, kept, last_component, all_but_last, parent, path_of, path_text, without_current_dir};
+ghost use Rattle.witx_base.specs.Paths.{behind_slashes, components_of, file_name, has_parent, is_absolute, is_kept, is_name, join, kept_parts, last_component, all_but_last, parent, path_of, path_text, without_current_dir};
 ghost use Rattle.std.specs.List.{slice_split};
 ghost use Rattle.std.specs.Prelude.{refl};
 ghost use Rattle.std.specs.Ordering.{nat_cmp};

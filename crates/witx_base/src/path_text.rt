@@ -1,7 +1,7 @@
 //! Paths as they are written: texts whose parts between the slashes are the components.
 
 ghost use Rattle.std.specs.Prelude.{◌≡◌, ◌==◌, ◌++◌, ◌∷◌, [], IfOk, length, false, None, Some, if◌then◌else◌, option_copied, option_map, MatchOption, string_bytes, codes, map};
-ghost use Rattle.witx_base.specs.Paths.{behind_slashes, components_of, file_name, is_absolute, is_current_dir, is_kept, is_name, is_root, join, kept, name_among, parent, parts_of, path_of, path_text, root, without_current_dir};
+ghost use Rattle.witx_base.specs.Paths.{behind_slashes, components_of, file_name, is_absolute, is_current_dir, is_kept, is_name, is_root, join, kept_parts, name_among, parent, parts_of, path_of, path_text, root, without_current_dir};
 ghost use Rattle.std.specs.Hash as fed;
 ghost use Rattle.std.specs.List.{AllByRecursion, flat_map, fold};
 ghost use Rattle.std.specs.Ordering.{nat_cmp};
@@ -158,7 +158,7 @@ fn is_kept_piece(piece: &str) -> bool
 
 #[tactic(auto, using(crate::proofs::Written::written_rules))]
 fn put_kept(text: &mut String, pieces: &[&str]) -> Result<(), AllocError>
-    ensures { IfOk result (λ _. string_bytes text.new ≡ string_bytes text.old ++ behind_slashes (kept (map (λ x. x.now) pieces.now))) }
+    ensures { IfOk result (λ _. string_bytes text.new ≡ string_bytes text.old ++ behind_slashes (kept_parts (map (λ x. x.now) pieces.now))) }
 {
     for piece in pieces {
         if is_kept_piece(piece) {
@@ -203,7 +203,7 @@ fn put_all(alloc: Global, room: usize, first: &str, others: &[&str]) -> Result<S
 }
 
 fn put_first(alloc: Global, room: usize, first: &str, others: &[&str]) -> Result<String, AllocError>
-    ensures { IfOk result (λ t. let text = first.now ++ behind_slashes (kept (map (λ x. x.now) others.now)) in
+    ensures { IfOk result (λ t. let text = first.now ++ behind_slashes (kept_parts (map (λ x. x.now) others.now)) in
         string_bytes t ≡ (if length text == 0 then root else text)) }
 {
     let mut text = String::with_capacity(alloc, room)?;

@@ -6,7 +6,7 @@ use Rattle.std.specs.List.{slice_split, starts_with, list_any, join_with_byte}
 use Rattle.std.specs.Str.{IsUtf8}
 use Rattle.std.specs.Str.Lossy.{utf8_valid_len}
 use Rattle.witx_base.specs.Paths.{Path, path_of}
-use Rattle.witx_files.specs.Files.{Files, held, same_path}
+use Rattle.witx_files.specs.Files.{Files, text_in, same_path}
 use Rattle.witx_bundle.specs.declared.bundle.TheConstants.{LONGEST_BUNDLE}
 use Rattle.witx_bundle.specs.declared.error.BundleError.{BundleError}
 use Rattle.witx_bundle.specs.declared.error.BundleError.TheVariants.{TooLong, NotUtf8, BeforeFirst, OutOfMemory}
@@ -55,15 +55,15 @@ with_line line more at q = (if is_header line then (if same_path (header_path li
 
 -- the text at a path: the last that is given for it
 abbrev pub told_at : List (List ℕ) → Path → Option (List ℕ)
-told_at lines q = held (reverse (given lines)) q
+told_at lines q = text_in (reverse (given lines)) q
 
 -- a space, a tab, a line feed or a carriage return
-abbrev pub is_blank : ℕ → Bool
-is_blank byte = (byte == 32 || byte == 9) || (byte == 10 || byte == 13)
+abbrev pub is_blank_byte : ℕ → Bool
+is_blank_byte byte = (byte == 32 || byte == 9) || (byte == 10 || byte == 13)
 
 -- the place of the first byte before the first header that is no blank
 abbrev pub stray : List (List ℕ) → Option ℕ
-stray lines = position (λ byte. not (is_blank byte)) (text_before lines)
+stray lines = position (λ byte. not (is_blank_byte byte)) (text_before lines)
 
 -- the most bytes that a bundle may have
 abbrev pub limit : ℕ
@@ -71,7 +71,7 @@ limit = LONGEST_BUNDLE
 
 -- what reading a bundle answers: a row for each answer, the refusals in their order
 abbrev pub IsRead : List ℕ → Result Files BundleError → Type 0
-IsRead bytes (Ok files) = (length bytes ≤ limit) × IsUtf8 bytes × (stray (lines_of bytes) ≡ None) × ((q : Path) → held files q ≡ told_at (lines_of bytes) q)
+IsRead bytes (Ok files) = (length bytes ≤ limit) × IsUtf8 bytes × (stray (lines_of bytes) ≡ None) × ((q : Path) → text_in files q ≡ told_at (lines_of bytes) q)
 IsRead bytes (Err TooLong) = limit < length bytes
 IsRead bytes (Err (NotUtf8 at)) = (length bytes ≤ limit) × (¬ (IsUtf8 bytes)) × (at ≡ utf8_valid_len bytes)
 IsRead bytes (Err (BeforeFirst at)) = (length bytes ≤ limit) × IsUtf8 bytes × (stray (lines_of bytes) ≡ Some at)

@@ -2,8 +2,8 @@
 
 ghost use Rattle.std.specs.Prelude.{◌≡◌, ◌≤◌, ◌^◌, [], IfOk, length};
 ghost use Rattle.witx_base.specs.Paths.{Path};
-ghost use Rattle.witx_bundle.specs.Bundles.{IsRead, is_blank, lines_of, stray, text_before, told_at, with_line};
-ghost use Rattle.witx_files.specs.Files.{held};
+ghost use Rattle.witx_bundle.specs.Bundles.{IsRead, is_blank_byte, lines_of, stray, text_before, told_at, with_line};
+ghost use Rattle.witx_files.specs.Files.{text_in};
 
 use crate::error::BundleError;
 use crate::lines::{cut_line, header_rest, path_before, split_front};
@@ -65,7 +65,7 @@ fn stray(text: &str) -> Option<usize>
 }
 
 fn is_blank(byte: u8) -> bool
-    ensures { result ≡ is_blank byte }
+    ensures { result ≡ is_blank_byte byte }
 {
     (byte == b' ' || byte == b'\t') || (byte == b'\n' || byte == b'\r')
 }
@@ -73,7 +73,7 @@ fn is_blank(byte: u8) -> bool
 /// The files of the headers among the lines.
 #[tactic(auto, using(crate::proofs::LastTexts::file_rules))]
 fn files_behind(alloc: Global, text: &str) -> Result<MockFs, OutOfMemory>
-    ensures { IfOk result (λ m. (q : Path) → held m q ≡ told_at (lines_of text.now) q) }
+    ensures { IfOk result (λ m. (q : Path) → text_in m q ≡ told_at (lines_of text.now) q) }
 {
     let mut files = MockFs::new(alloc);
     let mut rest = text;
@@ -96,7 +96,7 @@ fn put_file(
     front: &str,
 ) -> Result<(), OutOfMemory>
     requires { front.now ≡ text_before (lines_of more.now) }
-    ensures { IfOk result (λ _. (q : Path) → held files.new q ≡ with_line line.now (lines_of more.now) (held files.old) q) }
+    ensures { IfOk result (λ _. (q : Path) → text_in files.new q ≡ with_line line.now (lines_of more.now) (text_in files.old) q) }
 {
     match header_rest(line) {
         Some(rest) => {
@@ -110,7 +110,7 @@ fn put_file(
 
 /// Puts the file of the last line among the files, if it is a header: the file is empty.
 fn put_last(alloc: Global, files: &mut MockFs, line: &str) -> Result<(), OutOfMemory>
-    ensures { IfOk result (λ _. (q : Path) → held files.new q ≡ with_line line.now [] (held files.old) q) }
+    ensures { IfOk result (λ _. (q : Path) → text_in files.new q ≡ with_line line.now [] (text_in files.old) q) }
 {
     match header_rest(line) {
         Some(rest) => {

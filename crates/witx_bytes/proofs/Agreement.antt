@@ -1,6 +1,6 @@
 -- How images agree with a memory, piece by piece, and what writing and placing change.
 use Rattle.std.proofs.Common.{◌≡◌, ◌≢◌, ℕ, zero, suc, ◌+◌, ◌-◌, ◌<◌, ◌≤◌, Bool, true, false, cond, ◌&&◌, refl, sym, ap, ◌∙◌, subst, arith, Option, Some, None, is_some, is_none, [], ◌∷◌, ◌++◌, length, nat_eq, nat_lt, nat_le, ◌⊎◌, inl, inr}
-use Rattle.witx_bytes.specs.Bytes.{Bytes, Image, Agrees, written, placed, all_held, none_held}
+use Rattle.witx_bytes.specs.Bytes.{Bytes, Image, Agrees, image_written, with_zeros, all_held, none_held}
 use Rattle.witx_bytes.specs.Images.{gap, padded_to}
 use Rattle.witx_ast.proofs.Decided.{decides-lt, decides-le, decides-eq, both-then}
 use Rattle.witx_base.specs.SameBytes.{false-true, both}
@@ -63,33 +63,33 @@ pub self_eq : (x : ℕ) → nat_eq x x ≡ true
 self_eq x = (decides-eq x x).1 refl
 
 -- what lies outside stays
-pub written-outside : (at : ℕ) (xs : Image) (m : Bytes) (x : ℕ) → (x < at) ⊎ (at + length xs ≤ x) → written at xs m x ≡ m x
+pub written-outside : (at : ℕ) (xs : Image) (m : Bytes) (x : ℕ) → (x < at) ⊎ (at + length xs ≤ x) → image_written at xs m x ≡ m x
 written-outside at [] m x h = refl
 written-outside at (None ∷ xs) m x h = written-outside (suc at) xs m x (elim h [ inl l ↦ inl (omega (arith, l)) | inr l ↦ inr (omega (arith, l)) ])
 written-outside at (Some b ∷ xs) m x h =
-    ap (λ c. cond c (Some b) (written (suc at) xs m x)) (other x at (elim h [ inl l ↦ inl l | inr l ↦ inr (omega (arith, l)) ])) ∙ written-outside (suc at) xs m x (elim h [ inl l ↦ inl (omega (arith, l)) | inr l ↦ inr (omega (arith, l)) ])
+    ap (λ c. cond c (Some b) (image_written (suc at) xs m x)) (other x at (elim h [ inl l ↦ inl l | inr l ↦ inr (omega (arith, l)) ])) ∙ written-outside (suc at) xs m x (elim h [ inl l ↦ inl (omega (arith, l)) | inr l ↦ inr (omega (arith, l)) ])
 
 -- what was written stands
-pub written-own : (at : ℕ) (xs : Image) (m : Bytes) → Agrees (written at xs m) at xs
+pub written-own : (at : ℕ) (xs : Image) (m : Bytes) → Agrees (image_written at xs m) at xs
 written-own at [] m = tt
-written-own at (None ∷ xs) m = agrees-same (written (suc at) xs m) (written at (None ∷ xs) m) (suc at) xs (λ x l u. refl) (written-own (suc at) xs m)
+written-own at (None ∷ xs) m = agrees-same (image_written (suc at) xs m) (image_written at (None ∷ xs) m) (suc at) xs (λ x l u. refl) (written-own (suc at) xs m)
 written-own at (Some b ∷ xs) m = (
-  ap (λ c. cond c (Some b) (written (suc at) xs m at)) (self_eq at),
-  agrees-same (written (suc at) xs m) (written at (Some b ∷ xs) m) (suc at) xs (λ x l u. sym (ap (λ c. cond c (Some b) (written (suc at) xs m x)) (other x at (inr (omega (arith, l)))))) (written-own (suc at) xs m),
+  ap (λ c. cond c (Some b) (image_written (suc at) xs m at)) (self_eq at),
+  agrees-same (image_written (suc at) xs m) (image_written at (Some b ∷ xs) m) (suc at) xs (λ x l u. sym (ap (λ c. cond c (Some b) (image_written (suc at) xs m x)) (other x at (inr (omega (arith, l)))))) (written-own (suc at) xs m),
 )
 
 -- a byte that stood is still one
-pub written-holds : (at : ℕ) (xs : Image) (m : Bytes) (x : ℕ) → is_some (m x) ≡ true → is_some (written at xs m x) ≡ true
+pub written-holds : (at : ℕ) (xs : Image) (m : Bytes) (x : ℕ) → is_some (m x) ≡ true → is_some (image_written at xs m x) ≡ true
 written-holds at [] m x h = h
 written-holds at (None ∷ xs) m x h = written-holds (suc at) xs m x h
 written-holds at (Some b ∷ xs) m x h = go (nat_eq x at) (written-holds (suc at) xs m x h)
   where
-    go : (c : Bool) → is_some (written (suc at) xs m x) ≡ true → is_some (cond c (Some b) (written (suc at) xs m x)) ≡ true
+    go : (c : Bool) → is_some (image_written (suc at) xs m x) ≡ true → is_some (cond c (Some b) (image_written (suc at) xs m x)) ≡ true
     go true k = refl
     go false k = k
 
 -- placing
-pub placed-outside : (at len : ℕ) (m : Bytes) (x : ℕ) → (x < at) ⊎ (at + len ≤ x) → placed at len m x ≡ m x
+pub placed-outside : (at len : ℕ) (m : Bytes) (x : ℕ) → (x < at) ⊎ (at + len ≤ x) → with_zeros at len m x ≡ m x
 placed-outside at len m x h = ap (λ c. cond c (Some 0) (m x)) (out (nat_le at x && nat_lt x (at + len)) refl)
   where
     out : (c : Bool) → (nat_le at x && nat_lt x (at + len)) ≡ c → (nat_le at x && nat_lt x (at + len)) ≡ false
@@ -98,10 +98,10 @@ placed-outside at len m x h = ap (λ c. cond c (Some 0) (m x)) (out (nat_le at x
         let p = both _ _ e in let lo = (decides-le at x).0 p.0 in let hi = (decides-lt x (at + len)).0 p.1 in
         elim h [ inl l ↦ absurd (omega (arith, lo, l)) | inr l ↦ absurd (omega (arith, hi, l)) ]
 
-pub placed-own : (at len : ℕ) (m : Bytes) (x : ℕ) → at ≤ x → x < at + len → placed at len m x ≡ Some 0
+pub placed-own : (at len : ℕ) (m : Bytes) (x : ℕ) → at ≤ x → x < at + len → with_zeros at len m x ≡ Some 0
 placed-own at len m x l u = ap (λ c. cond c (Some 0) (m x)) (both-then _ _ ((decides-le at x).1 l) ((decides-lt x (at + len)).1 u))
 
-pub placed-holds : (at len : ℕ) (m : Bytes) (x : ℕ) → is_some (m x) ≡ true → is_some (placed at len m x) ≡ true
+pub placed-holds : (at len : ℕ) (m : Bytes) (x : ℕ) → is_some (m x) ≡ true → is_some (with_zeros at len m x) ≡ true
 placed-holds at len m x h = go (nat_le at x && nat_lt x (at + len))
   where
     go : (c : Bool) → is_some (cond c (Some 0) (m x)) ≡ true

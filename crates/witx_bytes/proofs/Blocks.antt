@@ -6,7 +6,7 @@ use Rattle.std.specs.BTreeMap.{is_at}
 use Rattle.std.proofs.lemmas.List.{get_or-drop, get_or-take, length-take-le}
 use Rattle.witx_ast.proofs.Decided.{decides-eq, decides-lt}
 use Rattle.witx_base.specs.SameBytes.{false-true}
-use Rattle.witx_bytes.specs.Bytes.{Bytes, Image, Blocks, block_of, HasBlock, HasBlocks, in_block, place, held, written, all_held, none_held, RunAt, Filled, IsByteMemory}
+use Rattle.witx_bytes.specs.Bytes.{Bytes, Image, Blocks, block_of, HasBlock, HasBlocks, in_block, block_bytes, held, image_written, all_held, none_held, RunAt, Filled, IsByteMemory}
 use Rattle.witx_bytes.specs.Images.{little}
 use Rattle.witx_bytes.specs.Writes.{HasRange, Writes}
 use Rattle.witx_bytes.proofs.Agreement.{written-outside}
@@ -32,7 +32,7 @@ run_some m at bytes run e d n = record {
       held-near m at i (omega (arith, l, n))
       ∙ ap (in_block (at % 256 + i)) e
       ∙ sym (get_or-drop (at % 256) bytes i None)
-      ∙ ap (λ xs. place xs i) (sym d);
+      ∙ ap (λ xs. block_bytes xs i) (sym d);
   free = λ z i l. absurd (omega (arith, z, n, l));
   long = λ l. omega (arith, n);
 }
@@ -67,18 +67,18 @@ none-same a b (suc n) m k h =
     let more = none-same (suc a) (suc b) n m k (λ i l. ap m (omega arith) ∙ h (suc i) (omega (arith, l)) ∙ ap k (omega arith)) in
     ap (λ o. is_none o && none_held (suc a) n m) first ∙ ap (λ r. is_none (k b) && r) more
 
-front : (at n : ℕ) (run : List (Option ℕ)) (m : Bytes) → RunAt at run m → n ≤ length run → (i : ℕ) → i < n → place (take n run) (0 + i) ≡ m (at + i)
-front at n run m h long i l = let e : 0 + i ≡ i = omega arith in ap (place (take n run)) e ∙ get_or-take n run i None l ∙ sym (h.stands i (omega (arith, l, long)))
+front : (at n : ℕ) (run : List (Option ℕ)) (m : Bytes) → RunAt at run m → n ≤ length run → (i : ℕ) → i < n → block_bytes (take n run) (0 + i) ≡ m (at + i)
+front at n run m h long i l = let e : 0 + i ≡ i = omega arith in ap (block_bytes (take n run)) e ∙ get_or-take n run i None l ∙ sym (h.stands i (omega (arith, l, long)))
 
-pub part_held : (at n : ℕ) (run : List (Option ℕ)) (m : Bytes) → RunAt at run m → 0 < length run → at % 256 + n ≤ 256 → all_held 0 (length (take n run)) (place (take n run)) ≡ all_held at n m
+pub part_held : (at n : ℕ) (run : List (Option ℕ)) (m : Bytes) → RunAt at run m → 0 < length run → at % 256 + n ≤ 256 → all_held 0 (length (take n run)) (block_bytes (take n run)) ≡ all_held at n m
 part_held at n run m h some inside =
     let long : n ≤ length run = omega (arith, h.long some, inside) in
-    ap (λ k. all_held 0 k (place (take n run))) (length-take-le n run long) ∙ all-same 0 at n (place (take n run)) m (front at n run m h long)
+    ap (λ k. all_held 0 k (block_bytes (take n run))) (length-take-le n run long) ∙ all-same 0 at n (block_bytes (take n run)) m (front at n run m h long)
 
-pub part_free : (at n : ℕ) (run : List (Option ℕ)) (m : Bytes) → RunAt at run m → 0 < length run → at % 256 + n ≤ 256 → none_held 0 (length (take n run)) (place (take n run)) ≡ none_held at n m
+pub part_free : (at n : ℕ) (run : List (Option ℕ)) (m : Bytes) → RunAt at run m → 0 < length run → at % 256 + n ≤ 256 → none_held 0 (length (take n run)) (block_bytes (take n run)) ≡ none_held at n m
 part_free at n run m h some inside =
     let long : n ≤ length run = omega (arith, h.long some, inside) in
-    ap (λ k. none_held 0 k (place (take n run))) (length-take-le n run long) ∙ none-same 0 at n (place (take n run)) m (front at n run m h long)
+    ap (λ k. none_held 0 k (block_bytes (take n run))) (length-take-le n run long) ∙ none-same 0 at n (block_bytes (take n run)) m (front at n run m h long)
 
 pub part_long : (at n : ℕ) (run : List (Option ℕ)) (m : Bytes) → RunAt at run m → 0 < length run → at % 256 + n ≤ 256 → n ≤ length run
 part_long at n run m h some inside = omega (arith, h.long some, inside)
@@ -125,10 +125,10 @@ by_block q x P yes' no' = go (nat_eq (x / 256) q) refl
     go true e = yes' ((decides-eq (x / 256) q).0 e)
     go false e = no' (λ s. false-true (sym e ∙ (decides-eq (x / 256) q).1 s))
 
-now-in : (q x : ℕ) (old new : List (Option ℕ)) (m n : Blocks) → OneBlock q old new m n → x / 256 ≡ q → held n x ≡ place new (x % 256)
+now-in : (q x : ℕ) (old new : List (Option ℕ)) (m n : Blocks) → OneBlock q old new m n → x / 256 ≡ q → held n x ≡ block_bytes new (x % 256)
 now-in q x old new m n h e = ap (λ q. in_block (x % 256) (block_of q n)) e ∙ ap (in_block (x % 256)) h.is
 
-was-in : (q x : ℕ) (old new : List (Option ℕ)) (m n : Blocks) → OneBlock q old new m n → x / 256 ≡ q → held m x ≡ place old (x % 256)
+was-in : (q x : ℕ) (old new : List (Option ℕ)) (m n : Blocks) → OneBlock q old new m n → x / 256 ≡ q → held m x ≡ block_bytes old (x % 256)
 was-in q x old new m n h e = ap (λ q. in_block (x % 256) (block_of q m)) e ∙ ap (in_block (x % 256)) h.was
 
 now-out : (q x : ℕ) (old new : List (Option ℕ)) (m n : Blocks) → OneBlock q old new m n → x / 256 ≢ q → held n x ≡ held m x
@@ -142,7 +142,7 @@ has_kept q old new m n h p had = go (nat_eq p q) refl
     go false e = ap is_some (h.others p (λ s. false-true (sym e ∙ (decides-eq p q).1 s))) ∙ had
 
 -- what is filled in a block is filled in the memory
-pub fill_changed : (at len : ℕ) (o : Option ℕ) (old new : List (Option ℕ)) (m n : Blocks) → OneBlock (at / 256) old new m n → at % 256 + len ≤ 256 → Filled (at % 256) (at % 256 + len) o (place old) (place new) → Filled at (at + len) o (held m) (held n)
+pub fill_changed : (at len : ℕ) (o : Option ℕ) (old new : List (Option ℕ)) (m n : Blocks) → OneBlock (at / 256) old new m n → at % 256 + len ≤ 256 → Filled (at % 256) (at % 256 + len) o (block_bytes old) (block_bytes new) → Filled at (at + len) o (held m) (held n)
 fill_changed at len o old new m n h inside f = record {
   inside = λ y l u. now-in (at / 256) y old new m n h (omega (arith, l, u, inside)) ∙ f.inside (y % 256) (omega (arith, l, u, inside)) (omega (arith, l, u, inside));
   outside = λ y out. by_block (at / 256) y (held n y ≡ held m y)
@@ -182,23 +182,23 @@ eq-behind k i j = go (nat_eq j i) refl
         other false h = h
         other true h = let far = (decides-eq (k + j) (k + i)).0 h in let is : j ≡ i = omega (arith, far) in absurd (false-true (sym e ∙ (decides-eq j i).1 is))
 
-written-behind : (k i j : ℕ) (xs : Image) (m n : Bytes) → m (k + j) ≡ n j → written (k + i) xs m (k + j) ≡ written i xs n j
+written-behind : (k i j : ℕ) (xs : Image) (m n : Bytes) → m (k + j) ≡ n j → image_written (k + i) xs m (k + j) ≡ image_written i xs n j
 written-behind k i j [] m n e = e
 written-behind k i j (None ∷ xs) m n e = written-at (suc (k + i)) (k + suc i) xs m (k + j) (omega arith) ∙ written-behind k (suc i) j xs m n e
 written-behind k i j (Some b ∷ xs) m n e =
-    ap (λ c. cond c (Some b) (written (suc (k + i)) xs m (k + j))) (eq-behind k i j)
+    ap (λ c. cond c (Some b) (image_written (suc (k + i)) xs m (k + j))) (eq-behind k i j)
     ∙ ap (cond (nat_eq j i) (Some b)) (written-at (suc (k + i)) (k + suc i) xs m (k + j) (omega arith) ∙ written-behind k (suc i) j xs m n e)
 
-pub write_changed : (at : ℕ) (xs : Image) (old new : List (Option ℕ)) (m n : Blocks) → OneBlock (at / 256) old new m n → at % 256 + length xs ≤ 256 → Writes (at % 256) xs (place old) (place new) → Writes at xs (held m) (held n)
-write_changed at xs old new m n h inside f x = by_block (at / 256) x (held n x ≡ written at xs (held m) x)
+pub write_changed : (at : ℕ) (xs : Image) (old new : List (Option ℕ)) (m n : Blocks) → OneBlock (at / 256) old new m n → at % 256 + length xs ≤ 256 → Writes (at % 256) xs (block_bytes old) (block_bytes new) → Writes at xs (held m) (held n)
+write_changed at xs old new m n h inside f x = by_block (at / 256) x (held n x ≡ image_written at xs (held m) x)
     (λ e.
     let k = 256 * (at / 256) in
     let here : k + x % 256 ≡ x = omega (arith, e) in
     let there : k + at % 256 ≡ at = omega arith in
     now-in (at / 256) x old new m n h e
     ∙ f (x % 256)
-    ∙ sym (written-behind k (at % 256) (x % 256) xs (held m) (place old) (ap (held m) here ∙ was-in (at / 256) x old new m n h e))
-    ∙ ap (λ y. written (k + at % 256) xs (held m) y) here
+    ∙ sym (written-behind k (at % 256) (x % 256) xs (held m) (block_bytes old) (ap (held m) here ∙ was-in (at / 256) x old new m n h e))
+    ∙ ap (λ y. image_written (k + at % 256) xs (held m) y) here
     ∙ written-at (k + at % 256) at xs (held m) x there)
     (λ d. now-out (at / 256) x old new m n h d ∙ sym (written-outside at xs (held m) x (beside d (nat_lt x at) refl)))
   where
@@ -206,7 +206,7 @@ write_changed at xs old new m n h inside f x = by_block (at / 256) x (held n x �
     beside d true e = inl ((decides-lt x at).0 e)
     beside d false e = let over : ¬ (x < at) = λ l. false-true (sym e ∙ (decides-lt x at).1 l) in inr (omega (arith, d, over, inside))
 
-pub number_changed : (at w n : ℕ) (old new : List (Option ℕ)) (m k : Blocks) → OneBlock (at / 256) old new m k → at % 256 + w ≤ 256 → Writes (at % 256) (little w n) (place old) (place new) → Writes at (little w n) (held m) (held k)
+pub number_changed : (at w n : ℕ) (old new : List (Option ℕ)) (m k : Blocks) → OneBlock (at / 256) old new m k → at % 256 + w ≤ 256 → Writes (at % 256) (little w n) (block_bytes old) (block_bytes new) → Writes at (little w n) (held m) (held k)
 number_changed at w n old new m k h inside f =
     let long : at % 256 + length (little w n) ≤ 256 = omega (arith, little-length w n, inside) in write_changed at (little w n) old new m k h long f
 
@@ -214,14 +214,14 @@ number_changed at w n old new m k h inside f =
 pub part_within : (at w : ℕ) → at < 2 ^ 32 → at % 256 + w ≤ 256 → at + w ≤ 2 ^ 32
 part_within at w l inside = omega (arith, l, inside)
 
-written-bytes : (at w n : ℕ) (m : Bytes) → IsByteMemory m → at + w ≤ 2 ^ 32 → IsByteMemory (written at (little w n) m)
+written-bytes : (at w n : ℕ) (m : Bytes) → IsByteMemory m → at + w ≤ 2 ^ 32 → IsByteMemory (image_written at (little w n) m)
 written-bytes at zero n m bytes within x c e = bytes x c e
 written-bytes at (suc w) n m bytes within x c e = go (nat_eq x at) refl (written-bytes (suc at) w (n / 256) m bytes (omega (arith, within)) x c) e
   where
     same : Some (n % 256) ≡ Some c → n % 256 ≡ c
     same h = cc
 
-    go : (b : Bool) → nat_eq x at ≡ b → (written (suc at) (little w (n / 256)) m x ≡ Some c → (x < 2 ^ 32) × (c < 2 ^ 8)) → cond b (Some (n % 256)) (written (suc at) (little w (n / 256)) m x) ≡ Some c → (x < 2 ^ 32) × (c < 2 ^ 8)
+    go : (b : Bool) → nat_eq x at ≡ b → (image_written (suc at) (little w (n / 256)) m x ≡ Some c → (x < 2 ^ 32) × (c < 2 ^ 8)) → cond b (Some (n % 256)) (image_written (suc at) (little w (n / 256)) m x) ≡ Some c → (x < 2 ^ 32) × (c < 2 ^ 8)
     go true k more e = let is = (decides-eq x at).0 k in let s = same e in (omega (arith, is, within), omega (arith, s))
     go false k more e = more e
 

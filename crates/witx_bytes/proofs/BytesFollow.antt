@@ -12,13 +12,13 @@ use Rattle.witx_ast.proofs.ValueLaws.{value-decides}
 use Rattle.witx_ast.proofs.AlikeLaws.{alike-decides}
 use Rattle.witx_machine.specs.Words.{Word, i32, word_of, value_of, when}
 use Rattle.witx_machine.specs.Functions.{by_address, name_of}
-use Rattle.witx_machine.specs.Cells.{Cell, Cells, Memory, Taken, get, insert, given, loaded, stored, is_i32, cells, picked, case_picked, result_value}
+use Rattle.witx_machine.specs.Cells.{Cell, Cells, Memory, Taken, get, insert, cell_given, loaded, stored, is_i32, cells, picked, case_picked, result_value}
 use Rattle.witx_machine.proofs.CellLaws.{own_cell}
-use Rattle.witx_bytes.specs.Bytes.{Bytes, Agrees, written, placed, holds, is_free}
+use Rattle.witx_bytes.specs.Bytes.{Bytes, Agrees, image_written, with_zeros, holds, is_free}
 use Rattle.witx_bytes.specs.Images.{image}
 use Rattle.witx_bytes.specs.Reading.{value_at}
 use Rattle.witx_bytes.specs.ByteMachine.{Store, range_size, range_given, value_written, has_room, bytes}
-use Rattle.witx_bytes.specs.Follow.{LiesIn, Apart, ApartFrom, AreApart, AreUnused, AreWritable}
+use Rattle.witx_bytes.specs.Follow.{LiesIn, Apart, ApartFrom, AreRangesApart, AreUnused, AreWritable}
 use Rattle.witx_bytes.proofs.Agreement.{written-own, placed-outside, written-outside}
 use Rattle.witx_bytes.proofs.ReadBack.{read-back, when-true}
 use Rattle.witx_bytes.proofs.RangeLaws.{Disjoint, image-fits, agrees-placed, agrees-written, held-own, held-placed, held-written, free-placed, free-written, byte-outside, room-of, placed-only, written-only}
@@ -38,7 +38,7 @@ apart_from x y [] h k = absurd k
 apart_from x y (z ∷ ys) h (inl e) = subst (Apart x) (sym e) h.0
 apart_from x y (z ∷ ys) h (inr k) = apart_from x y ys h.1 k
 
-apart_members : (xs : Taken) (x y : ℕ × Tree) → AreApart xs → Among x xs → Among y xs → x.0 ≢ y.0 → Apart x y
+apart_members : (xs : Taken) (x y : ℕ × Tree) → AreRangesApart xs → Among x xs → Among y xs → x.0 ≢ y.0 → Apart x y
 apart_members [] x y f h k n = absurd h
 apart_members (z ∷ xs) x y f (inl e) (inl e') n = absurd (n (ap (λ p. p.0) (e ∙ sym e')))
 apart_members (z ∷ xs) x y f (inl e) (inr k) n = subst (λ x. Apart x y) (sym e) (apart_from z y xs f.0 k)
@@ -55,7 +55,7 @@ among_last x [] = inl refl
 among_last x (z ∷ xs) = inr (among_last x xs)
 
 -- what comes before an entry, and what comes after it, is apart from it
-apart_before : (xs : Taken) (y x : ℕ × Tree) (ys : Taken) → AreApart (xs ++ x ∷ ys) → Among y xs → Apart x y
+apart_before : (xs : Taken) (y x : ℕ × Tree) (ys : Taken) → AreRangesApart (xs ++ x ∷ ys) → Among y xs → Apart x y
 apart_before [] y x ys f h = absurd h
 apart_before (z ∷ xs) y x ys f (inl e) = other_way y x (subst (λ y. Apart y x) (sym e) (first xs x ys z f.0))
   where
@@ -73,7 +73,7 @@ lies_last : (x : ℕ) (z : ℕ × Tree) (xs : Taken) → z.0 ≤ x → x < z.0 +
 lies_last x z [] lo hi = inl (lo, hi)
 lies_last x z (y ∷ xs) lo hi = inr (lies_last x z xs lo hi)
 
-apart_after : (xs : Taken) (x : ℕ × Tree) (ys : Taken) → AreApart (xs ++ x ∷ ys) → ApartFrom x ys
+apart_after : (xs : Taken) (x : ℕ × Tree) (ys : Taken) → AreRangesApart (xs ++ x ∷ ys) → ApartFrom x ys
 apart_after [] x ys f = f.0
 apart_after (z ∷ xs) x ys f = apart_after xs x ys f.1
 
@@ -87,11 +87,11 @@ unused_at m [] z f h = absurd h
 unused_at m (x ∷ xs) z f (inl e) = subst (λ z. is_free z.0 (range_size (plain z.1)) m ≡ true) (sym e) f.0
 unused_at m (x ∷ xs) z f (inr h) = unused_at m xs z f.1 h
 
-free_after : (x : ℕ × Tree) (ys : Taken) (m : Bytes) → ApartFrom x ys → AreUnused m ys → AreUnused (placed x.0 (range_size (plain x.1)) m) ys
+free_after : (x : ℕ × Tree) (ys : Taken) (m : Bytes) → ApartFrom x ys → AreUnused m ys → AreUnused (with_zeros x.0 (range_size (plain x.1)) m) ys
 free_after x [] m h f = tt
 free_after x (y ∷ ys) m h f = (free-placed x.0 (range_size (plain x.1)) y.0 (range_size (plain y.1)) m h.0 f.0, free_after x ys m h.1 f.1)
 
-free_still : (a : ℕ) (t : Plain) (v : Value) (ys : Taken) (m : Bytes) → is_value t v ≡ true → holds a (range_size t) m ≡ true → AreUnused m ys → AreUnused (written a (image t v) m) ys
+free_still : (a : ℕ) (t : Plain) (v : Value) (ys : Taken) (m : Bytes) → is_value t v ≡ true → holds a (range_size t) m ≡ true → AreUnused m ys → AreUnused (image_written a (image t v) m) ys
 free_still a t v [] m is h f = tt
 free_still a t v (y ∷ ys) m is h f = (free-written a (range_size t) y.0 (range_size (plain y.1)) (image t v) m (image-fits t v is) f.0 h, free_still a t v ys m is h f.1)
 
@@ -110,7 +110,7 @@ some_value {v} e = ap (of v) e
     of d None = d
 
 -- whole: what the whole run takes; before: the bytes as they were given
-module _ (whole : Taken) (before : Bytes) (fit : AreApart whole) (unused : AreUnused before whole) (writable : AreWritable whole) where
+module _ (whole : Taken) (before : Bytes) (fit : AreRangesApart whole) (unused : AreUnused before whole) (writable : AreWritable whole) where
   -- the bytes that were there before stand
   abbrev pub Stay : Bytes → Type 0
   Stay m = (x y : ℕ) → before x ≡ Some y → m x ≡ Some y
@@ -158,7 +158,7 @@ module _ (whole : Taken) (before : Bytes) (fit : AreApart whole) (unused : AreUn
   abbrev Known : (Word × Memory) → Type 0
   Known p = Front p.1
 
-  written_stay : (a : ℕ) (q : Tree) (t : Plain) (v : Value) (m : Bytes) → Among (a, q) whole → plain q ≡ t → is_value t v ≡ true → Stay m → Stay (written a (image t v) m)
+  written_stay : (a : ℕ) (q : Tree) (t : Plain) (v : Value) (m : Bytes) → Among (a, q) whole → plain q ≡ t → is_value t v ≡ true → Stay m → Stay (image_written a (image t v) m)
   written_stay a q t v m h is val stay x y e = written-outside a (image t v) m x (shorter (byte-outside a (range_size (plain q)) x y before (unused_at before whole (a, q) unused h) e)) ∙ stay x y e
     where
       shorter : (x < a) ⊎ (a + range_size (plain q) ≤ x) → (x < a) ⊎ (a + length (image t v) ≤ x)
@@ -167,10 +167,10 @@ module _ (whole : Taken) (before : Bytes) (fit : AreApart whole) (unused : AreUn
 
   -- the range of the next address is free and apart from all the others
   made : (t : Tree) (cs : Cells) (a : ℕ) (more : List ℕ) (taken : Taken) (m : Bytes) → Stands cs taken m → Coming taken m → Stay m → NoFurther taken m → Front (record { cells = cs; fresh = more; taken = taken ++ (a, t) ∷ [] }) →
-      (is_free a (range_size (plain t)) m ≡ true) × Related (record { cells = insert cs a (record { made_for = t; content = None }); fresh = more; taken = taken ++ (a, t) ∷ [] }) (record { bytes = placed a (range_size (plain t)) m; fresh = more; taken = taken ++ (a, t) ∷ [] })
+      (is_free a (range_size (plain t)) m ≡ true) × Related (record { cells = insert cs a (record { made_for = t; content = None }); fresh = more; taken = taken ++ (a, t) ∷ [] }) (record { bytes = with_zeros a (range_size (plain t)) m; fresh = more; taken = taken ++ (a, t) ∷ [] })
   made t cs a more taken m stands coming stay further front =
       let is : taken ++ (a, t) ∷ front.0 ≡ whole = sym (append_assoc taken ((a, t) ∷ []) front.0) ∙ front.1 in
-      let f = subst AreApart (sym is) fit in
+      let f = subst AreRangesApart (sym is) fit in
       let free = (coming ((a, t) ∷ front.0) is).0 in
       let fits : AllFit (plain t) = writable_at whole (a, t) writable (subst (Among (a, t)) front.1 (among_front (a, t) (taken ++ (a, t) ∷ []) front.0 (among_last (a, t) taken))) in (
         free,
@@ -178,7 +178,7 @@ module _ (whole : Taken) (before : Bytes) (fit : AreApart whole) (unused : AreUn
           fresh = refl;
           taken = refl;
           stands = λ c d e. stood c d f free fits (nat_eq c a) refl e;
-          coming = λ rest e. let is' : taken ++ (a, t) ∷ rest ≡ whole = sym (append_assoc taken ((a, t) ∷ []) rest) ∙ e in free_after (a, t) rest m (apart_after taken (a, t) rest (subst AreApart (sym is') fit)) (coming ((a, t) ∷ rest) is').1;
+          coming = λ rest e. let is' : taken ++ (a, t) ∷ rest ≡ whole = sym (append_assoc taken ((a, t) ∷ []) rest) ∙ e in free_after (a, t) rest m (apart_after taken (a, t) rest (subst AreRangesApart (sym is') fit)) (coming ((a, t) ∷ rest) is').1;
           stay = λ x y e. placed-outside a (range_size (plain t)) m x (byte-outside a (range_size (plain t)) x y m free (stay x y e)) ∙ stay x y e;
           no_further = λ x h. placed_further x (placed-only a (range_size (plain t)) m x h);
         },
@@ -195,12 +195,12 @@ module _ (whole : Taken) (before : Bytes) (fit : AreApart whole) (unused : AreUn
       none : (v : Value) → None ≡ Some v → ⊥
       none v e = cc
 
-      stood : (c : ℕ) (d : Cell) → AreApart (taken ++ (a, t) ∷ front.0) → is_free a (range_size (plain t)) m ≡ true → AllFit (plain t) → (x : Bool) → nat_eq c a ≡ x → cond x (Some (record { made_for = t; content = None })) (get cs c) ≡ Some d → StandsAt (taken ++ (a, t) ∷ []) (placed a (range_size (plain t)) m) c d
+      stood : (c : ℕ) (d : Cell) → AreRangesApart (taken ++ (a, t) ∷ front.0) → is_free a (range_size (plain t)) m ≡ true → AllFit (plain t) → (x : Bool) → nat_eq c a ≡ x → cond x (Some (record { made_for = t; content = None })) (get cs c) ≡ Some d → StandsAt (taken ++ (a, t) ∷ []) (with_zeros a (range_size (plain t)) m) c d
       stood c d f free fits true x e =
           let here : c ≡ a = (decides-eq c a).0 x in
           let new : record { made_for = t; content = None } ≡ d = some_cell e in
-          subst (λ d. StandsAt (taken ++ (a, t) ∷ []) (placed a (range_size (plain t)) m) c d) new
-          (subst (λ c. StandsAt (taken ++ (a, t) ∷ []) (placed a (range_size (plain t)) m) c (record { made_for = t; content = None })) (sym here)
+          subst (λ d. StandsAt (taken ++ (a, t) ∷ []) (with_zeros a (range_size (plain t)) m) c d) new
+          (subst (λ c. StandsAt (taken ++ (a, t) ∷ []) (with_zeros a (range_size (plain t)) m) c (record { made_for = t; content = None })) (sym here)
           (among_last (a, t) taken, fits, held-own a (range_size (plain t)) m free, λ v e. absurd (none v e)))
       stood c d f free fits false x e =
           let s = stands c d e in
@@ -212,20 +212,20 @@ module _ (whole : Taken) (before : Bytes) (fit : AreApart whole) (unused : AreUn
           )
 
   -- a value is written where a cell stands
-  filled : (cs : Cells) (taken : Taken) (m : Bytes) (t : Tree) (a : ℕ) (c : Cell) (v : Value) → Stands cs taken m → get cs a ≡ Some c → plain c.made_for ≡ plain t → is_value (plain t) v ≡ true → (rest : Taken) → taken ++ rest ≡ whole → Stands (insert cs a (record c { content = Some v })) taken (written a (image (plain t) v) m)
+  filled : (cs : Cells) (taken : Taken) (m : Bytes) (t : Tree) (a : ℕ) (c : Cell) (v : Value) → Stands cs taken m → get cs a ≡ Some c → plain c.made_for ≡ plain t → is_value (plain t) v ≡ true → (rest : Taken) → taken ++ rest ≡ whole → Stands (insert cs a (record c { content = Some v })) taken (image_written a (image (plain t) v) m)
   filled cs taken m t a c v stands found alike_t is rest front x d e = go (nat_eq x a) refl e
     where
-      go : (y : Bool) → nat_eq x a ≡ y → cond y (Some (record c { content = Some v })) (get cs x) ≡ Some d → StandsAt taken (written a (image (plain t) v) m) x d
+      go : (y : Bool) → nat_eq x a ≡ y → cond y (Some (record c { content = Some v })) (get cs x) ≡ Some d → StandsAt taken (image_written a (image (plain t) v) m) x d
       go true y e =
           let s = stands a c found in
           let here : x ≡ a = (decides-eq x a).0 y in
-          subst (λ x. StandsAt taken (written a (image (plain t) v) m) x d) (sym here)
-          (subst (StandsAt taken (written a (image (plain t) v) m) a) (some_cell e) (
+          subst (λ x. StandsAt taken (image_written a (image (plain t) v) m) x d) (sym here)
+          (subst (StandsAt taken (image_written a (image (plain t) v) m) a) (some_cell e) (
             s.0,
             s.1,
             held-written a (image (plain t) v) a (range_size (plain c.made_for)) m s.2,
-            λ u q. subst (λ u. (is_value (plain c.made_for) u ≡ true) × Agrees (written a (image (plain t) v) m) a (image (plain c.made_for) u)) (some_value q)
-                (subst (λ p. (is_value p v ≡ true) × Agrees (written a (image (plain t) v) m) a (image p v)) (sym alike_t) (is, written-own a (image (plain t) v) m)),
+            λ u q. subst (λ u. (is_value (plain c.made_for) u ≡ true) × Agrees (image_written a (image (plain t) v) m) a (image (plain c.made_for) u)) (some_value q)
+                (subst (λ p. (is_value p v ≡ true) × Agrees (image_written a (image (plain t) v) m) a (image p v)) (sym alike_t) (is, written-own a (image (plain t) v) m)),
           ))
       go false y e =
           let s = stands a c found in
@@ -240,45 +240,45 @@ module _ (whole : Taken) (before : Bytes) (fit : AreApart whole) (unused : AreUn
             λ u q. ((o.3 u q).0, agrees-written a x (plain t) (plain d.made_for) v u m apart' is (o.3 u q).0 (o.3 u q).1),
           )
 
-  give_follows : (t : Tree) (cs : Cells) (fresh : List ℕ) (taken : Taken) (m : Bytes) → Stands cs taken m → Coming taken m → Stay m → NoFurther taken m → Makes Known Gives (given t None cs fresh taken) (range_given t m fresh taken)
+  give_follows : (t : Tree) (cs : Cells) (fresh : List ℕ) (taken : Taken) (m : Bytes) → Stands cs taken m → Coming taken m → Stay m → NoFurther taken m → Makes Known Gives (cell_given t None cs fresh taken) (range_given t m fresh taken)
   give_follows t cs [] taken m stands coming stay further = tt
   give_follows t cs (a ∷ more) taken m stands coming stay further = go (is_free a (range_size (plain t)) m) refl
     where
-      go : (x : Bool) → is_free a (range_size (plain t)) m ≡ x → Makes Known Gives (Some (i32 a, record { cells = insert cs a (record { made_for = t; content = None }); fresh = more; taken = taken ++ (a, t) ∷ [] })) (when x (Some (i32 a, record { bytes = placed a (range_size (plain t)) m; fresh = more; taken = taken ++ (a, t) ∷ [] })))
+      go : (x : Bool) → is_free a (range_size (plain t)) m ≡ x → Makes Known Gives (Some (i32 a, record { cells = insert cs a (record { made_for = t; content = None }); fresh = more; taken = taken ++ (a, t) ∷ [] })) (when x (Some (i32 a, record { bytes = with_zeros a (range_size (plain t)) m; fresh = more; taken = taken ++ (a, t) ∷ [] })))
       go true e = λ g. (refl, (made t cs a more taken m stands coming stay further g).1)
       go false e = λ g. false-true (sym e ∙ (made t cs a more taken m stands coming stay further g).0)
 
   abbrev put_in : Tree → Value → Word × Store → Word × Store
   put_in t v r = (r.0, value_written (plain t) v r.0.bits r.1)
 
-  put_follows : (t : Tree) (v : Value) (cs : Cells) (fresh : List ℕ) (taken : Taken) (m : Bytes) → is_value (plain t) v ≡ true → Stands cs taken m → Coming taken m → Stay m → NoFurther taken m → Makes Known Gives (given t (Some v) cs fresh taken) (option_map (put_in t v) (range_given t m fresh taken))
+  put_follows : (t : Tree) (v : Value) (cs : Cells) (fresh : List ℕ) (taken : Taken) (m : Bytes) → is_value (plain t) v ≡ true → Stands cs taken m → Coming taken m → Stay m → NoFurther taken m → Makes Known Gives (cell_given t (Some v) cs fresh taken) (option_map (put_in t v) (range_given t m fresh taken))
   put_follows t v cs [] taken m is stands coming stay further = tt
   put_follows t v cs (a ∷ more) taken m is stands coming stay further = go (is_free a (range_size (plain t)) m) refl
     where
       front_of : Front (record { cells = insert cs a (record { made_for = t; content = Some v }); fresh = more; taken = taken ++ (a, t) ∷ [] }) → Front (record { cells = cs; fresh = more; taken = taken ++ (a, t) ∷ [] })
       front_of g = (g.0, g.1)
 
-      filled_in : Front (record { cells = cs; fresh = more; taken = taken ++ (a, t) ∷ [] }) → Related (record { cells = insert cs a (record { made_for = t; content = Some v }); fresh = more; taken = taken ++ (a, t) ∷ [] }) (record { bytes = written a (image (plain t) v) (placed a (range_size (plain t)) m); fresh = more; taken = taken ++ (a, t) ∷ [] })
+      filled_in : Front (record { cells = cs; fresh = more; taken = taken ++ (a, t) ∷ [] }) → Related (record { cells = insert cs a (record { made_for = t; content = Some v }); fresh = more; taken = taken ++ (a, t) ∷ [] }) (record { bytes = image_written a (image (plain t) v) (with_zeros a (range_size (plain t)) m); fresh = more; taken = taken ++ (a, t) ∷ [] })
       filled_in g =
           let p = made t cs a more taken m stands coming stay further g in
           let r = p.1 in
           let empty : Cell = record { made_for = t; content = None } in
           let own = own_cell cs a empty in
-          let f = filled (insert cs a empty) (taken ++ (a, t) ∷ []) (placed a (range_size (plain t)) m) t a empty v r.stands own refl is g.0 g.1 in
+          let f = filled (insert cs a empty) (taken ++ (a, t) ∷ []) (with_zeros a (range_size (plain t)) m) t a empty v r.stands own refl is g.0 g.1 in
           record {
             fresh = refl;
             taken = refl;
             stands = λ x d e. f x d (over x (nat_eq x a) e);
-            coming = λ rest e. free_still a (plain t) v rest (placed a (range_size (plain t)) m) is (held-own a (range_size (plain t)) m p.0) (r.coming rest e);
-            stay = written_stay a t (plain t) v (placed a (range_size (plain t)) m) (subst (Among (a, t)) g.1 (among_front (a, t) (taken ++ (a, t) ∷ []) g.0 (among_last (a, t) taken))) refl is r.stay;
-            no_further = λ x h. r.no_further x (written-only a (range_size (plain t)) (image (plain t) v) (placed a (range_size (plain t)) m) x (image-fits (plain t) v is) (held-own a (range_size (plain t)) m p.0) h);
+            coming = λ rest e. free_still a (plain t) v rest (with_zeros a (range_size (plain t)) m) is (held-own a (range_size (plain t)) m p.0) (r.coming rest e);
+            stay = written_stay a t (plain t) v (with_zeros a (range_size (plain t)) m) (subst (Among (a, t)) g.1 (among_front (a, t) (taken ++ (a, t) ∷ []) g.0 (among_last (a, t) taken))) refl is r.stay;
+            no_further = λ x h. r.no_further x (written-only a (range_size (plain t)) (image (plain t) v) (with_zeros a (range_size (plain t)) m) x (image-fits (plain t) v is) (held-own a (range_size (plain t)) m p.0) h);
           }
         where
           over : (x : ℕ) {d : Cell} (y : Bool) → cond y (Some (record { made_for = t; content = Some v })) (get cs x) ≡ Some d → cond y (Some (record { made_for = t; content = Some v })) (cond y (Some (record { made_for = t; content = None })) (get cs x)) ≡ Some d
           over x true e = e
           over x false e = e
 
-      go : (x : Bool) → is_free a (range_size (plain t)) m ≡ x → Makes Known Gives (Some (i32 a, record { cells = insert cs a (record { made_for = t; content = Some v }); fresh = more; taken = taken ++ (a, t) ∷ [] })) (option_map (put_in t v) (when x (Some (i32 a, record { bytes = placed a (range_size (plain t)) m; fresh = more; taken = taken ++ (a, t) ∷ [] }))))
+      go : (x : Bool) → is_free a (range_size (plain t)) m ≡ x → Makes Known Gives (Some (i32 a, record { cells = insert cs a (record { made_for = t; content = Some v }); fresh = more; taken = taken ++ (a, t) ∷ [] })) (option_map (put_in t v) (when x (Some (i32 a, record { bytes = with_zeros a (range_size (plain t)) m; fresh = more; taken = taken ++ (a, t) ∷ [] }))))
       go true e = λ g. (refl, filled_in (front_of g))
       go false e = λ g. false-true (sym e ∙ (made t cs a more taken m stands coming stay further (front_of g)).0)
 
@@ -368,12 +368,12 @@ module _ (whole : Taken) (before : Bytes) (fit : AreApart whole) (unused : AreUn
   picks_self ok err (Value.bare_case (suc (suc i))) = tt
   picks_self ok err _ = tt
 
-  put_by : (x : Bool) (t : Tree) (v v' : Value) (m : Memory) (m' : Store) → Same (Some t) v v' → Related m m' → Makes Known Gives (when x (given t (Some v) m.cells m.fresh m.taken)) (when x (option_map (put_in t v') (range_given t m'.bytes m'.fresh m'.taken)))
+  put_by : (x : Bool) (t : Tree) (v v' : Value) (m : Memory) (m' : Store) → Same (Some t) v v' → Related m m' → Makes Known Gives (when x (cell_given t (Some v) m.cells m.fresh m.taken)) (when x (option_map (put_in t v') (range_given t m'.bytes m'.fresh m'.taken)))
   put_by false t v v' m m' e r = tt
   put_by true t v v' m m' e r =
-      subst (λ v'. Makes Known Gives (given t (Some v) m.cells m.fresh m.taken) (option_map (put_in t v') (range_given t m'.bytes m'.fresh m'.taken))) e.0
-      (subst (λ f. Makes Known Gives (given t (Some v) m.cells m.fresh m.taken) (option_map (put_in t v) (range_given t m'.bytes f m'.taken))) (sym r.fresh)
-      (subst (λ k. Makes Known Gives (given t (Some v) m.cells m.fresh m.taken) (option_map (put_in t v) (range_given t m'.bytes m.fresh k))) (sym r.taken)
+      subst (λ v'. Makes Known Gives (cell_given t (Some v) m.cells m.fresh m.taken) (option_map (put_in t v') (range_given t m'.bytes m'.fresh m'.taken))) e.0
+      (subst (λ f. Makes Known Gives (cell_given t (Some v) m.cells m.fresh m.taken) (option_map (put_in t v) (range_given t m'.bytes f m'.taken))) (sym r.fresh)
+      (subst (λ k. Makes Known Gives (cell_given t (Some v) m.cells m.fresh m.taken) (option_map (put_in t v) (range_given t m'.bytes m.fresh k))) (sym r.taken)
       (put_follows t v m.cells m.fresh m.taken m'.bytes e.1 r.stands r.coming r.stay r.no_further)))
 
   -- THE OBLIGATIONS of "the bytes follow the cells"
@@ -399,7 +399,7 @@ module _ (whole : Taken) (before : Bytes) (fit : AreApart whole) (unused : AreUn
   }
 
   -- a front goes backwards
-  given_front : (t : Tree) (v : Option Value) (cs : Cells) (fresh : List ℕ) (taken : Taken) (r : Word × Memory) → given t v cs fresh taken ≡ Some r → Front r.1 → (rest : Taken) × (taken ++ rest ≡ whole)
+  given_front : (t : Tree) (v : Option Value) (cs : Cells) (fresh : List ℕ) (taken : Taken) (r : Word × Memory) → cell_given t v cs fresh taken ≡ Some r → Front r.1 → (rest : Taken) × (taken ++ rest ≡ whole)
   given_front t v cs [] taken r e g = absurd (clash e)
     where
       clash : None ≡ Some r → ⊥
@@ -410,7 +410,7 @@ module _ (whole : Taken) (before : Bytes) (fit : AreApart whole) (unused : AreUn
       taken_of d None = d
       taken_of d (Some r) = r.1.taken
 
-  put_front : (x : Bool) (t : Tree) (v : Value) (m : Memory) (r : Word × Memory) → when x (given t (Some v) m.cells m.fresh m.taken) ≡ Some r → Front r.1 → Front m
+  put_front : (x : Bool) (t : Tree) (v : Value) (m : Memory) (r : Word × Memory) → when x (cell_given t (Some v) m.cells m.fresh m.taken) ≡ Some r → Front r.1 → Front m
   put_front true t v m r e g = given_front t (Some v) m.cells m.fresh m.taken r e g
   put_front false t v m r e g = absurd (clash e)
     where

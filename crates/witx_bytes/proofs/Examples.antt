@@ -6,7 +6,7 @@ use Rattle.witx_ast.specs.declared.types.IntRepr.{IntRepr}
 use Rattle.witx_ast.specs.declared.types.RecordKind.{RecordKind}
 use Rattle.witx_ast.specs.Plain.{Plain, Fields, Arms}
 use Rattle.witx_ast.specs.Values.{Value, Values}
-use Rattle.witx_bytes.specs.Bytes.{Bytes, written, placed, holds, is_free}
+use Rattle.witx_bytes.specs.Bytes.{Bytes, image_written, with_zeros, holds, is_free}
 use Rattle.witx_bytes.specs.Images.{image}
 use Rattle.witx_bytes.specs.Reading.{value_at}
 
@@ -47,10 +47,10 @@ shown at zero m = []
 shown at (suc n) m = m at ∷ shown (suc at) n m
 
 abbrev range : Bytes
-range = placed 16 12 empty
+range = with_zeros 16 12 empty
 
 abbrev number_memory : Bytes
-number_memory = written 16 (image either (Value.case_with 1 (number 258))) range
+number_memory = image_written 16 (image either (Value.case_with 1 (number 258))) range
 
 number_bytes : shown 15 14 number_memory ≡ None ∷ Some 1 ∷ Some 0 ∷ Some 0 ∷ Some 0 ∷ Some 2 ∷ Some 1 ∷ Some 0 ∷ Some 0 ∷ Some 0 ∷ Some 0 ∷ Some 0 ∷ Some 0 ∷ None ∷ []
 number_bytes = refl
@@ -59,12 +59,12 @@ number_read : value_at either number_memory 16 ≡ Some (Value.case_with 1 (numb
 unfolding ℕ_discrete
 number_read = refl
 
-record_read : value_at either (written 16 (image either (Value.case_with 0 bytes_value)) number_memory) 16 ≡ Some (Value.case_with 0 bytes_value)
+record_read : value_at either (image_written 16 (image either (Value.case_with 0 bytes_value)) number_memory) 16 ≡ Some (Value.case_with 0 bytes_value)
 unfolding ℕ_discrete
 record_read = refl
 
 -- a tag that no case has
-no_case : value_at either (written 16 (Some 2 ∷ []) number_memory) 16 ≡ None
+no_case : value_at either (image_written 16 (Some 2 ∷ []) number_memory) 16 ≡ None
 no_case = refl
 
 -- the range is free once, and held from then on
@@ -84,16 +84,16 @@ three_flags = Plain.record_of (RecordKind.Bitflags IntRepr.U16) (Fields.field (c
 flags_image : image three_flags (Value.flag_bits (true ∷ false ∷ true ∷ [])) ≡ Some 5 ∷ Some 0 ∷ []
 flags_image = refl
 
-no_flags : value_at three_flags (written 16 (Some 8 ∷ Some 0 ∷ []) range) 16 ≡ None
+no_flags : value_at three_flags (image_written 16 (Some 8 ∷ Some 0 ∷ []) range) 16 ≡ None
 no_flags = refl
 
 -- a code point that is a surrogate
-no_char : value_at (Plain.builtin BuiltinType.Char) (written 16 (Some 0 ∷ Some 0xD8 ∷ Some 0 ∷ Some 0 ∷ []) range) 16 ≡ None
+no_char : value_at (Plain.builtin BuiltinType.Char) (image_written 16 (Some 0 ∷ Some 0xD8 ∷ Some 0 ∷ Some 0 ∷ []) range) 16 ≡ None
 unfolding ℕ_discrete
 no_char = refl
 
 -- a truth value of a third kind
-no_bool : value_at (Plain.variant_of IntRepr.U8 (Arms.bare (codes "false") (Arms.bare (codes "true") Arms.no_arms))) (written 16 (Some 2 ∷ []) range) 16 ≡ None
+no_bool : value_at (Plain.variant_of IntRepr.U8 (Arms.bare (codes "false") (Arms.bare (codes "true") Arms.no_arms))) (image_written 16 (Some 2 ∷ []) range) 16 ≡ None
 no_bool = refl
 
 -- a negative number

@@ -12,7 +12,7 @@ use Rattle.witx_machine.specs.Events.{Step, Event, emit, finish}
 use Rattle.witx_machine.specs.Rows.{row}
 use Rattle.witx_machine.specs.Functions.{Function, has_payload, is_tuple, tuple_types, member_types, ok_of, err_of, result_cases}
 use Rattle.witx_machine.specs.Signature.{param_words, or_alone, pointers_at, ok_pointers, pointers_by, pointers_of, pointers_under, return_pointers, words_of_params, signature_results}
-use Rattle.witx_machine.specs.Traces.{lower_builtin, lift_builtin, lower_flags, lift_flags, lower_at, lift_at, lift_step, lower_params, get_args, lift_params, make_spaces, block_of, load_all, ok_lifted, err_lifted, lift_by, lift_under, lift_results, store_all, ok_lowered, err_lowered, lower_by, lower_under, lower_results, caller_events, callee_events}
+use Rattle.witx_machine.specs.Traces.{lower_builtin, lift_builtin, lower_flags, lift_flags, lower_at, lift_at, lift_step, lower_params, get_args, lift_params, make_spaces, block_events, load_all, ok_lifted, err_lifted, lift_by, lift_under, lift_results, store_all, ok_lowered, err_lowered, lower_by, lower_under, lower_results, caller_events, callee_events}
 use Rattle.witx_bytes.proofs.TakenFit.{Fit, IfGiven, GoodRow, AllGood, AllOf, good_both}
 
 abbrev IfSome' : {A : Type 0} → (A → Type 0) → Option A → Type 0
@@ -159,7 +159,7 @@ one_good : (b : Bool) (x : Step) → GoodRow (row x) → AllGood (cond b (emit x
 one_good true x h = (h, tt)
 one_good false x h = tt
 
-block_good : (es : List Event) (v : Bool) → AllGood es → AllGood (block_of es v)
+block_good : (es : List Event) (v : Bool) → AllGood es → AllGood (block_events es v)
 block_good es v h = (tt, good_both es (finish v ∷ []) h (tt, tt))
 
 ok_lifted_good : (ok : Option Tree) → IfGiven ok → AllGood (ok_lifted ok)
@@ -174,8 +174,8 @@ err_lifted_good (Some t) h = (tt, (lift_good t t h, tt))
 lift_by_good : (o : Option Arms) (t : Tree) → Fit t → IfSome' CasesFit o → AllGood (lift_by o t)
 lift_by_good None t h k = (lift_good t t h, tt)
 lift_by_good (Some cs) t h k =
-    good_both (block_of (ok_lifted (ok_of cs)) (is_some (ok_of cs))) (block_of (err_lifted (err_of cs)) (is_some (err_of cs)) ++ emit Step.ResultLift ∷ []) (block_good (ok_lifted (ok_of cs)) (is_some (ok_of cs)) (ok_lifted_good (ok_of cs) k.0))
-    (good_both (block_of (err_lifted (err_of cs)) (is_some (err_of cs))) (emit Step.ResultLift ∷ []) (block_good (err_lifted (err_of cs)) (is_some (err_of cs)) (err_lifted_good (err_of cs) k.1)) (tt, tt))
+    good_both (block_events (ok_lifted (ok_of cs)) (is_some (ok_of cs))) (block_events (err_lifted (err_of cs)) (is_some (err_of cs)) ++ emit Step.ResultLift ∷ []) (block_good (ok_lifted (ok_of cs)) (is_some (ok_of cs)) (ok_lifted_good (ok_of cs) k.0))
+    (good_both (block_events (err_lifted (err_of cs)) (is_some (err_of cs))) (emit Step.ResultLift ∷ []) (block_good (err_lifted (err_of cs)) (is_some (err_of cs)) (err_lifted_good (err_of cs) k.1)) (tt, tt))
 
 first_fits : (ts : List Tree) → AllOf ts → AllOf (take 1 ts)
 first_fits [] h = tt
@@ -198,8 +198,8 @@ err_lowered_good (Some t) = (tt, (lower_good t t, tt))
 lower_by_good : (o : Option Arms) (w : ℕ) (t : Tree) → IfSome' CasesFit o → AllGood (lower_by o w t)
 lower_by_good None w t k = (lower_good t t, tt)
 lower_by_good (Some cs) w t k =
-    good_both (block_of (ok_lowered w (ok_of cs)) false) (block_of (err_lowered (err_of cs)) (is_some (err_of cs)) ++ emit (Step.ResultLower (ok_of cs) (err_of cs)) ∷ []) (block_good (ok_lowered w (ok_of cs)) false (ok_lowered_good w (ok_of cs)))
-    (good_both (block_of (err_lowered (err_of cs)) (is_some (err_of cs))) (emit (Step.ResultLower (ok_of cs) (err_of cs)) ∷ []) (block_good (err_lowered (err_of cs)) (is_some (err_of cs)) (err_lowered_good (err_of cs))) (k, tt))
+    good_both (block_events (ok_lowered w (ok_of cs)) false) (block_events (err_lowered (err_of cs)) (is_some (err_of cs)) ++ emit (Step.ResultLower (ok_of cs) (err_of cs)) ∷ []) (block_good (ok_lowered w (ok_of cs)) false (ok_lowered_good w (ok_of cs)))
+    (good_both (block_events (err_lowered (err_of cs)) (is_some (err_of cs))) (emit (Step.ResultLower (ok_of cs) (err_of cs)) ∷ []) (block_good (err_lowered (err_of cs)) (is_some (err_of cs)) (err_lowered_good (err_of cs))) (k, tt))
 
 lower_results_good : (abi : Abi) (w : ℕ) (ts : List Tree) → AllOf ts → AllGood (lower_under abi w ts)
 lower_results_good Abi.Preview1 w [] h = tt

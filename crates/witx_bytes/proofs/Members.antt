@@ -29,7 +29,7 @@ use Rattle.witx_layout.specs.Numbers.{align_to, align_of, size_of, members_end, 
 use Rattle.witx_machine.specs.Words.{wrapped, bits_of_flags}
 use Rattle.witx_layout.proofs.Onward.{above, end-above}
 use Rattle.witx_machine.specs.Cells.{values_of}
-use Rattle.witx_bytes.specs.Bytes.{Bytes, Image, written}
+use Rattle.witx_bytes.specs.Bytes.{Bytes, Image, image_written}
 use Rattle.witx_bytes.specs.Images.{image, members_image, payload_image, gap, padded_to, tag_image, little}
 use Rattle.witx_bytes.specs.Seen.{seen}
 use Rattle.witx_bytes.specs.Writes.{CanWrite, CanWriteAll, HasRange, Writes}
@@ -55,7 +55,7 @@ vs_more vs i v u q = ap (λ vs. values_of (map seen vs)) (drop_more vs i v u ∙
 
 -- those from an index on are left, and they begin behind an end
 pub record MembersLeft (ms : List RecordMember) (vs : List Value) (at end i : ℕ) (m k : Bytes) : Type 0 where
-  pub same : (y : ℕ) → written (at + end) (members_image end (ms_from ms i) (vs_from vs i)) k y ≡ written at (members_image 0 (members_plain ms) (values_of (map seen vs))) m y
+  pub same : (y : ℕ) → image_written (at + end) (members_image end (ms_from ms i) (vs_from vs i)) k y ≡ image_written at (members_image 0 (members_plain ms) (values_of (map seen vs))) m y
   pub can : CanWriteAll (ms_from ms i) (vs_from vs i)
   pub ends : members_end end (ms_from ms i) ≡ members_end 0 (members_plain ms)
   pub room : HasRange at (members_end 0 (members_plain ms)) k
@@ -119,60 +119,60 @@ module _ (ms : List RecordMember) (vs : List Value) (at end i : ℕ) (m k : Byte
       rest : Image
       rest = members_image (start + size_of t) (ms_from ms (i + 1)) (vs_from vs (i + 1))
 
-      rest_same : (y : ℕ) → written (at + (start + size_of t)) (members_image (start + size_of t) (ms_from ms (i + 1)) (vs_from vs (i + 1))) n y ≡ written (at + end) (gap (start - end) ++ image t (seen v) ++ members_image (start + size_of t) (ms_from ms (i + 1)) (vs_from vs (i + 1))) k y
+      rest_same : (y : ℕ) → image_written (at + (start + size_of t)) (members_image (start + size_of t) (ms_from ms (i + 1)) (vs_from vs (i + 1))) n y ≡ image_written (at + end) (gap (start - end) ++ image t (seen v) ++ members_image (start + size_of t) (ms_from ms (i + 1)) (vs_from vs (i + 1))) k y
       rest_same y =
           let long : length (gap (start - end) ++ image t (seen v)) ≡ (start - end) + size_of t = length-both (gap (start - end)) (image t (seen v)) ∙ ap (λ a. a + length (image t (seen v))) (gap-length (start - end)) ∙ ap (λ b. (start - end) + b) (image-length t (seen v) ((value-decides t (seen v)).0 members_can.value)) in
           let there : at + (start + size_of t) ≡ at + end + length (gap (start - end) ++ image t (seen v)) = omega (arith, long, above end (align_of t)) in
           let here : at + end + (start - end) ≡ at + start = omega (arith, above end (align_of t)) in
-          let own : n y ≡ written (at + end) (gap (start - end) ++ image t (seen v)) k y = w y ∙ sym (written-behind (at + end) (start - end) (image t (seen v)) k y ∙ written-at _ _ (image t (seen v)) k y here) in
-          written-same (at + (start + size_of t)) (members_image (start + size_of t) (ms_from ms (i + 1)) (vs_from vs (i + 1))) n (written (at + end) (gap (start - end) ++ image t (seen v)) k) y own
-          ∙ written-at _ _ (members_image (start + size_of t) (ms_from ms (i + 1)) (vs_from vs (i + 1))) (written (at + end) (gap (start - end) ++ image t (seen v)) k) y there
+          let own : n y ≡ image_written (at + end) (gap (start - end) ++ image t (seen v)) k y = w y ∙ sym (written-behind (at + end) (start - end) (image t (seen v)) k y ∙ written-at _ _ (image t (seen v)) k y here) in
+          written-same (at + (start + size_of t)) (members_image (start + size_of t) (ms_from ms (i + 1)) (vs_from vs (i + 1))) n (image_written (at + end) (gap (start - end) ++ image t (seen v)) k) y own
+          ∙ written-at _ _ (members_image (start + size_of t) (ms_from ms (i + 1)) (vs_from vs (i + 1))) (image_written (at + end) (gap (start - end) ++ image t (seen v)) k) y there
           ∙ written-then (at + end) (gap (start - end) ++ image t (seen v)) (members_image (start + size_of t) (ms_from ms (i + 1)) (vs_from vs (i + 1))) k y
 
-      written-then-whole : (y : ℕ) → written (at + end) (gap (start - end) ++ image t (seen v) ++ members_image (start + size_of t) (ms_from ms (i + 1)) (vs_from vs (i + 1))) k y ≡ written at (members_image 0 (members_plain ms) (values_of (map seen vs))) m y
+      written-then-whole : (y : ℕ) → image_written (at + end) (gap (start - end) ++ image t (seen v) ++ members_image (start + size_of t) (ms_from ms (i + 1)) (vs_from vs (i + 1))) k y ≡ image_written at (members_image 0 (members_plain ms) (values_of (map seen vs))) m y
       written-then-whole y =
-          ap (λ vs. written (at + end) (members_image end (Fields.field d.name t (ms_from ms (i + 1))) vs) k y) (sym vs_is)
-          ∙ ap (λ ms. written (at + end) (members_image end ms (vs_from vs i)) k y) (sym ms_is) ∙ f.same y
+          ap (λ vs. image_written (at + end) (members_image end (Fields.field d.name t (ms_from ms (i + 1))) vs) k y) (sym vs_is)
+          ∙ ap (λ ms. image_written (at + end) (members_image end ms (vs_from vs i)) k y) (sym ms_is) ∙ f.same y
 
 pub members_done : (ms : List RecordMember) (vs : List Value) (at end i : ℕ) (m k : Bytes) → MembersLeft ms vs at end i m k → length ms ≤ i → Writes at (members_image 0 (members_plain ms) (values_of (map seen vs))) m k
-members_done ms vs at end i m k f l y = ap (λ ms. written (at + end) (members_image end ms (vs_from vs i)) k y) (sym (members-end ms i l)) ∙ f.same y
+members_done ms vs at end i m k f l y = ap (λ ms. image_written (at + end) (members_image end ms (vs_from vs i)) k y) (sym (members-end ms i l)) ∙ f.same y
 
 -- scalars, by their numbers
 pub builtin_written : (b : BuiltinType) (v : Value) (k : BuiltinType) (n : ℤ) (at width number : ℕ) (m k' : Bytes) → v ≡ value.Num k n → width ≡ builtin_size b → number ≡ wrapped (256 ^ builtin_size b) n → Writes at (little width number) m k' → Writes at (image (Plain.builtin b) (seen v)) m k'
 builtin_written b v k n at width number m k' e w is f x =
-    f x ∙ ap (λ width. written at (little width number) m x) w ∙ ap (λ number. written at (little (builtin_size b) number) m x) is ∙ ap (λ u. written at (image (Plain.builtin b) u) m x) (sym (ap seen e ∙ seen-Num k n))
+    f x ∙ ap (λ width. image_written at (little width number) m x) w ∙ ap (λ number. image_written at (little (builtin_size b) number) m x) is ∙ ap (λ u. image_written at (image (Plain.builtin b) u) m x) (sym (ap seen e ∙ seen-Num k n))
 
 pub list_written : (t : Plain) (v : Value) (a l at behind : ℕ) (m k n : Bytes) → v ≡ value.List a l → Writes at (little 4 a) m k → behind ≡ at + 4 → Writes behind (little 4 l) k n → Writes at (image (Plain.list_of t) (seen v)) m n
 list_written t v a l at behind m k n e f b g x =
-    writes-then at (little 4 a) (little 4 l) m k n f (λ x. g x ∙ written-at behind (at + 4) (little 4 l) k x b) x ∙ ap (λ u. written at (image (Plain.list_of t) u) m x) (sym (ap seen e ∙ seen-List a l))
+    writes-then at (little 4 a) (little 4 l) m k n f (λ x. g x ∙ written-at behind (at + 4) (little 4 l) k x b) x ∙ ap (λ u. image_written at (image (Plain.list_of t) u) m x) (sym (ap seen e ∙ seen-List a l))
 
 pub flags_written : (r : IntRepr) (ms : Fields) (v : Value) (bits : List Bool) (at width number : ℕ) (m k : Bytes) → v ≡ value.Flags bits → width ≡ repr_size r → number ≡ bits_of_flags bits → Writes at (little width number) m k → Writes at (image (Plain.record_of (RecordKind.Bitflags r) ms) (seen v)) m k
 flags_written r ms v bits at width number m k e w is f x =
-    f x ∙ ap (λ width. written at (little width number) m x) w ∙ ap (λ number. written at (little (repr_size r) number) m x) is ∙ ap (λ u. written at (image (Plain.record_of (RecordKind.Bitflags r) ms) u) m x) (sym (ap seen e ∙ seen-Flags bits))
+    f x ∙ ap (λ width. image_written at (little width number) m x) w ∙ ap (λ number. image_written at (little (repr_size r) number) m x) is ∙ ap (λ u. image_written at (image (Plain.record_of (RecordKind.Bitflags r) ms) u) m x) (sym (ap seen e ∙ seen-Flags bits))
 
 pub tuple_written : (ms : Fields) (v : Value) (vs : List Value) (at : ℕ) (m k : Bytes) → v ≡ value.Tuple vs → Writes at (members_image 0 ms (values_of (map seen vs))) m k → Writes at (image (Plain.record_of RecordKind.Tuple ms) (seen v)) m k
 tuple_written ms v vs at m k e f x =
-    writes-padded at (size_of (Plain.record_of RecordKind.Tuple ms)) (members_image 0 ms (values_of (map seen vs))) m k f x ∙ ap (λ u. written at (image (Plain.record_of RecordKind.Tuple ms) u) m x) (sym (ap seen e ∙ seen-Tuple vs))
+    writes-padded at (size_of (Plain.record_of RecordKind.Tuple ms)) (members_image 0 ms (values_of (map seen vs))) m k f x ∙ ap (λ u. image_written at (image (Plain.record_of RecordKind.Tuple ms) u) m x) (sym (ap seen e ∙ seen-Tuple vs))
 
 pub record_written : (ms : Fields) (v : Value) (vs : List Value) (at : ℕ) (m k : Bytes) → v ≡ value.Rec vs → Writes at (members_image 0 ms (values_of (map seen vs))) m k → Writes at (image (Plain.record_of RecordKind.Other ms) (seen v)) m k
 record_written ms v vs at m k e f x =
-    writes-padded at (size_of (Plain.record_of RecordKind.Other ms)) (members_image 0 ms (values_of (map seen vs))) m k f x ∙ ap (λ u. written at (image (Plain.record_of RecordKind.Other ms) u) m x) (sym (ap seen e ∙ seen-Rec vs))
+    writes-padded at (size_of (Plain.record_of RecordKind.Other ms)) (members_image 0 ms (values_of (map seen vs))) m k f x ∙ ap (λ u. image_written at (image (Plain.record_of RecordKind.Other ms) u) m x) (sym (ap seen e ∙ seen-Rec vs))
 
 pub enum_written : (r : IntRepr) (cs : Arms) (v : Value) (i at width : ℕ) (m k : Bytes) → v ≡ value.Enum i → width ≡ repr_size r → Writes at (little width i) m k → Writes at (image (Plain.variant_of r cs) (seen v)) m k
 enum_written r cs v i at width m k e w f x =
-    writes-padded at (size_of (Plain.variant_of r cs)) (tag_image r i) m k (λ x. f x ∙ ap (λ width. written at (little width i) m x) w) x ∙ ap (λ u. written at (image (Plain.variant_of r cs) u) m x) (sym (ap seen e ∙ seen-Enum i))
+    writes-padded at (size_of (Plain.variant_of r cs)) (tag_image r i) m k (λ x. f x ∙ ap (λ width. image_written at (little width i) m x) w) x ∙ ap (λ u. image_written at (image (Plain.variant_of r cs) u) m x) (sym (ap seen e ∙ seen-Enum i))
 
 -- a case, tag and payload
 pub case_written : (r : IntRepr) (cs : Arms) (v : Value) (i : ℕ) (o : Option (Box Value Global)) (at width behind : ℕ) (m k n : Bytes) → v ≡ value.Case i o → width ≡ repr_size r → Writes at (little width i) m k → behind ≡ at + payload_offset r cs → Writes behind (case_image cs i (option_map seen_in o)) k n → Writes at (image (Plain.variant_of r cs) (seen v)) m n
 case_written r cs v i None at width behind m k n e w f b g x =
-    g x ∙ writes-padded at (size_of (Plain.variant_of r cs)) (tag_image r i) m k (λ x. f x ∙ ap (λ width. written at (little width i) m x) w) x ∙ ap (λ u. written at (image (Plain.variant_of r cs) u) m x) (sym (ap seen e ∙ seen-Bare i))
+    g x ∙ writes-padded at (size_of (Plain.variant_of r cs)) (tag_image r i) m k (λ x. f x ∙ ap (λ width. image_written at (little width i) m x) w) x ∙ ap (λ u. image_written at (image (Plain.variant_of r cs) u) m x) (sym (ap seen e ∙ seen-Bare i))
 case_written r cs v i (Some u) at width behind m k n e w f b g x =
     let tag : Image = padded_to (payload_offset r cs) (tag_image r i) in
-    let first : Writes at (padded_to (payload_offset r cs) (tag_image r i)) m k = writes-padded at (payload_offset r cs) (tag_image r i) m k (λ x. f x ∙ ap (λ width. written at (little width i) m x) w) in
+    let first : Writes at (padded_to (payload_offset r cs) (tag_image r i)) m k = writes-padded at (payload_offset r cs) (tag_image r i) m k (λ x. f x ∙ ap (λ width. image_written at (little width i) m x) w) in
     let there : behind ≡ at + length (padded_to (payload_offset r cs) (tag_image r i)) = b ∙ ap (λ n. at + n) (sym (tag-length r cs i)) in
     let both_parts : Writes at (padded_to (payload_offset r cs) (tag_image r i) ++ payload_image cs i (seen u.value)) m n = writes-then at (padded_to (payload_offset r cs) (tag_image r i)) (payload_image cs i (seen u.value)) m k n first (λ x. g x ∙ written-at behind _ (payload_image cs i (seen u.value)) k x there) in
     writes-padded at (size_of (Plain.variant_of r cs)) (padded_to (payload_offset r cs) (tag_image r i) ++ payload_image cs i (seen u.value)) m n both_parts x
-    ∙ ap (λ u. written at (image (Plain.variant_of r cs) u) m x) (sym (ap seen e ∙ seen-With i u))
+    ∙ ap (λ u. image_written at (image (Plain.variant_of r cs) u) m x) (sym (ap seen e ∙ seen-With i u))
 
 -- flags are at most 64
 pub flags_few : (r : IntRepr) (ms : Fields) (v : Value) (bits : List Bool) → CanWrite (Plain.record_of (RecordKind.Bitflags r) ms) (seen v) → v ≡ value.Flags bits → length bits ≤ 64
@@ -248,7 +248,7 @@ module _ (cs : List Case) (i : ℕ) (o : Option (Box Value Global)) (b : Box Val
   case_has_room at m r = range_part at (payloads_size (cases_plain cs)) at (case_size c.tref) m r (omega arith) (omega (arith, case_is.within))
 
   pub case_is_written : (at : ℕ) (m k : Bytes) → Writes at (type_image c.tref (seen b.value)) m k → Writes at (case_image (cases_plain cs) i (option_map seen_in o)) m k
-  case_is_written at m k f x = f x ∙ ap (λ xs. written at xs m x) (sym (case_is.pictured (seen b.value))) ∙ ap (λ o. written at (case_image (cases_plain cs) i (option_map seen_in o)) m x) (sym e)
+  case_is_written at m k f x = f x ∙ ap (λ xs. image_written at xs m x) (sym (case_is.pictured (seen b.value))) ∙ ap (λ o. image_written at (case_image (cases_plain cs) i (option_map seen_in o)) m x) (sym e)
 
 -- what a write begins with
 pub room_first : (t : Plain) (at : ℕ) (m : Bytes) → at < 2 ^ 32 → has_room t at m ≡ true → HasRange at (size_of t) m

@@ -7,7 +7,7 @@ use Rattle.witx_base.specs.SameBytes.{false-true, both}
 use Rattle.witx_ast.proofs.ValueLaws.{value-decides}
 use Rattle.witx_ast.proofs.Decided.{decides-lt, decides-eq, both-then}
 use Rattle.witx_layout.specs.Numbers.{size_of}
-use Rattle.witx_bytes.specs.Bytes.{Bytes, Image, Agrees, written, placed, in_bounds, holds, is_free}
+use Rattle.witx_bytes.specs.Bytes.{Bytes, Image, Agrees, image_written, with_zeros, in_bounds, holds, is_free}
 use Rattle.witx_bytes.specs.Images.{image}
 use Rattle.witx_bytes.specs.ByteMachine.{range_size, has_room}
 use Rattle.witx_bytes.proofs.Agreement.{agrees-same, written-outside, written-holds, placed-outside, placed-own, placed-holds, held-from, held-at, free-from, free-at}
@@ -25,35 +25,35 @@ outside-of a n c k x (inl h) l u = inr (omega (arith, h, l))
 outside-of a n c k x (inr h) l u = inl (omega (arith, h, u))
 
 -- an image that stands in a range apart is untouched
-pub agrees-placed : (a n c : ℕ) (q : Plain) (u : Value) (m : Bytes) → Disjoint a n c (range_size q) → is_value q u ≡ true → Agrees m c (image q u) → Agrees (placed a n m) c (image q u)
+pub agrees-placed : (a n c : ℕ) (q : Plain) (u : Value) (m : Bytes) → Disjoint a n c (range_size q) → is_value q u ≡ true → Agrees m c (image q u) → Agrees (with_zeros a n m) c (image q u)
 agrees-placed a n c q u m d v h =
-    agrees-same m (placed a n m) c (image q u) (λ x l up. sym (placed-outside a n m x (outside-of a n c (range_size q) x d l (omega (arith, up, image-fits q u v))))) h
+    agrees-same m (with_zeros a n m) c (image q u) (λ x l up. sym (placed-outside a n m x (outside-of a n c (range_size q) x d l (omega (arith, up, image-fits q u v))))) h
 
-pub agrees-written : (a c : ℕ) (t q : Plain) (v u : Value) (m : Bytes) → Disjoint a (range_size t) c (range_size q) → is_value t v ≡ true → is_value q u ≡ true → Agrees m c (image q u) → Agrees (written a (image t v) m) c (image q u)
+pub agrees-written : (a c : ℕ) (t q : Plain) (v u : Value) (m : Bytes) → Disjoint a (range_size t) c (range_size q) → is_value t v ≡ true → is_value q u ≡ true → Agrees m c (image q u) → Agrees (image_written a (image t v) m) c (image q u)
 agrees-written a c t q v u m d is v' h =
-    agrees-same m (written a (image t v) m) c (image q u) (λ x l up. sym (written-outside a (image t v) m x (shorter x (outside-of a (range_size t) c (range_size q) x d l (omega (arith, up, image-fits q u v')))))) h
+    agrees-same m (image_written a (image t v) m) c (image q u) (λ x l up. sym (written-outside a (image t v) m x (shorter x (outside-of a (range_size t) c (range_size q) x d l (omega (arith, up, image-fits q u v')))))) h
   where
     shorter : (x : ℕ) → (x < a) ⊎ (a + range_size t ≤ x) → (x < a) ⊎ (a + length (image t v) ≤ x)
     shorter x (inl k) = inl k
     shorter x (inr k) = inr (omega (arith, k, image-fits t v is))
 
-pub held-own : (a n : ℕ) (m : Bytes) → is_free a n m ≡ true → holds a n (placed a n m) ≡ true
-held-own a n m h = both-then _ _ (both (in_bounds a n) _ h).0 (held-from a n (placed a n m) (λ x l u. ap is_some (placed-own a n m x l u)))
+pub held-own : (a n : ℕ) (m : Bytes) → is_free a n m ≡ true → holds a n (with_zeros a n m) ≡ true
+held-own a n m h = both-then _ _ (both (in_bounds a n) _ h).0 (held-from a n (with_zeros a n m) (λ x l u. ap is_some (placed-own a n m x l u)))
 
-pub held-placed : (a n c k : ℕ) (m : Bytes) → holds c k m ≡ true → holds c k (placed a n m) ≡ true
+pub held-placed : (a n c k : ℕ) (m : Bytes) → holds c k m ≡ true → holds c k (with_zeros a n m) ≡ true
 held-placed a n c k m h =
     let p = both (in_bounds c k) _ h in
-    both-then _ _ p.0 (held-from c k (placed a n m) (λ x l u. placed-holds a n m x (held-at c k m p.1 x l u)))
+    both-then _ _ p.0 (held-from c k (with_zeros a n m) (λ x l u. placed-holds a n m x (held-at c k m p.1 x l u)))
 
-pub held-written : (a : ℕ) (xs : Image) (c k : ℕ) (m : Bytes) → holds c k m ≡ true → holds c k (written a xs m) ≡ true
+pub held-written : (a : ℕ) (xs : Image) (c k : ℕ) (m : Bytes) → holds c k m ≡ true → holds c k (image_written a xs m) ≡ true
 held-written a xs c k m h =
     let p = both (in_bounds c k) _ h in
-    both-then _ _ p.0 (held-from c k (written a xs m) (λ x l u. written-holds a xs m x (held-at c k m p.1 x l u)))
+    both-then _ _ p.0 (held-from c k (image_written a xs m) (λ x l u. written-holds a xs m x (held-at c k m p.1 x l u)))
 
-pub free-placed : (a n c k : ℕ) (m : Bytes) → Disjoint a n c k → is_free c k m ≡ true → is_free c k (placed a n m) ≡ true
+pub free-placed : (a n c k : ℕ) (m : Bytes) → Disjoint a n c k → is_free c k m ≡ true → is_free c k (with_zeros a n m) ≡ true
 free-placed a n c k m d h =
     let p = both (in_bounds c k) _ h in
-    both-then _ _ p.0 (free-from c k (placed a n m) (λ x l u. placed-outside a n m x (outside-of a n c k x d l u) ∙ free-at c k m p.1 x l u))
+    both-then _ _ p.0 (free-from c k (with_zeros a n m) (λ x l u. placed-outside a n m x (outside-of a n c k x d l u) ∙ free-at c k m p.1 x l u))
 
 some-none : {o : Option ℕ} → is_some o ≡ true → o ≡ None → ⊥
 some-none h e = false-true (sym (ap is_some e) ∙ h)
@@ -74,12 +74,12 @@ lies a n x P out in' = go (nat_lt x a) refl (nat_lt x (a + n)) refl
     go false h true k = in' (not-lt x a h) ((decides-lt x (a + n)).0 k)
 
 -- what is written where bytes are held leaves free ranges free
-pub free-written : (a n c k : ℕ) (xs : Image) (m : Bytes) → length xs ≤ n → is_free c k m ≡ true → holds a n m ≡ true → is_free c k (written a xs m) ≡ true
+pub free-written : (a n c k : ℕ) (xs : Image) (m : Bytes) → length xs ≤ n → is_free c k m ≡ true → holds a n m ≡ true → is_free c k (image_written a xs m) ≡ true
 free-written a n c k xs m long h held =
     let p = both (in_bounds c k) _ h in
     let q = both (in_bounds a n) _ held in
-    both-then _ _ p.0 (free-from c k (written a xs m) (λ x l u.
-    lies a n x (written a xs m x ≡ None)
+    both-then _ _ p.0 (free-from c k (image_written a xs m) (λ x l u.
+    lies a n x (image_written a xs m x ≡ None)
     (λ out. written-outside a xs m x (shorter x out) ∙ free-at c k m p.1 x l u)
     (λ lo hi. absurd (some-none (held-at a n m q.1 x lo hi) (free-at c k m p.1 x l u)))))
   where
@@ -103,12 +103,12 @@ room-of t a m h = go (nat_eq (size_of t) 0) refl
         ap (λ n. holds a n m) (sym same) ∙ h
 
 -- what is held once a range is placed was held, or is in the range
-pub placed-only : (a n : ℕ) (m : Bytes) (x : ℕ) → is_some (placed a n m x) ≡ true → (is_some (m x) ≡ true) ⊎ ((a ≤ x) × (x < a + n))
+pub placed-only : (a n : ℕ) (m : Bytes) (x : ℕ) → is_some (with_zeros a n m x) ≡ true → (is_some (m x) ≡ true) ⊎ ((a ≤ x) × (x < a + n))
 placed-only a n m x h =
     lies a n x ((is_some (m x) ≡ true) ⊎ ((a ≤ x) × (x < a + n))) (λ out. inl (ap is_some (sym (placed-outside a n m x out)) ∙ h)) (λ lo hi. inr (lo, hi))
 
 -- where a range is held, nothing further is held once it is written
-pub written-only : (a n : ℕ) (xs : Image) (m : Bytes) (x : ℕ) → length xs ≤ n → holds a n m ≡ true → is_some (written a xs m x) ≡ true → is_some (m x) ≡ true
+pub written-only : (a n : ℕ) (xs : Image) (m : Bytes) (x : ℕ) → length xs ≤ n → holds a n m ≡ true → is_some (image_written a xs m x) ≡ true → is_some (m x) ≡ true
 written-only a n xs m x long held h =
     lies a n x (is_some (m x) ≡ true) (λ out. ap is_some (sym (written-outside a xs m x (shorter out))) ∙ h) (λ lo hi. held-at a n m (both (in_bounds a n) _ held).1 x lo hi)
   where

@@ -2,7 +2,7 @@
 use Rattle.std.proofs.Common.{◌≡◌, ◌≢◌, ℕ, ◌+◌, ◌<◌, ◌≤◌, Bool, true, false, refl, sym, ap, ◌∙◌, arith, Option, Some, None, is_some, is_none, ◌⊎◌, inl, inr, subst, nat_eq, nat_lt, nat_le}
 use Rattle.witx_ast.proofs.Decided.{decides-eq, decides-lt, decides-le}
 use Rattle.witx_base.specs.SameBytes.{false-true}
-use Rattle.witx_bytes.specs.Bytes.{Bytes, all_held, none_held, placed, Filled}
+use Rattle.witx_bytes.specs.Bytes.{Bytes, all_held, none_held, with_zeros, Filled}
 use Rattle.witx_bytes.proofs.Agreement.{held-from, held-at, free-from, free-at, placed-outside, placed-own}
 
 -- all bytes up to x are held, or none is
@@ -55,10 +55,10 @@ filled_more from x z o m k n f l here else z_is = record {
     step y lo hi false e = let differs : y ≢ x = λ s. false-true (sym e ∙ (decides-eq y x).1 s) in else y differs ∙ f.inside y lo (omega (arith, hi, differs))
 
 -- all is filled
-pub filled_placed : (at len x end : ℕ) (m k : Bytes) → Filled at x (Some 0) m k → end ≡ at + len → x ≡ end → (y : ℕ) → k y ≡ placed at len m y
+pub filled_placed : (at len x end : ℕ) (m k : Bytes) → Filled at x (Some 0) m k → end ≡ at + len → x ≡ end → (y : ℕ) → k y ≡ with_zeros at len m y
 filled_placed at len x end m k f e is y = go (nat_lt y at) refl (nat_lt y x) refl
   where
-    go : (a : Bool) → nat_lt y at ≡ a → (b : Bool) → nat_lt y x ≡ b → k y ≡ placed at len m y
+    go : (a : Bool) → nat_lt y at ≡ a → (b : Bool) → nat_lt y x ≡ b → k y ≡ with_zeros at len m y
     go true h b j = let l = (decides-lt y at).0 h in f.outside y (inl l) ∙ sym (placed-outside at len m y (inl l))
     go false h true j = let l : at ≤ y = omega (arith, not-lt y at h) in let u = (decides-lt y x).0 j in f.inside y l u ∙ sym (placed-own at len m y l (omega (arith, u, e, is)))
     go false h false j = let u : x ≤ y = not-lt y x j in f.outside y (inr u) ∙ sym (placed-outside at len m y (inr (omega (arith, u, e, is))))

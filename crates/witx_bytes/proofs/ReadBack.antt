@@ -10,10 +10,10 @@ use Rattle.witx_ast.specs.Tags.{AllFit, AllFieldsFit, AllArmsFit, repr_bits}
 use Rattle.witx_ast.proofs.ValueLaws.{value-decides}
 use Rattle.witx_ast.proofs.Decided.{decides-lt}
 use Rattle.witx_layout.specs.Numbers.{align_to, align_of, builtin_size, repr_size, payload_offset, size_of}
-use Rattle.witx_machine.specs.Words.{wrapped, cut, checked, bits_of_flags, when}
+use Rattle.witx_machine.specs.Words.{wrapped, cut, checked_value, bits_of_flags, when}
 use Rattle.witx_bytes.specs.Bytes.{Bytes, Agrees}
 use Rattle.witx_bytes.specs.Images.{little, gap, padded_to, tag_image, image, members_image, payload_image, Spells}
-use Rattle.witx_bytes.specs.Reading.{number_at, list_at, flags_at, case_of, variant_at, value_at, members_at, arm_at}
+use Rattle.witx_bytes.specs.Reading.{number_at, list_read_at, flags_at, case_of, variant_at, value_at, members_at, arm_at}
 use Rattle.witx_bytes.proofs.Agreement.{agrees-at, agrees-left, agrees-right, length-both}
 use Rattle.witx_bytes.proofs.Lengths.{image-length, tag-length, gap-to}
 use Rattle.witx_bytes.proofs.NumberLaws.{number-back, repr-modulus, flags-back, flags-below, flags-fit, wrapped-below, cut-back}
@@ -62,13 +62,13 @@ variant-read repr cs i m at v h k = ap (option_and_then (λ i. variant_at (all_b
 mutual
   pub read-back : (t : Plain) (v : Value) (m : Bytes) (at : ℕ) → IsValue t v → AllFit t → Agrees m at (image t v) → value_at t m at ≡ Some v
   read-back (Plain.builtin b) (Value.number k n) m at h f a =
-      ap (option_and_then (λ x. checked (Plain.builtin b) (Value.number b (cut b x)))) (number-back (builtin_size b) (wrapped (256 ^ builtin_size b) n) m at (wrapped-below b n) a)
-      ∙ ap (λ n. checked (Plain.builtin b) (Value.number b n)) (cut-back b n h.1)
+      ap (option_and_then (λ x. checked_value (Plain.builtin b) (Value.number b (cut b x)))) (number-back (builtin_size b) (wrapped (256 ^ builtin_size b) n) m at (wrapped-below b n) a)
+      ∙ ap (λ n. checked_value (Plain.builtin b) (Value.number b n)) (cut-back b n h.1)
       ∙ when-true _ _ (builtin-read b k n h.0 h.1) ∙ ap (λ b. Some (Value.number b n)) (sym h.0)
   read-back Plain.handle (Value.handle_number n) m at h f a = ap (option_map Value.handle_number) (number-back 4 n m at h a)
   read-back (Plain.list_of t) (Value.list_at p l) m at h f a =
-      ap (λ x. list_at x (number_at 4 m (at + 4))) (number-back 4 p m at h.0 (agrees-left m at (little 4 p) (little 4 l) a))
-      ∙ ap (λ y. list_at (Some p) y) (number-back 4 l m (at + 4) h.1 (agrees-right m at (little 4 p) (little 4 l) a))
+      ap (λ x. list_read_at x (number_at 4 m (at + 4))) (number-back 4 p m at h.0 (agrees-left m at (little 4 p) (little 4 l) a))
+      ∙ ap (λ y. list_read_at (Some p) y) (number-back 4 l m (at + 4) h.1 (agrees-right m at (little 4 p) (little 4 l) a))
   read-back (Plain.pointer_to t) (Value.address n) m at h f a = ap (option_map Value.address) (number-back 4 n m at h a)
   read-back (Plain.const_pointer_to t) (Value.const_address n) m at h f a = ap (option_map Value.const_address) (number-back 4 n m at h a)
   read-back (Plain.record_of (RecordKind.Bitflags repr) ms) (Value.flag_bits bits) m at h f a =

@@ -7,9 +7,9 @@ use Rattle.witx_ast.specs.ValueTests.{in_range}
 use Rattle.witx_ast.proofs.Decided.{both-then}
 use Rattle.witx_ast.proofs.AlikeLaws.{builtins-decide}
 use Rattle.witx_layout.specs.Numbers.{builtin_size}
-use Rattle.witx_machine.specs.Words.{cut, checked}
-use Rattle.witx_bytes.specs.Bytes.{Bytes, IsByteMemory, Stands, RunAt}
-use Rattle.witx_bytes.specs.Reading.{number_at, value_at, list_at}
+use Rattle.witx_machine.specs.Words.{cut, checked_value}
+use Rattle.witx_bytes.specs.Bytes.{Bytes, IsByteMemory, HoldsAt, RunAt}
+use Rattle.witx_bytes.specs.Reading.{number_at, value_at, list_read_at}
 use Rattle.witx_bytes.specs.Seen.{seen}
 use Rattle.witx_bytes.specs.declared.value.Value.TheVariants as value
 use Rattle.witx_bytes.proofs.Seen.{seen-Num, seen-Handle, seen-Pointer, seen-ConstPointer, seen-List}
@@ -23,10 +23,10 @@ beyond m at h l = go (m at) refl
     go (Some b) e = absurd (omega (arith, l, (h at b e).0))
 
 -- a run, and where it is empty none at the address
-pub no_run : (at : ℕ) (m : Bytes) → Stands [] at m
+pub no_run : (at : ℕ) (m : Bytes) → HoldsAt [] at m
 no_run at m i l = absurd (omega (arith, l))
 
-pub run_stands : (at : ℕ) (run : List (Option ℕ)) (m : Bytes) → RunAt at run m → Stands run at m
+pub run_stands : (at : ℕ) (run : List (Option ℕ)) (m : Bytes) → RunAt at run m → HoldsAt run at m
 run_stands at run m h = h.stands
 
 pub run_none_at : (at : ℕ) (run : List (Option ℕ)) (m : Bytes) → RunAt at run m → length run ≡ 0 → m at ≡ None
@@ -35,10 +35,10 @@ run_none_at at run m h e = ap m (omega arith) ∙ h.free e 0 (omega arith)
 pub ruleset byte_rules = (beyond, no_run, run_stands, run_none_at)
 
 -- the first byte of a run, and the rest
-pub run_first : (at : ℕ) (b : Option ℕ) (rest : List (Option ℕ)) (m : Bytes) → Stands (b ∷ rest) at m → m at ≡ b
+pub run_first : (at : ℕ) (b : Option ℕ) (rest : List (Option ℕ)) (m : Bytes) → HoldsAt (b ∷ rest) at m → m at ≡ b
 run_first at b rest m h = ap m (omega arith) ∙ h 0 (omega arith)
 
-pub run_rest : (at next : ℕ) (b : Option ℕ) (rest : List (Option ℕ)) (m : Bytes) → Stands (b ∷ rest) at m → next ≡ at + 1 → Stands rest next m
+pub run_rest : (at next : ℕ) (b : Option ℕ) (rest : List (Option ℕ)) (m : Bytes) → HoldsAt (b ∷ rest) at m → next ≡ at + 1 → HoldsAt rest next m
 run_rest at next b rest m h e i l = ap m (omega (arith, e)) ∙ h (suc i) (omega (arith, l))
 
 -- one byte and the rest
@@ -85,8 +85,8 @@ handle_read m at n h = ap (option_map plain.handle_number) h ∙ ap Some (sym (s
 
 pub builtin_read : (b : BuiltinType) (m : Bytes) (at width bits : ℕ) (n : ℤ) → width ≡ builtin_size b → number_at width m at ≡ Some bits → n ≡ cut b bits → in_range b n ≡ true → value_at (Plain.builtin b) m at ≡ Some (seen (value.Num b n))
 builtin_read b m at width bits n w h c r =
-    ap (option_and_then (λ x. checked (Plain.builtin b) (plain.number b (cut b x)))) (ap (λ width. number_at width m at) (sym w) ∙ h)
-    ∙ ap (λ n. checked (Plain.builtin b) (plain.number b n)) (sym c)
+    ap (option_and_then (λ x. checked_value (Plain.builtin b) (plain.number b (cut b x)))) (ap (λ width. number_at width m at) (sym w) ∙ h)
+    ∙ ap (λ n. checked_value (Plain.builtin b) (plain.number b n)) (sym c)
     ∙ when-true _ _ (both-then _ _ ((builtins-decide b b).1 refl) r) ∙ ap Some (sym (seen-Num b n))
 
 pub pointer_read : (t : Plain) (m : Bytes) (at n : ℕ) → number_at 4 m at ≡ Some n → value_at (Plain.pointer_to t) m at ≡ Some (seen (value.Pointer n))
@@ -96,4 +96,4 @@ pub const_read : (t : Plain) (m : Bytes) (at n : ℕ) → number_at 4 m at ≡ S
 const_read t m at n h = ap (option_map plain.const_address) h ∙ ap Some (sym (seen-ConstPointer n))
 
 pub list_read : (t : Plain) (m : Bytes) (at a l : ℕ) → number_at 4 m at ≡ Some a → number_at 4 m (at + 4) ≡ Some l → value_at (Plain.list_of t) m at ≡ Some (seen (value.List a l))
-list_read t m at a l h k = ap (λ x. list_at x (number_at 4 m (at + 4))) h ∙ ap (λ y. list_at (Some a) y) k ∙ ap Some (sym (seen-List a l))
+list_read t m at a l h k = ap (λ x. list_read_at x (number_at 4 m (at + 4))) h ∙ ap (λ y. list_read_at (Some a) y) k ∙ ap Some (sym (seen-List a l))

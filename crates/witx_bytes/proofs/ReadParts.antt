@@ -20,7 +20,7 @@ use Rattle.witx_machine.specs.Words.{when}
 use Rattle.witx_bytes.specs.Bytes.{Bytes}
 use Rattle.witx_bytes.specs.Payloads.{case_size, payload_at, payload_type_fits}
 use Rattle.witx_bytes.specs.Reading.{number_at, case_of, flags_at, variant_at, value_at, members_at, arm_at}
-use Rattle.witx_bytes.specs.Readings.{CanRead, CanReadAll, CanReadCase, Reads, case_number}
+use Rattle.witx_bytes.specs.Readings.{CanRead, CanReadAll, CanReadCase, ReadAs, case_number}
 use Rattle.witx_bytes.specs.Seen.{seen, seen_in, values_seen}
 use Rattle.witx_bytes.specs.declared.read_error.ReadError.{ReadError}
 use Rattle.witx_bytes.specs.declared.value.Value.{Value}
@@ -32,7 +32,7 @@ use Rattle.witx_bytes.proofs.ReadBack.{variant-read, when-true}
 use Rattle.witx_bytes.proofs.Seen.{seen-Tuple, seen-Rec, seen-Enum, seen-Bare, seen-With}
 
 -- a part that isn't read makes a whole that isn't
-pub goes_on : {A B C D : Type 0} (f : A → B) (g : C → D) (o : Option B) (p : Option D) (e : ReadError) → (o ≡ None → p ≡ None) → Reads f o (Err e) → Reads g p (Err e)
+pub goes_on : {A B C D : Type 0} (f : A → B) (g : C → D) (o : Option B) (p : Option D) (e : ReadError) → (o ≡ None → p ≡ None) → ReadAs f o (Err e) → ReadAs g p (Err e)
 goes_on f g o p ReadError.NoValue h k = h k
 goes_on f g o p ReadError.OutOfMemory h k = tt
 
@@ -40,13 +40,13 @@ goes_on f g o p ReadError.OutOfMemory h k = tt
 pub tuple_read : (ms : Fields) (m : Bytes) (at : ℕ) (vs : List Value) → members_at 0 ms m at ≡ Some (values_seen vs) → value_at (Plain.record_of RecordKind.Tuple ms) m at ≡ Some (seen (value.Tuple vs))
 tuple_read ms m at vs h = ap (option_map plain.tuple_values) h ∙ ap Some (sym (seen-Tuple vs))
 
-pub tuple_refused : (ms : Fields) (m : Bytes) (at : ℕ) (e : ReadError) → Reads values_seen (members_at 0 ms m at) (Err e) → Reads seen (value_at (Plain.record_of RecordKind.Tuple ms) m at) (Err e)
+pub tuple_refused : (ms : Fields) (m : Bytes) (at : ℕ) (e : ReadError) → ReadAs values_seen (members_at 0 ms m at) (Err e) → ReadAs seen (value_at (Plain.record_of RecordKind.Tuple ms) m at) (Err e)
 tuple_refused ms m at e h = goes_on values_seen seen (members_at 0 ms m at) (value_at (Plain.record_of RecordKind.Tuple ms) m at) e (λ n. ap (option_map plain.tuple_values) n) h
 
 pub record_read : (ms : Fields) (m : Bytes) (at : ℕ) (vs : List Value) → members_at 0 ms m at ≡ Some (values_seen vs) → value_at (Plain.record_of RecordKind.Other ms) m at ≡ Some (seen (value.Rec vs))
 record_read ms m at vs h = ap (option_map plain.record_values) h ∙ ap Some (sym (seen-Rec vs))
 
-pub record_refused : (ms : Fields) (m : Bytes) (at : ℕ) (e : ReadError) → Reads values_seen (members_at 0 ms m at) (Err e) → Reads seen (value_at (Plain.record_of RecordKind.Other ms) m at) (Err e)
+pub record_refused : (ms : Fields) (m : Bytes) (at : ℕ) (e : ReadError) → ReadAs values_seen (members_at 0 ms m at) (Err e) → ReadAs seen (value_at (Plain.record_of RecordKind.Other ms) m at) (Err e)
 record_refused ms m at e h = goes_on values_seen seen (members_at 0 ms m at) (value_at (Plain.record_of RecordKind.Other ms) m at) e (λ n. ap (option_map plain.record_values) n) h
 
 -- values that are read, and then those that follow
@@ -115,7 +115,7 @@ module _ (ms : List RecordMember) (vs : List Value) (at end i : ℕ) (m : Bytes)
     ends = next_ends;
   }
 
-  pub read_stops : (e : ReadError) → Reads seen (value_at t m (at + start)) (Err e) → Reads values_seen (members_at 0 (members_plain ms) m at) (Err e)
+  pub read_stops : (e : ReadError) → ReadAs seen (value_at t m (at + start)) (Err e) → ReadAs values_seen (members_at 0 (members_plain ms) m at) (Err e)
   read_stops e h =
       goes_on seen values_seen (value_at t m (at + start)) (members_at 0 (members_plain ms) m at) e
       (λ n. whole ∙ ap (λ o. option_map (followed_by vs) (option_and_then (λ v. option_map (plain.value_then v) (members_at (start + size_of t) (ms_from ms (i + 1)) m at)) o)) n) h
@@ -207,7 +207,7 @@ module _ (r : IntRepr) (cs : List Case) (m : Bytes) (at i : ℕ) (h : case_numbe
   pub case_read : all_bare (cases_plain cs) ≡ false → (o : Option (Box Value Global)) → payload_at c.tref m (at + payload_offset r (cases_plain cs)) ≡ Some (option_map seen_in o) → value_at (Plain.variant_of r (cases_plain cs)) m at ≡ Some (seen (value.Case i o))
   case_read b o k = by_payload b ∙ ap (option_map (case_of i)) k ∙ ap Some (shown o)
 
-  pub case_refused : all_bare (cases_plain cs) ≡ false → (e : ReadError) → Reads (option_map seen_in) (payload_at c.tref m (at + payload_offset r (cases_plain cs))) (Err e) → Reads seen (value_at (Plain.variant_of r (cases_plain cs)) m at) (Err e)
+  pub case_refused : all_bare (cases_plain cs) ≡ false → (e : ReadError) → ReadAs (option_map seen_in) (payload_at c.tref m (at + payload_offset r (cases_plain cs))) (Err e) → ReadAs seen (value_at (Plain.variant_of r (cases_plain cs)) m at) (Err e)
   case_refused b e k =
       goes_on (option_map seen_in) seen (payload_at c.tref m (at + payload_offset r (cases_plain cs))) (value_at (Plain.variant_of r (cases_plain cs)) m at) e
       (λ n. by_payload b ∙ ap (option_map (case_of i)) n) k
@@ -239,8 +239,8 @@ pub case_can_read_by : (at : ℕ) (o p : Option TypeRef) → o ≡ p → CanRead
 case_can_read_by at o p e h = subst (CanReadCase at) e h
 
 -- flags, and payloads in a box
-pub flags_read : (r : IntRepr) (ms : List RecordMember) (m : Bytes) (at bits : ℕ) (result : Result Value ReadError) → number_at (repr_size r) m at ≡ Some bits → Reads seen (flags_at (length ms) bits) result → Reads seen (value_at (Plain.record_of (RecordKind.Bitflags r) (members_plain ms)) m at) result
-flags_read r ms m at bits result h k = subst (λ o. Reads seen o result) (sym (ap (option_and_then (flags_at (field_count (members_plain ms)))) h ∙ ap (λ n. flags_at n bits) (count-members ms))) k
+pub flags_read : (r : IntRepr) (ms : List RecordMember) (m : Bytes) (at bits : ℕ) (result : Result Value ReadError) → number_at (repr_size r) m at ≡ Some bits → ReadAs seen (flags_at (length ms) bits) result → ReadAs seen (value_at (Plain.record_of (RecordKind.Bitflags r) (members_plain ms)) m at) result
+flags_read r ms m at bits result h k = subst (λ o. ReadAs seen o result) (sym (ap (option_and_then (flags_at (field_count (members_plain ms)))) h ∙ ap (λ n. flags_at n bits) (count-members ms))) k
 
 pub flags_none : (r : IntRepr) (ms : List RecordMember) (m : Bytes) (at : ℕ) → number_at (repr_size r) m at ≡ None → value_at (Plain.record_of (RecordKind.Bitflags r) (members_plain ms)) m at ≡ None
 flags_none r ms m at h = ap (option_and_then (flags_at (field_count (members_plain ms)))) h
@@ -248,7 +248,7 @@ flags_none r ms m at h = ap (option_and_then (flags_at (field_count (members_pla
 pub boxed_read : (t : Plain) (m : Bytes) (at : ℕ) (v : Value) (u : Box Value Global) → value_at t m at ≡ Some (seen v) → u.value ≡ v → option_map Some (value_at t m at) ≡ Some (option_map seen_in (Some u))
 boxed_read t m at v u h e = ap (option_map Some) h ∙ ap (λ v. Some (Some (seen v))) (sym e)
 
-pub boxed_refused : (t : Plain) (m : Bytes) (at : ℕ) (e : ReadError) → Reads seen (value_at t m at) (Err e) → Reads (option_map seen_in) (option_map Some (value_at t m at)) (Err e)
+pub boxed_refused : (t : Plain) (m : Bytes) (at : ℕ) (e : ReadError) → ReadAs seen (value_at t m at) (Err e) → ReadAs (option_map seen_in) (option_map Some (value_at t m at)) (Err e)
 boxed_refused t m at e h = goes_on seen (option_map seen_in) (value_at t m at) (option_map Some (value_at t m at)) e (λ n. ap (option_map Some) n) h
 
 pub ruleset read_rules = (tuple_read, tuple_refused, record_read, record_refused, read_first, read_done, number_below, number_above, number_none, no_case_read, case_below, bare_read, flags_read, flags_none, boxed_read, boxed_refused)

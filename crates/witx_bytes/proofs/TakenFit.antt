@@ -11,10 +11,10 @@ use Rattle.witx_machine.specs.Events.{Event, emit, space, push, finish}
 use Rattle.witx_machine.specs.Rows.{Row, row, get_arg, addr_of, lowering, lifting, list_pointer_length, list_from_pointer_length, return_pointer_get, load, store, tuple_lift, tuple_lower, variant_payload, reuse_return, result_lower, result_lift, call_wasm, call_interface, returns}
 use Rattle.witx_machine.specs.Functions.{Function, name_of, by_address}
 use Rattle.witx_machine.specs.Signature.{signature_results}
-use Rattle.witx_machine.specs.Machine.{Tried, went, no_rule, stuck_at, found, next, only, Item, word_item, value_item, plain_item, Block, State, Inside, outside, in_lower, in_lift, Side, is_nil, slot_word, pushed, words_off, values_off, items_off, payload_item, payload_in, block_word, lifted_payload, top_word, top_value, two_blocks, with_stack, left_over, return_items, run_block, act, give_slot, Flow, flowing, gathering, after, set_aside, flows, gathers, play, runs_within, ended, run_trace}
-use Rattle.witx_machine.specs.Run.{Receiver, Outcome, Call, argument_items, reply_items, words_in, typed, in_order, start, caller_side, callee_side, calls_wasm, calls_interface, called_with, run_to}
+use Rattle.witx_machine.specs.Machine.{Tried, went, no_rule, stuck_at, if_found, goes_on, only, Item, word_item, value_item, plain_item, Block, State, Inside, outside, in_lower, in_lift, Side, is_nil, slot_word, pushed, words_off, values_off, items_off, payload_item, payload_in, block_word, lifted_payload, top_word, top_value, two_blocks, with_stack, left_over, return_items, run_block, act, give_slot, Flow, flowing, gathering, after, set_aside, flows, gathers, play, runs_within, ended, run_trace}
+use Rattle.witx_machine.specs.Run.{Receiver, Outcome, Call, argument_items, reply_items, words_in, typed, picked_in_order, start, caller_side, callee_side, calls_wasm, calls_interface, called_with, run_to}
 use Rattle.witx_bytes.specs.Follow.{AreWritable}
-use Rattle.witx_machine.specs.Cells.{Cell, Cells, Memory, Taken, cells, given, stored, get, insert, is_i32, picked, case_picked, outcome}
+use Rattle.witx_machine.specs.Cells.{Cell, Cells, Memory, Taken, cells, cell_given, stored, get, insert, is_i32, picked, case_picked, outcome}
 
 abbrev pub Fit : Tree → Type 0
 Fit t = AllFit (plain t)
@@ -83,16 +83,16 @@ Then Q (went x) = Q x
 Then Q no_rule = Unit {0}
 Then Q (stuck_at p) = Unit {0}
 
-then_found : {P A B : Type 0} (R : A → Type 0) (Q : B → Type 0) (o : Option A) (f : A → Tried P B) → IfSome' R o → ((x : A) → R x → Then Q (f x)) → Then Q (found o f)
+then_found : {P A B : Type 0} (R : A → Type 0) (Q : B → Type 0) (o : Option A) (f : A → Tried P B) → IfSome' R o → ((x : A) → R x → Then Q (f x)) → Then Q (if_found o f)
 then_found R Q None f h k = tt
 then_found R Q (Some x) f h k = k x h
 
 -- where nothing is to be known of what is found
-then_any : {P A B : Type 0} (Q : B → Type 0) (o : Option A) (f : A → Tried P B) → ((x : A) → Then Q (f x)) → Then Q (found o f)
+then_any : {P A B : Type 0} (Q : B → Type 0) (o : Option A) (f : A → Tried P B) → ((x : A) → Then Q (f x)) → Then Q (if_found o f)
 then_any Q None f k = tt
 then_any Q (Some x) f k = k x
 
-then_next : {P A B : Type 0} (R : A → Type 0) (Q : B → Type 0) (t : Tried P A) (f : A → Tried P B) → Then R t → ((x : A) → R x → Then Q (f x)) → Then Q (next t f)
+then_next : {P A B : Type 0} (R : A → Type 0) (Q : B → Type 0) (t : Tried P A) (f : A → Tried P B) → Then R t → ((x : A) → R x → Then Q (f x)) → Then Q (goes_on t f)
 then_next R Q (went x) f h k = k x h
 then_next R Q no_rule f h k = tt
 then_next R Q (stuck_at p) f h k = tt
@@ -170,14 +170,14 @@ taken_more : (xs : Taken) (x : ℕ × Tree) → AreWritable xs → Fit x.1 → A
 taken_more [] x h k = (k, tt)
 taken_more (y ∷ ys) x h k = (h.0, taken_more ys x h.1 k)
 
-given_fits : (t : Tree) (v : Option Value) (cs : Cells) (fresh : List ℕ) (taken : Taken) → Fit t → AreWritable taken → IfSome' (λ r. AreWritable r.1.taken) (given t v cs fresh taken)
+given_fits : (t : Tree) (v : Option Value) (cs : Cells) (fresh : List ℕ) (taken : Taken) → Fit t → AreWritable taken → IfSome' (λ r. AreWritable r.1.taken) (cell_given t v cs fresh taken)
 given_fits t v cs [] taken h k = tt
 given_fits t v cs (a ∷ more) taken h k = taken_more taken (a, t) k h
 
 put_fits : (t : Tree) (v : Value) (m : Memory) → Fit t → AreWritable m.taken → IfSome' (λ r. AreWritable r.1.taken) (cells.put t v m)
 put_fits t v m h k = go (by_address (plain t))
   where
-    go : (b : Bool) → IfSome' (λ r. AreWritable r.1.taken) (when b (given t (Some v) m.cells m.fresh m.taken))
+    go : (b : Bool) → IfSome' (λ r. AreWritable r.1.taken) (when b (cell_given t (Some v) m.cells m.fresh m.taken))
     go true = given_fits t (Some v) m.cells m.fresh m.taken h k
     go false = tt
 
@@ -366,7 +366,7 @@ callee_fine m f reply words es memory results g h =
 handed_fine : (m : List ℕ) (f : Function) (to : Receiver) (callee : List Event) (reply : Option Value) → AllOf to.function.results → AllGood callee → (words : List Word) (s : State Event Value Word Memory (Call Value Word Memory)) → Fine s →
     Then Fine (called_with {P = Unit {0}} (λ e. e) (λ e. tt) cells m f to tt callee reply words s)
 handed_fine m f to callee reply results k words s q =
-    then_any Fine (in_order to.order words) _ (λ own.
+    then_any Fine (picked_in_order to.order words) _ (λ own.
     then_next (λ r. Fine r.2) Fine (run_trace (λ e. e) (λ e. tt) cells (Callee to.module_name to.function reply own) tt callee (start s.memory)) _
     (callee_fine to.module_name to.function reply own callee s.memory results k q.taken) (λ r n.
     then_any Fine (words_in r.1) _ (λ ws. then_only Fine (typed cells (signature_results f) ws) _ (record { stack = pushed_fit (map word_item ws) s.stack (word_items_fit ws) q.stack; taken = n.taken; blocks = q.blocks }))))

@@ -7,7 +7,7 @@ use Rattle.witx_machine.specs.Functions.{function_of}
 use Rattle.witx_machine.specs.Traces.{caller_events, callee_events}
 use Rattle.witx_machine.specs.Run.{itself}
 use Rattle.witx_machine.proofs.CellLaws.{traces_are_faithful}
-use Rattle.witx_bytes.specs.Follow.{TakeWritable, TracesOverBytes}
+use Rattle.witx_bytes.specs.Follow.{TakesAreWritable, TracesOverBytes}
 use Rattle.witx_bytes.proofs.TakenFit.{AllOf, taken_fits}
 use Rattle.witx_bytes.proofs.GoodTraces.{caller_good, callee_good}
 use Rattle.witx_bytes.proofs.WholeRuns.{bytes_follow_cells}
@@ -16,7 +16,7 @@ types_of : (ps : List Field) → AllTypesFit ps → AllOf (map (λ p. p.tree) ps
 types_of [] h = tt
 types_of (p ∷ ps) h = (h.0, types_of ps h.1)
 
-pub take_writable : TakeWritable
+pub take_writable : TakesAreWritable
 take_writable m func fit arguments reply memory addresses o ran =
     let f = function_of func in
     let both = (function-decides func).0 fit in

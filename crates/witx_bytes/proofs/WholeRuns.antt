@@ -14,7 +14,7 @@ use Rattle.witx_machine.specs.Cells.{Cell, Memory, Taken, cells, outcome}
 use Rattle.witx_machine.specs.Faithful.{are_arguments, is_reply}
 use Rattle.witx_bytes.specs.Bytes.{Bytes}
 use Rattle.witx_bytes.specs.ByteMachine.{Store, bytes, run_bytes}
-use Rattle.witx_bytes.specs.Follow.{AreApart, AreUnused, AreWritable, SameOutcome, BytesFollowCells}
+use Rattle.witx_bytes.specs.Follow.{AreRangesApart, AreUnused, AreWritable, SameOutcome, BytesFollowCells}
 use Rattle.witx_machine.proofs.Simulation.{Follows, Each}
 use Rattle.witx_machine.proofs.Simulation as sim
 use Rattle.witx_machine.proofs.Following.{run_follows, each_self, each_same}
@@ -35,7 +35,7 @@ ended_as (stuck_at p) o e = absurd (clash e)
     clash : None ≡ Some o → ⊥
     clash e = cc
 
-module _ (whole : Taken) (before : Bytes) (fit : AreApart whole) (unused : AreUnused before whole) (writable : AreWritable whole) where
+module _ (whole : Taken) (before : Bytes) (fit : AreRangesApart whole) (unused : AreUnused before whole) (writable : AreWritable whole) where
   abbrev Items : Item Value Word → Item Value Word → Type 0
   Items = sim.Items cells bytes ◌≡◌ (Same whole before fit unused writable) ◌≡◌ (Related whole before fit unused writable) (Front whole before fit unused writable)
 

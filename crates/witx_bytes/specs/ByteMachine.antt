@@ -13,7 +13,7 @@ use Rattle.witx_machine.specs.Functions.{Function, by_address}
 use Rattle.witx_machine.specs.Machine.{Domain}
 use Rattle.witx_machine.specs.Run.{Outcome, run}
 use Rattle.witx_machine.specs.Cells.{Taken, is_i32, cells, outcome}
-use Rattle.witx_bytes.specs.Bytes.{Bytes, written, placed, holds, is_free}
+use Rattle.witx_bytes.specs.Bytes.{Bytes, image_written, with_zeros, holds, is_free}
 use Rattle.witx_bytes.specs.Images.{image}
 use Rattle.witx_bytes.specs.Reading.{value_at}
 
@@ -31,11 +31,11 @@ range_size t = max 1 (size_of t)
 abbrev pub range_given : Tree → Bytes → List ℕ → Taken → Option (Word × Store)
 range_given t m [] taken = None
 range_given t m (a ∷ more) taken =
-    when (is_free a (range_size (plain t)) m) (Some (i32 a, record { bytes = placed a (range_size (plain t)) m; fresh = more; taken = taken ++ (a, t) ∷ [] }))
+    when (is_free a (range_size (plain t)) m) (Some (i32 a, record { bytes = with_zeros a (range_size (plain t)) m; fresh = more; taken = taken ++ (a, t) ∷ [] }))
 
 -- the value written at an address
 abbrev pub value_written : Plain → Value → ℕ → Store → Store
-value_written t v at m = record m { bytes = written at (image t v) m.bytes }
+value_written t v at m = record m { bytes = image_written at (image t v) m.bytes }
 
 -- a value of the type can be written there
 abbrev pub has_room : Plain → ℕ → Bytes → Bool

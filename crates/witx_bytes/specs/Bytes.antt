@@ -23,14 +23,14 @@ Agrees m at (None ∷ more) = Agrees m (suc at) more
 Agrees m at (Some b ∷ more) = (m at ≡ Some b) × Agrees m (suc at) more
 
 -- the memory once an image is written from an address on: exactly the bytes that the image has are set
-abbrev pub written : ℕ → Image → Bytes → Bytes
-written at [] m x = m x
-written at (None ∷ more) m x = written (suc at) more m x
-written at (Some b ∷ more) m x = cond (nat_eq x at) (Some b) (written (suc at) more m x)
+abbrev pub image_written : ℕ → Image → Bytes → Bytes
+image_written at [] m x = m x
+image_written at (None ∷ more) m x = image_written (suc at) more m x
+image_written at (Some b ∷ more) m x = cond (nat_eq x at) (Some b) (image_written (suc at) more m x)
 
 -- the memory with zeros in a range
-abbrev pub placed : ℕ → ℕ → Bytes → Bytes
-placed at len m x = cond (nat_le at x && nat_lt x (at + len)) (Some 0) (m x)
+abbrev pub with_zeros : ℕ → ℕ → Bytes → Bytes
+with_zeros at len m x = cond (nat_le at x && nat_lt x (at + len)) (Some 0) (m x)
 
 abbrev pub in_bounds : ℕ → ℕ → Bool
 in_bounds at len = nat_lt 0 at && nat_le (at + len) (2 ^ 32)
@@ -52,8 +52,8 @@ abbrev pub is_free : ℕ → ℕ → Bytes → Bool
 is_free at len m = in_bounds at len && none_held at len m
 
 -- what stands at the places of a block, from 0 on; past its end stands nothing
-abbrev pub place : List (Option ℕ) → Bytes
-place bytes i = slice_index_or bytes i None
+abbrev pub block_bytes : List (Option ℕ) → Bytes
+block_bytes bytes i = slice_index_or bytes i None
 
 -- blocks of 256 places, each with its number
 abbrev pub Blocks : Type 0
@@ -71,19 +71,19 @@ HasBlocks first end blocks = (n : ℕ) → first ≤ n → n < end → HasBlock 
 
 abbrev pub in_block : ℕ → Option (List (Option ℕ)) → Option ℕ
 in_block i None = None
-in_block i (Some bytes) = place bytes i
+in_block i (Some bytes) = block_bytes bytes i
 
 -- the memory of these blocks: an address lies in the block whose number is a 256th of it, at the place that is left
 abbrev pub held : Blocks → Bytes
 held blocks at = in_block (at % 256) (block_of (at / 256) blocks)
 
 -- this is what stands from an address on, as far as it reaches
-abbrev pub Stands : List (Option ℕ) → ℕ → Bytes → Type 0
-Stands run at m = (i : ℕ) → i < length run → m (at + i) ≡ place run i
+abbrev pub HoldsAt : List (Option ℕ) → ℕ → Bytes → Type 0
+HoldsAt run at m = (i : ℕ) → i < length run → m (at + i) ≡ block_bytes run i
 
 -- what stands from an address to the end of its block, or nothing where no byte of that block is held
 pub record RunAt (at : ℕ) (run : List (Option ℕ)) (m : Bytes) : Type 0 where
-  pub stands : Stands run at m
+  pub stands : HoldsAt run at m
   pub free : length run ≡ 0 → (i : ℕ) → at % 256 + i < 256 → m (at + i) ≡ None
   pub long : 0 < length run → at % 256 + length run ≡ 256
 

@@ -24,9 +24,9 @@ abbrev pub ApartFrom : ℕ × Tree → Taken → Type 0
 ApartFrom x [] = Unit {0}
 ApartFrom x (y ∷ ys) = Apart x y × ApartFrom x ys
 
-abbrev pub AreApart : Taken → Type 0
-AreApart [] = Unit {0}
-AreApart (x ∷ xs) = ApartFrom x xs × AreApart xs
+abbrev pub AreRangesApart : Taken → Type 0
+AreRangesApart [] = Unit {0}
+AreRangesApart (x ∷ xs) = ApartFrom x xs × AreRangesApart xs
 
 -- each range begins above 0, ends within 2^32, and uses no address of the memory
 abbrev pub AreUnused : Bytes → Taken → Type 0
@@ -34,7 +34,7 @@ AreUnused m [] = Unit {0}
 AreUnused m (x ∷ xs) = IsTrue (is_free x.0 (range_size (plain x.1)) m) × AreUnused m xs
 
 abbrev pub IsFit : Bytes → Taken → Type 0
-IsFit m taken = AreApart taken × AreUnused m taken
+IsFit m taken = AreRangesApart taken × AreUnused m taken
 
 -- each type fits its tags
 abbrev pub AreWritable : Taken → Type 0
@@ -83,8 +83,8 @@ TracesOverBytes =
     RunOverBytes m (function_of func) (caller_events m (function_of func)) (callee_events m (function_of func))
 
 -- what the two traces of a function that fits its tags take is writable, in any run of them
-abbrev pub TakeWritable : Type 0
-TakeWritable =
+abbrev pub TakesAreWritable : Type 0
+TakesAreWritable =
     (m : List ℕ) (func : FunctionTree) → IsTrue (function_fits func) →
     (arguments : List Value) (reply : Option Value) (memory : Cells) (addresses : List ℕ) (o : Outcome Value Word Memory) →
     run_cells m (function_of func) (caller_events m (function_of func)) (callee_events m (function_of func)) arguments reply memory addresses ≡ Some o →

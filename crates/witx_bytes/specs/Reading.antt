@@ -4,7 +4,7 @@ use Rattle.witx_ast.specs.declared.types.RecordKind.{RecordKind}
 use Rattle.witx_ast.specs.Plain.{Plain, Fields, Arms, field_count, arm_count, all_bare}
 use Rattle.witx_ast.specs.Values.{Value, Values}
 use Rattle.witx_layout.specs.Numbers.{align_to, align_of, builtin_size, repr_size, payload_offset, size_of}
-use Rattle.witx_machine.specs.Words.{cut, checked, flags_from, when}
+use Rattle.witx_machine.specs.Words.{cut, checked_value, flags_from, when}
 use Rattle.witx_bytes.specs.Bytes.{Bytes}
 
 -- the number in so many bytes, the lowest first
@@ -12,8 +12,8 @@ abbrev pub number_at : ℕ → Bytes → ℕ → Option ℕ
 number_at zero m at = Some 0
 number_at (suc width) m at = option_and_then (λ low. option_map (λ high. low + 256 * high) (number_at width m (suc at))) (m at)
 
-abbrev pub list_at : Option ℕ → Option ℕ → Option Value
-list_at a l = option_and_then (λ a. option_map (λ l. Value.list_at a l) l) a
+abbrev pub list_read_at : Option ℕ → Option ℕ → Option Value
+list_read_at a l = option_and_then (λ a. option_map (λ l. Value.list_at a l) l) a
 
 -- bits beyond the flags spell nothing
 abbrev pub flags_at : ℕ → ℕ → Option Value
@@ -31,9 +31,9 @@ variant_at false count i payload = option_map (case_of i) payload
 
 abbrev mutual
   pub value_at : Plain → Bytes → ℕ → Option Value
-  value_at (Plain.builtin b) m at = option_and_then (λ x. checked (Plain.builtin b) (Value.number b (cut b x))) (number_at (builtin_size b) m at)
+  value_at (Plain.builtin b) m at = option_and_then (λ x. checked_value (Plain.builtin b) (Value.number b (cut b x))) (number_at (builtin_size b) m at)
   value_at Plain.handle m at = option_map Value.handle_number (number_at 4 m at)
-  value_at (Plain.list_of t) m at = list_at (number_at 4 m at) (number_at 4 m (at + 4))
+  value_at (Plain.list_of t) m at = list_read_at (number_at 4 m at) (number_at 4 m (at + 4))
   value_at (Plain.pointer_to t) m at = option_map Value.address (number_at 4 m at)
   value_at (Plain.const_pointer_to t) m at = option_map Value.const_address (number_at 4 m at)
   value_at (Plain.record_of (RecordKind.Bitflags repr) ms) m at = option_and_then (flags_at (field_count ms)) (number_at (repr_size repr) m at)

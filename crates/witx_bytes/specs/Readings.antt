@@ -26,10 +26,10 @@ CanReadCase at None = Unit {0}
 CanReadCase at (Some t) = CanRead at (plain (tree_of t))
 
 -- what stands there, if something does; want of memory is free. f: what the answer is
-abbrev pub Reads : {A B : Type 0} → (A → B) → Option B → Result A ReadError → Type 0
-Reads f o (Ok x) = o ≡ Some (f x)
-Reads f o (Err ReadError.NoValue) = o ≡ None
-Reads f o (Err ReadError.OutOfMemory) = Unit {0}
+abbrev pub ReadAs : {A B : Type 0} → (A → B) → Option B → Result A ReadError → Type 0
+ReadAs f o (Ok x) = o ≡ Some (f x)
+ReadAs f o (Err ReadError.NoValue) = o ≡ None
+ReadAs f o (Err ReadError.OutOfMemory) = Unit {0}
 
 -- a tag, if it is below the number of cases
 abbrev pub case_number : ℕ → Option ℕ → Option ℕ

@@ -6,7 +6,7 @@ use Rattle.witx_ast.specs.ValueTests.{is_value, are_values}
 use Rattle.witx_ast.specs.Tags.{fits, fields_fit, arms_fit}
 use Rattle.witx_ast.specs.Views.{tree_of}
 use Rattle.witx_ast.specs.declared.types.TypeRef.{TypeRef}
-use Rattle.witx_bytes.specs.Bytes.{Bytes, Image, AreHeld, written}
+use Rattle.witx_bytes.specs.Bytes.{Bytes, Image, AreHeld, image_written}
 use Rattle.witx_bytes.specs.Payloads.{is_case}
 
 -- a value of the type, which fits its tags
@@ -36,4 +36,4 @@ pub record HasRange (at size : ℕ) (m : Bytes) : Type 0 where
 
 -- exactly the bytes of the image are set
 abbrev pub Writes : ℕ → Image → Bytes → Bytes → Type 0
-Writes at xs m k = (x : ℕ) → k x ≡ written at xs m x
+Writes at xs m k = (x : ℕ) → k x ≡ image_written at xs m x

@@ -1,7 +1,7 @@
 //! A block of a memory of bytes: 256 places in a row, each a byte or none.
 
 ghost use Rattle.std.specs.Prelude.{◌≡◌, ◌≢◌, ◌<◌, ◌≤◌, ◌+◌, ◌-◌, ℕ, None, Some, IfOk, length, drop};
-ghost use Rattle.witx_bytes.specs.Bytes.{place, all_held, none_held, Filled};
+ghost use Rattle.witx_bytes.specs.Bytes.{block_bytes, all_held, none_held, Filled};
 ghost use Rattle.witx_bytes.specs.Images.{little};
 ghost use Rattle.witx_bytes.specs.Writes.{Writes};
 
@@ -31,7 +31,7 @@ impl Model for Block {
 impl Block {
     /// The block in which no byte is held.
     pub(crate) fn new(alloc: Global) -> Result<Block, OutOfMemory>
-        ensures { IfOk result (λ made. (i : ℕ) → place made i ≡ None) }
+        ensures { IfOk result (λ made. (i : ℕ) → block_bytes made i ≡ None) }
     {
         let bytes = Vec::from_elem(alloc, None, SIZE as usize)?;
         Ok(Block { bytes })
@@ -57,8 +57,8 @@ impl Block {
     /// Holds a byte at a place.
     fn set(&mut self, i: u32, byte: u8)
         requires { i < 256 }
-        ensures there { place self.new i ≡ Some byte }
-        ensures elsewhere { (j : ℕ) → j ≢ i → place self.new j ≡ place self.old j }
+        ensures there { block_bytes self.new i ≡ Some byte }
+        ensures elsewhere { (j : ℕ) → j ≢ i → block_bytes self.new j ≡ block_bytes self.old j }
     {
         self.bytes[i as usize] = Some(byte);
     }
@@ -67,7 +67,7 @@ impl Block {
     #[tactic(auto, using(crate::proofs::Ranges::fill_rules))]
     pub(crate) fn fill(&mut self, i: u32, len: u32)
         requires { i + len ≤ 256 }
-        ensures { Filled i (i + len) (Some 0) (place self.old) (place self.new) }
+        ensures { Filled i (i + len) (Some 0) (block_bytes self.old) (block_bytes self.new) }
     {
         for j in i..i + len {
             self.set(j, 0);
@@ -78,7 +78,7 @@ impl Block {
     #[tactic(auto, using(crate::proofs::Writing::number_rules))]
     pub(crate) fn write(&mut self, i: u32, width: u32, number: u64)
         requires { i + width ≤ 256 }
-        ensures { Writes i (little width number) (place self.old) (place self.new) }
+        ensures { Writes i (little width number) (block_bytes self.old) (block_bytes self.new) }
     {
         let mut rest = number;
         for j in i..i + width {
@@ -91,7 +91,7 @@ impl Block {
 /// Whether a byte is held at each place.
 #[tactic(auto, using(crate::proofs::Ranges::range_rules))]
 pub(crate) fn are_held(run: &[Option<u8>]) -> bool
-    ensures { result ≡ all_held 0 (length run.now) (place run.now) }
+    ensures { result ≡ all_held 0 (length run.now) (block_bytes run.now) }
 {
     for byte in run {
         if byte.is_none() {
@@ -104,7 +104,7 @@ pub(crate) fn are_held(run: &[Option<u8>]) -> bool
 /// Whether no byte is held at any place.
 #[tactic(auto, using(crate::proofs::Ranges::range_rules))]
 pub(crate) fn are_free(run: &[Option<u8>]) -> bool
-    ensures { result ≡ none_held 0 (length run.now) (place run.now) }
+    ensures { result ≡ none_held 0 (length run.now) (block_bytes run.now) }
 {
     for byte in run {
         if byte.is_some() {

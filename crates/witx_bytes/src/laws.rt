@@ -8,7 +8,7 @@ ghost use Rattle.witx_layout.specs.Numbers.{size_of};
 ghost use Rattle.witx_bytes.specs.Bytes.{Bytes, AreBytes};
 ghost use Rattle.witx_bytes.specs.Images.{image, Spells};
 ghost use Rattle.witx_bytes.specs.Reading.{value_at};
-ghost use Rattle.witx_bytes.specs.Follow.{BytesFollowCells, TakeWritable, TracesOverBytes};
+ghost use Rattle.witx_bytes.specs.Follow.{BytesFollowCells, TakesAreWritable, TracesOverBytes};
 ghost use Rattle.witx_bytes.specs.Writes.{Writes};
 
 use witx_layout::Layout;
@@ -51,7 +51,7 @@ pub fn bytes_follow_cells()
 /// What the two traces of a function take, in any run of them, is writable where its types fit their
 /// tags.
 pub fn traces_take_writable()
-    ensures { TakeWritable }
+    ensures { TakesAreWritable }
 {}
 
 /// Where a function can be lowered and its types fit their tags, its two traces run over cells, from

@@ -1,7 +1,7 @@
 //! A memory of bytes: a finite map from address to byte.
 
 ghost use Rattle.std.specs.Prelude.{◌≡◌, ◌≢◌, ◌+◌, ◌-◌, ◌/◌, ◌%◌, ◌^◌, ◌<◌, ◌≤◌, ℕ, [], Some, None, Ok, Err, OnOk, OnErr, IfOk, ◌↔◌, ◌⊎◌, true, false, is_some};
-ghost use Rattle.witx_bytes.specs.Bytes.{IsByteMemory, held, placed, all_held as are_held_at, none_held as none_are_held, holds as holds_range, HasBlock, HasBlocks, block_of, Filled, RunAt};
+ghost use Rattle.witx_bytes.specs.Bytes.{IsByteMemory, held, with_zeros, all_held as are_held_at, none_held as none_are_held, holds as holds_range, HasBlock, HasBlocks, block_of, Filled, RunAt};
 ghost use Rattle.witx_bytes.specs.Images.{little};
 ghost use Rattle.witx_bytes.specs.Writes.{Writes};
 
@@ -165,7 +165,7 @@ impl ByteMemory {
         requires some { 1 ≤ len }
         requires above { 0 < at }
         requires within { at + len ≤ 2 ^ 32 }
-        ensures zeros { OnOk result ((x : ℕ) → held self.new x ≡ placed at len (held self.old) x) }
+        ensures zeros { OnOk result ((x : ℕ) → held self.new x ≡ with_zeros at len (held self.old) x) }
         ensures taken { result ≡ Err PlaceError.Taken ↔ (none_are_held at len (held self.old) ≡ false) }
         ensures unchanged { OnErr result ((x : ℕ) → held self.new x ≡ held self.old x) }
     {

@@ -12,7 +12,7 @@ ghost use Rattle.witx_bytes.specs.Images.{Spells};
 ghost use Rattle.witx_bytes.specs.Laids.{IsLaid, KnownOf, KnownMembers, KnownCases, KnownPayload};
 ghost use Rattle.witx_bytes.specs.Payloads.{payload_at};
 ghost use Rattle.witx_bytes.specs.Reading.{number_at, flags_at, value_at, members_at};
-ghost use Rattle.witx_bytes.specs.Readings.{CanRead, CanReadAll, CanReadCase, Reads, case_number};
+ghost use Rattle.witx_bytes.specs.Readings.{CanRead, CanReadAll, CanReadCase, ReadAs, case_number};
 ghost use Rattle.witx_bytes.specs.Seen.{seen, seen_in, values_seen};
 
 use crate::laid::{Laid, lay_out};
@@ -43,7 +43,7 @@ pub fn read_value(
     requires writable { fits (plain (tree_of ty.now)) ≡ true }
     requires sized { size_of (plain (tree_of ty.now)) < 2 ^ 64 }
     ensures value { IfOk result (λ value. Spells (held memory.now) at (plain (tree_of ty.now)) (seen value)) }
-    ensures reads { Reads seen (value_at (plain (tree_of ty.now)) (held memory.now) at) result }
+    ensures reads { ReadAs seen (value_at (plain (tree_of ty.now)) (held memory.now) at) result }
     ensures no_value { result ≡ Err ReadError.NoValue → (value : PlainValue) → ¬ (Spells (held memory.now) at (plain (tree_of ty.now)) value) }
 {
     memory.bounds();
@@ -69,7 +69,7 @@ pub fn read_laid(
     requires writable { fits (plain (tree_of ty.now)) ≡ true }
     requires sized { size_of (plain (tree_of ty.now)) < 2 ^ 64 }
     requires laid { IsLaid (plain (tree_of ty.now)) laid.now }
-    ensures { Reads seen (value_at (plain (tree_of ty.now)) (held memory.now) at) result }
+    ensures { ReadAs seen (value_at (plain (tree_of ty.now)) (held memory.now) at) result }
 {
     read_type(alloc, memory, at as u128, ty, Some(laid))
 }
@@ -85,7 +85,7 @@ fn read_type(
 ) -> Result<Value, ReadError>
     requires can { CanRead at (plain (tree_of ty.now)) }
     requires known { KnownOf (plain (tree_of ty.now)) (option_copied known) }
-    ensures { Reads seen (value_at (plain (tree_of ty.now)) (held memory.now) at) result }
+    ensures { ReadAs seen (value_at (plain (tree_of ty.now)) (held memory.now) at) result }
 {
     read_datatype(alloc, memory, at, ty.type_(), known)
 }
@@ -101,7 +101,7 @@ fn read_datatype(
 ) -> Result<Value, ReadError>
     requires can { CanRead at (plain (datatype_tree datatype.now)) }
     requires known { KnownOf (plain (datatype_tree datatype.now)) (option_copied known) }
-    ensures { Reads seen (value_at (plain (datatype_tree datatype.now)) (held memory.now) at) result }
+    ensures { ReadAs seen (value_at (plain (datatype_tree datatype.now)) (held memory.now) at) result }
 {
     match datatype {
         Datatype::Record(record) => read_record(alloc, memory, at, record, known),
@@ -125,7 +125,7 @@ fn read_record(
 ) -> Result<Value, ReadError>
     requires can { CanRead at (plain (record_tree record_type.now)) }
     requires known { KnownOf (plain (record_tree record_type.now)) (option_copied known) }
-    ensures { Reads seen (value_at (plain (record_tree record_type.now)) (held memory.now) at) result }
+    ensures { ReadAs seen (value_at (plain (record_tree record_type.now)) (held memory.now) at) result }
 {
     let members = record_type.members.as_slice();
     match record_type.kind {
@@ -146,7 +146,7 @@ fn read_tuple(
 ) -> Result<Value, ReadError>
     requires can { CanReadAll at (members_plain members.now) }
     requires known { KnownMembers (members_plain members.now) (option_copied known) }
-    ensures { Reads seen (value_at (record_of RecordKind.Tuple (members_plain members.now)) (held memory.now) at) result }
+    ensures { ReadAs seen (value_at (record_of RecordKind.Tuple (members_plain members.now)) (held memory.now) at) result }
 {
     let values = read_members(alloc, memory, at, members, known)?;
     Ok(Value::Tuple(values))
@@ -163,7 +163,7 @@ fn read_other(
 ) -> Result<Value, ReadError>
     requires can { CanReadAll at (members_plain members.now) }
     requires known { KnownMembers (members_plain members.now) (option_copied known) }
-    ensures { Reads seen (value_at (record_of RecordKind.Other (members_plain members.now)) (held memory.now) at) result }
+    ensures { ReadAs seen (value_at (record_of RecordKind.Other (members_plain members.now)) (held memory.now) at) result }
 {
     let values = read_members(alloc, memory, at, members, known)?;
     Ok(Value::Rec(values))
@@ -181,7 +181,7 @@ fn read_members(
 ) -> Result<Values, ReadError>
     requires can { CanReadAll at (members_plain members.now) }
     requires known { KnownMembers (members_plain members.now) (option_copied known) }
-    ensures { Reads values_seen (members_at 0 (members_plain members.now) (held memory.now) at) result }
+    ensures { ReadAs values_seen (members_at 0 (members_plain members.now) (held memory.now) at) result }
 {
     let mut values = Values::new(alloc);
     let mut end = 0;
@@ -208,7 +208,7 @@ fn read_variant(
 ) -> Result<Value, ReadError>
     requires can { CanRead at (plain (variant_tree variant.now)) }
     requires known { KnownOf (plain (variant_tree variant.now)) (option_copied known) }
-    ensures { Reads seen (value_at (plain (variant_tree variant.now)) (held memory.now) at) result }
+    ensures { ReadAs seen (value_at (plain (variant_tree variant.now)) (held memory.now) at) result }
 {
     let offset = payload_begin(known, variant);
     let cases = variant.cases.as_slice();
@@ -230,7 +230,7 @@ fn read_cases(
     requires offset { offset ≡ begin_of_payload repr (cases_plain cases.now) }
     requires can { CanRead at (variant_of repr (cases_plain cases.now)) }
     requires known { KnownCases (cases_plain cases.now) (option_copied known) }
-    ensures { Reads seen (value_at (variant_of repr (cases_plain cases.now)) (held memory.now) at) result }
+    ensures { ReadAs seen (value_at (variant_of repr (cases_plain cases.now)) (held memory.now) at) result }
 {
     let Some(i) = case_at(memory, at, repr, cases.len()) else {
         return Err(ReadError::NoValue);
@@ -255,7 +255,7 @@ fn read_payload(
 ) -> Result<Option<Box<Value>>, ReadError>
     requires can { CanReadCase at case.now.tref }
     requires known { KnownPayload case.now.tref (option_copied known) }
-    ensures { Reads (option_map seen_in) (payload_at case.now.tref (held memory.now) at) result }
+    ensures { ReadAs (option_map seen_in) (payload_at case.now.tref (held memory.now) at) result }
 {
     match &case.tref {
         Some(tref) => read_boxed(alloc, memory, at, tref, known),
@@ -274,7 +274,7 @@ fn read_boxed(
 ) -> Result<Option<Box<Value>>, ReadError>
     requires can { CanRead at (plain (tree_of ty.now)) }
     requires known { KnownOf (plain (tree_of ty.now)) (option_copied known) }
-    ensures { Reads (option_map seen_in) (option_map Some (value_at (plain (tree_of ty.now)) (held memory.now) at)) result }
+    ensures { ReadAs (option_map seen_in) (option_map Some (value_at (plain (tree_of ty.now)) (held memory.now) at)) result }
 {
     let value = read_type(alloc, memory, at, ty, known)?;
     let boxed = boxed(alloc, value)?;
@@ -305,7 +305,7 @@ fn read_flags(
     members: &[RecordMember],
 ) -> Result<Value, ReadError>
     requires { at < 2 ^ 66 }
-    ensures { Reads seen (value_at (record_of (RecordKind.Bitflags repr) (members_plain members.now)) (held memory.now) at) result }
+    ensures { ReadAs seen (value_at (record_of (RecordKind.Bitflags repr) (members_plain members.now)) (held memory.now) at) result }
 {
     match read_number(memory, at, repr.mem_align() as u64) {
         Some(bits) => flags_of(alloc, bits, members.len()),
@@ -316,7 +316,7 @@ fn read_flags(
 /// The lowest bits of a number, so many, where all further ones are 0.
 #[tactic(auto, using(crate::proofs::ReadFlags::flag_rules))]
 pub fn flags_of(alloc: Global, bits: u64, count: usize) -> Result<Value, ReadError>
-    ensures { Reads seen (flags_at count bits) result }
+    ensures { ReadAs seen (flags_at count bits) result }
 {
     let mut flags = Bools::new(alloc);
     let mut rest = bits;

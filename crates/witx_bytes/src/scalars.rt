@@ -3,9 +3,9 @@
 ghost use Rattle.std.specs.Prelude.{◌≡◌, ◌+◌, ◌^◌, ◌<◌, ◌≤◌, ℕ, None, IfSome, length};
 ghost use Rattle.witx_ast.specs.Plain.{builtin, handle, pointer_to, const_pointer_to, list_of, plain};
 ghost use Rattle.witx_ast.specs.Views.{tree_of};
-ghost use Rattle.witx_bytes.specs.Bytes.{held, Stands};
+ghost use Rattle.witx_bytes.specs.Bytes.{held, HoldsAt};
 ghost use Rattle.witx_bytes.specs.Reading.{number_at, value_at};
-ghost use Rattle.witx_bytes.specs.Readings.{Reads};
+ghost use Rattle.witx_bytes.specs.Readings.{ReadAs};
 ghost use Rattle.witx_bytes.specs.Seen.{seen};
 
 use crate::memory::ByteMemory;
@@ -30,7 +30,7 @@ pub(crate) fn read_number(memory: &ByteMemory, at: u128, width: u64) -> Option<u
 fn number_from(memory: &ByteMemory, at: u128, width: u64, left: &[Option<u8>]) -> Option<u64>
     requires few { width ≤ 8 }
     requires low { at + width < 2 ^ 67 }
-    requires left { Stands left.now at (held memory.now) }
+    requires left { HoldsAt left.now at (held memory.now) }
     ensures number { result ≡ number_at width (held memory.now) at }
     ensures bound { IfSome result (λ n. n < 256 ^ width) }
 {
@@ -48,8 +48,8 @@ fn number_from(memory: &ByteMemory, at: u128, width: u64, left: &[Option<u8>]) -
 /// What is left of a block from an address on; where nothing is left, what the address's own block has.
 #[tactic(auto, using(crate::proofs::ReadNumbers::byte_rules))]
 fn run_from<'a>(memory: &'a ByteMemory, at: u128, left: &'a [Option<u8>]) -> &'a [Option<u8>]
-    requires { Stands left.now at (held memory.now) }
-    ensures stands { Stands result.now at (held memory.now) }
+    requires { HoldsAt left.now at (held memory.now) }
+    ensures stands { HoldsAt result.now at (held memory.now) }
     ensures none { length result.now ≡ 0 → held memory.now at ≡ None }
 {
     if !left.is_empty() {
@@ -65,7 +65,7 @@ fn run_from<'a>(memory: &'a ByteMemory, at: u128, left: &'a [Option<u8>]) -> &'a
 
 pub(crate) fn read_handle(memory: &ByteMemory, at: u128) -> Result<Value, ReadError>
     requires { at < 2 ^ 66 }
-    ensures { Reads seen (value_at handle (held memory.now) at) result }
+    ensures { ReadAs seen (value_at handle (held memory.now) at) result }
 {
     match read_number(memory, at, 4) {
         Some(number) => Ok(Value::Handle(number as u32)),
@@ -80,7 +80,7 @@ pub(crate) fn read_builtin(
     ty: BuiltinType,
 ) -> Result<Value, ReadError>
     requires { at < 2 ^ 66 }
-    ensures { Reads seen (value_at (builtin ty) (held memory.now) at) result }
+    ensures { ReadAs seen (value_at (builtin ty) (held memory.now) at) result }
 {
     let Some(bits) = read_number(memory, at, ty.mem_align() as u64) else {
         return Err(ReadError::NoValue);
@@ -99,7 +99,7 @@ pub(crate) fn read_pointer(
     target: &TypeRef,
 ) -> Result<Value, ReadError>
     requires { at < 2 ^ 66 }
-    ensures { Reads seen (value_at (pointer_to (plain (tree_of target.now))) (held memory.now) at) result }
+    ensures { ReadAs seen (value_at (pointer_to (plain (tree_of target.now))) (held memory.now) at) result }
 {
     match read_number(memory, at, 4) {
         Some(number) => Ok(Value::Pointer(number as u32)),
@@ -113,7 +113,7 @@ pub(crate) fn read_const_pointer(
     target: &TypeRef,
 ) -> Result<Value, ReadError>
     requires { at < 2 ^ 66 }
-    ensures { Reads seen (value_at (const_pointer_to (plain (tree_of target.now))) (held memory.now) at) result }
+    ensures { ReadAs seen (value_at (const_pointer_to (plain (tree_of target.now))) (held memory.now) at) result }
 {
     match read_number(memory, at, 4) {
         Some(number) => Ok(Value::ConstPointer(number as u32)),
@@ -124,7 +124,7 @@ pub(crate) fn read_const_pointer(
 /// A list's address, and its length behind it.
 pub(crate) fn read_list(memory: &ByteMemory, at: u128, target: &TypeRef) -> Result<Value, ReadError>
     requires { at < 2 ^ 66 }
-    ensures { Reads seen (value_at (list_of (plain (tree_of target.now))) (held memory.now) at) result }
+    ensures { ReadAs seen (value_at (list_of (plain (tree_of target.now))) (held memory.now) at) result }
 {
     let Some(address) = read_number(memory, at, 4) else {
         return Err(ReadError::NoValue);

@@ -8,7 +8,7 @@ ghost use Rattle.witx_ast.specs.Tags.{fits};
 ghost use Rattle.witx_ast.specs.declared.types.RecordKind.{RecordKind};
 ghost use Rattle.witx_layout.specs.Numbers.{size_of, members_end, align_to as rounded, payload_offset as begin_of_payload};
 ghost use Rattle.witx_machine.specs.Cells.{values_of};
-ghost use Rattle.witx_bytes.specs.Bytes.{held, written};
+ghost use Rattle.witx_bytes.specs.Bytes.{held, image_written};
 ghost use Rattle.witx_bytes.specs.Images.{image, members_image, payload_image};
 ghost use Rattle.witx_bytes.specs.ByteMachine.{has_room};
 ghost use Rattle.witx_bytes.specs.Laids.{IsLaid, KnownOf, KnownMembers, KnownCases, KnownPayload};
@@ -37,7 +37,7 @@ pub fn write_value(memory: &mut ByteMemory, at: u32, ty: &TypeRef, value: &Value
     requires value { is_of (plain (tree_of ty.now)) (seen value.now) ≡ true }
     requires writable { fits (plain (tree_of ty.now)) ≡ true }
     requires room { has_room (plain (tree_of ty.now)) at (held memory.old) ≡ true }
-    ensures { (x : ℕ) → held memory.new x ≡ written at (image (plain (tree_of ty.now)) (seen value.now)) (held memory.old) x }
+    ensures { (x : ℕ) → held memory.new x ≡ image_written at (image (plain (tree_of ty.now)) (seen value.now)) (held memory.old) x }
 {
     write_type(memory, at as u64, ty, None, value);
 }
@@ -49,7 +49,7 @@ pub fn write_laid(memory: &mut ByteMemory, at: u32, ty: &TypeRef, laid: &Laid, v
     requires writable { fits (plain (tree_of ty.now)) ≡ true }
     requires room { has_room (plain (tree_of ty.now)) at (held memory.old) ≡ true }
     requires laid { IsLaid (plain (tree_of ty.now)) laid.now }
-    ensures { (x : ℕ) → held memory.new x ≡ written at (image (plain (tree_of ty.now)) (seen value.now)) (held memory.old) x }
+    ensures { (x : ℕ) → held memory.new x ≡ image_written at (image (plain (tree_of ty.now)) (seen value.now)) (held memory.old) x }
 {
     write_type(memory, at as u64, ty, Some(laid), value);
 }

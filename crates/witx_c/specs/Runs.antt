@@ -7,11 +7,11 @@ use Rattle.witx_adapt.specs.declared.adapted.Adapted.{Adapted}
 use Rattle.witx_commands.specs.Runs.{IsRun, RunInput, SinkSeen}
 use Rattle.witx_commands.specs.Streams.{SourceSeen}
 use Rattle.witx_tools.specs.ToolRuns.{task_of_all}
-use Rattle.witx_c.specs.Words.{words_in}
+use Rattle.witx_c.specs.Words.{words_between_zeros}
 
 -- the words of a call: none where its bytes aren't UTF-8
 abbrev pub AreWords : List ℕ → List (List ℕ) → Type 0
-AreWords bytes words = (IsUtf8 bytes × (words ≡ words_in bytes)) ⊎ ((IsUtf8 bytes → ⊥) × (words ≡ []))
+AreWords bytes words = (IsUtf8 bytes × (words ≡ words_between_zeros bytes)) ⊎ ((IsUtf8 bytes → ⊥) × (words ≡ []))
 
 -- as much of a text as fits over the front of a buffer
 abbrev pub over_front : List ℕ → List ℕ → List ℕ

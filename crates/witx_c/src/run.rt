@@ -2,7 +2,7 @@
 
 ghost use Rattle.std.specs.Prelude.{◌≡◌, ℕ, List, []};
 ghost use Rattle.witx_c.specs.Runs.{AreWords, IsRunInMemory};
-ghost use Rattle.witx_c.specs.Words.{words_in};
+ghost use Rattle.witx_c.specs.Words.{words_between_zeros};
 
 use crate::devices::{SliceSource, VecSink};
 use crate::words::texts_in;
@@ -35,7 +35,7 @@ pub fn run_in_memory(alloc: Global, words: &[u8], input: &[u8]) -> Written
 }
 
 fn run_text(alloc: Global, text: &str, input: &[u8]) -> Written
-    ensures { IsRunInMemory (words_in text.now) input.now result.status result.out.items result.err.items }
+    ensures { IsRunInMemory (words_between_zeros text.now) input.now result.status result.out.items result.err.items }
 {
     match texts_in(alloc, text) {
         Ok(words) => run_words(alloc, words.as_slice(), input),

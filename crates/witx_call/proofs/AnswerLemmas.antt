@@ -16,7 +16,7 @@ use Rattle.witx_run.specs.declared.item.Item.TheVariants as item
 use Rattle.witx_call.specs.CallSeen.{placed_of}
 use Rattle.witx_call.specs.RangeViews.{taken_of}
 use Rattle.witx_call.specs.Ranges.{ranges}
-use Rattle.witx_call.specs.WordViews.{word_of}
+use Rattle.witx_call.specs.WordViews.{word_view}
 use Rattle.witx_call.specs.declared.call_seen.Placed.{Placed}
 use Rattle.witx_call.specs.declared.range.Range.{Range}
 use Rattle.witx_call.specs.declared.word.Word.{Word}
@@ -31,7 +31,7 @@ value_off None = None
 abbrev IsOne : List (Item Value Word) → Option plain_values.Value → Type 0
 IsOne xs reply = ((xs ≡ []) × (None ≡ reply)) ⊎ ((v : Value) × (n : Option (Rc NamedType Global)) × (xs ≡ item.Value v n ∷ []) × (Some (seen v) ≡ reply))
 
-is-one : (xs : List (Item Value Word)) (reply : Option plain_values.Value) → values_in (items_of seen word_of xs) ≡ Some (option_to_list reply) → IsOne xs reply
+is-one : (xs : List (Item Value Word)) (reply : Option plain_values.Value) → values_in (items_of seen word_view xs) ≡ Some (option_to_list reply) → IsOne xs reply
 is-one [] None e = inl (refl, refl)
 is-one [] (Some r) e = absurd (no e)
   where
@@ -53,7 +53,7 @@ is-one (item.Value v n ∷ item.Word w ∷ xs) reply e = absurd (no e)
   where
     no : None ≡ Some (option_to_list reply) → ⊥
     no e = cc
-is-one (item.Value v n ∷ item.Value u k ∷ xs) reply e = absurd (no (values_in (items_of seen word_of xs)) reply e)
+is-one (item.Value v n ∷ item.Value u k ∷ xs) reply e = absurd (no (values_in (items_of seen word_view xs)) reply e)
   where
     no : (o : Option (List plain_values.Value)) (reply : Option plain_values.Value) →
         option_and_then (λ vs. Some (seen v ∷ vs)) (option_and_then (λ vs. Some (seen u ∷ vs)) o) ≡ Some (option_to_list reply) → ⊥
@@ -82,7 +82,7 @@ last-of (y ∷ rest) (Some x) v n e h = absurd (no rest e)
     no (z ∷ rest) e = cc
 
 pub returned-value : (xs rest : List (Item Value Word)) (p : Option (Item Value Word)) → xs ≡ rest ++ option_to_list p → (IsSome p ↔ (0 < length xs))
-    → (reply : Option plain_values.Value) → values_in (items_of seen word_of xs) ≡ Some (option_to_list reply) → value_off p ≡ reply
+    → (reply : Option plain_values.Value) → values_in (items_of seen word_view xs) ≡ Some (option_to_list reply) → value_off p ≡ reply
 returned-value xs rest p e some reply h = by (is-one xs reply h)
   where
     none : (p : Option (Item Value Word)) → (IsSome p → 0 < length xs) → xs ≡ [] → value_off p ≡ None

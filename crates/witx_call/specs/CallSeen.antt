@@ -7,7 +7,7 @@ use Rattle.witx_bytes.specs.Bytes.{Bytes, held}
 use Rattle.witx_bytes.specs.Seen.{seen}
 use Rattle.witx_call.specs.Ranges.{ranges}
 use Rattle.witx_call.specs.Room.{Room}
-use Rattle.witx_call.specs.WordViews.{word_of}
+use Rattle.witx_call.specs.WordViews.{word_view}
 use Rattle.witx_call.specs.declared.call_seen.Placed.{Placed}
 use Rattle.witx_call.specs.declared.call_seen.Invoked.{Invoked}
 
@@ -27,9 +27,9 @@ placed_of p = (p.at, p.len)
 -- what is seen of a call, as the program answers it
 abbrev pub seen_of : Invoked → CallSeen
 seen_of i = record {
-  pass = map word_of i.pass;
+  pass = map word_view i.pass;
   notes = map seen i.notes;
-  back = map word_of i.back;
+  back = map word_view i.back;
   returned = option_map seen i.returned;
   taken = map placed_of i.taken;
   bytes = held i.memory;

@@ -18,13 +18,13 @@ lines_text [] = []
 lines_text (v ∷ vs) = line_text v ++ lines_text vs
 
 -- the text begins with the line of a value of the type, and this follows
-pub record IsLine (t : Tree) (text : List ℕ) (v : Value) (rest : List ℕ) : Type 0 where
+pub record IsValueLine (t : Tree) (text : List ℕ) (v : Value) (rest : List ℕ) : Type 0 where
   pub value : IsTrue (is_value (plain t) v)
   pub spelled : text ≡ line_text v ++ rest
 
 -- the text begins with the line of no value of the type: it isn't that of one, has no end, or is missing
 abbrev pub NoLine : Tree → List ℕ → Type 0
-NoLine t text = (v : Value) (rest : List ℕ) → ¬ (IsLine t text v rest)
+NoLine t text = (v : Value) (rest : List ℕ) → ¬ (IsValueLine t text v rest)
 
 -- THE FIRST LINE AT FAULT, where the line of this number stands first: the first that isn't the text of a value of its type;
 -- or, where there is one for each type and more follows, the line behind them
@@ -32,14 +32,14 @@ abbrev pub FirstFault : ℕ → List Tree → List ℕ → ℕ → Type 0
 FirstFault line [] text n = (n ≡ line) × (text ≢ [])
 FirstFault line (t ∷ ts) text n =
     ((n ≡ line) × NoLine t text)
-    ⊎ ((v : Value) × (rest : List ℕ) × IsLine t text v rest × FirstFault (line + 1) ts rest n)
+    ⊎ ((v : Value) × (rest : List ℕ) × IsValueLine t text v rest × FirstFault (line + 1) ts rest n)
 
 -- the types of the lines: those of the parameters, and then that of a result
-abbrev pub types_of : Function → List Tree
-types_of f = f.params ++ f.results
+abbrev pub line_types : Function → List Tree
+line_types f = f.params ++ f.results
 
-abbrev pub param_types : List InterfaceFuncParam → List Tree
-param_types ps = map (λ p. p.tree) (map param_field ps)
+abbrev pub line_param_types : List InterfaceFuncParam → List Tree
+line_param_types ps = map (λ p. p.tree) (map param_field ps)
 
 -- the text begins with the lines of values of the types, and this follows
 pub record AreLines (ts : List Tree) (text : List ℕ) (vs : List Value) (rest : List ℕ) : Type 0 where
@@ -47,9 +47,9 @@ pub record AreLines (ts : List Tree) (text : List ℕ) (vs : List Value) (rest :
   pub spelled : text ≡ lines_text vs ++ rest
 
 -- what follows the line of the value, or nothing where the text doesn't begin with it or the value is none of the type
-abbrev pub IsBehind : Tree → List ℕ → Value → Option (List ℕ) → Type 0
-IsBehind t text v None = (rest : List ℕ) → ¬ (IsLine t text v rest)
-IsBehind t text v (Some rest) = IsLine t text v rest
+abbrev pub IsBehindLine : Tree → List ℕ → Value → Option (List ℕ) → Type 0
+IsBehindLine t text v None = (rest : List ℕ) → ¬ (IsValueLine t text v rest)
+IsBehindLine t text v (Some rest) = IsValueLine t text v rest
 
 -- a result's value is behind those of the parameters
 abbrev pub values_given : List Value → Option Value → List Value

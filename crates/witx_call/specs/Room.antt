@@ -5,7 +5,7 @@ use Rattle.witx_ast.specs.Plain.{plain}
 use Rattle.witx_layout.specs.Numbers.{align_to}
 use Rattle.witx_machine.specs.Words.{Word, i32, when}
 use Rattle.witx_machine.specs.Cells.{Taken}
-use Rattle.witx_bytes.specs.Bytes.{Bytes, none_held, placed}
+use Rattle.witx_bytes.specs.Bytes.{Bytes, none_held, with_zeros}
 use Rattle.witx_bytes.specs.ByteMachine.{range_size}
 use Rattle.witx_call.specs.Ranges.{range_end}
 
@@ -18,19 +18,19 @@ pub record Room : Type 0 where
   pub taken : Taken
 
 -- where the next range begins, the first at an address
-abbrev pub behind : ℕ → Taken → ℕ
-behind at [] = at
-behind at (x ∷ xs) = behind (align_to (range_end x) 8) xs
+abbrev pub next_range : ℕ → Taken → ℕ
+next_range at [] = at
+next_range at (x ∷ xs) = next_range (align_to (range_end x) 8) xs
 
 abbrev pub next_address : Taken → ℕ
-next_address taken = behind 16 taken
+next_address taken = next_range 16 taken
 
-abbrev pub is_place : ℕ → ℕ → Bytes → Bool
-is_place at size m = nat_le (at + size) (2 ^ 20) && none_held at size m
+abbrev pub is_range_place : ℕ → ℕ → Bytes → Bool
+is_range_place at size m = nat_le (at + size) (2 ^ 20) && none_held at size m
 
 -- the next address, with a range of zeros for the type
 abbrev pub range_placed : Tree → ℕ → ℕ → Room → Option (Word × Room)
-range_placed t at size m = when (is_place at size m.bytes) (Some (i32 at, record { bytes = placed at size m.bytes; taken = m.taken ++ (at, t) ∷ [] }))
+range_placed t at size m = when (is_range_place at size m.bytes) (Some (i32 at, record { bytes = with_zeros at size m.bytes; taken = m.taken ++ (at, t) ∷ [] }))
 
-abbrev pub given : Tree → Room → Option (Word × Room)
-given t m = range_placed t (next_address m.taken) (range_size (plain t)) m
+abbrev pub room_given : Tree → Room → Option (Word × Room)
+room_given t m = range_placed t (next_address m.taken) (range_size (plain t)) m

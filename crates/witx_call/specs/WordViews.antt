@@ -5,8 +5,8 @@ use Rattle.witx_machine.specs.Words.{is_u32, when}
 use Rattle.witx_machine.specs.Cells.{is_i32}
 use Rattle.witx_call.specs.declared.word.Word.{Word}
 
-abbrev pub word_of : Word → machine.Word
-word_of w = record { type = w.ty; bits = w.bits }
+abbrev pub word_view : Word → machine.Word
+word_view w = record { type = w.ty; bits = w.bits }
 
 -- the number of 32 bits that a word is
 abbrev pub u32_in : machine.Word → Option ℕ

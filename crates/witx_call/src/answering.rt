@@ -10,7 +10,7 @@ ghost use Rattle.witx_call.specs.CallSeen.{IsSeen, placed_of, seen_of};
 ghost use Rattle.witx_call.specs.PlacementViews.{room_of};
 ghost use Rattle.witx_call.specs.RangeViews.{taken_of};
 ghost use Rattle.witx_call.specs.Ranges.{ranges as ranges_alone};
-ghost use Rattle.witx_call.specs.WordViews.{word_of};
+ghost use Rattle.witx_call.specs.WordViews.{word_view};
 
 use crate::call_seen::{Invoked, Placed, PlacedRanges};
 use crate::placement::Placement;
@@ -27,7 +27,7 @@ pub fn outcome_seen(
     alloc: Global,
     outcome: Outcome<Value, Word, Placement>,
 ) -> Result<Invoked, OutOfMemory>
-    ensures { IfOk result (λ i. IsSeen (outcome_of seen word_of room_of outcome) (seen_of i)) }
+    ensures { IfOk result (λ i. IsSeen (outcome_of seen word_view room_of outcome) (seen_of i)) }
 {
     let taken = placed_ranges(alloc, outcome.memory.taken.as_slice())?;
     let Outcome { call, back, memory } = outcome;
@@ -45,7 +45,7 @@ pub fn outcome_seen(
 #[tactic(auto, using(crate::proofs::AnswerLemmas::answer_rules))]
 fn returned(back: Vec<Item<Value, Word>>) -> Option<Value>
     ensures { (reply : Option plain_values.Value) →
-        values_in (items_of seen word_of back.items) ≡ Some (option_to_list reply) → option_map seen result ≡ reply }
+        values_in (items_of seen word_view back.items) ≡ Some (option_to_list reply) → option_map seen result ≡ reply }
 {
     let mut back = back;
     match back.pop() {

@@ -3,7 +3,7 @@
 ghost use Rattle.std.specs.Prelude.{◌≡◌, IfOk, option_copied, string_bytes};
 ghost use Rattle.witx_ast.specs.Views.{tree_of};
 ghost use Rattle.witx_bytes.specs.Seen.{seen};
-ghost use Rattle.witx_call.specs.Lines.{IsBehind, line_text};
+ghost use Rattle.witx_call.specs.Lines.{IsBehindLine, line_text};
 
 use crate::text::put_value;
 use std::alloc::Global;
@@ -18,7 +18,7 @@ pub fn behind_line<'a>(
     value: &Value,
     text: &'a [u8],
 ) -> Result<Option<&'a [u8]>, OutOfMemory>
-    ensures { IfOk result (λ o. IsBehind (tree_of ty.now) text.now (seen value.now) (option_copied o)) }
+    ensures { IfOk result (λ o. IsBehindLine (tree_of ty.now) text.now (seen value.now) (option_copied o)) }
 {
     if !is_value(ty, value) {
         return Ok(None);

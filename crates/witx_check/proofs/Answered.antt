@@ -13,7 +13,7 @@ use Rattle.witx_ast.specs.declared.definition.Constant.{Constant}
 use Rattle.witx_ast.specs.declared.definition.Entry.{Entry}
 use Rattle.witx_scope.specs.declared.error.CheckError.{CheckError}
 use Rattle.witx_scope.specs.declared.constants.ConstantName.{ConstantName}
-use Rattle.witx_scope.specs.Answers.{IsFault}
+use Rattle.witx_scope.specs.Answers.{IsCheckFault}
 use Rattle.witx_scope.specs.Blame.{Blames}
 use Rattle.witx_scope.specs.Faults.{first_fault}
 use Rattle.witx_scope.specs.Names.{Names, Here}
@@ -21,7 +21,7 @@ use Rattle.witx_scope.specs.Trees.{tree_meant}
 use Rattle.witx_scope.specs.DeclarationForms.{typename_form, module_form, constant_form}
 use Rattle.witx_scope.specs.Constants.{constant_place}
 use Rattle.witx_scope.specs.Inside.{within, typename_checks, module_checks, module_meant}
-use Rattle.witx_scope.specs.Positions.{made_type, made_module, refused, is_name}
+use Rattle.witx_scope.specs.Positions.{made_type, made_module, refused, is_same_name}
 use Rattle.witx_scope.specs.Declarations.{Past, decl_checks, decl_tree, accepted}
 use Rattle.witx_scope.specs.Kept.{Kept, Keeps, KeepsNames, KeepsConstants}
 use Rattle.witx_check.proofs.ByPosition.{within-by-position}
@@ -87,8 +87,8 @@ module _ {A : Type 0} (r : Result A CheckError) (names names2 : Names) (es es2 :
 
   -- ---- a refused typename or module
   pub name-rejected-by : (n : Name)
-      → IfErr r (λ e. IsFault e → KeepsNames names es past.taken → KeepsNames names2 es2 (past.taken ++ taken_as n.name (place n.start) refused ∷ []))
-      → IfErr r (λ e. IsFault e → Keeps (kept_as names es constants) past → Keeps (kept_as names2 es2 constants) (record past { taken = past.taken ++ taken_as n.name (place n.start) refused ∷ [] }))
+      → IfErr r (λ e. IsCheckFault e → KeepsNames names es past.taken → KeepsNames names2 es2 (past.taken ++ taken_as n.name (place n.start) refused ∷ []))
+      → IfErr r (λ e. IsCheckFault e → Keeps (kept_as names es constants) past → Keeps (kept_as names2 es2 constants) (record past { taken = past.taken ++ taken_as n.name (place n.start) refused ∷ [] }))
   name-rejected-by n h = err-by r _ _ (λ e f fault k. record { introduced = f fault k.introduced; constants = k.constants }) h
 
   either-kept : (n : Name) → KeepsConstants constants past.constants → KeepsNames names2 es2 past.taken ⊎ KeepsNames names2 es2 (past.taken ++ taken_as n.name (place n.start) refused ∷ [])
@@ -114,12 +114,12 @@ module _ {A : Type 0} (r : Result A CheckError) (names names2 : Names) (es es2 :
 
   pub constant-accepted-by : (ty n : Name) (value : ℕ) (own comments : List (List ℕ))
       → OnOk r (first_fault (constant_checks_in (kept_as names es constants) place ty n value) ≡ None)
-      → ((t q : List ℕ) → OnOk r (constant_place constants2 t q ≡ cond (is_name t ty.name && is_name q n.name) (Some (place n.start)) (constant_place constants t q)))
+      → ((t q : List ℕ) → OnOk r (constant_place constants2 t q ≡ cond (is_same_name t ty.name && is_same_name q n.name) (Some (place n.start)) (constant_place constants t q)))
       → OnOk r (Keeps (kept_as names es constants) past → Keeps (kept_as names es constants2) (accepted past place comments (constant_form ty n value own)))
   constant-accepted-by ty n value own comments h more = both r h more
     where
       both : (r : Result A CheckError) → OnOk r (first_fault (constant_checks_in (kept_as names es constants) place ty n value) ≡ None)
-          → ((t q : List ℕ) → OnOk r (constant_place constants2 t q ≡ cond (is_name t ty.name && is_name q n.name) (Some (place n.start)) (constant_place constants t q)))
+          → ((t q : List ℕ) → OnOk r (constant_place constants2 t q ≡ cond (is_same_name t ty.name && is_same_name q n.name) (Some (place n.start)) (constant_place constants t q)))
           → OnOk r (Keeps (kept_as names es constants) past → Keeps (kept_as names es constants2) (accepted past place comments (constant_form ty n value own)))
       both (Ok a) e m = λ k. record {
         introduced = k.introduced;
@@ -133,10 +133,10 @@ module _ {A : Type 0} (r : Result A CheckError) (names names2 : Names) (es es2 :
   pub constant-left-by : OnErr r (constants2 ≡ constants) → OnErr r (Keeps (kept_as names es constants) past → Keeps (kept_as names es constants2) past ⊎ Keeps (kept_as names es constants2) past)
   constant-left-by h = on-err-by r _ _ (λ e k. inl (same-constants e k)) h
 
-  pub constant-rejected-by : OnErr r (constants2 ≡ constants) → IfErr r (λ e. IsFault e → Keeps (kept_as names es constants) past → Keeps (kept_as names es constants2) past)
+  pub constant-rejected-by : OnErr r (constants2 ≡ constants) → IfErr r (λ e. IsCheckFault e → Keeps (kept_as names es constants) past → Keeps (kept_as names es constants2) past)
   constant-rejected-by h = both r h
     where
-      both : (r : Result A CheckError) → OnErr r (constants2 ≡ constants) → IfErr r (λ e. IsFault e → Keeps (kept_as names es constants) past → Keeps (kept_as names es constants2) past)
+      both : (r : Result A CheckError) → OnErr r (constants2 ≡ constants) → IfErr r (λ e. IsCheckFault e → Keeps (kept_as names es constants) past → Keeps (kept_as names es constants2) past)
       both (Ok a) e = tt
       both (Err x) e = λ f k. same-constants e k
 

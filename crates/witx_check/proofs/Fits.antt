@@ -12,9 +12,9 @@ use Rattle.std.specs.Cmp.Lexicographic.{texts_ties, nat_list_eq_equiv}
 use Rattle.witx_base.specs.Found.{found}
 use Rattle.witx_base.specs.Texts.{same_text}
 use Rattle.witx_ast.specs.Entries.{by_name, Fits}
-use Rattle.witx_scope.specs.Positions.{is_name}
+use Rattle.witx_scope.specs.Positions.{is_same_name}
 
-same-name : (a b : List ℕ) → same_text a b ≡ is_name a b
+same-name : (a b : List ℕ) → same_text a b ≡ is_same_name a b
 unfolding same_text
 same-name a b = texts_ties a b
 
@@ -27,9 +27,9 @@ first_or-cond true a b d v e = refl
 first_or-cond false a b d v e = e
 
 -- a name is looked up among the others first, and then in the last entry
-pub found-last : {V : Type 0} (es : List (List ℕ × V)) (n : List ℕ) (v : V) (q : List ℕ) → found (es ++ (n, v) ∷ []) q ≡ first_or (found es q) (cond (is_name q n) (Some v) None)
+pub found-last : {V : Type 0} (es : List (List ℕ × V)) (n : List ℕ) (v : V) (q : List ℕ) → found (es ++ (n, v) ∷ []) q ≡ first_or (found es q) (cond (is_same_name q n) (Some v) None)
 found-last [] n v q = refl
-found-last (e ∷ es) n v q = first_or-cond (is_name q e.0) (found es q) (found (es ++ (n, v) ∷ []) q) (cond (is_name q n) (Some v) None) e.1 (found-last es n v q)
+found-last (e ∷ es) n v q = first_or-cond (is_same_name q e.0) (found es q) (found (es ++ (n, v) ∷ []) q) (cond (is_same_name q n) (Some v) None) e.1 (found-last es n v q)
 
 -- a name that is not found is no key
 or-false : (a b : Bool) → a ≡ false → b ≡ false → (a || b) ≡ false
@@ -42,7 +42,7 @@ past-first false v rest e = (refl, e)
 no-key : {V : Type 0} (es : List (List ℕ × V)) (n : List ℕ) → found es n ≡ None → list_any (same_text n) (keys_of es) ≡ false
 no-key [] n e = refl
 no-key (x ∷ es) n e =
-    let p = past-first (is_name n x.0) x.1 (found es n) e in
+    let p = past-first (is_same_name n x.0) x.1 (found es n) e in
     or-false (same_text n x.0) (list_any (same_text n) (keys_of es)) (same-name n x.0 ∙ p.0) (no-key es n p.1)
 
 pub last-step : {T : Type 0} (c : Bool) (t : T) (before : Option T) → (c ≡ true → before ≡ None) → cond c (Some t) before ≡ first_or before (cond c (Some t) None)
@@ -63,7 +63,7 @@ module _ {T E : Type 0} (name_of : T → Option (List ℕ)) (tree : E → T) whe
 
   pub fits-more : (ts : List T) (t : T) (n : List ℕ) (es new : List (List ℕ × E)) → name_of t ≡ Some n → Fits name_of tree ts es
       → option_map tree (found es n) ≡ None
-      → ((q : List ℕ) → option_map tree (found new q) ≡ cond (is_name q n) (Some t) (option_map tree (found es q)))
+      → ((q : List ℕ) → option_map tree (found new q) ≡ cond (is_same_name q n) (Some t) (option_map tree (found es q)))
       → Fits name_of tree (ts ++ t ∷ []) new
   unfolding same_text
   fits-more ts t n es new e fits absent more =
@@ -74,8 +74,8 @@ module _ {T E : Type 0} (name_of : T → Option (List ℕ)) (tree : E → T) whe
             (subst (λ l. IsDistinct same_text l) (sym (map-append (λ x. x.0) (by_name name_of ts) ((n, t) ∷ [])))
             (IsDistinct-push nat_list_eq_equiv (keys_of (by_name name_of ts)) n fits.distinct (no-key (by_name name_of ts) n none)));
         holds = λ q. more q
-            ∙ (ap (cond (is_name q n) (Some t)) (fits.holds q)
-            ∙ (last-step (is_name q n) t (found (by_name name_of ts) q) (λ c. subst (λ x. found (by_name name_of ts) x ≡ None) (sym (tells_apart exact_bytes q n c)) none)
+            ∙ (ap (cond (is_same_name q n) (Some t)) (fits.holds q)
+            ∙ (last-step (is_same_name q n) t (found (by_name name_of ts) q) (λ c. subst (λ x. found (by_name name_of ts) x ≡ None) (sym (tells_apart exact_bytes q n c)) none)
             ∙ (sym (found-last (by_name name_of ts) n t q) ∙ ap (λ l. found l q) (sym last))));
       }
 

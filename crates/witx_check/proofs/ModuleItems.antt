@@ -14,12 +14,12 @@ use Rattle.witx_ast.specs.declared.module.ModuleEntry.{ModuleEntry}
 use Rattle.witx_scope.specs.declared.error.CheckError.{CheckError}
 use Rattle.witx_scope.specs.Blame.{Blames}
 use Rattle.witx_scope.specs.Faults.{Fault, Check, first_fault, name_already_exists}
-use Rattle.witx_scope.specs.Names.{Here, Marks, new_mark}
+use Rattle.witx_scope.specs.Names.{Here, NameMarks, new_mark}
 use Rattle.witx_syntax_tree.specs.Trees.{DeclTree, memory, function, NotedDecl}
 use Rattle.witx_syntax_tree.specs.Views.{noted_decl}
 use Rattle.witx_scope.specs.DeclarationForms.{items_in}
 use Rattle.witx_scope.specs.Modules.{quoted_name, item_checks, with_name, items_checks, decl_meant, item_meant, item_called}
-use Rattle.witx_scope.specs.Positions.{is_name}
+use Rattle.witx_scope.specs.Positions.{is_same_name}
 use Rattle.witx_scope.proofs.FirstFaults.{fault-append, blames-append, blames-to, blames-head, fault-past}
 use Rattle.witx_scope.proofs.Steps.{is_eq-swap}
 use Rattle.witx_ast.specs.Entries.{Fits}
@@ -43,20 +43,20 @@ entry-cond false a b = refl
 
 pub item-entries : (old new : List (List ℕ × ModuleEntry)) (e : ModuleEntry) (k q : List ℕ)
     → found new q ≡ cond (is_eq (slice_cmp nat_cmp k q)) (Some e) (found old q)
-    → option_map entry_item (found new q) ≡ cond (is_name q k) (Some (entry_item e)) (option_map entry_item (found old q))
+    → option_map entry_item (found new q) ≡ cond (is_same_name q k) (Some (entry_item e)) (option_map entry_item (found old q))
 item-entries old new e k q h =
     let h1 = rw (is_eq-swap k q) at h in
-    ap (option_map entry_item) h1 ∙ entry-cond (is_name q k) (Some e) (found old q)
+    ap (option_map entry_item) h1 ∙ entry-cond (is_same_name q k) (Some e) (found old q)
 
 -- the same for an item that the entry and the name are those of
 pub item-entries-named : (old new : List (List ℕ × ModuleEntry)) (e : ModuleEntry) (k : List ℕ) (t : ItemTree)
     → entry_item e ≡ t → k ≡ item_called t
     → ((q : List ℕ) → found new q ≡ cond (is_eq (slice_cmp nat_cmp k q)) (Some e) (found old q))
-    → (q : List ℕ) → option_map entry_item (found new q) ≡ cond (is_name q (item_called t)) (Some t) (option_map entry_item (found old q))
+    → (q : List ℕ) → option_map entry_item (found new q) ≡ cond (is_same_name q (item_called t)) (Some t) (option_map entry_item (found old q))
 item-entries-named old new e k t a b h q =
     item-entries old new e k q (h q)
-    ∙ (ap (λ (x : ItemTree). cond (is_name q k) (Some x) (option_map entry_item (found old q))) a
-    ∙ ap (λ (x : List ℕ). cond (is_name q x) (Some t) (option_map entry_item (found old q))) b)
+    ∙ (ap (λ (x : ItemTree). cond (is_same_name q k) (Some x) (option_map entry_item (found old q))) a
+    ∙ ap (λ (x : List ℕ). cond (is_same_name q x) (Some t) (option_map entry_item (found old q))) b)
 
 pub ruleset entry_rules = (item-entries)
 
@@ -70,17 +70,17 @@ pub items-end : (ds : List (Documented ModuleDeclSyntax)) (i : ℕ) → length d
 items-end ds i l = rw (drop_all i ds l) refl
 
 -- scopes that answer alike give the same checks
-pub item-alike : (h : Here) (a b : Marks) (d : DeclTree) → ((q : List ℕ) → found a q ≡ found b q) → item_checks h a d ≡ item_checks h b d
+pub item-alike : (h : Here) (a b : NameMarks) (d : DeclTree) → ((q : List ℕ) → found a q ≡ found b q) → item_checks h a d ≡ item_checks h b d
 item-alike h a b (memory name) s = rw (s name.text) refl
 item-alike h a b (function name params results noreturn stored) s = rw (s name.text) refl
 
-pub items-alike : (h : Here) (a b : Marks) (items : List NotedDecl) → ((q : List ℕ) → found a q ≡ found b q) → items_checks h a items ≡ items_checks h b items
+pub items-alike : (h : Here) (a b : NameMarks) (items : List NotedDecl) → ((q : List ℕ) → found a q ≡ found b q) → items_checks h a items ≡ items_checks h b items
 items-alike h a b [] s = refl
 items-alike h a b (item ∷ items) s =
     let e = items-alike h (with_name item.decl a) (with_name item.decl b) items (λ q. rw (s q) refl) in
     rw (item-alike h a b item.decl s, e) refl
 
-pub items-next : (h : Here) (ds : List (Documented ModuleDeclSyntax)) (i : ℕ) (d : Documented ModuleDeclSyntax) (old new : Marks) (x : Option Fault)
+pub items-next : (h : Here) (ds : List (Documented ModuleDeclSyntax)) (i : ℕ) (d : Documented ModuleDeclSyntax) (old new : NameMarks) (x : Option Fault)
     → i < length ds → d ≡ get_or ds i d
     → first_fault (items_checks h old (items_in (drop i ds))) ≡ x
     → first_fault (item_checks h old (noted_decl d).decl) ≡ None
@@ -93,7 +93,7 @@ items-next h ds i d old new x l p e n k =
     ap first_fault (items-alike h new (with_name item.decl old) rest k)
     ∙ (sym (fault-append (item_checks h old item.decl) (items_checks h (with_name item.decl old) rest) n) ∙ e1)
 
-pub items-wrong : (h : Here) (ds : List (Documented ModuleDeclSyntax)) (i : ℕ) (d : Documented ModuleDeclSyntax) (old : Marks) (e : CheckError) (x : Option Fault)
+pub items-wrong : (h : Here) (ds : List (Documented ModuleDeclSyntax)) (i : ℕ) (d : Documented ModuleDeclSyntax) (old : NameMarks) (e : CheckError) (x : Option Fault)
     → i < length ds → d ≡ get_or ds i d
     → first_fault (items_checks h old (items_in (drop i ds))) ≡ x
     → Blames e (first_fault (item_checks h old (noted_decl d).decl))
@@ -104,7 +104,7 @@ items-wrong h ds i d old e x l p q b =
     let q1 = rw (items-drop ds i d l p) at q in
     blames-to e (first_fault (item_checks h old item.decl ++ rest)) x q1 (blames-append e (item_checks h old item.decl) rest b)
 
-pub items-none : (h : Here) (ds : List (Documented ModuleDeclSyntax)) (i : ℕ) (old : Marks) (x : Option Fault)
+pub items-none : (h : Here) (ds : List (Documented ModuleDeclSyntax)) (i : ℕ) (old : NameMarks) (x : Option Fault)
     → length ds ≤ i → first_fault (items_checks h old (items_in (drop i ds))) ≡ x → x ≡ None
 items-none h ds i old x l q = sym (rw (items-end ds i l) at q)
 
@@ -133,7 +133,7 @@ head-none None cs e = refl
 head-none (Some f) cs e = absurd (cc)
 
 -- an item whose checks pass has a new name
-pub item-new : (h : Here) (old : Marks) (d : DeclTree) → first_fault (item_checks h old d) ≡ None → found old (quoted_name d).text ≡ None
+pub item-new : (h : Here) (old : NameMarks) (d : DeclTree) → first_fault (item_checks h old d) ≡ None → found old (quoted_name d).text ≡ None
 item-new h old (memory name) e = no-mark (found old name.text) h name.text name.start (head-none (new_mark h old name.text name.start) [] e)
 item-new h old (function name params results noreturn stored) e = no-mark (found old name.text) h name.text name.start (head-none (new_mark h old name.text name.start) _ e)
 
@@ -146,33 +146,33 @@ called-name (import_of i) = refl
 called-name (func_of f) = refl
 
 -- what the marks and the entries say of the names so far
-pub record Named (marks : Marks) (entries : List (List ℕ × ModuleEntry)) : Type 0 where
+pub record Named (marks : NameMarks) (entries : List (List ℕ × ModuleEntry)) : Type 0 where
   pub absent : (q : List ℕ) → found marks q ≡ None → option_map entry_item (found entries q) ≡ None
 
 cond-none : {V : Type 0} (c : Bool) (a : V) (b : Option V) → cond c (Some a) b ≡ None → (c ≡ false) × (b ≡ None)
 cond-none true a b e = absurd (cc)
 cond-none false a b e = (refl, e)
 
-pub named-next : (h : Here) (item : NotedDecl) (made : ItemTree) (old new : Marks) (es es2 : List (List ℕ × ModuleEntry))
+pub named-next : (h : Here) (item : NotedDecl) (made : ItemTree) (old new : NameMarks) (es es2 : List (List ℕ × ModuleEntry))
     → made ≡ item_meant h item
     → Named old es
     → ((q : List ℕ) → found new q ≡ found (with_name item.decl old) q)
-    → ((q : List ℕ) → option_map entry_item (found es2 q) ≡ cond (is_name q (item_called made)) (Some made) (option_map entry_item (found es q)))
+    → ((q : List ℕ) → option_map entry_item (found es2 q) ≡ cond (is_same_name q (item_called made)) (Some made) (option_map entry_item (found es q)))
     → Named new es2
 named-next h item made old new es es2 e named k m = record {
   absent = λ q gone.
-      let p = cond-none (is_name q (quoted_name item.decl).text) (quoted_name item.decl).start (found old q) (sym (k q) ∙ gone) in
-      m q ∙ (ap (λ (n : List ℕ). cond (is_name q n) (Some made) (option_map entry_item (found es q))) (ap item_called e ∙ called-meant h item.comments item.decl)
+      let p = cond-none (is_same_name q (quoted_name item.decl).text) (quoted_name item.decl).start (found old q) (sym (k q) ∙ gone) in
+      m q ∙ (ap (λ (n : List ℕ). cond (is_same_name q n) (Some made) (option_map entry_item (found es q))) (ap item_called e ∙ called-meant h item.comments item.decl)
       ∙ (ap (λ (c : Bool). cond c (Some made) (option_map entry_item (found es q))) p.0 ∙ named.absent q p.1));
 }
 
-pub items-fit-next : (h : Here) (ds : List ModuleDefinition) (item : NotedDecl) (made : ModuleDefinition) (new : List ModuleDefinition) (old : Marks) (es es2 : List (List ℕ × ModuleEntry))
+pub items-fit-next : (h : Here) (ds : List ModuleDefinition) (item : NotedDecl) (made : ModuleDefinition) (new : List ModuleDefinition) (old : NameMarks) (es es2 : List (List ℕ × ModuleEntry))
     → ItemsFit ds es
     → Named old es
     → first_fault (item_checks h old item.decl) ≡ None
     → item_tree made ≡ item_meant h item
     → new ≡ ds ++ made ∷ []
-    → ((q : List ℕ) → option_map entry_item (found es2 q) ≡ cond (is_name q (item_called (item_tree made))) (Some (item_tree made)) (option_map entry_item (found es q)))
+    → ((q : List ℕ) → option_map entry_item (found es2 q) ≡ cond (is_same_name q (item_called (item_tree made))) (Some (item_tree made)) (option_map entry_item (found es q)))
     → ItemsFit new es2
 items-fit-next h ds item made new old es es2 fits named passed e a m =
     let called : item_called (item_tree made) ≡ (quoted_name item.decl).text = ap item_called e ∙ called-meant h item.comments item.decl in

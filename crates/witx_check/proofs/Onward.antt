@@ -32,17 +32,17 @@ use Rattle.witx_ast.proofs.Trees.{tree_rules, tree-RecordMember, tree-Case}
 use Rattle.witx_scope.specs.declared.error.CheckError.{CheckError}
 use Rattle.witx_scope.specs.Blame.{Blames}
 use Rattle.witx_scope.specs.Faults.{Fault, Check, first_fault, anonymous_record}
-use Rattle.witx_scope.specs.Names.{Here, Marks, new_mark}
+use Rattle.witx_scope.specs.Names.{Here, NameMarks, new_mark}
 use Rattle.witx_scope.specs.Checks.{type_checks, field_checks, each_type_checks, union_field_checks, member_checks, case_checks, maybe_checks, union_fields_count, cases_count}
 use Rattle.witx_scope.specs.Trees.{tree_meant, fields_meant, types_meant, number_name, member_arm, flag_field, bool_tree, union_arms, union_name, case_arms, maybe_tree}
 use Rattle.witx_scope.specs.Tags.{has_name, are_bare, case_check, tag_checks, tag_names, size_check}
 
 -- ---- scopes that answer alike give the same checks
 
-Alike : Marks → Marks → Type 0
+Alike : NameMarks → NameMarks → Type 0
 Alike a b = (q : List ℕ) → found a q ≡ found b q
 
-pub names-alike : (h : Here) (a b : Marks) (rs : Fields) → ((q : List ℕ) → found a q ≡ found b q) → field_checks h a rs ≡ field_checks h b rs
+pub names-alike : (h : Here) (a b : NameMarks) (rs : Fields) → ((q : List ℕ) → found a q ≡ found b q) → field_checks h a rs ≡ field_checks h b rs
 names-alike h a b no_fields s = refl
 names-alike h a b (one_field docs m t fs) s =
     let e = names-alike h ((m.name, m.start) ∷ a) ((m.name, m.start) ∷ b) fs (λ q. rw (s q) refl) in
@@ -69,7 +69,7 @@ rows-drop fs i f l p = rw (drop_more fs i f l, ← p, field-FieldSyntax f.item) 
 pub rows-end : (fs : List (Documented FieldSyntax)) (i : ℕ) → length fs ≤ i → fields_view (drop i fs) ≡ no_fields
 rows-end fs i l = rw (drop_all i fs l) refl
 
-pub row-next : (h : Here) (fs : List (Documented FieldSyntax)) (i : ℕ) (f : Documented FieldSyntax) (old new : Marks) (x : Option Fault)
+pub row-next : (h : Here) (fs : List (Documented FieldSyntax)) (i : ℕ) (f : Documented FieldSyntax) (old new : NameMarks) (x : Option Fault)
     → i < length fs → f ≡ get_or fs i f
     → first_fault (field_checks h old (fields_view (drop i fs))) ≡ x
     → new_mark h old f.item.name.name.now f.item.name.span.start ≡ None
@@ -81,7 +81,7 @@ row-next h fs i f old new x l p e n k t =
     let e2 = step-past (new_mark h old f.item.name.name.now f.item.name.span.start) (type_checks h false (h.place f.item.name.span.start) (type_view f.item.type_)) (field_checks h ((f.item.name.name.now, f.item.name.span.start) ∷ old) (fields_view (drop (i + 1) fs))) x e1 n t in
     rw (names-alike h new ((f.item.name.name.now, f.item.name.span.start) ∷ old) (fields_view (drop (i + 1) fs)) k) e2
 
-pub row-known : (h : Here) (fs : List (Documented FieldSyntax)) (i : ℕ) (f : Documented FieldSyntax) (old : Marks) (e : CheckError) (x : Option Fault)
+pub row-known : (h : Here) (fs : List (Documented FieldSyntax)) (i : ℕ) (f : Documented FieldSyntax) (old : NameMarks) (e : CheckError) (x : Option Fault)
     → i < length fs → f ≡ get_or fs i f
     → first_fault (field_checks h old (fields_view (drop i fs))) ≡ x
     → Blames e (new_mark h old f.item.name.name.now f.item.name.span.start)
@@ -90,7 +90,7 @@ row-known h fs i f old e x l p q b =
     let q1 = rw (rows-drop fs i f l p) at q in
     step-head e (new_mark h old f.item.name.name.now f.item.name.span.start) (type_checks h false (h.place f.item.name.span.start) (type_view f.item.type_) ++ field_checks h ((f.item.name.name.now, f.item.name.span.start) ∷ old) (fields_view (drop (i + 1) fs))) x q1 b
 
-pub row-wrong : (h : Here) (fs : List (Documented FieldSyntax)) (i : ℕ) (f : Documented FieldSyntax) (old : Marks) (e : CheckError) (x : Option Fault)
+pub row-wrong : (h : Here) (fs : List (Documented FieldSyntax)) (i : ℕ) (f : Documented FieldSyntax) (old : NameMarks) (e : CheckError) (x : Option Fault)
     → i < length fs → f ≡ get_or fs i f
     → first_fault (field_checks h old (fields_view (drop i fs))) ≡ x
     → new_mark h old f.item.name.name.now f.item.name.span.start ≡ None
@@ -100,7 +100,7 @@ row-wrong h fs i f old e x l p q n b =
     let q1 = rw (rows-drop fs i f l p) at q in
     step-wrong e (new_mark h old f.item.name.name.now f.item.name.span.start) (type_checks h false (h.place f.item.name.span.start) (type_view f.item.type_)) (field_checks h ((f.item.name.name.now, f.item.name.span.start) ∷ old) (fields_view (drop (i + 1) fs))) x q1 n b
 
-pub row-none : (h : Here) (fs : List (Documented FieldSyntax)) (i : ℕ) (old : Marks) (x : Option Fault)
+pub row-none : (h : Here) (fs : List (Documented FieldSyntax)) (i : ℕ) (old : NameMarks) (x : Option Fault)
     → length fs ≤ i → first_fault (field_checks h old (fields_view (drop i fs))) ≡ x → x ≡ None
 row-none h fs i old x l q = sym (rw (rows-end fs i l) at q)
 
@@ -175,13 +175,13 @@ noted-drop ns i n l p = rw (drop_more ns i n l, ← p) refl
 pub noted-end : (ns : List (Documented IdSyntax)) (i : ℕ) → length ns ≤ i → member_views (drop i ns) ≡ []
 noted-end ns i l = rw (drop_all i ns l) refl
 
-pub noted-alike : (h : Here) (a b : Marks) (ns : List Member) → ((q : List ℕ) → found a q ≡ found b q) → member_checks h a ns ≡ member_checks h b ns
+pub noted-alike : (h : Here) (a b : NameMarks) (ns : List Member) → ((q : List ℕ) → found a q ≡ found b q) → member_checks h a ns ≡ member_checks h b ns
 noted-alike h a b [] s = refl
 noted-alike h a b (n ∷ ns) s =
     let e = noted-alike h ((n.name.name, n.name.start) ∷ a) ((n.name.name, n.name.start) ∷ b) ns (λ q. rw (s q) refl) in
     rw (s n.name.name, e) refl
 
-pub noted-next : (h : Here) (ns : List (Documented IdSyntax)) (i : ℕ) (n : Documented IdSyntax) (old new : Marks) (x : Option Fault)
+pub noted-next : (h : Here) (ns : List (Documented IdSyntax)) (i : ℕ) (n : Documented IdSyntax) (old new : NameMarks) (x : Option Fault)
     → i < length ns → n ≡ get_or ns i n
     → first_fault (member_checks h old (member_views (drop i ns))) ≡ x
     → new_mark h old n.item.name.now n.item.span.start ≡ None
@@ -192,7 +192,7 @@ noted-next h ns i n old new x l p e c k =
     let e2 = step-past (new_mark h old n.item.name.now n.item.span.start) [] (member_checks h ((n.item.name.now, n.item.span.start) ∷ old) (member_views (drop (i + 1) ns))) x e1 c refl in
     rw (noted-alike h new ((n.item.name.now, n.item.span.start) ∷ old) (member_views (drop (i + 1) ns)) k) e2
 
-pub noted-known : (h : Here) (ns : List (Documented IdSyntax)) (i : ℕ) (n : Documented IdSyntax) (old : Marks) (e : CheckError) (x : Option Fault)
+pub noted-known : (h : Here) (ns : List (Documented IdSyntax)) (i : ℕ) (n : Documented IdSyntax) (old : NameMarks) (e : CheckError) (x : Option Fault)
     → i < length ns → n ≡ get_or ns i n
     → first_fault (member_checks h old (member_views (drop i ns))) ≡ x
     → Blames e (new_mark h old n.item.name.now n.item.span.start)
@@ -201,7 +201,7 @@ noted-known h ns i n old e x l p q b =
     let q1 = rw (noted-drop ns i n l p) at q in
     step-head e (new_mark h old n.item.name.now n.item.span.start) (member_checks h ((n.item.name.now, n.item.span.start) ∷ old) (member_views (drop (i + 1) ns))) x q1 b
 
-pub noted-none : (h : Here) (ns : List (Documented IdSyntax)) (i : ℕ) (old : Marks) (x : Option Fault)
+pub noted-none : (h : Here) (ns : List (Documented IdSyntax)) (i : ℕ) (old : NameMarks) (x : Option Fault)
     → length ns ≤ i → first_fault (member_checks h old (member_views (drop i ns))) ≡ x → x ≡ None
 noted-none h ns i old x l q = sym (rw (noted-end ns i l) at q)
 
@@ -322,12 +322,12 @@ untagged-alike : (h : Here) (a b : List (List ℕ)) (cs : Cases) → case_checks
 untagged-alike h a b no_cases = refl
 untagged-alike h a b (one_case docs m t cs) = rw (untagged-alike h (a ++ m.name ∷ []) (b ++ m.name ∷ []) cs) refl
 
-sees-more : (h : Here) (names : Option (List (List ℕ))) (old new : Marks) (n : IdSyntax) (cs : Cases) → Sees names old new n
+sees-more : (h : Here) (names : Option (List (List ℕ))) (old new : NameMarks) (n : IdSyntax) (cs : Cases) → Sees names old new n
     → case_checks h names (keys_of new) cs ≡ case_checks h names (keys_of old ++ n.name.now ∷ []) cs
 sees-more h None old new n cs s = untagged-alike h (keys_of new) (keys_of old ++ n.name.now ∷ []) cs
 sees-more h (Some names) old new n cs s = seen-alike h (Some names) (keys_of new) (keys_of old ++ n.name.now ∷ []) cs (λ q. seen-more old new n.name.now q n.span.start (s q))
 
-pub choice-next : (h : Here) (names : Option (List (List ℕ))) (cs : List (Documented CaseSyntax)) (i : ℕ) (c : Documented CaseSyntax) (old new : Marks) (x : Option Fault)
+pub choice-next : (h : Here) (names : Option (List (List ℕ))) (cs : List (Documented CaseSyntax)) (i : ℕ) (c : Documented CaseSyntax) (old new : NameMarks) (x : Option Fault)
     → i < length cs → c ≡ get_or cs i c
     → first_fault (case_checks h names (keys_of old) (cases_view (drop i cs))) ≡ x
     → name_check h names old c.item.name ≡ None
@@ -339,7 +339,7 @@ choice-next h names cs i c old new x l p e k t s =
     let e2 = step-past (name_check h names old c.item.name) (maybe_checks h (h.place c.item.name.span.start) (maybe_of (option_map type_view c.item.ty))) (case_checks h names (keys_of old ++ c.item.name.name.now ∷ []) (cases_view (drop (i + 1) cs))) x e1 k t in
     rw (sees-more h names old new c.item.name (cases_view (drop (i + 1) cs)) s) e2
 
-pub choice-bad : (h : Here) (names : Option (List (List ℕ))) (cs : List (Documented CaseSyntax)) (i : ℕ) (c : Documented CaseSyntax) (seen : Marks) (e : CheckError) (x : Option Fault)
+pub choice-bad : (h : Here) (names : Option (List (List ℕ))) (cs : List (Documented CaseSyntax)) (i : ℕ) (c : Documented CaseSyntax) (seen : NameMarks) (e : CheckError) (x : Option Fault)
     → i < length cs → c ≡ get_or cs i c
     → first_fault (case_checks h names (keys_of seen) (cases_view (drop i cs))) ≡ x
     → Blames e (name_check h names seen c.item.name)
@@ -348,7 +348,7 @@ choice-bad h names cs i c seen e x l p q b =
     let q1 = rw (choices-drop cs i c l p) at q in
     step-head e (name_check h names seen c.item.name) (maybe_checks h (h.place c.item.name.span.start) (maybe_of (option_map type_view c.item.ty)) ++ case_checks h names (keys_of seen ++ c.item.name.name.now ∷ []) (cases_view (drop (i + 1) cs))) x q1 b
 
-pub choice-wrong : (h : Here) (names : Option (List (List ℕ))) (cs : List (Documented CaseSyntax)) (i : ℕ) (c : Documented CaseSyntax) (seen : Marks) (e : CheckError) (x : Option Fault)
+pub choice-wrong : (h : Here) (names : Option (List (List ℕ))) (cs : List (Documented CaseSyntax)) (i : ℕ) (c : Documented CaseSyntax) (seen : NameMarks) (e : CheckError) (x : Option Fault)
     → i < length cs → c ≡ get_or cs i c
     → first_fault (case_checks h names (keys_of seen) (cases_view (drop i cs))) ≡ x
     → name_check h names seen c.item.name ≡ None

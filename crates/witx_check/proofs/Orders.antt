@@ -26,7 +26,7 @@ use Rattle.witx_scope.specs.Names.{Here, Sense, sense_tree, Names}
 use Rattle.witx_scope.specs.Senses.{kept_sense, sense_at}
 use Rattle.witx_scope.specs.Tags.{tag_names}
 use Rattle.witx_scope.specs.Trees.{tree_meant, maybe_tree, types_meant, union_arms, fields_meant, case_arms, in_order, arm_called, member_arm, flag_field}
-use Rattle.witx_scope.specs.Positions.{is_name}
+use Rattle.witx_scope.specs.Positions.{is_same_name}
 
 -- ---- each definition is found under its own name
 
@@ -40,7 +40,7 @@ module _ {T : Type 0} (name_of : T → Option (List ℕ)) where
       → found (cons_option (option_map (λ (n : List ℕ). (n, s)) o) rest) q ≡ Some t
       → (found rest q ≡ Some t → name_of t ≡ Some q) → name_of t ≡ Some q
   key-step None s t rest q named e ih = ih e
-  key-step (Some n) s t rest q named e ih = key-cond (is_name q n) s t n q (found rest q) (λ c. tells_apart exact_bytes q n c) named e ih
+  key-step (Some n) s t rest q named e ih = key-cond (is_same_name q n) s t n q (found rest q) (λ c. tells_apart exact_bytes q n c) named e ih
 
   pub key-of : (ts : List T) (q : List ℕ) (t : T) → found (by_name name_of ts) q ≡ Some t → name_of t ≡ Some q
   key-of [] q t e = absurd (cc)

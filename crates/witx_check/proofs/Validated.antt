@@ -27,7 +27,7 @@ use Rattle.witx_scope.specs.Modules.{items_checks}
 use Rattle.witx_scope.specs.DeclarationForms.{typename_form, module_form, constant_form}
 use Rattle.witx_scope.specs.Constants.{constant_place}
 use Rattle.witx_scope.specs.Inside.{within, typename_checks, module_checks, module_meant}
-use Rattle.witx_scope.specs.Positions.{is_name, after, denotes_before}
+use Rattle.witx_scope.specs.Positions.{is_same_name, after, denotes_before}
 use Rattle.witx_scope.specs.Declarations.{Past, TakenConstant, constants_of_type, decl_checks, decl_tree}
 use Rattle.witx_scope.specs.Kept.{Kept, Keeps, KeepsNames, KeepsConstants}
 use Rattle.witx_scope.specs.Senses.{kept_sense}
@@ -75,7 +75,7 @@ module-tree-by names es past place n items comments k =
 abbrev one_constant : Bool → List ℕ → Location → Names
 one_constant c n p = cond c ((n, p) ∷ []) []
 
-one-found : (c : Bool) (n : List ℕ) (p : Location) (before : Names) (q : List ℕ) → found (before ++ one_constant c n p) q ≡ first_or (found before q) (cond (c && is_name q n) (Some p) None)
+one-found : (c : Bool) (n : List ℕ) (p : Location) (before : Names) (q : List ℕ) → found (before ++ one_constant c n p) q ≡ first_or (found before q) (cond (c && is_same_name q n) (Some p) None)
 one-found true n p before q = found-last before n p q
 one-found false n p before q = ap (λ (l : Names). found l q) (append-nil before) ∙ none-after (found before q)
   where
@@ -83,15 +83,15 @@ one-found false n p before q = ap (λ (l : Names). found l q) (append-nil before
     none-after None = refl
     none-after (Some l) = refl
 
-filter-one : (c : TakenConstant) (ty : List ℕ) (b : Bool) → is_name c.type_name ty ≡ b → map (λ (x : TakenConstant). (x.name, x.place)) (filter (λ (x : TakenConstant). is_name x.type_name ty) (c ∷ [])) ≡ one_constant b c.name c.place
+filter-one : (c : TakenConstant) (ty : List ℕ) (b : Bool) → is_same_name c.type_name ty ≡ b → map (λ (x : TakenConstant). (x.name, x.place)) (filter (λ (x : TakenConstant). is_same_name x.type_name ty) (c ∷ [])) ≡ one_constant b c.name c.place
 filter-one c ty true e = rw e refl
 filter-one c ty false e = rw e refl
 
-constants-last : (cs : List TakenConstant) (c : TakenConstant) (ty : List ℕ) → constants_of_type (cs ++ c ∷ []) ty ≡ constants_of_type cs ty ++ one_constant (is_name c.type_name ty) c.name c.place
+constants-last : (cs : List TakenConstant) (c : TakenConstant) (ty : List ℕ) → constants_of_type (cs ++ c ∷ []) ty ≡ constants_of_type cs ty ++ one_constant (is_same_name c.type_name ty) c.name c.place
 constants-last cs c ty =
-    ap (map (λ (x : TakenConstant). (x.name, x.place))) (filter-append (λ (x : TakenConstant). is_name x.type_name ty) cs (c ∷ []))
-    ∙ (map-append (λ (x : TakenConstant). (x.name, x.place)) (filter (λ (x : TakenConstant). is_name x.type_name ty) cs) (filter (λ (x : TakenConstant). is_name x.type_name ty) (c ∷ []))
-    ∙ ap (λ l. constants_of_type cs ty ++ l) (filter-one c ty (is_name c.type_name ty) refl))
+    ap (map (λ (x : TakenConstant). (x.name, x.place))) (filter-append (λ (x : TakenConstant). is_same_name x.type_name ty) cs (c ∷ []))
+    ∙ (map-append (λ (x : TakenConstant). (x.name, x.place)) (filter (λ (x : TakenConstant). is_same_name x.type_name ty) cs) (filter (λ (x : TakenConstant). is_same_name x.type_name ty) (c ∷ []))
+    ∙ ap (λ l. constants_of_type cs ty ++ l) (filter-one c ty (is_same_name c.type_name ty) refl))
 
 both-names : (a b : Bool) → (a && b ≡ true) → (a ≡ true) × (b ≡ true)
 both-names true true e = (refl, refl)
@@ -124,19 +124,19 @@ new-constant s earlier place ty n value e =
 -- an accepted constant, whose two names no earlier one has
 pub keeps-constant : (old new : List (ConstantName × Location)) (taken : List TakenConstant) (ty n : List ℕ) (p : Location)
     → constant_place old ty n ≡ None
-    → ((t q : List ℕ) → constant_place new t q ≡ cond (is_name t ty && is_name q n) (Some p) (constant_place old t q))
+    → ((t q : List ℕ) → constant_place new t q ≡ cond (is_same_name t ty && is_same_name q n) (Some p) (constant_place old t q))
     → KeepsConstants old taken
     → KeepsConstants new (taken ++ record { type_name = ty; name = n; place = p } ∷ [])
 keeps-constant old new taken ty n p free more k t q =
     let c : TakenConstant = record { type_name = ty; name = n; place = p } in
     let none : found (constants_of_type taken ty) n ≡ None = sym (k ty n) ∙ free in
     more t q
-    ∙ (ap (cond (is_name t ty && is_name q n) (Some p)) (k t q)
-    ∙ (ap (λ (b : Bool). cond (b && is_name q n) (Some p) (found (constants_of_type taken t) q)) (is_eq-swap t ty)
-    ∙ (last-step (is_name ty t && is_name q n) p (found (constants_of_type taken t) q)
-    (λ both. let names = both-names (is_name ty t) (is_name q n) both in
+    ∙ (ap (cond (is_same_name t ty && is_same_name q n) (Some p)) (k t q)
+    ∙ (ap (λ (b : Bool). cond (b && is_same_name q n) (Some p) (found (constants_of_type taken t) q)) (is_eq-swap t ty)
+    ∙ (last-step (is_same_name ty t && is_same_name q n) p (found (constants_of_type taken t) q)
+    (λ both. let names = both-names (is_same_name ty t) (is_same_name q n) both in
     subst (λ x. found (constants_of_type taken x) q ≡ None) (tells_apart exact_bytes ty t names.0) (subst (λ x. found (constants_of_type taken ty) x ≡ None) (sym (tells_apart exact_bytes q n names.1)) none))
-    ∙ (sym (one-found (is_name ty t) n p (constants_of_type taken t) q) ∙ ap (λ l. found l q) (sym (constants-last taken c t))))))
+    ∙ (sym (one-found (is_same_name ty t) n p (constants_of_type taken t) q) ∙ ap (λ l. found l q) (sym (constants-last taken c t))))))
 
 -- a constant needs no entry
 pub fits-constant : (ds new : List Definition) (t : DefinitionTree) (es : List (List ℕ × Entry)) → map definition_tree new ≡ map definition_tree ds ++ t ∷ []

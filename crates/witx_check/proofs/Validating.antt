@@ -18,7 +18,7 @@ use Rattle.witx_ast.specs.declared.definition.Entry.{Entry}
 use Rattle.witx_scope.specs.declared.error.CheckError.{CheckError}
 use Rattle.witx_scope.specs.declared.error.CheckError.TheVariants as check_error
 use Rattle.witx_scope.specs.declared.constants.ConstantName.{ConstantName}
-use Rattle.witx_scope.specs.Answers.{IsFault}
+use Rattle.witx_scope.specs.Answers.{IsCheckFault}
 use Rattle.witx_scope.specs.Blame.{Blames}
 use Rattle.witx_scope.specs.Faults.{first_fault}
 use Rattle.witx_scope.specs.Names.{Names, a_type, a_module}
@@ -26,8 +26,8 @@ use Rattle.witx_scope.specs.Trees.{tree_meant}
 use Rattle.witx_scope.specs.DeclarationForms.{DeclForm, typename_form, module_form, constant_form}
 use Rattle.witx_scope.specs.Constants.{constant_place}
 use Rattle.witx_scope.specs.Declarations.{nothing_before}
-use Rattle.witx_scope.specs.Inside.{within, typename_checks, module_checks, module_meant, TakesAtMost, Refuses}
-use Rattle.witx_scope.specs.Positions.{Taken, made_type, made_module, refused, is_name}
+use Rattle.witx_scope.specs.Inside.{within, typename_checks, module_checks, module_meant, TakesAtMost, RefusesDeclaration}
+use Rattle.witx_scope.specs.Positions.{TakenName, made_type, made_module, refused, is_same_name}
 use Rattle.witx_scope.specs.Kept.{Kept, KeepsNames, entry_sense_of}
 use Rattle.witx_scope.specs.Validates.{Site, Validates}
 use Rattle.witx_check.proofs.Finished.{taken_as, keeps-refused, keeps-left}
@@ -57,13 +57,13 @@ module _ (r : Result (Unit {0}) CheckError) (names names2 : Names) (es es2 : Lis
   pub typename-validates : (n : Name) (form : TypeTree) (comments : List (List ℕ))
       → OnOk r (first_fault (typename_checks names (within names es place n) n form) ≡ None)
       → OnOk r (map definition_tree new ≡ map definition_tree old ++ typename_of n.name (tree_meant (within names es place n) form) (documentation_of comments) ∷ [])
-      → ((past : List Taken) → OnOk r (KeepsNames names es past → KeepsNames names2 es2 (past ++ taken_as n.name (place n.start) (made_type (named n.name (tree_meant (within names es place n) form) (documentation_of comments))) ∷ [])))
-      → ((past : List Taken) → OnOk r (KeepsNames names es past → DefinitionsFit old es → DefinitionsFit new es2))
+      → ((past : List TakenName) → OnOk r (KeepsNames names es past → KeepsNames names2 es2 (past ++ taken_as n.name (place n.start) (made_type (named n.name (tree_meant (within names es place n) form) (documentation_of comments))) ∷ [])))
+      → ((past : List TakenName) → OnOk r (KeepsNames names es past → DefinitionsFit old es → DefinitionsFit new es2))
       → IfErr r (λ e. Blames e (first_fault (typename_checks names (within names es place n) n form)))
       → OnErr r (new ≡ old)
       → OnErr r (es2 ≡ es)
-      → ((past : List Taken) → IfErr r (λ e. IsFault e → KeepsNames names es past → KeepsNames names2 es2 (past ++ taken_as n.name (place n.start) refused ∷ [])))
-      → ((past : List Taken) → OnErr r (KeepsNames names es past → KeepsNames names2 es2 past ⊎ KeepsNames names2 es2 (past ++ taken_as n.name (place n.start) refused ∷ [])))
+      → ((past : List TakenName) → IfErr r (λ e. IsCheckFault e → KeepsNames names es past → KeepsNames names2 es2 (past ++ taken_as n.name (place n.start) refused ∷ [])))
+      → ((past : List TakenName) → OnErr r (KeepsNames names es past → KeepsNames names2 es2 past ⊎ KeepsNames names2 es2 (past ++ taken_as n.name (place n.start) refused ∷ [])))
       → Validates (kept_as names es constants) (kept_as names2 es2 constants) old new (record { place = place; comments = comments; form = typename_form n form }) r
   typename-validates n form comments ok appended keeps fits fault unchanged same refuses left = record {
     ok = λ past. typename-ok-by r names names2 es es2 constants constants past place n form ok;
@@ -81,13 +81,13 @@ module _ (r : Result (Unit {0}) CheckError) (names names2 : Names) (es es2 : Lis
   pub module-validates : (n : Name) (items : List NotedDecl) (comments : List (List ℕ))
       → OnOk r (first_fault (module_checks names (within names es place n) n items) ≡ None)
       → OnOk r (map definition_tree new ≡ map definition_tree old ++ module_of (module_meant (within names es place n) n.name items comments) ∷ [])
-      → ((past : List Taken) → OnOk r (KeepsNames names es past → KeepsNames names2 es2 (past ++ taken_as n.name (place n.start) made_module ∷ [])))
-      → ((past : List Taken) → OnOk r (KeepsNames names es past → DefinitionsFit old es → DefinitionsFit new es2))
+      → ((past : List TakenName) → OnOk r (KeepsNames names es past → KeepsNames names2 es2 (past ++ taken_as n.name (place n.start) made_module ∷ [])))
+      → ((past : List TakenName) → OnOk r (KeepsNames names es past → DefinitionsFit old es → DefinitionsFit new es2))
       → IfErr r (λ e. Blames e (first_fault (module_checks names (within names es place n) n items)))
       → OnErr r (new ≡ old)
       → OnErr r (es2 ≡ es)
-      → ((past : List Taken) → IfErr r (λ e. IsFault e → KeepsNames names es past → KeepsNames names2 es2 (past ++ taken_as n.name (place n.start) refused ∷ [])))
-      → ((past : List Taken) → OnErr r (KeepsNames names es past → KeepsNames names2 es2 past ⊎ KeepsNames names2 es2 (past ++ taken_as n.name (place n.start) refused ∷ [])))
+      → ((past : List TakenName) → IfErr r (λ e. IsCheckFault e → KeepsNames names es past → KeepsNames names2 es2 (past ++ taken_as n.name (place n.start) refused ∷ [])))
+      → ((past : List TakenName) → OnErr r (KeepsNames names es past → KeepsNames names2 es2 past ⊎ KeepsNames names2 es2 (past ++ taken_as n.name (place n.start) refused ∷ [])))
       → Validates (kept_as names es constants) (kept_as names2 es2 constants) old new (record { place = place; comments = comments; form = module_form n items }) r
   module-validates n items comments ok appended keeps fits fault unchanged same refuses left = record {
     ok = λ past. module-ok-by r names names2 es es2 constants constants past place n items ok;
@@ -105,7 +105,7 @@ module _ (r : Result (Unit {0}) CheckError) (names names2 : Names) (es es2 : Lis
   pub constant-validates : (constants2 : List (ConstantName × Location)) (ty n : Name) (value : ℕ) (own comments : List (List ℕ))
       → OnOk r (first_fault (constant_checks_in (kept_as names es constants) place ty n value) ≡ None)
       → OnOk r (map definition_tree new ≡ map definition_tree old ++ constant_of (record { ty = ty.name; name = n.name; value = value; docs = documentation_of own }) ∷ [])
-      → ((t q : List ℕ) → OnOk r (constant_place constants2 t q ≡ cond (is_name t ty.name && is_name q n.name) (Some (place n.start)) (constant_place constants t q)))
+      → ((t q : List ℕ) → OnOk r (constant_place constants2 t q ≡ cond (is_same_name t ty.name && is_same_name q n.name) (Some (place n.start)) (constant_place constants t q)))
       → IfErr r (λ e. Blames e (first_fault (constant_checks_in (kept_as names es constants) place ty n value)))
       → OnErr r (new ≡ old)
       → OnErr r (constants2 ≡ constants)
@@ -140,15 +140,15 @@ typename-is m n t d e = ap as_definition (sym (tree-NamedType m) ∙ e)
 module _ (names names2 : Names) (es es2 : List (List ℕ × Entry)) (constants : List (ConstantName × Location)) (place : ℕ → Location) (old new : List Definition) (n : Name) (comments : List (List ℕ)) where
   fits-last : (t : DefinitionTree) → introduced t ≡ Some n.name → found names n.name ≡ None
       → map definition_tree new ≡ map definition_tree old ++ t ∷ []
-      → ((q : List ℕ) → option_map entry_tree (found es2 q) ≡ cond (is_name q n.name) (Some t) (option_map entry_tree (found es q)))
-      → (past : List Taken) → KeepsNames names es past → DefinitionsFit old es → DefinitionsFit new es2
+      → ((q : List ℕ) → option_map entry_tree (found es2 q) ≡ cond (is_same_name q n.name) (Some t) (option_map entry_tree (found es q)))
+      → (past : List TakenName) → KeepsNames names es past → DefinitionsFit old es → DefinitionsFit new es2
   fits-last t names_it absent appended trees past k fits =
       subst (λ (l : List DefinitionTree). Fits introduced entry_tree l es2) (sym appended)
       (fits-more introduced entry_tree (map definition_tree old) t n.name es es2 names_it fits (no-entry names es past n.name k absent) trees)
 
   pub typename-refused : (form : TypeTree) (e : CheckError)
       → Blames e (first_fault (typename_checks names (within names es place n) n form))
-      → (IsFault e → Refuses names names2 n.name (place n.start))
+      → (IsCheckFault e → RefusesDeclaration names names2 n.name (place n.start))
       → TakesAtMost names names2 n.name (place n.start)
       → Validates (kept_as names es constants) (kept_as names2 es constants) old old (record { place = place; comments = comments; form = typename_form n form }) (Err e)
   typename-refused form e fault refuses left =
@@ -172,8 +172,8 @@ module _ (names names2 : Names) (es es2 : List (List ℕ × Entry)) (constants :
       → m.name ≡ n.name
       → ((q : List ℕ) → found names2 q ≡ found ((n.name, place n.start) ∷ names) q)
       → map definition_tree new ≡ map definition_tree old ++ typename_of m.name (tree_of m.tref) m.docs ∷ []
-      → ((q : List ℕ) → entry_sense_of (found es2 q) ≡ cond (is_name q m.name) (Some (a_type (named_tree m))) (entry_sense_of (found es q)))
-      → ((q : List ℕ) → option_map entry_tree (found es2 q) ≡ cond (is_name q m.name) (Some (typename_of m.name (tree_of m.tref) m.docs)) (option_map entry_tree (found es q)))
+      → ((q : List ℕ) → entry_sense_of (found es2 q) ≡ cond (is_same_name q m.name) (Some (a_type (named_tree m))) (entry_sense_of (found es q)))
+      → ((q : List ℕ) → option_map entry_tree (found es2 q) ≡ cond (is_same_name q m.name) (Some (typename_of m.name (tree_of m.tref) m.docs)) (option_map entry_tree (found es q)))
       → Validates (kept_as names es constants) (kept_as names2 es2 constants) old new (record { place = place; comments = comments; form = typename_form n form }) (Ok tt)
   typename-made form m ok tree called kept appended senses trees =
       let meant : Tree = tree_meant (within names es place n) form in
@@ -181,14 +181,14 @@ module _ (names names2 : Names) (es es2 : List (List ℕ × Entry)) (constants :
       let is : typename_of m.name (tree_of m.tref) m.docs ≡ made = typename-is m n.name meant (documentation_of comments) tree in
       let absent : found names n.name ≡ None = absent-typename names (within names es place n) n form ok in
       let last : map definition_tree new ≡ map definition_tree old ++ made ∷ [] = appended ∙ ap (λ (t : DefinitionTree). map definition_tree old ++ t ∷ []) is in
-      let senses2 : (q : List ℕ) → entry_sense_of (found es2 q) ≡ cond (is_name q n.name) (Some (a_type (named n.name meant (documentation_of comments)))) (entry_sense_of (found es q)) =
+      let senses2 : (q : List ℕ) → entry_sense_of (found es2 q) ≡ cond (is_same_name q n.name) (Some (a_type (named n.name meant (documentation_of comments)))) (entry_sense_of (found es q)) =
       λ q. senses q
-      ∙ (ap (λ (x : List ℕ). cond (is_name q x) (Some (a_type (named_tree m))) (entry_sense_of (found es q))) called
-      ∙ ap (λ (t : Tree). cond (is_name q n.name) (Some (a_type t)) (entry_sense_of (found es q))) tree) in
-      let trees2 : (q : List ℕ) → option_map entry_tree (found es2 q) ≡ cond (is_name q n.name) (Some made) (option_map entry_tree (found es q)) =
+      ∙ (ap (λ (x : List ℕ). cond (is_same_name q x) (Some (a_type (named_tree m))) (entry_sense_of (found es q))) called
+      ∙ ap (λ (t : Tree). cond (is_same_name q n.name) (Some (a_type t)) (entry_sense_of (found es q))) tree) in
+      let trees2 : (q : List ℕ) → option_map entry_tree (found es2 q) ≡ cond (is_same_name q n.name) (Some made) (option_map entry_tree (found es q)) =
       λ q. trees q
-      ∙ (ap (λ (x : List ℕ). cond (is_name q x) (Some (typename_of m.name (tree_of m.tref) m.docs)) (option_map entry_tree (found es q))) called
-      ∙ ap (λ (t : DefinitionTree). cond (is_name q n.name) (Some t) (option_map entry_tree (found es q))) is) in
+      ∙ (ap (λ (x : List ℕ). cond (is_same_name q x) (Some (typename_of m.name (tree_of m.tref) m.docs)) (option_map entry_tree (found es q))) called
+      ∙ ap (λ (t : DefinitionTree). cond (is_same_name q n.name) (Some t) (option_map entry_tree (found es q))) is) in
       typename-validates (Ok tt) names names2 es es2 constants place old new n form comments ok last
       (λ past k. keeps-typename names names2 es es2 past n.name (place n.start) _ absent kept senses2 k)
       (fits-last made refl absent last trees2)
@@ -196,7 +196,7 @@ module _ (names names2 : Names) (es es2 : List (List ℕ × Entry)) (constants :
 
   pub module-refused : (items : List NotedDecl) (e : CheckError)
       → Blames e (first_fault (module_checks names (within names es place n) n items))
-      → (IsFault e → Refuses names names2 n.name (place n.start))
+      → (IsCheckFault e → RefusesDeclaration names names2 n.name (place n.start))
       → TakesAtMost names names2 n.name (place n.start)
       → Validates (kept_as names es constants) (kept_as names2 es constants) old old (record { place = place; comments = comments; form = module_form n items }) (Err e)
   module-refused items e fault refuses left =
@@ -220,20 +220,20 @@ module _ (names names2 : Names) (es es2 : List (List ℕ × Entry)) (constants :
       → m.name ≡ n.name
       → ((q : List ℕ) → found names2 q ≡ found ((n.name, place n.start) ∷ names) q)
       → map definition_tree new ≡ map definition_tree old ++ module_of (module_tree m) ∷ []
-      → ((q : List ℕ) → entry_sense_of (found es2 q) ≡ cond (is_name q m.name) (Some a_module) (entry_sense_of (found es q)))
-      → ((q : List ℕ) → option_map entry_tree (found es2 q) ≡ cond (is_name q m.name) (Some (module_of (module_tree m))) (option_map entry_tree (found es q)))
+      → ((q : List ℕ) → entry_sense_of (found es2 q) ≡ cond (is_same_name q m.name) (Some a_module) (entry_sense_of (found es q)))
+      → ((q : List ℕ) → option_map entry_tree (found es2 q) ≡ cond (is_same_name q m.name) (Some (module_of (module_tree m))) (option_map entry_tree (found es q)))
       → Validates (kept_as names es constants) (kept_as names2 es2 constants) old new (record { place = place; comments = comments; form = module_form n items }) (Ok tt)
   module-made items m ok tree called kept appended senses trees =
       let made : DefinitionTree = module_of (module_meant (within names es place n) n.name items comments) in
       let is : module_of (module_tree m) ≡ made = ap module_of tree in
       let absent : found names n.name ≡ None = absent-module names (within names es place n) n items ok in
       let last : map definition_tree new ≡ map definition_tree old ++ made ∷ [] = appended ∙ ap (λ (t : DefinitionTree). map definition_tree old ++ t ∷ []) is in
-      let senses2 : (q : List ℕ) → entry_sense_of (found es2 q) ≡ cond (is_name q n.name) (Some a_module) (entry_sense_of (found es q)) =
-      λ q. senses q ∙ ap (λ (x : List ℕ). cond (is_name q x) (Some a_module) (entry_sense_of (found es q))) called in
-      let trees2 : (q : List ℕ) → option_map entry_tree (found es2 q) ≡ cond (is_name q n.name) (Some made) (option_map entry_tree (found es q)) =
+      let senses2 : (q : List ℕ) → entry_sense_of (found es2 q) ≡ cond (is_same_name q n.name) (Some a_module) (entry_sense_of (found es q)) =
+      λ q. senses q ∙ ap (λ (x : List ℕ). cond (is_same_name q x) (Some a_module) (entry_sense_of (found es q))) called in
+      let trees2 : (q : List ℕ) → option_map entry_tree (found es2 q) ≡ cond (is_same_name q n.name) (Some made) (option_map entry_tree (found es q)) =
       λ q. trees q
-      ∙ (ap (λ (x : List ℕ). cond (is_name q x) (Some (module_of (module_tree m))) (option_map entry_tree (found es q))) called
-      ∙ ap (λ (t : DefinitionTree). cond (is_name q n.name) (Some t) (option_map entry_tree (found es q))) is) in
+      ∙ (ap (λ (x : List ℕ). cond (is_same_name q x) (Some (module_of (module_tree m))) (option_map entry_tree (found es q))) called
+      ∙ ap (λ (t : DefinitionTree). cond (is_same_name q n.name) (Some t) (option_map entry_tree (found es q))) is) in
       module-validates (Ok tt) names names2 es es2 constants place old new n items comments ok last
       (λ past k. keeps-module names names2 es es2 past n.name (place n.start) absent kept senses2 k)
       (fits-last made refl absent last trees2)

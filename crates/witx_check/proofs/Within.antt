@@ -17,14 +17,14 @@ use Rattle.witx_scope.specs.Checks.{type_checks}
 use Rattle.witx_scope.specs.Modules.{items_checks}
 use Rattle.witx_syntax_tree.specs.Trees.{NotedDecl}
 use Rattle.witx_scope.specs.Senses.{here_of, kept_sense, sense_at}
-use Rattle.witx_scope.specs.Inside.{within, typename_checks, module_checks, Takes, TakesAtMost, Refuses}
+use Rattle.witx_scope.specs.Inside.{within, typename_checks, module_checks, Takes, TakesAtMost, RefusesDeclaration}
 use Rattle.witx_scope.specs.declared.error.CheckError.{CheckError}
 use Rattle.witx_scope.specs.declared.error.CheckError.TheVariants as check_error
 use Rattle.witx_scope.specs.Blame.{Blames}
-use Rattle.witx_scope.specs.Answers.{IsFault}
+use Rattle.witx_scope.specs.Answers.{IsCheckFault}
 use Rattle.witx_scope.specs.Introduced.{AreIntroduced}
 use Rattle.witx_scope.specs.Kept.{tree_with}
-use Rattle.witx_scope.specs.Positions.{is_name}
+use Rattle.witx_scope.specs.Positions.{is_same_name}
 use Rattle.witx_scope.proofs.FirstFaults.{fault-past, blames-head, blames-to}
 use Rattle.witx_scope.proofs.Steps.{funext}
 
@@ -150,11 +150,11 @@ takes-new old new n at a k = (no-name (found old n) n at a, k)
 pub takes-one : (old new : Names) (n : List ℕ) (at : Location) → new_name old n at ≡ None → ((q : List ℕ) → found new q ≡ found ((n, at) ∷ old) q) → TakesAtMost old new n at
 takes-one old new n at a k = inr (takes-new old new n at a k)
 
-pub refuses-known : (e : CheckError) (old new : Names) (n : List ℕ) (p at : Location) → p ≡ at → Blames e (new_name old n p) → new ≡ old → IsFault e → Refuses old new n at
+pub refuses-known : (e : CheckError) (old new : Names) (n : List ℕ) (p at : Location) → p ≡ at → Blames e (new_name old n p) → new ≡ old → IsCheckFault e → RefusesDeclaration old new n at
 refuses-known (check_error.Validation v) old new n p at k b s f = inr ((λ (a : found old n ≡ None). let c : new_name old n p ≡ None = ap (option_map (λ (l : Location). name_already_exists n p l)) a in absurd (cc)), s)
 refuses-known check_error.OutOfMemory old new n p at k b s f = absurd f
 
-pub refuses-new : (old new : Names) (n : List ℕ) (at : Location) → new_name old n at ≡ None → ((q : List ℕ) → found new q ≡ found ((n, at) ∷ old) q) → Refuses old new n at
+pub refuses-new : (old new : Names) (n : List ℕ) (at : Location) → new_name old n at ≡ None → ((q : List ℕ) → found new q ≡ found ((n, at) ∷ old) q) → RefusesDeclaration old new n at
 refuses-new old new n at a k = inl (takes-new old new n at a k)
 
 pub ruleset takes_rules = (within_rules, takes-none, takes-one, refuses-new)
@@ -167,7 +167,7 @@ still-some false v o h = h
 
 introduced-more : (old new : Names) (es : List (List ℕ × Entry)) (n : List ℕ) (at : Location) → AreIntroduced old es
     → ((q : List ℕ) → found new q ≡ found ((n, at) ∷ old) q) → AreIntroduced new es
-introduced-more old new es n at h k q e = ap is_some (k q) ∙ still-some (is_name q n) at (found old q) (h q e)
+introduced-more old new es n at h k q e = ap is_some (k q) ∙ still-some (is_same_name q n) at (found old q) (h q e)
 
 some-tree : (o : Option Entry) → is_some o ≡ true → is_some (option_map entry_tree o) ≡ true
 some-tree (Some e) h = refl
@@ -183,7 +183,7 @@ introduced-finished : (old new : Names) (es now : List (List ℕ × Entry)) (n m
     → ((q : List ℕ) → found new q ≡ found ((n, at) ∷ old) q) → ((q : List ℕ) → option_map entry_tree (found now q) ≡ tree_with es m tree q) → AreIntroduced new now
 introduced-finished old new es now n m at tree same h k f q e =
     let f1 : option_map entry_tree (found now q) ≡ tree_with es n tree q = f q ∙ ap (λ (x : List ℕ). tree_with es x tree q) same in
-    ap is_some (k q) ∙ finished-at (is_name q n) tree (found es q) at (found old q) (h q) (sym (ap is_some f1) ∙ some-tree (found now q) e)
+    ap is_some (k q) ∙ finished-at (is_same_name q n) tree (found es q) at (found old q) (h q) (sym (ap is_some f1) ∙ some-tree (found now q) e)
 
 -- a declaration is kept, or its entry found no memory
 pub introduced-kept : {U X : Type 0} (r : Result U X) (old new : Names) (es now : List (List ℕ × Entry)) (n m : List ℕ) (at : Location) (tree : DefinitionTree) → m ≡ n → AreIntroduced old es

@@ -10,12 +10,12 @@ ghost use Rattle.witx_syntax_tree.specs.Views.{noted_decl};
 ghost use Rattle.witx_scope.specs.Faults.{first_fault};
 ghost use Rattle.witx_scope.specs.Names.{new_mark};
 ghost use Rattle.witx_scope.specs.Blame.{Blames};
-ghost use Rattle.witx_scope.specs.Answers.{IsFault};
+ghost use Rattle.witx_scope.specs.Answers.{IsCheckFault};
 ghost use Rattle.witx_scope.specs.Senses.{here_of};
 ghost use Rattle.witx_scope.specs.DeclarationForms.{items_in};
 ghost use Rattle.witx_scope.specs.Modules.{with_name, item_called, item_with, item_checks, items_checks, item_meant};
 ghost use Rattle.witx_scope.specs.Introduced.{AreIntroduced};
-ghost use Rattle.witx_scope.specs.Inside.{TakesAtMost, Refuses};
+ghost use Rattle.witx_scope.specs.Inside.{TakesAtMost, RefusesDeclaration};
 ghost use Rattle.witx_scope.specs.Sites.{place_at, checks_module, makes_module};
 
 use crate::functions::checked_func;
@@ -155,7 +155,7 @@ pub fn checked_module(
     ensures name { IfOk result (λ m. m.name ≡ decl.now.name.name.now) }
     ensures fault { IfErr result (λ e. Blames e (first_fault (checks_module names.old entries.now site.entry decl.now))) }
     ensures kept { (q : _) → OnOk result (found names.new q ≡ found ((decl.now.name.name.now, place_at site.entry decl.now.name) ∷ names.old) q) }
-    ensures refused { IfErr result (λ e. IsFault e → Refuses names.old names.new decl.now.name.name.now (place_at site.entry decl.now.name)) }
+    ensures refused { IfErr result (λ e. IsCheckFault e → RefusesDeclaration names.old names.new decl.now.name.name.now (place_at site.entry decl.now.name)) }
     ensures left { OnErr result (TakesAtMost names.old names.new decl.now.name.name.now (place_at site.entry decl.now.name)) }
 {
     let Site {

@@ -5,9 +5,9 @@ ghost use Rattle.witx_base.specs.Found.{found};
 ghost use Rattle.witx_ast.specs.Views.{named_tree};
 ghost use Rattle.witx_scope.specs.Faults.{first_fault};
 ghost use Rattle.witx_scope.specs.Blame.{Blames};
-ghost use Rattle.witx_scope.specs.Answers.{IsFault};
+ghost use Rattle.witx_scope.specs.Answers.{IsCheckFault};
 ghost use Rattle.witx_scope.specs.Introduced.{AreIntroduced};
-ghost use Rattle.witx_scope.specs.Inside.{TakesAtMost, Refuses};
+ghost use Rattle.witx_scope.specs.Inside.{TakesAtMost, RefusesDeclaration};
 ghost use Rattle.witx_scope.specs.Sites.{place_at, checks_typename, makes_typename};
 
 use crate::types::checked_type;
@@ -33,7 +33,7 @@ pub fn checked_typename(
     ensures name { IfOk result (λ n. n.name ≡ decl.now.ident.name.now) }
     ensures fault { IfErr result (λ e. Blames e (first_fault (checks_typename names.old entries.now site.entry decl.now))) }
     ensures kept { (q : _) → OnOk result (found names.new q ≡ found ((decl.now.ident.name.now, place_at site.entry decl.now.ident) ∷ names.old) q) }
-    ensures refused { IfErr result (λ e. IsFault e → Refuses names.old names.new decl.now.ident.name.now (place_at site.entry decl.now.ident)) }
+    ensures refused { IfErr result (λ e. IsCheckFault e → RefusesDeclaration names.old names.new decl.now.ident.name.now (place_at site.entry decl.now.ident)) }
     ensures left { OnErr result (TakesAtMost names.old names.new decl.now.ident.name.now (place_at site.entry decl.now.ident)) }
 {
     let Site {

@@ -15,14 +15,14 @@ use Rattle.witx_ast.specs.Tree.{Tree}
 use Rattle.witx_scope.specs.Faults.{Check, Fault, first_fault}
 use Rattle.witx_scope.specs.Names.{use_check}
 use Rattle.witx_scope.specs.DeclarationForms.{DeclForm, typename_form, module_form, constant_form}
-use Rattle.witx_scope.specs.Positions.{Taken, Outcome, refused, made_type, made_module, introducer, sense_after}
+use Rattle.witx_scope.specs.Positions.{TakenName, DeclarationOutcome, refused, made_type, made_module, introducer, sense_after}
 use Rattle.witx_scope.specs.Declarations.{Past, nothing_before, decl_checks, decl_tree, accepted}
 use Rattle.witx_order.specs.Items.{Declared}
 use Rattle.witx_order.specs.Walks.{World}
 use Rattle.witx_order.specs.Fronts.{AreSound}
 use Rattle.witx_walk.specs.Meaning.{form_of, places_of, form_fault, form_definitions, form_accepted, past_with, definitions_with, past_of, definitions_of, fault_behind, world}
 use Rattle.witx_walk.proofs.Declarations.{past-more, definitions-more}
-use Rattle.witx_markdown.specs.Constants.{constants_in, as_constant, is_typename, unknown_type}
+use Rattle.witx_markdown.specs.Constants.{constants_in, as_constant, names_typename, unknown_type}
 use Rattle.witx_commands.specs.ConstantTypes.{ConstantsHaveTypenames}
 use Rattle.witx_commands.proofs.Introduced.{Alike, alike-more, alike-same, defined_as, taken_as, type_made}
 
@@ -41,7 +41,7 @@ still-typename (Some d) p e = e
 names-append : (ds es : List DefinitionTree) → by_name introduced (ds ++ es) ≡ by_name introduced ds ++ by_name introduced es
 names-append ds es = filter_map-append {Y = List ℕ × DefinitionTree} (λ (d : DefinitionTree). option_map (λ (m : List ℕ). (m, d)) (introduced d)) ds es
 
-typename-stays : (ds es : List DefinitionTree) (n : List ℕ) → is_typename ds n ≡ true → is_typename (ds ++ es) n ≡ true
+typename-stays : (ds es : List DefinitionTree) (n : List ℕ) → names_typename ds n ≡ true → names_typename (ds ++ es) n ≡ true
 typename-stays ds es n e =
     ap (λ xs. is_some (option_and_then as_typename (found xs n))) (names-append ds es)
     ∙ (ap (λ o. is_some (option_and_then as_typename o)) (found-append (by_name introduced ds) (by_name introduced es) n)
@@ -70,12 +70,12 @@ both-none o p h k = ap (λ x. option_or x p) h ∙ k
 
 -- one more definition, whose constant type, if it is a constant, is a typename
 unknown-more : (ds : List DefinitionTree) (d : DefinitionTree) → unknown_type ds ≡ None
-    → find (λ n. not (is_typename (ds ++ d ∷ []) n)) (types_in (d ∷ [])) ≡ None → unknown_type (ds ++ d ∷ []) ≡ None
+    → find (λ n. not (names_typename (ds ++ d ∷ []) n)) (types_in (d ∷ [])) ≡ None → unknown_type (ds ++ d ∷ []) ≡ None
 unknown-more ds d h last =
-    let f : List ℕ → Bool = λ n. not (is_typename (ds ++ d ∷ []) n) in
+    let f : List ℕ → Bool = λ n. not (names_typename (ds ++ d ∷ []) n) in
     ap (find f) (types-append ds (d ∷ []))
     ∙ (find-append f (types_in ds) (types_in (d ∷ []))
-    ∙ both-none (find f (types_in ds)) (find f (types_in (d ∷ []))) (find-stays (is_typename ds) (is_typename (ds ++ d ∷ [])) (types_in ds) (typename-stays ds (d ∷ [])) h) last)
+    ∙ both-none (find f (types_in ds)) (find f (types_in (d ∷ []))) (find-stays (names_typename ds) (names_typename (ds ++ d ∷ [])) (types_in ds) (typename-stays ds (d ∷ [])) h) last)
 
 -- ---- declarations
 
@@ -83,12 +83,12 @@ no-first : (c : Check) (cs : List Check) → first_fault (c ∷ cs) ≡ None →
 no-first None cs e = refl
 no-first (Some f) cs e = cc
 
-used-as-type : (o : Option Taken) (n : List ℕ) (at : Location) → use_check n at (sense_after o false) ≡ None
+used-as-type : (o : Option TakenName) (n : List ℕ) (at : Location) → use_check n at (sense_after o false) ≡ None
     → (t : Tree) × (taken_as o ≡ Some (Some t))
 used-as-type None n at e = absurd (cc)
 used-as-type (Some t) n at e = by t.outcome e
   where
-    by : (outcome : Outcome) → use_check n at (sense_after (Some (record { name = t.name; place = t.place; outcome = outcome })) false) ≡ None
+    by : (outcome : DeclarationOutcome) → use_check n at (sense_after (Some (record { name = t.name; place = t.place; outcome = outcome })) false) ≡ None
         → (u : Tree) × (Some (type_made outcome) ≡ Some (Some u))
     by refused e = absurd (cc)
     by (made_type tree) e = (tree, refl)
@@ -114,10 +114,10 @@ known-form past ds place comments (module_form n items) k e = record {
 known-form past ds place comments (constant_form ty n value own) k e =
     let d : DefinitionTree = decl_tree past place comments (constant_form ty n value own) in
     let used = used-as-type (introducer past.taken ty.name) ty.name (place ty.start) (no-first _ _ e) in
-    let before : is_typename ds ty.name ≡ true = typename-of (found (by_name introduced ds) ty.name) used.0 (sym (k.alike ty.name) ∙ used.1) in
+    let before : names_typename ds ty.name ≡ true = typename-of (found (by_name introduced ds) ty.name) used.0 (sym (k.alike ty.name) ∙ used.1) in
     record {
       alike = alike-same past.taken ds d k.alike refl;
-      types = unknown-more ds d k.types (one-none (is_typename (ds ++ d ∷ []) ty.name) ty.name (typename-stays ds (d ∷ []) ty.name before));
+      types = unknown-more ds d k.types (one-none (names_typename (ds ++ d ∷ []) ty.name) ty.name (typename-stays ds (d ∷ []) ty.name before));
     }
 
 known-one : (past : Past) (ds : List DefinitionTree) (place : ℕ → Location) (comments : Comments) (form : Option DeclForm) → Known past ds

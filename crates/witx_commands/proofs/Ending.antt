@@ -11,7 +11,7 @@ use Rattle.witx_layout.specs.Layouts.{all_layouts}
 use Rattle.witx_adapt.specs.Entries.{IsFaithful, all_functions, entry_for, entry_of}
 use Rattle.witx_adapt.specs.declared.adapted.Adapted.{Adapted}
 use Rattle.witx_commands.specs.Adapting.{IsAdapted, Parses, defined}
-use Rattle.witx_commands.specs.Causes.{IsCause, IsMeaning, Reads}
+use Rattle.witx_commands.specs.Causes.{IsCause, IsMeaning, IsBundle}
 use Rattle.witx_commands.specs.Runs.{Cause, Failed, IsAnswered, IsPrepared, IsRun, IsTold, IsUsage, IsWritten, RunInput, SinkSeen, Task, Took, TookFront, WroteNothing, WroteOutput, WroteRefusal, input_bytes}
 use Rattle.witx_commands.specs.Streams.{BrokeOff, NoFault}
 use Rattle.witx_commands.specs.Texts.{IsRefused, status_of, text_of}
@@ -48,16 +48,16 @@ pub record IsLawful (t : Task) : Type 0 where
   pub valid : (bytes : List ℕ) (files others : Files) → IsRead bytes (Ok files) → IsRead bytes (Ok others)
       → (report : List ℕ) → t.IsValid others → t.Refuses files report → ⊥
 
-meaning-of : (left : Option (List ℕ)) (files : Files) (handed : List Path) (a : Adapted) → Reads left (Ok files) → Parses files handed (Ok (defined a)) → IsMeaning left handed (defined a)
+meaning-of : (left : Option (List ℕ)) (files : Files) (handed : List Path) (a : Adapted) → IsBundle left (Ok files) → Parses files handed (Ok (defined a)) → IsMeaning left handed (defined a)
 meaning-of None files handed a r p = tt
 meaning-of (Some bytes) files handed a r p = (files, r, p)
 
 -- what reading the bytes left answers, where they are told
-read-as : (left : Option (List ℕ)) (bytes : List ℕ) (files : Files) → left ≡ Some bytes → Reads left (Ok files) → IsRead bytes (Ok files)
-read-as left bytes files e r = subst (λ l. Reads l (Ok files)) e r
+read-as : (left : Option (List ℕ)) (bytes : List ℕ) (files : Files) → left ≡ Some bytes → IsBundle left (Ok files) → IsRead bytes (Ok files)
+read-as left bytes files e r = subst (λ l. IsBundle l (Ok files)) e r
 
-read-bad : (left : Option (List ℕ)) (bytes : List ℕ) (e : BundleError) → left ≡ Some bytes → Reads left (Err e) → IsRead bytes (Err e)
-read-bad left bytes e told r = subst (λ l. Reads l (Err e)) told r
+read-bad : (left : Option (List ℕ)) (bytes : List ℕ) (e : BundleError) → left ≡ Some bytes → IsBundle left (Err e) → IsRead bytes (Err e)
+read-bad left bytes e told r = subst (λ l. IsBundle l (Err e)) told r
 
 -- ---- the value that is kept has what the output's value has
 

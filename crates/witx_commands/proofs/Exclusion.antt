@@ -4,7 +4,7 @@ use Rattle.std.proofs.Common.{refl, sym, ap, ◌∙◌, subst, inl, inr, arith, 
 use mathlib.Core.Path.{fun_ext}
 use Rattle.witx_base.specs.Paths.{Path}
 use Rattle.witx_base.specs.Causes.{Rose}
-use Rattle.witx_files.specs.Files.{Aliases, Files, canonical, held}
+use Rattle.witx_files.specs.Files.{Aliases, Files, canonical, text_in}
 use Rattle.witx_files.specs.declared.fault.IoFault.TheVariants.{NotFound, LineNotFound, Failed}
 use Rattle.witx_bundle.specs.Bundles.{IsRead, limit}
 use Rattle.witx_bundle.specs.declared.error.BundleError.{BundleError}
@@ -17,11 +17,11 @@ use Rattle.witx_layout.specs.LayoutsText.{typename_sizes}
 use Rattle.witx_layout.specs.Refusals.{tag_refusal}
 use Rattle.witx_layout.specs.declared.tags.TagTooNarrow.{TagTooNarrow}
 use Rattle.witx_order.specs.Items.{Declared}
-use Rattle.witx_order.specs.Walks.{World, Place, Refusal, bad_path, too_many, missing, unreadable, faulty, beginning}
+use Rattle.witx_order.specs.Walks.{World, Place, WalkRefusal, bad_path, too_many, missing, unreadable, faulty, beginning}
 use Rattle.witx_order.specs.Verdicts.{Verdict, fine, refused, Ends}
 use Rattle.witx_order.proofs.OnlyOne.{one-verdict}
 use Rattle.witx_order.proofs.FinalFronts.{means-fine}
-use Rattle.witx_walk.specs.Readings.{Reading, IsReading}
+use Rattle.witx_walk.specs.Readings.{FileReading, IsReading}
 use Rattle.witx_walk.specs.Meaning.{world, definitions_of, fault_behind, MeansDocument}
 use Rattle.witx_walk.specs.Answers.{Answer, Answers, told_fault}
 use Rattle.witx_walk.specs.Answers as walk
@@ -30,10 +30,10 @@ use Rattle.witx_walk.specs.declared.error.WitxError.TheVariants as witx_error
 use Rattle.witx_adapt.specs.declared.adapted.Adapted.{Adapted}
 use Rattle.witx_adapt.specs.declared.error.DocumentError.{DocumentError}
 use Rattle.witx_adapt.specs.declared.error.DocumentError.TheVariants as document_error
-use Rattle.witx_adapt.specs.Adaptable.{IsAdaptable, Refuses}
+use Rattle.witx_adapt.specs.Adaptable.{IsAdaptable, RefusesDocument}
 use Rattle.witx_commands.specs.declared.error.AdaptError.{AdaptError}
 use Rattle.witx_commands.specs.declared.error.AdaptError.TheVariants as adapt_error
-use Rattle.witx_commands.specs.Adapting.{AdaptRefuses, AdaptRefusesBundle, IsParsed, IsTextRefusal, Parses, defined}
+use Rattle.witx_commands.specs.Adapting.{AdaptRefuses, AdaptRefusesBundle, IsParsedDocument, IsTextRefusal, Parses, defined}
 use Rattle.witx_adapt.specs.Listings.{listing_text}
 use Rattle.witx_sample.specs.Samples.{sample_path}
 use Rattle.witx_sample.specs.Summaries.{summary_text}
@@ -48,8 +48,8 @@ use Rattle.witx_commands.specs.Texts.{IsRefused, bundle_status}
 use Rattle.witx_commands.specs.Causes.{IsAdaptedText, IsCause, IsMeantPage, IsOutput, IsPolyfill, IsValidFor}
 
 -- a refusal where no call failed is the verdict
-refusal-ends : (w : World Fault) (at : Place) (before now : ℕ) (e : WitxError) → (Rose before now → ⊥) → IsTextRefusal e → walk.Refuses w at before now e
-    → (r : Refusal Fault) × Ends w at (refused r)
+refusal-ends : (w : World Fault) (at : Place) (before now : ℕ) (e : WitxError) → (Rose before now → ⊥) → IsTextRefusal e → walk.RefusesFiles w at before now e
+    → (r : WalkRefusal Fault) × Ends w at (refused r)
 refusal-ends w at before now (witx_error.BadPath p) none i h = (bad_path p, h.1)
 refusal-ends w at before now (witx_error.TooManyFiles p) none i h = (too_many p, h.1)
 refusal-ends w at before now (witx_error.Io p NotFound) none i h = (missing p, h.1)
@@ -60,7 +60,7 @@ refusal-ends w at before now (witx_error.Validation e) none i h = (faulty (fault
 refusal-ends w at before now witx_error.OutOfMemory none i h = absurd i
 
 not-both : (w : World Fault) (handed : List Path) (ds : List DefinitionTree) (before now : ℕ) (e : WitxError) → (Rose before now → ⊥) → MeansDocument w handed ds
-    → IsTextRefusal e → walk.Refuses w (beginning handed) before now e → ⊥
+    → IsTextRefusal e → walk.RefusesFiles w (beginning handed) before now e → ⊥
 not-both w handed ds before now e none (declared, (means, made)) i h =
     let k = refusal-ends w (beginning handed) before now e none i h in
     let same : fine declared ≡ refused k.0 = one-verdict w handed (fine declared) (refused k.0) (means-fine w handed declared means.0 means.1.0 means.1.1) k.1 in
@@ -90,7 +90,7 @@ IsDocumentRefusal : DocumentError → Type 0
 IsDocumentRefusal document_error.OutOfMemory = ⊥
 IsDocumentRefusal _ = Unit {0}
 
-document-excluded : (ds : List DefinitionTree) (e : DocumentError) → IsAdaptable ds → IsDocumentRefusal e → Refuses ds e → ⊥
+document-excluded : (ds : List DefinitionTree) (e : DocumentError) → IsAdaptable ds → IsDocumentRefusal e → RefusesDocument ds e → ⊥
 unfolding IsDocumentRefusal
 document-excluded ds (document_error.TagTooNarrow t) a i h = tag-excluded (first_misfit ds) t a.fits h
 document-excluded ds (document_error.TooLarge n) a i h = let l = a.sizes in let m = h.1 in cc
@@ -100,20 +100,20 @@ document-excluded ds document_error.OutOfMemory a i h = absurd i
 no-large : (sizes : List ℕ) → All (λ size. size < 2 ^ 64) sizes → Any (λ size. 2 ^ 64 ≤ size) sizes → ⊥
 no-large sizes a (k, x, l, e, h) = let small : get_or sizes k x < 2 ^ 64 = a k x l in omega (arith, small, e, h)
 
-abbrev world-with : Reading → (Path → Option (List ℕ)) → World Fault
+abbrev world-with : FileReading → (Path → Option (List ℕ)) → World Fault
 world-with reading texts = record { text_at = texts; canonical = canonical []; reading = reading; fault_of = fault_behind }
 
-same-world : (fs gs : Files) (reading : Reading) → ((q : Path) → held fs q ≡ held gs q) → world fs [] reading ≡ world gs [] reading
+same-world : (fs gs : Files) (reading : FileReading) → ((q : Path) → text_in fs q ≡ text_in gs q) → world fs [] reading ≡ world gs [] reading
 same-world fs gs reading h =
     ap (λ (texts : Path → Option (List ℕ)). world-with reading texts) (fun_ext h)
 
-module _ (reading : Reading) (is : IsReading reading) (fs gs : Files) (same : (q : Path) → held fs q ≡ held gs q) (handed : List Path) where
+module _ (reading : FileReading) (is : IsReading reading) (fs gs : Files) (same : (q : Path) → text_in fs q ≡ text_in gs q) (handed : List Path) where
   here-answers : (r : Answer) → Parses gs handed r → Answers (world gs [] reading) handed 0 0 r
-  unfolding IsParsed
+  unfolding IsParsedDocument
   here-answers r h = h gs [] reading refl refl is
 
   there-answers : (r : Answer) → Parses fs handed r → Answers (world gs [] reading) handed 0 0 r
-  unfolding IsParsed
+  unfolding IsParsedDocument
   there-answers r h = subst (λ w. Answers w handed 0 0 r) (same-world fs gs reading same) (h fs [] reading refl refl is)
 
   text-excluded : (ds : List DefinitionTree) (e : WitxError) → Parses gs handed (Ok ds) → IsTextRefusal e → Parses fs handed (Err e) → ⊥
@@ -122,8 +122,8 @@ module _ (reading : Reading) (is : IsReading reading) (fs gs : Files) (same : (q
   pub parses-same : (ds es : List DefinitionTree) → Parses gs handed (Ok ds) → Parses fs handed (Ok es) → es ≡ ds
   parses-same ds es p h = same-document (world gs [] reading) handed es ds (there-answers (Ok es) h).1 (here-answers (Ok ds) p).1
 
-  meant-excluded : (ds es : List DefinitionTree) (e : DocumentError) → Parses gs handed (Ok ds) → IsAdaptable ds → IsDocumentRefusal e → Parses fs handed (Ok es) → Refuses es e → ⊥
-  meant-excluded ds es e p a i h r = document-excluded ds e a i (subst (λ xs. Refuses xs e) (parses-same ds es p h) r)
+  meant-excluded : (ds es : List DefinitionTree) (e : DocumentError) → Parses gs handed (Ok ds) → IsAdaptable ds → IsDocumentRefusal e → Parses fs handed (Ok es) → RefusesDocument es e → ⊥
+  meant-excluded ds es e p a i h r = document-excluded ds e a i (subst (λ xs. RefusesDocument xs e) (parses-same ds es p h) r)
 
   report-excluded : (ds : List DefinitionTree) → Parses gs handed (Ok ds) → IsAdaptable ds → (e : AdaptError) (report : List ℕ) → IsAdaptReport fs handed e report → AdaptRefusesBundle fs handed e → ⊥
   unfolding IsDocumentRefusal IsAdaptReport AdaptRefusesBundle
@@ -144,7 +144,7 @@ module _ (reading : Reading) (is : IsReading reading) (fs gs : Files) (same : (q
   sizes-excluded ds p a report (es, h, k) =
       no-large (typename_sizes ds) a (subst (λ xs. Any (λ size. 2 ^ 64 ≤ size) (typename_sizes xs)) (parses-same ds es p h) k.0)
 
-module _ (reading : Reading) (is : IsReading reading) (fs gs : Files) (same : (q : Path) → held fs q ≡ held gs q) where
+module _ (reading : FileReading) (is : IsReading reading) (fs gs : Files) (same : (q : Path) → text_in fs q ≡ text_in gs q) where
   adapted-excluded : (handed : List Path) (text_for : Adapted → List ℕ) (text : List ℕ) (adapted : Option Adapted) (report : List ℕ)
       → IsAdaptedText text_for gs handed text adapted → AdaptingFails fs handed report → ⊥
   adapted-excluded handed text_for text None report o h = absurd o
@@ -212,21 +212,21 @@ module _ (reading : Reading) (is : IsReading reading) (fs gs : Files) (same : (q
   valid-excluded _ report v h = absurd v
 
 -- told files and aliases that mean a document, over any reader
-module _ (reading : Reading) (is : IsReading reading) (files : Files) (aliases : Aliases) (handed : List Path) (ds : List DefinitionTree) where
-  told-answers : (before now : ℕ) (r : Answer) → IsParsed (Some files) (Some aliases) handed before now r → Answers (world files aliases reading) handed before now r
-  unfolding IsParsed
+module _ (reading : FileReading) (is : IsReading reading) (files : Files) (aliases : Aliases) (handed : List Path) (ds : List DefinitionTree) where
+  told-answers : (before now : ℕ) (r : Answer) → IsParsedDocument (Some files) (Some aliases) handed before now r → Answers (world files aliases reading) handed before now r
+  unfolding IsParsedDocument
   told-answers before now r h = h files aliases reading refl refl is
 
-  told-means : IsParsed (Some files) (Some aliases) handed 0 0 (Ok ds) → MeansDocument (world files aliases reading) handed ds
+  told-means : IsParsedDocument (Some files) (Some aliases) handed 0 0 (Ok ds) → MeansDocument (world files aliases reading) handed ds
   told-means p = (told-answers 0 0 (Ok ds) p).1
 
-  told-excluded : IsParsed (Some files) (Some aliases) handed 0 0 (Ok ds) → IsAdaptable ds → (before now : ℕ) (es : List DefinitionTree) (d : DocumentError) → IsDocumentRefusal d
-      → IsParsed (Some files) (Some aliases) handed before now (Ok es) → Refuses es d → ⊥
+  told-excluded : IsParsedDocument (Some files) (Some aliases) handed 0 0 (Ok ds) → IsAdaptable ds → (before now : ℕ) (es : List DefinitionTree) (d : DocumentError) → IsDocumentRefusal d
+      → IsParsedDocument (Some files) (Some aliases) handed before now (Ok es) → RefusesDocument es d → ⊥
   told-excluded p a before now es d i h r =
       let same : es ≡ ds = same-document (world files aliases reading) handed es ds (told-answers before now (Ok es) h).1 (told-means p) in
-      document-excluded ds d a i (subst (λ xs. Refuses xs d) same r)
+      document-excluded ds d a i (subst (λ xs. RefusesDocument xs d) same r)
 
-  pub valid-files : IsParsed (Some files) (Some aliases) handed 0 0 (Ok ds) → IsAdaptable ds → (before now : ℕ) (e : AdaptError) → (Rose before now → ⊥)
+  pub valid-files : IsParsedDocument (Some files) (Some aliases) handed 0 0 (Ok ds) → IsAdaptable ds → (before now : ℕ) (e : AdaptError) → (Rose before now → ⊥)
       → AdaptRefuses (Some files) (Some aliases) handed before now e → e ≡ adapt_error.OutOfMemory
   unfolding IsDocumentRefusal
   valid-files p a before now (adapt_error.Refused e) none h =
@@ -237,7 +237,7 @@ module _ (reading : Reading) (is : IsReading reading) (files : Files) (aliases :
   valid-files p a before now adapt_error.OutOfMemory none h = refl
 
 -- the files of one bundle tell the same texts
-pub same-files : (bytes : List ℕ) (fs gs : Files) → IsRead bytes (Ok fs) → IsRead bytes (Ok gs) → (q : Path) → held fs q ≡ held gs q
+pub same-files : (bytes : List ℕ) (fs gs : Files) → IsRead bytes (Ok fs) → IsRead bytes (Ok gs) → (q : Path) → text_in fs q ≡ text_in gs q
 same-files bytes fs gs h k q = h.3 q ∙ sym (k.3 q)
 
 -- the bytes of a bundle aren't refused as one

@@ -14,7 +14,7 @@ use Rattle.std.specs.FinMap.Entries.{by_order}
 use Rattle.witx_files.specs.Files.{Files}
 use Rattle.witx_ast.specs.Definitions.{DefinitionTree}
 use Rattle.witx_compat.specs.Polyfills.{MappedModule, no_module, no_function, polyfill_answer}
-use Rattle.witx_compat.specs.Views.{Says}
+use Rattle.witx_compat.specs.Views.{IsPolyfillRefusal}
 use Rattle.witx_compat.specs.declared.error.PolyfillError.{PolyfillError}
 use Rattle.witx_compat.specs.declared.error.PolyfillError.TheVariants as polyfill_error
 use Rattle.witx_docs.specs.PolyfillTexts.{polyfill_text}
@@ -128,14 +128,14 @@ unfolding IsPolyfillText
 answer-text new old names modules text p t = (modules, p, t)
 
 absent-told : (new old : List DefinitionTree) (names : List (List ℕ)) (m : Pairs) (e : PolyfillError) (report : List ℕ) → m ≡ mapping_of names
-    → Says (polyfill_answer new old m) e → IsErrorText e report → IsAbsentReport new old names report
+    → IsPolyfillRefusal (polyfill_answer new old m) e → IsErrorText e report → IsAbsentReport new old names report
 unfolding IsAbsentReport
 absent-told new old names m (polyfill_error.ModuleNotPresent name) report e p t = (no_module name, ap (polyfill_answer new old) (sym e) ∙ p, t)
 absent-told new old names m (polyfill_error.FuncNotPresent owner name) report e p t = (no_function owner name, ap (polyfill_answer new old) (sym e) ∙ p, t)
 absent-told new old names m polyfill_error.OutOfMemory report e p t = absurd t
 
 pub absent-stops : (new old : List DefinitionTree) (names : List (List ℕ)) (m : Pairs) (e : PolyfillError) (s : Stop) → m ≡ mapping_of names
-    → Says (polyfill_answer new old m) e → StopsWith (IsErrorText e) s → StopsWith (IsAbsentReport new old names) s
+    → IsPolyfillRefusal (polyfill_answer new old m) e → StopsWith (IsErrorText e) s → StopsWith (IsAbsentReport new old names) s
 absent-stops new old names m e s n p k = stops-as (IsErrorText e) (IsAbsentReport new old names) (λ report t. absent-told new old names m e report n p t) s k
 
 pub ruleset report_rules = (memory-stops, mapped-answer, answer-text, absent-stops)

@@ -3,7 +3,7 @@
 use Rattle.std.specs.Prelude.{◌≡◌, ℕ, ◌≤◌, ◌+◌, List, true, false, Option, None, Some, Result, Ok, Err, IfErr, IfOk, option_map}
 use Rattle.std.proofs.Common.{refl, subst, sym, ap, ◌∙◌}
 use Rattle.witx_files.specs.Files.{Files}
-use Rattle.witx_commands.specs.Causes.{FilesCause, InputCause, Reads, stop_of}
+use Rattle.witx_commands.specs.Causes.{FilesCause, InputCause, IsBundle, stop_of}
 use Rattle.witx_commands.specs.Runs.{AnswerCause, IsPrepared, RunInput, StopCause, Task, command_task, form_task, formless, input_bytes, task_of}
 use Rattle.witx_commands.specs.Stops.{StopsWith}
 use Rattle.witx_commands.specs.Streams.{Finished, NoFault, SourceSeen, TookInput}
@@ -22,7 +22,7 @@ use Rattle.witx_commands.proofs.ReadThrough.{took-nothing}
 pub files-caused : (c : Asked) (s : SourceSeen) (e : InputError) → reads_source c ≡ true → bundle_bytes c s.left ≡ s.left
     → InputCause s e → FilesCause c s e
 files-caused c s input.Source reads same h = (reads, h)
-files-caused c s (input.Bundle b) reads same h = (reads, h.0, h.1, subst (λ l. Reads l (Err b)) (sym same) h.2)
+files-caused c s (input.Bundle b) reads same h = (reads, h.0, h.1, subst (λ l. IsBundle l (Err b)) (sym same) h.2)
 files-caused c s input.OutOfMemory reads same h = h
 
 pub ruleset file_rules = (files-caused, took-nothing)
@@ -47,7 +47,7 @@ module _ (i : RunInput) (source_kept : Type 0) (formed : i.task.no_form ≡ None
   pub unread-prepared : (s : Stop) → StopCause i s → IsPrepared i (Err s) source_kept
   unread-prepared s c = by-cause (Err s) c
 
-  refuses-cause : (files : Files) (s : Stop) → NoFault i.source → Reads (input_bytes i) (Ok files) → StopsWith (i.task.Refuses files) s → StopCause i s
+  refuses-cause : (files : Files) (s : Stop) → NoFault i.source → IsBundle (input_bytes i) (Ok files) → StopsWith (i.task.Refuses files) s → StopCause i s
   refuses-cause files (stop.Refused (refusal.Usage known)) n b k = absurd k
   refuses-cause files (stop.Refused refusal.Source) n b k = absurd k
   refuses-cause files (stop.Refused (refusal.Bundle e)) n b k = absurd k
@@ -55,13 +55,13 @@ module _ (i : RunInput) (source_kept : Type 0) (formed : i.task.no_form ≡ None
   refuses-cause files stop.OutOfMemory n b k = n
 
   answer-cause : (files : Files) (answer : Result Output Stop) → (i.task.reading ≡ true → Finished i.source.left i.source.left_after) → NoFault i.source
-      → Reads (input_bytes i) (Ok files) → IfOk answer (λ o. i.task.Tells files o.text o.notes o.adapted) → IfErr answer (StopsWith (i.task.Refuses files)) → AnswerCause i answer
+      → IsBundle (input_bytes i) (Ok files) → IfOk answer (λ o. i.task.Tells files o.text o.notes o.adapted) → IfErr answer (StopsWith (i.task.Refuses files)) → AnswerCause i answer
   answer-cause files (Ok o) f n b t k = record { finished = f; no_fault = n; files = files; bundle = b; output = t }
   answer-cause files (Err s) f n b t k = refuses-cause files s n b k
 
   -- over files
   pub answer-prepared : (files : Files) (answer : Result Output Stop) → (i.task.reading ≡ true → Finished i.source.left i.source.left_after) → NoFault i.source
-      → Reads (input_bytes i) (Ok files) → IfOk answer (λ o. i.task.Tells files o.text o.notes o.adapted) → IfErr answer (StopsWith (i.task.Refuses files))
+      → IsBundle (input_bytes i) (Ok files) → IfOk answer (λ o. i.task.Tells files o.text o.notes o.adapted) → IfErr answer (StopsWith (i.task.Refuses files))
       → IsPrepared i answer source_kept
   answer-prepared files answer f n b t k = by-cause answer (answer-cause files answer f n b t k)
 
@@ -93,7 +93,7 @@ command-unread i c source_kept formed reading bundle e end same h kept later rea
   where
     by-error : (e : InputError) → FilesCause c i.source e → StopCause i (stop_of e)
     by-error input.Source h = (reading ∙ h.0, h.1)
-    by-error (input.Bundle b) h = (reading ∙ h.0, h.1, h.2, subst (λ (f : Option (List ℕ) → Option (List ℕ)). Reads (f i.source.left) (Err b)) (sym bundle) h.3)
+    by-error (input.Bundle b) h = (reading ∙ h.0, h.1, h.2, subst (λ (f : Option (List ℕ) → Option (List ℕ)). IsBundle (f i.source.left) (Err b)) (sym bundle) h.3)
     by-error input.OutOfMemory h = h
 
 -- words that have the form of a command, as it was read, and words of none

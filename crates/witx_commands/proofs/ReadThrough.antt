@@ -10,7 +10,7 @@ use Rattle.witx_files.specs.Files.{Files}
 use Rattle.witx_bundle.specs.Bundles.{IsRead, limit}
 use Rattle.witx_bundle.specs.declared.error.BundleError.{BundleError}
 use Rattle.witx_bundle.specs.declared.error.BundleError.TheVariants as bundle
-use Rattle.witx_commands.specs.Causes.{ReadCause, Reads}
+use Rattle.witx_commands.specs.Causes.{ReadCause, IsBundle}
 use Rattle.witx_commands.specs.Streams.{Finished, IsAll, IsInput, SourceSeen, TakesMore, TookAtMost}
 use Rattle.witx_commands.specs.declared.input.InputError.{InputError}
 use Rattle.witx_commands.specs.declared.input.InputError.TheVariants as input
@@ -50,7 +50,7 @@ nothing-left left (r ∷ rest) xs p e =
     let m : length xs ≡ length left = ap length e in absurd (omega arith)
 
 -- what stands at the front of the bytes left says what the bytes left are
-pub bundle-reads : (a b : Option (List ℕ)) (xs : List ℕ) (r : Result Files BundleError) → IsInput a b xs → IsRead xs r → Reads a r
+pub bundle-reads : (a b : Option (List ℕ)) (xs : List ℕ) (r : Result Files BundleError) → IsInput a b xs → IsRead xs r → IsBundle a r
 bundle-reads None b xs r i h = tt
 bundle-reads (Some left) b xs (Ok files) i h = subst (λ ys. IsRead ys (Ok files)) (i.whole h.0) h
 bundle-reads (Some left) b xs (Err bundle.TooLong) i h = longer left b xs i.taken h

@@ -7,7 +7,7 @@ use Rattle.witx_sample.specs.declared.sample.TheConstants.{LARGEST_SAMPLE}
 use Rattle.witx_commands.specs.declared.forms.Forms.{Forms}
 use Rattle.witx_commands.specs.declared.words.Command.{Command}
 use Rattle.witx_commands.specs.Words as asked
-use Rattle.witx_commands.specs.Words.{Asked, IsBounded, asked_by, asked_of, command_of, if_known, invoke_of, is_known, is_printed_size, names_of, own_file_of, sample_of, two_files_of}
+use Rattle.witx_commands.specs.Words.{Asked, IsBounded, asked_by, asked_of, command_of, if_known, invoke_of, is_known, is_printed_size, both_names, own_file_of, sample_of, two_files_of}
 use Rattle.witx_commands.proofs.SampleWords.{printed-parts}
 
 -- ---- the number of a sample
@@ -39,7 +39,7 @@ module _ (P : ℕ → Type 0) (sized : (word : List ℕ) → is_printed_size wor
   invoke-of : (arguments : List (List ℕ)) → IfSome (invoke_of arguments) (OfSample P)
   invoke-of [] = tt
   invoke-of (owner ∷ []) = tt
-  invoke-of (owner ∷ function ∷ more) = mapped (OfSample P) (asked.invoke (names_of owner function)) (λ own. tt) (own_file_of more)
+  invoke-of (owner ∷ function ∷ more) = mapped (OfSample P) (asked.invoke (both_names owner function)) (λ own. tt) (own_file_of more)
 
   pub asked-sample : (words : List (List ℕ)) → IfSome (asked_of words) (OfSample P)
   asked-sample [] = tt

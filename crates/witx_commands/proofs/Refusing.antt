@@ -10,7 +10,7 @@ use Rattle.witx_walk.specs.declared.error.WitxError.{WitxError}
 use Rattle.witx_walk.specs.declared.error.WitxError.TheVariants as witx_error
 use Rattle.witx_adapt.specs.declared.error.DocumentError.{DocumentError}
 use Rattle.witx_adapt.specs.declared.error.DocumentError.TheVariants as document_error
-use Rattle.witx_adapt.specs.Adaptable.{IsAdaptable, Refuses}
+use Rattle.witx_adapt.specs.Adaptable.{IsAdaptable, RefusesDocument}
 use Rattle.witx_adapt.specs.declared.adapted.Adapted.{Adapted}
 use Rattle.witx_layout.specs.Layouts.{all_layouts}
 use Rattle.witx_adapt.specs.Entries.{IsFaithful, all_functions, entry_for, entry_of}
@@ -31,9 +31,9 @@ use Rattle.witx_commands.specs.Words.{paths_of}
 use Rattle.witx_commands.specs.Reports.{AdaptingFails, CommandRefuses, ParsingFails, IsAdaptReport, IsDocumentReport, IsSizeReport, IsTextReport, IsUnadaptedReport}
 use Rattle.witx_commands.specs.declared.error.Unadapted.{Unadapted}
 use Rattle.witx_commands.specs.declared.error.Unadapted.TheVariants as unadapted
-use Rattle.witx_commands.specs.Adapting.{AdaptRefuses, HasAdaptCause, IsAdapted, IsMeant, IsParsed, Parses, RefusesBundle, defined, document_refusal, refusal_of, text_refusal}
+use Rattle.witx_commands.specs.Adapting.{AdaptRefuses, HasAdaptCause, IsAdapted, IsMeantByFiles, IsParsedDocument, Parses, RefusesBundle, defined, document_error_refusal, unadapted_refusal, text_refusal}
 
-pub texts-refused : (files : Option Files) (aliases : Option Aliases) (handed : List Path) (before now : ℕ) (e : WitxError) → IsParsed files aliases handed before now (Err e)
+pub texts-refused : (files : Option Files) (aliases : Option Aliases) (handed : List Path) (before now : ℕ) (e : WitxError) → IsParsedDocument files aliases handed before now (Err e)
     → AdaptRefuses files aliases handed before now (text_refusal e)
 texts-refused files aliases handed before now (witx_error.Io p f) h = (tt, h)
 texts-refused files aliases handed before now (witx_error.Parse e) h = (tt, h)
@@ -43,7 +43,7 @@ texts-refused files aliases handed before now (witx_error.TooManyFiles p) h = (t
 texts-refused files aliases handed before now witx_error.OutOfMemory h = tt
 
 pub document-refused : (files : Option Files) (aliases : Option Aliases) (handed : List Path) (before now : ℕ) (ds : List DefinitionTree) (e : DocumentError)
-    → IsParsed files aliases handed before now (Ok ds) → Refuses ds e → AdaptRefuses files aliases handed before now (document_refusal e)
+    → IsParsedDocument files aliases handed before now (Ok ds) → RefusesDocument ds e → AdaptRefuses files aliases handed before now (document_error_refusal e)
 document-refused files aliases handed before now ds (document_error.TagTooNarrow t) h r = (ds, h, r)
 document-refused files aliases handed before now ds (document_error.TooLarge n) h r = (ds, h, r)
 document-refused files aliases handed before now ds (document_error.Unlowerable m f p) h r = (ds, h, r)
@@ -59,7 +59,7 @@ texts-caused N files before now (witx_error.BadPath p) h = h
 texts-caused N files before now (witx_error.TooManyFiles p) h = h
 texts-caused N files before now witx_error.OutOfMemory h = h
 
-pub document-caused : (IsNameless : Path → Type 0) (files : Option Files) (before now : ℕ) (e : DocumentError) → now ≡ before → HasAdaptCause IsNameless files before now (document_refusal e)
+pub document-caused : (IsNameless : Path → Type 0) (files : Option Files) (before now : ℕ) (e : DocumentError) → now ≡ before → HasAdaptCause IsNameless files before now (document_error_refusal e)
 document-caused N files before now (document_error.TagTooNarrow t) h = h
 document-caused N files before now (document_error.TooLarge n) h = h
 document-caused N files before now (document_error.Unlowerable m f p) h = h
@@ -75,7 +75,7 @@ pub ruleset bundle_rules = (adapted-parts)
 
 -- a report of a document that is handed back is that of what is told
 document-told : (files : Files) (handed : List Path) (ds : List DefinitionTree) (e : DocumentError) (report : List ℕ) → Parses files handed (Ok ds) → IsDocumentReport ds e report
-    → IsAdaptReport files handed (document_refusal e) report
+    → IsAdaptReport files handed (document_error_refusal e) report
 unfolding IsAdaptReport
 document-told files handed ds (document_error.TagTooNarrow t) report h k = (ds, h, k)
 document-told files handed ds (document_error.TooLarge n) report h k = (ds, h, k)
@@ -91,8 +91,8 @@ texts-told files handed (witx_error.BadPath p) report k = k
 texts-told files handed (witx_error.TooManyFiles p) report k = k
 texts-told files handed witx_error.OutOfMemory report k = absurd k.0
 
-unadapted-told : (files : Files) (handed : List Path) (u : Unadapted) (report : List ℕ) → IsMeant (Some files) (Some []) handed 0 0 u → IsUnadaptedReport files u report
-    → IsAdaptReport files handed (refusal_of u) report
+unadapted-told : (files : Files) (handed : List Path) (u : Unadapted) (report : List ℕ) → IsMeantByFiles (Some files) (Some []) handed 0 0 u → IsUnadaptedReport files u report
+    → IsAdaptReport files handed (unadapted_refusal u) report
 unfolding IsUnadaptedReport
 unadapted-told files handed (unadapted.Texts e) report h k = texts-told files handed e report k
 unadapted-told files handed (unadapted.Document r) report h k = document-told files handed (map definition_tree r.document.definitions) r.error report h k
@@ -118,7 +118,7 @@ pub adapting-stops : (files : Files) (handed : List Path) (u : Unadapted) (s : S
     → StopsWith (AdaptingFails files handed) s
 unfolding RefusesBundle
 adapting-stops files handed u s h k =
-    stops-as (IsUnadaptedReport files u) (AdaptingFails files handed) (λ report told. (refusal_of u, h.0, unadapted-told files handed u report h.1 told)) s k
+    stops-as (IsUnadaptedReport files u) (AdaptingFails files handed) (λ report told. (unadapted_refusal u, h.0, unadapted-told files handed u report h.1 told)) s k
 
 pub parsed-paths : (files : Files) (handed paths : List Path) (ds : List DefinitionTree) → handed ≡ paths → Parses files handed (Ok ds) → Parses files paths (Ok ds)
 parsed-paths files handed paths ds same h = subst (λ ps. Parses files ps (Ok ds)) same h

@@ -4,7 +4,7 @@ use Rattle.std.specs.Prelude.{◌≡◌, ℕ, List, [], map, All, Option, Some, 
 use Rattle.witx_base.specs.Paths.{Path}
 use Rattle.witx_files.specs.Files.{Files, Aliases}
 use Rattle.witx_ast.specs.Definitions.{DefinitionTree, definition_tree}
-use Rattle.witx_walk.specs.Answers.{Answer, HasCause, IsAnswer}
+use Rattle.witx_walk.specs.Answers.{Answer, HasCause, IsWalkAnswer}
 use Rattle.witx_walk.specs.declared.error.WitxError.{WitxError}
 use Rattle.witx_walk.specs.declared.error.WitxError.TheVariants as witx_error
 use Rattle.witx_adapt.specs.declared.adapted.Adapted.{Adapted}
@@ -12,7 +12,7 @@ use Rattle.witx_adapt.specs.declared.error.DocumentError.{DocumentError}
 use Rattle.witx_adapt.specs.declared.error.DocumentError.TheVariants as document_error
 use Rattle.witx_layout.specs.Layouts.{all_layouts}
 use Rattle.witx_adapt.specs.Entries.{IsFaithful, all_functions, entry_for, entry_of}
-use Rattle.witx_adapt.specs.Adaptable.{IsAdaptable, Refuses}
+use Rattle.witx_adapt.specs.Adaptable.{IsAdaptable, RefusesDocument}
 use Rattle.witx_commands.specs.declared.error.AdaptError.{AdaptError}
 use Rattle.witx_commands.specs.declared.error.AdaptError.TheVariants as adapt_error
 use Rattle.witx_commands.specs.declared.error.Unadapted.{Unadapted}
@@ -30,8 +30,8 @@ pub record IsAdapted (a : Adapted) : Type 0 where
   pub adaptable : IsAdaptable (defined a)
 
 -- what reading the files at these paths answers: the document that they mean, or the refusal that comes first
-unfoldable pub IsParsed : Option Files → Option Aliases → List Path → (before now : ℕ) → Answer → Type 0
-IsParsed = IsAnswer
+unfoldable pub IsParsedDocument : Option Files → Option Aliases → List Path → (before now : ℕ) → Answer → Type 0
+IsParsedDocument = IsWalkAnswer
 
 -- any refusal of texts but want of memory
 abbrev pub IsTextRefusal : WitxError → Type 0
@@ -41,12 +41,12 @@ IsTextRefusal _ = Unit {0}
 -- the files mean a document that this refuses
 abbrev pub DocumentRefused : Option Files → Option Aliases → List Path → (before now : ℕ) → DocumentError → Type 0
 DocumentRefused files aliases handed before now e =
-    (ds : List DefinitionTree) × IsParsed files aliases handed before now (Ok ds) × Refuses ds e
+    (ds : List DefinitionTree) × IsParsedDocument files aliases handed before now (Ok ds) × RefusesDocument ds e
 
 -- when each refusal comes
 abbrev pub AdaptRefuses : Option Files → Option Aliases → List Path → (before now : ℕ) → AdaptError → Type 0
 AdaptRefuses files aliases handed before now (adapt_error.Refused e) =
-    IsTextRefusal e × IsParsed files aliases handed before now (Err e)
+    IsTextRefusal e × IsParsedDocument files aliases handed before now (Err e)
 AdaptRefuses files aliases handed before now (adapt_error.TagTooNarrow t) =
     DocumentRefused files aliases handed before now (document_error.TagTooNarrow t)
 AdaptRefuses files aliases handed before now (adapt_error.TooLarge n) =
@@ -62,7 +62,7 @@ HasAdaptCause IsNameless files before now _ = now ≡ before
 
 -- over the files of a bundle, where no path stands for another and no call fails
 abbrev pub Parses : Files → List Path → Answer → Type 0
-Parses files handed r = IsParsed (Some files) (Some []) handed 0 0 r
+Parses files handed r = IsParsedDocument (Some files) (Some []) handed 0 0 r
 
 unfoldable pub AdaptRefusesBundle : Files → List Path → AdaptError → Type 0
 AdaptRefusesBundle files handed e = AdaptRefuses (Some files) (Some []) handed 0 0 e
@@ -76,24 +76,24 @@ text_refusal (witx_error.Validation e) = adapt_error.Refused (witx_error.Validat
 text_refusal (witx_error.BadPath p) = adapt_error.Refused (witx_error.BadPath p)
 text_refusal (witx_error.TooManyFiles p) = adapt_error.Refused (witx_error.TooManyFiles p)
 
-abbrev pub document_refusal : DocumentError → AdaptError
-document_refusal (document_error.TagTooNarrow t) = adapt_error.TagTooNarrow t
-document_refusal (document_error.TooLarge n) = adapt_error.TooLarge n
-document_refusal (document_error.Unlowerable m f p) = adapt_error.Unlowerable m f p
-document_refusal document_error.OutOfMemory = adapt_error.OutOfMemory
+abbrev pub document_error_refusal : DocumentError → AdaptError
+document_error_refusal (document_error.TagTooNarrow t) = adapt_error.TagTooNarrow t
+document_error_refusal (document_error.TooLarge n) = adapt_error.TooLarge n
+document_error_refusal (document_error.Unlowerable m f p) = adapt_error.Unlowerable m f p
+document_error_refusal document_error.OutOfMemory = adapt_error.OutOfMemory
 
 -- what is told of files that can't be adapted
-abbrev pub refusal_of : Unadapted → AdaptError
-refusal_of (unadapted.Texts e) = text_refusal e
-refusal_of (unadapted.Document r) = document_refusal r.error
+abbrev pub unadapted_refusal : Unadapted → AdaptError
+unadapted_refusal (unadapted.Texts e) = text_refusal e
+unadapted_refusal (unadapted.Document r) = document_error_refusal r.error
 
 -- a document that is handed back is the one that the files mean
-abbrev pub IsMeant : Option Files → Option Aliases → List Path → (before now : ℕ) → Unadapted → Type 0
-IsMeant files aliases handed before now (unadapted.Texts e) = Unit {0}
-IsMeant files aliases handed before now (unadapted.Document r) =
-    IsParsed files aliases handed before now (Ok (map definition_tree r.document.definitions))
+abbrev pub IsMeantByFiles : Option Files → Option Aliases → List Path → (before now : ℕ) → Unadapted → Type 0
+IsMeantByFiles files aliases handed before now (unadapted.Texts e) = Unit {0}
+IsMeantByFiles files aliases handed before now (unadapted.Document r) =
+    IsParsedDocument files aliases handed before now (Ok (map definition_tree r.document.definitions))
 
 -- so over the files of a bundle
 unfoldable pub RefusesBundle : Files → List Path → Unadapted → Type 0
 RefusesBundle files handed u =
-    AdaptRefusesBundle files handed (refusal_of u) × IsMeant (Some files) (Some []) handed 0 0 u
+    AdaptRefusesBundle files handed (unadapted_refusal u) × IsMeantByFiles (Some files) (Some []) handed 0 0 u

@@ -28,9 +28,9 @@ use Rattle.witx_commands.specs.declared.refusal.Stop.TheVariants as stop
 use Rattle.witx_commands.specs.declared.refusal.Refusal.TheVariants as refusal
 
 -- what reading the bytes as a bundle answers, where they are told
-abbrev pub Reads : Option (List ℕ) → Result Files BundleError → Type 0
-Reads None r = Unit {0}
-Reads (Some bytes) r = IsRead bytes r
+abbrev pub IsBundle : Option (List ℕ) → Result Files BundleError → Type 0
+IsBundle None r = Unit {0}
+IsBundle (Some bytes) r = IsRead bytes r
 
 abbrev pub IsCause : BundleError → Type 0
 IsCause bundle.OutOfMemory = ⊥
@@ -45,14 +45,14 @@ ReadCause most s input.OutOfMemory = NoFault s
 -- why no bundle was read
 abbrev pub InputCause : SourceSeen → InputError → Type 0
 InputCause s input.Source = BrokeOff s
-InputCause s (input.Bundle e) = NoFault s × IsCause e × Reads s.left (Err e)
+InputCause s (input.Bundle e) = NoFault s × IsCause e × IsBundle s.left (Err e)
 InputCause s input.OutOfMemory = NoFault s
 
 -- why there are no files for a command: only one that works on its source's bundle has a cause in it
 abbrev pub FilesCause : Asked → SourceSeen → InputError → Type 0
 FilesCause c s input.Source = (reads_source c ≡ true) × BrokeOff s
 FilesCause c s (input.Bundle e) =
-    (reads_source c ≡ true) × NoFault s × IsCause e × Reads (bundle_bytes c s.left) (Err e)
+    (reads_source c ≡ true) × NoFault s × IsCause e × IsBundle (bundle_bytes c s.left) (Err e)
 FilesCause c s input.OutOfMemory = NoFault s
 
 -- the end of a run that has no bundle

@@ -4,11 +4,11 @@ use Rattle.std.specs.Prelude.{◌≡◌, List, None}
 use Rattle.witx_base.specs.Paths.{Path}
 use Rattle.witx_files.specs.Files.{Aliases, Files}
 use Rattle.witx_ast.specs.Definitions.{DefinitionTree}
-use Rattle.witx_walk.specs.Readings.{Reading}
+use Rattle.witx_walk.specs.Readings.{FileReading}
 use Rattle.witx_walk.specs.Meaning.{MeansDocument, world}
 use Rattle.witx_markdown.specs.Constants.{unknown_type}
 
 abbrev pub ConstantsHaveTypenames : Type 0
 ConstantsHaveTypenames =
-    (files : Files) (aliases : Aliases) (reading : Reading) (handed : List Path) (ds : List DefinitionTree)
+    (files : Files) (aliases : Aliases) (reading : FileReading) (handed : List Path) (ds : List DefinitionTree)
     → MeansDocument (world files aliases reading) handed ds → unknown_type ds ≡ None

@@ -11,7 +11,7 @@ use Rattle.witx_adapt.specs.declared.adapted.Adapted.{Adapted}
 use Rattle.witx_adapt.specs.Adaptable.{IsAdaptable}
 use Rattle.witx_commands.specs.declared.error.AdaptError.{AdaptError}
 use Rattle.witx_commands.specs.declared.error.AdaptError.TheVariants as adapt_error
-use Rattle.witx_commands.specs.Adapting.{AdaptRefuses, IsParsed}
+use Rattle.witx_commands.specs.Adapting.{AdaptRefuses, IsParsedDocument}
 use Rattle.witx_commands.specs.Words.{Asked}
 use Rattle.witx_commands.specs.Reports.{CommandRefuses}
 use Rattle.witx_commands.specs.Causes.{IsOutput, IsValidFor}
@@ -30,6 +30,6 @@ ValidIsNotRefused = (bytes : List ℕ) (files others : Files) → IsRead bytes (
 -- told files that are valid are refused only for want of memory, where no call failed
 abbrev pub ValidFilesAreNotRefused : Type 0
 ValidFilesAreNotRefused = (files : Files) (aliases : Aliases) (handed : List Path) (ds : List DefinitionTree)
-    → IsParsed (Some files) (Some aliases) handed 0 0 (Ok ds) → IsAdaptable ds
+    → IsParsedDocument (Some files) (Some aliases) handed 0 0 (Ok ds) → IsAdaptable ds
     → (before now : ℕ) (e : AdaptError) → (Rose before now → ⊥)
     → AdaptRefuses (Some files) (Some aliases) handed before now e → e ≡ adapt_error.OutOfMemory

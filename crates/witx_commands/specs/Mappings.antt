@@ -6,7 +6,7 @@ use Rattle.std.specs.Ordering.{nat_cmp}
 use Rattle.std.specs.Cmp.Lexicographic.{slice_cmp}
 use Rattle.witx_files.specs.Files.{Files}
 use Rattle.witx_ast.specs.Definitions.{DefinitionTree}
-use Rattle.witx_compat.specs.Polyfills.{MappedModule, Refusal, polyfill_answer}
+use Rattle.witx_compat.specs.Polyfills.{MappedModule, PolyfillRefusal, polyfill_answer}
 use Rattle.witx_compat.specs.declared.error.PolyfillError.{PolyfillError}
 use Rattle.witx_compat.specs.declared.error.PolyfillError.TheVariants as polyfill_error
 use Rattle.witx_docs.specs.PolyfillTexts.{polyfill_text}
@@ -38,7 +38,7 @@ IsPolyfillText new old names text =
 -- the first module or function that is absent, as it is told
 unfoldable pub IsAbsentReport : (new old : List DefinitionTree) → List (List ℕ) → List ℕ → Type 0
 IsAbsentReport new old names report =
-    (absent : Refusal) × (polyfill_answer new old (mapping_of names) ≡ Err absent) × (report ≡ absent_text absent)
+    (absent : PolyfillRefusal) × (polyfill_answer new old (mapping_of names) ≡ Err absent) × (report ≡ absent_text absent)
 
 -- the text of an error; there is none of want of memory
 abbrev pub IsErrorText : PolyfillError → List ℕ → Type 0

@@ -36,21 +36,21 @@ name_or_nothing None = []
 name_or_nothing (Some d) = definition_name d
 
 -- the name of the definition of this number
-abbrev pub name_at : List DefinitionTree → ℕ → List ℕ
-name_at ds n = name_or_nothing (slice_get ds n)
+abbrev pub definition_name_at : List DefinitionTree → ℕ → List ℕ
+definition_name_at ds n = name_or_nothing (slice_get ds n)
 
 -- a name in backquotes, before what is said of it
-abbrev pub named_text : List ℕ → List ℕ
-named_text name = codes "`" ++ (name ++ codes "`: ")
+abbrev pub named_before : List ℕ → List ℕ
+named_before name = codes "`" ++ (name ++ codes "`: ")
 
 abbrev pub counts_text : (count most : ℕ) → List ℕ
 counts_text count most = decimal count ++ (codes " flags or cases, at most " ++ decimal most)
 
 abbrev pub tag_report : List ℕ → TagTooNarrow → List ℕ
-tag_report name t = named_text name ++ counts_text t.count t.most
+tag_report name t = named_before name ++ counts_text t.count t.most
 
 abbrev pub size_report : List ℕ → List ℕ
-size_report name = named_text name ++ codes "size too large"
+size_report name = named_before name ++ codes "size too large"
 
 -- a parameter or a result of a function, at its place
 abbrev pub field_at : FunctionTree → Place → Option Field
@@ -74,8 +74,8 @@ part_word (Place.Result i) = codes "result"
 abbrev pub owner_text : List ℕ → List ℕ
 owner_text owner = codes "` of module `" ++ (owner ++ codes "`: ")
 
-abbrev pub function_text : (owner function : List ℕ) → List ℕ
-function_text owner function = codes "function `" ++ (function ++ owner_text owner)
+abbrev pub function_called : (owner function : List ℕ) → List ℕ
+function_called owner function = codes "function `" ++ (function ++ owner_text owner)
 
 abbrev pub refused_text : List ℕ → List ℕ
 refused_text part = codes " `" ++ (part ++ codes "` cannot be lowered")
@@ -84,7 +84,7 @@ abbrev pub part_text : (word part : List ℕ) → List ℕ
 part_text word part = word ++ refused_text part
 
 abbrev pub unlowerable_report : (owner function : List ℕ) → Place → (part : List ℕ) → List ℕ
-unlowerable_report owner function place part = function_text owner function ++ part_text (part_word place) part
+unlowerable_report owner function place part = function_called owner function ++ part_text (part_word place) part
 
 -- the report of a refusal of texts
 unfoldable pub IsTextReport : Files → WitxError → List ℕ → Type 0
@@ -92,8 +92,8 @@ IsTextReport files e report = IsTextRefusal e × IsErrorReport (Some files) e 0 
 
 -- the report of a refusal of a document, with the names that it has there
 abbrev pub IsDocumentReport : List DefinitionTree → DocumentError → List ℕ → Type 0
-IsDocumentReport ds (document_error.TagTooNarrow t) report = report ≡ tag_report (name_at ds t.definition) t
-IsDocumentReport ds (document_error.TooLarge n) report = report ≡ size_report (name_at ds n)
+IsDocumentReport ds (document_error.TagTooNarrow t) report = report ≡ tag_report (definition_name_at ds t.definition) t
+IsDocumentReport ds (document_error.TooLarge n) report = report ≡ size_report (definition_name_at ds n)
 IsDocumentReport ds (document_error.Unlowerable m f p) report = report ≡ unlowerable_report m f p (part_name ds m f p)
 IsDocumentReport ds document_error.OutOfMemory report = ⊥
 

@@ -11,7 +11,7 @@ use Rattle.witx_layout.specs.Layouts.{all_layouts}
 use Rattle.witx_adapt.specs.Entries.{IsFaithful, all_functions, entry_for, entry_of}
 use Rattle.witx_adapt.specs.declared.adapted.Adapted.{Adapted}
 use Rattle.witx_commands.specs.Adapting.{defined}
-use Rattle.witx_commands.specs.Causes.{IsCause, IsMeaning, IsOutput, IsValidFor, Reads, adapted_text}
+use Rattle.witx_commands.specs.Causes.{IsCause, IsMeaning, IsOutput, IsValidFor, IsBundle, adapted_text}
 use Rattle.witx_commands.specs.Reports.{CommandRefuses}
 use Rattle.witx_commands.specs.Streams.{BrokeOff, Finished, NoFault, SourceSeen, TookInput, TookPrefix, source_seen}
 use Rattle.witx_commands.specs.Texts.{IsRefused, status_of, text_of}
@@ -110,9 +110,9 @@ input_bytes i = i.task.bundle i.source.left
 abbrev pub Cause : RunInput → Refusal → Type 0
 Cause i (refusal.Usage known) = (i.task.no_form ≡ Some known) × NoFault i.source
 Cause i refusal.Source = (i.task.reading ≡ true) × BrokeOff i.source
-Cause i (refusal.Bundle e) = (i.task.reading ≡ true) × NoFault i.source × IsCause e × Reads (input_bytes i) (Err e)
+Cause i (refusal.Bundle e) = (i.task.reading ≡ true) × NoFault i.source × IsCause e × IsBundle (input_bytes i) (Err e)
 Cause i (refusal.Command report) =
-    NoFault i.source × (files : Files) × Reads (input_bytes i) (Ok files) × i.task.Refuses files report
+    NoFault i.source × (files : Files) × IsBundle (input_bytes i) (Ok files) × i.task.Refuses files report
 
 -- why a run has no output
 abbrev pub StopCause : RunInput → Stop → Type 0
@@ -125,7 +125,7 @@ pub record IsAnswered (i : RunInput) (text notes : List ℕ) (adapted : Option A
   pub finished : i.task.reading ≡ true → Finished i.source.left i.source.left_after
   pub no_fault : NoFault i.source
   pub files : Files
-  pub bundle : Reads (input_bytes i) (Ok files)
+  pub bundle : IsBundle (input_bytes i) (Ok files)
   pub output : i.task.Tells files text notes adapted
 
 abbrev pub AnswerCause : RunInput → Result Output Stop → Type 0
@@ -152,8 +152,8 @@ pub record SinkSeen : Type 0 where
   pub now : ℕ
 
 -- by what is told of it
-abbrev pub seen : {K : Type 0} → (K → Option (List ℕ)) → (K → ℕ) → (old new : K) → SinkSeen
-seen taken faults old new = record { taken = taken old; taken_after = taken new; before = faults old; now = faults new }
+abbrev pub sink_seen : {K : Type 0} → (K → Option (List ℕ)) → (K → ℕ) → (old new : K) → SinkSeen
+sink_seen taken faults old new = record { taken = taken old; taken_after = taken new; before = faults old; now = faults new }
 
 -- it took this whole text, and a part of it from its front
 abbrev pub Took : SinkSeen → List ℕ → Type 0

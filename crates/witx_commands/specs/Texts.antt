@@ -29,7 +29,7 @@ abbrev pub absent_function : List ℕ → List ℕ
 absent_function name = codes "Function not present: `" ++ name ++ codes "`"
 
 -- a module that a document lacks, or a function that the new module lacks
-abbrev pub absent_text : polyfill.Refusal → List ℕ
+abbrev pub absent_text : polyfill.PolyfillRefusal → List ℕ
 absent_text (no_module name) = absent_module name
 absent_text (no_function owner name) = absent_function name
 

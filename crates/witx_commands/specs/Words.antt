@@ -30,12 +30,12 @@ pub record OwnFile : Type 0 where
   pub paths : List (List ℕ)
 
 -- a function of a module, by their names
-pub record Names : Type 0 where
+pub record FunctionNames : Type 0 where
   pub owner : List ℕ
   pub function : List ℕ
 
-abbrev pub names_of : (owner function : List ℕ) → Names
-names_of owner function = record { owner = owner; function = function }
+abbrev pub both_names : (owner function : List ℕ) → FunctionNames
+both_names owner function = record { owner = owner; function = function }
 
 -- WHAT WORDS ASK FOR: a command, with what its words say
 pub data Asked : Type 0 where
@@ -47,7 +47,7 @@ pub data Asked : Type 0 where
   sample : (functions : ℕ) → Asked
   shim : (files : TwoFiles) → Asked
   verify : (listing : OwnFile) → Asked
-  invoke : (names : Names) → (values : OwnFile) → Asked
+  invoke : (names : FunctionNames) → (values : OwnFile) → Asked
   imports : (list : OwnFile) → Asked
 
 -- two files as the program has them, a file of a command's own, and a command
@@ -66,7 +66,7 @@ asked_by (command.Polyfill files) = polyfill (two_files files)
 asked_by (command.Sample n) = sample n
 asked_by (command.Shim files) = shim (two_files files)
 asked_by (command.Verify listing) = verify (own_file listing)
-asked_by (command.Invoke owner function values) = invoke (names_of owner.now function.now) (own_file values)
+asked_by (command.Invoke owner function values) = invoke (both_names owner.now function.now) (own_file values)
 asked_by (command.Imports list) = imports (own_file list)
 
 -- ---- the forms
@@ -87,7 +87,7 @@ own_file_of (file ∷ paths) = Some (record { file = file; paths = paths })
 abbrev pub invoke_of : List (List ℕ) → Option Asked
 invoke_of [] = None
 invoke_of (owner ∷ []) = None
-invoke_of (owner ∷ function ∷ more) = option_map (invoke (names_of owner function)) (own_file_of more)
+invoke_of (owner ∷ function ∷ more) = option_map (invoke (both_names owner function)) (own_file_of more)
 
 -- a word is the number of its digits, as numbers are printed, and a sample can have so many functions
 abbrev pub is_printed_size : List ℕ → Bool

@@ -9,7 +9,7 @@ ghost use Rattle.witx_ast.specs.Definitions.{DefinitionTree};
 ghost use Rattle.witx_adapt.specs.Adaptable.{IsAdaptable};
 ghost use Rattle.witx_adapt.specs.Entries.{IsFaithful, all_functions, entry_for, entry_of};
 ghost use Rattle.witx_layout.specs.Layouts.{all_layouts};
-ghost use Rattle.witx_commands.specs.Adapting.{AdaptRefuses, HasAdaptCause, IsMeant, IsParsed, defined, document_refusal, refusal_of, text_refusal};
+ghost use Rattle.witx_commands.specs.Adapting.{AdaptRefuses, HasAdaptCause, IsMeantByFiles, IsParsedDocument, defined, document_error_refusal, unadapted_refusal, text_refusal};
 
 use crate::error::{AdaptError, Unadapted};
 use crate::laws::valid_files_are_not_refused;
@@ -31,7 +31,7 @@ pub fn adapt<I: WitxIo>(
     io: &mut I,
 ) -> Result<Adapted, AdaptError>
     ensures document { IfOk result (λ a.
-        IsParsed (I.files io.old) (I.aliases io.old) paths.now (I.faults io.old) (I.faults io.new) (Ok (defined a))) }
+        IsParsedDocument (I.files io.old) (I.aliases io.old) paths.now (I.faults io.old) (I.faults io.new) (Ok (defined a))) }
     ensures layouts { IfOk result (λ a. a.layouts ≡ all_layouts (defined a)) }
     ensures functions { IfOk result (λ a. map entry_of a.functions ≡ map entry_for (all_functions (defined a))) }
     ensures faithful { IfOk result (λ a. All IsFaithful a.functions) }
@@ -44,7 +44,7 @@ pub fn adapt<I: WitxIo>(
         (I.files io.old) (I.faults io.old) (I.faults io.new)) }
     ensures complete { (files : Files) (aliases : Aliases) (ds : List DefinitionTree)
         → I.files io.old ≡ Some files → I.aliases io.old ≡ Some aliases
-        → IsParsed (Some files) (Some aliases) paths.now 0 0 (Ok ds) → IsAdaptable ds
+        → IsParsedDocument (Some files) (Some aliases) paths.now 0 0 (Ok ds) → IsAdaptable ds
         → (Rose (I.faults io.old) (I.faults io.new) → ⊥) → IfErr result (λ e. e ≡ AdaptError.OutOfMemory) }
     ensures no_fault { OnOk result (I.faults io.new ≡ I.faults io.old) }
     ensures files { I.files io.new ≡ I.files io.old }
@@ -65,18 +65,18 @@ pub fn adapted<I: WitxIo>(
     io: &mut I,
 ) -> Result<Adapted, Unadapted>
     ensures document { IfOk result (λ a.
-        IsParsed (I.files io.old) (I.aliases io.old) paths.now (I.faults io.old) (I.faults io.new) (Ok (defined a))) }
+        IsParsedDocument (I.files io.old) (I.aliases io.old) paths.now (I.faults io.old) (I.faults io.new) (Ok (defined a))) }
     ensures layouts { IfOk result (λ a. a.layouts ≡ all_layouts (defined a)) }
     ensures functions { IfOk result (λ a. map entry_of a.functions ≡ map entry_for (all_functions (defined a))) }
     ensures faithful { IfOk result (λ a. All IsFaithful a.functions) }
     ensures closed { IfOk result (λ a. IsClosed (defined a)) }
     ensures adaptable { IfOk result (λ a. IsAdaptable (defined a)) }
     ensures refused { IfErr result (λ u.
-        AdaptRefuses (I.files io.old) (I.aliases io.old) paths.now (I.faults io.old) (I.faults io.new) (refusal_of u)) }
+        AdaptRefuses (I.files io.old) (I.aliases io.old) paths.now (I.faults io.old) (I.faults io.new) (unadapted_refusal u)) }
     ensures meant { IfErr result
-        (IsMeant (I.files io.old) (I.aliases io.old) paths.now (I.faults io.old) (I.faults io.new)) }
+        (IsMeantByFiles (I.files io.old) (I.aliases io.old) paths.now (I.faults io.old) (I.faults io.new)) }
     ensures cause { IfErr result (λ u. HasAdaptCause (λ p. Contains paths.now p × (file_name p ≡ None))
-        (I.files io.old) (I.faults io.old) (I.faults io.new) (refusal_of u)) }
+        (I.files io.old) (I.faults io.old) (I.faults io.new) (unadapted_refusal u)) }
     ensures no_fault { OnOk result (I.faults io.new ≡ I.faults io.old) }
     ensures files { I.files io.new ≡ I.files io.old }
     ensures aliases { I.aliases io.new ≡ I.aliases io.old }
@@ -92,7 +92,7 @@ pub fn adapted<I: WitxIo>(
 
 /// What is told of files that can't be adapted.
 fn refusal_of(unadapted: Unadapted) -> AdaptError
-    ensures { result ≡ refusal_of unadapted }
+    ensures { result ≡ unadapted_refusal unadapted }
 {
     match unadapted {
         Unadapted::Texts(error) => text_refusal(error),
@@ -112,7 +112,7 @@ fn text_refusal(error: WitxError) -> AdaptError
 
 /// A refusal of a document.
 fn document_refusal(error: DocumentError) -> AdaptError
-    ensures { result ≡ document_refusal error }
+    ensures { result ≡ document_error_refusal error }
 {
     match error {
         DocumentError::TagTooNarrow(tag) => AdaptError::TagTooNarrow(tag),

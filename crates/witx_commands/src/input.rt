@@ -4,7 +4,7 @@ ghost use Rattle.std.specs.Prelude.{◌≡◌, ◌<◌, ◌≤◌, ◌+◌, [], 
 ghost use Rattle.witx_base.specs.Causes.{one_more};
 ghost use Rattle.witx_commands.specs.Streams.{Finished, IsInput, TakesMore, TookAtMost, TookInput, source_seen};
 ghost use Rattle.witx_bundle.specs.declared.bundle.TheConstants.{LONGEST_BUNDLE};
-ghost use Rattle.witx_commands.specs.Causes.{InputCause, ReadCause, Reads};
+ghost use Rattle.witx_commands.specs.Causes.{InputCause, ReadCause, IsBundle};
 
 use std::alloc::{AllocError, Global};
 use witx_base::{Failed, Source};
@@ -131,7 +131,7 @@ fn read_bytes<S: Source>(alloc: Global, source: &mut S) -> Result<Vec<u8>, Input
 /// However it ends, at most one byte more than a bundle may have was taken.
 #[tactic(auto, using(crate::proofs::ReadThrough::bundle_rules))]
 pub fn read_bundle<S: Source>(alloc: Global, source: &mut S) -> Result<MockFs, InputError>
-    ensures files { IfOk result (λ files. Reads (S.left source.old) (Ok files)) }
+    ensures files { IfOk result (λ files. IsBundle (S.left source.old) (Ok files)) }
     ensures finished { OnOk result (Finished (S.left source.old) (S.left source.new)) }
     ensures no_fault { OnOk result (S.faults source.new ≡ S.faults source.old) }
     ensures refused { IfErr result (InputCause (source_seen S.left S.faults S.reads source.old source.new)) }

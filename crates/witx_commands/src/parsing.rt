@@ -6,7 +6,7 @@ ghost use Rattle.witx_ast.specs.Closed.{IsClosed};
 ghost use Rattle.witx_ast.specs.Definitions.{definition_tree};
 ghost use Rattle.witx_ast.specs.Ordered.{IsOrdered};
 ghost use Rattle.witx_walk.specs.Answers.{HasCause};
-ghost use Rattle.witx_commands.specs.Adapting.{IsParsed, Parses};
+ghost use Rattle.witx_commands.specs.Adapting.{IsParsedDocument, Parses};
 ghost use Rattle.witx_commands.specs.Reports.{IsTextReport, ParsingFails};
 ghost use Rattle.witx_commands.specs.Stops.{StopsWith};
 ghost use Rattle.witx_commands.specs.Words.{paths_of};
@@ -20,19 +20,19 @@ use witx_files::{MockFs, WitxIo};
 use witx_walk::{WitxError, parse_witx_with};
 
 /// The document that the files at these paths mean.
-#[tactic(auto, unfolding(crate::specs::Adapting::IsParsed))]
+#[tactic(auto, unfolding(crate::specs::Adapting::IsParsedDocument))]
 pub fn parsed<I: WitxIo>(
     alloc: Global,
     paths: &[WitxPath],
     io: &mut I,
 ) -> Result<Document, WitxError>
     ensures document { IfOk result (λ d.
-        IsParsed (I.files io.old) (I.aliases io.old) paths.now (I.faults io.old) (I.faults io.new)
+        IsParsedDocument (I.files io.old) (I.aliases io.old) paths.now (I.faults io.old) (I.faults io.new)
         (Ok (map definition_tree d.definitions))) }
     ensures ordered { IfOk result (λ d. IsOrdered (map definition_tree d.definitions)) }
     ensures closed { IfOk result (λ d. IsClosed (map definition_tree d.definitions)) }
     ensures refused { IfErr result (λ e.
-        IsParsed (I.files io.old) (I.aliases io.old) paths.now (I.faults io.old) (I.faults io.new) (Err e)) }
+        IsParsedDocument (I.files io.old) (I.aliases io.old) paths.now (I.faults io.old) (I.faults io.new) (Err e)) }
     ensures cause { IfErr result
         (HasCause (λ p. Contains paths.now p × (file_name p ≡ None))
         (I.files io.old) (I.faults io.old) (I.faults io.new)) }

@@ -3,7 +3,7 @@
 ghost use Rattle.std.specs.Prelude.{◌≡◌, ◌++◌, IfOk, OnOk, map, slice_get, string_bytes};
 ghost use Rattle.witx_ast.specs.Definitions.{definition_tree};
 ghost use Rattle.witx_ast.specs.Functions.{func_tree, param_field};
-ghost use Rattle.witx_commands.specs.Reports.{IsDocumentReport, IsUnadaptedReport, counts_text, definition_name, field_at, field_name, function_text, name_at, named_text, owner_text, part_name, part_text, part_word, refused_text, size_report, tag_report, unlowerable_report};
+ghost use Rattle.witx_commands.specs.Reports.{IsDocumentReport, IsUnadaptedReport, counts_text, definition_name, field_at, field_name, function_called, definition_name_at, named_before, owner_text, part_name, part_text, part_word, refused_text, size_report, tag_report, unlowerable_report};
 
 use crate::error::Unadapted;
 use crate::parsing::text_report;
@@ -60,7 +60,7 @@ fn document_report(
 
 /// The name of the definition of a number.
 fn name_at(document: &Document, number: usize) -> &str
-    ensures { result.now ≡ name_at (map definition_tree document.now.definitions) number }
+    ensures { result.now ≡ definition_name_at (map definition_tree document.now.definitions) number }
 {
     match document.definitions().as_slice().get(number) {
         Some(definition) => definition_name(definition),
@@ -97,7 +97,7 @@ fn size_report(alloc: Global, name: &str) -> Result<Text, OutOfMemory>
 }
 
 fn put_name(text: &mut String, name: &str) -> Result<(), AllocError>
-    ensures { OnOk result (string_bytes text.new ≡ string_bytes text.old ++ named_text name.now) }
+    ensures { OnOk result (string_bytes text.new ≡ string_bytes text.old ++ named_before name.now) }
 {
     text.push_str("`")?;
     text.push_str(name)?;
@@ -167,7 +167,7 @@ fn unlowerable_report(
 }
 
 fn put_function(text: &mut String, owner: &str, function: &str) -> Result<(), AllocError>
-    ensures { OnOk result (string_bytes text.new ≡ string_bytes text.old ++ function_text owner.now function.now) }
+    ensures { OnOk result (string_bytes text.new ≡ string_bytes text.old ++ function_called owner.now function.now) }
 {
     text.push_str("function `")?;
     text.push_str(function)?;

@@ -11,7 +11,7 @@ use Rattle.std.specs.Option.{option_map, unwrap_or}
 use Rattle.std.specs.List.{AllByRecursion, filter, filter_map, cons_option, fold, reduce}
 use Rattle.std.specs.Str.{IsUtf8, chars, trim_end, drop_trailing_whitespace}
 use Rattle.witx_comments.proofs.Cuts.{tells, IsLastBoundary, cut_is, floor_is_boundary}
-use Rattle.witx_comments.specs.Documentation.{after_semicolon, indent_in, indent_of, is_nonempty, margin_of, lines_of, line_of, cut_line, text_of_lines, IsCutBetweenCharacters}
+use Rattle.witx_comments.specs.Documentation.{after_semicolon, indent_in, indent_of, is_nonempty, margin_of, doc_lines, doc_line, cut_line, text_of_lines, IsCutBetweenCharacters}
 
 behind_semicolon : (bs : List ℕ) (r : Option (Bor (List ℕ))) → MatchOption r ((rest : List ℕ) → bs ≢ 59 ∷ rest) (λ line. bs ≡ 59 ∷ line.now) → option_map (λ line. line.now) r ≡ after_semicolon bs
 behind_semicolon [] None h = refl
@@ -96,12 +96,12 @@ behind_one (b ∷ bs) (Some line) lines u e texts =
     let p : (b ≡ 59) × (bs ≡ line) = semicolon_is _ b bs line refl e in
     (subst IsUtf8 p.1 (IsUtf8-drop (b ∷ bs) 1 u (IsCharBoundary-after_ascii (b ∷ bs) 0 u (omega arith) (omega (arith, p.0)))), texts)
 
-lines_utf8 : (comments : List (List ℕ)) → AllByRecursion IsUtf8 comments → AllByRecursion IsUtf8 (lines_of comments)
+lines_utf8 : (comments : List (List ℕ)) → AllByRecursion IsUtf8 comments → AllByRecursion IsUtf8 (doc_lines comments)
 lines_utf8 [] texts = tt
-lines_utf8 (comment ∷ comments) texts = behind_one (trim_end comment) (line_of comment) (lines_of comments) (trimmed_utf8 comment texts.0) refl (lines_utf8 comments texts.1)
+lines_utf8 (comment ∷ comments) texts = behind_one (trim_end comment) (doc_line comment) (doc_lines comments) (trimmed_utf8 comment texts.0) refl (lines_utf8 comments texts.1)
 
-pub lines_cut : (comments : List (List ℕ)) → AllByRecursion IsUtf8 comments → AllByRecursion (IsCutBetweenCharacters (margin_of (lines_of comments))) (lines_of comments)
-lines_cut comments texts = cut_all (margin_of (lines_of comments)) (lines_of comments) (lines_utf8 comments texts) (margin_fits (lines_of comments))
+pub lines_cut : (comments : List (List ℕ)) → AllByRecursion IsUtf8 comments → AllByRecursion (IsCutBetweenCharacters (margin_of (doc_lines comments))) (doc_lines comments)
+lines_cut comments texts = cut_all (margin_of (doc_lines comments)) (doc_lines comments) (lines_utf8 comments texts) (margin_fits (doc_lines comments))
 
 -- ---- what is written
 
@@ -121,13 +121,13 @@ at_end all margin written h = sym (append-nil written) ∙ h
 
 -- a comment that gives no line
 pub at_other : (comments : List (Bor (List ℕ))) (i : ℕ) (d : Bor (List ℕ)) (all : List (List ℕ)) (margin : ℕ) (before written : List ℕ) → i < length comments
-    → None ≡ line_of (get_or comments i d).now → written ≡ before
-    → IsAt margin before all (lines_of (shown (drop i comments))) → IsAt margin written all (lines_of (shown (drop (i + 1) comments)))
+    → None ≡ doc_line (get_or comments i d).now → written ≡ before
+    → IsAt margin before all (doc_lines (shown (drop i comments))) → IsAt margin written all (doc_lines (shown (drop (i + 1) comments)))
 at_other comments i d all margin before written within e same h =
     let cut : drop i comments ≡ get_or comments i d ∷ drop (i + 1) comments = rw add-one (drop-cons comments i d within) in
-    let here : IsAt margin before all (lines_of (shown (get_or comments i d ∷ drop (i + 1) comments))) = subst (λ l. IsAt margin before all (lines_of (shown l))) cut h in
-    subst (λ w. IsAt margin w all (lines_of (shown (drop (i + 1) comments)))) (sym same)
-    (subst (λ o. IsAt margin before all (cons_option o (lines_of (shown (drop (i + 1) comments))))) (sym e) here)
+    let here : IsAt margin before all (doc_lines (shown (get_or comments i d ∷ drop (i + 1) comments))) = subst (λ l. IsAt margin before all (doc_lines (shown l))) cut h in
+    subst (λ w. IsAt margin w all (doc_lines (shown (drop (i + 1) comments)))) (sym same)
+    (subst (λ o. IsAt margin before all (cons_option o (doc_lines (shown (drop (i + 1) comments))))) (sym e) here)
 
 -- a comment that gives a line, which is written from its last character boundary at or below the margin on
 step : (line : List ℕ) (lines all : List (List ℕ)) (margin kept : ℕ) (written : List ℕ) → IsLastBoundary line margin kept
@@ -139,25 +139,25 @@ step line lines all margin kept written last h =
     ∙ h
 
 pub at_line : (comments : List (Bor (List ℕ))) (i : ℕ) (d : Bor (List ℕ)) (line : List ℕ) (all : List (List ℕ)) (margin kept : ℕ) (before written : List ℕ) → i < length comments
-    → Some line ≡ line_of (get_or comments i d).now → IsLastBoundary line margin kept → written ≡ (before ++ drop kept line) ++ (10 ∷ [])
-    → IsAt margin before all (lines_of (shown (drop i comments))) → IsAt margin written all (lines_of (shown (drop (i + 1) comments)))
+    → Some line ≡ doc_line (get_or comments i d).now → IsLastBoundary line margin kept → written ≡ (before ++ drop kept line) ++ (10 ∷ [])
+    → IsAt margin before all (doc_lines (shown (drop i comments))) → IsAt margin written all (doc_lines (shown (drop (i + 1) comments)))
 at_line comments i d line all margin kept before written within e last same h =
     let cut : drop i comments ≡ get_or comments i d ∷ drop (i + 1) comments = rw add-one (drop-cons comments i d within) in
-    let here : IsAt margin before all (lines_of (shown (get_or comments i d ∷ drop (i + 1) comments))) = subst (λ l. IsAt margin before all (lines_of (shown l))) cut h in
-    subst (λ w. IsAt margin w all (lines_of (shown (drop (i + 1) comments)))) (sym same)
-    (step line (lines_of (shown (drop (i + 1) comments))) all margin kept before last
-    (subst (λ o. IsAt margin before all (cons_option o (lines_of (shown (drop (i + 1) comments))))) (sym e) here))
+    let here : IsAt margin before all (doc_lines (shown (get_or comments i d ∷ drop (i + 1) comments))) = subst (λ l. IsAt margin before all (doc_lines (shown l))) cut h in
+    subst (λ w. IsAt margin w all (doc_lines (shown (drop (i + 1) comments)))) (sym same)
+    (step line (doc_lines (shown (drop (i + 1) comments))) all margin kept before last
+    (subst (λ o. IsAt margin before all (cons_option o (doc_lines (shown (drop (i + 1) comments))))) (sym e) here))
 
 -- the indents of the nonempty lines, comment by comment
-indents_go : (comment : List ℕ) (line : Option (List ℕ)) (comments : List (List ℕ)) (rest : List ℕ) → line_of comment ≡ line
-    → rest ≡ map indent_of (filter is_nonempty (lines_of comments))
-    → cons_option (indent_in comment) rest ≡ map indent_of (filter is_nonempty (lines_of (comment ∷ comments)))
+indents_go : (comment : List ℕ) (line : Option (List ℕ)) (comments : List (List ℕ)) (rest : List ℕ) → doc_line comment ≡ line
+    → rest ≡ map indent_of (filter is_nonempty (doc_lines comments))
+    → cons_option (indent_in comment) rest ≡ map indent_of (filter is_nonempty (doc_lines (comment ∷ comments)))
 indents_go comment None comments rest h e = rw h e
 indents_go comment (Some line) comments rest h e = rw h (elim (tells (is_nonempty line)) [ inl some ↦ rw some (ap (λ ns. indent_of line ∷ ns) e) | inr none ↦ rw none e ])
 
-pub indents : (comments : List (Bor (List ℕ))) → filter_map (λ comment. indent_in comment.now) comments ≡ map indent_of (filter is_nonempty (lines_of (map (λ comment. comment.now) comments)))
+pub indents : (comments : List (Bor (List ℕ))) → filter_map (λ comment. indent_in comment.now) comments ≡ map indent_of (filter is_nonempty (doc_lines (map (λ comment. comment.now) comments)))
 indents [] = refl
-indents (comment ∷ comments) = indents_go comment.now (line_of comment.now) (map (λ c. c.now) comments) _ refl (indents comments)
+indents (comment ∷ comments) = indents_go comment.now (doc_line comment.now) (map (λ c. c.now) comments) _ refl (indents comments)
 
 pub same_option : (o : Option ℕ) → o ≡ option_map (λ n. n) o
 same_option None = refl

@@ -12,11 +12,11 @@ after_semicolon [] = None
 after_semicolon (b ∷ line) = if b == 59 then Some line else None
 
 -- the line that a comment gives: without its trailing white space it begins with a `;`
-abbrev pub line_of : List ℕ → Option (List ℕ)
-line_of comment = after_semicolon (trim_end comment)
+abbrev pub doc_line : List ℕ → Option (List ℕ)
+doc_line comment = after_semicolon (trim_end comment)
 
-abbrev pub lines_of : List (List ℕ) → List (List ℕ)
-lines_of comments = filter_map line_of comments
+abbrev pub doc_lines : List (List ℕ) → List (List ℕ)
+doc_lines comments = filter_map doc_line comments
 
 -- how many bytes of white space a line begins with
 abbrev pub indent_of : List ℕ → ℕ
@@ -27,7 +27,7 @@ is_nonempty line = nat_lt 0 (length line)
 
 -- the indent of the line that a comment gives, where that is nonempty
 abbrev pub indent_in : List ℕ → Option ℕ
-indent_in comment = option_and_then (λ line. if is_nonempty line then Some (indent_of line) else None) (line_of comment)
+indent_in comment = option_and_then (λ line. if is_nonempty line then Some (indent_of line) else None) (doc_line comment)
 
 -- the smallest indent of the nonempty lines, 0 if there is none
 unfoldable pub margin_of : List (List ℕ) → ℕ
@@ -43,7 +43,7 @@ text_of_lines margin lines = flat_map (λ line. cut_line margin line ++ (10 ∷ 
 
 -- the documentation text
 unfoldable pub documentation_of : List (List ℕ) → List ℕ
-documentation_of comments = text_of_lines (margin_of (lines_of comments)) (lines_of comments)
+documentation_of comments = text_of_lines (margin_of (doc_lines comments)) (doc_lines comments)
 
 -- the line, unless it is empty, is cut where one of its characters begins
 abbrev pub IsCutBetweenCharacters : ℕ → List ℕ → Type 0

@@ -1,7 +1,7 @@
 //! The documentation text of comments: their lines, cut at the margin that they share.
 
 ghost use Rattle.std.specs.Prelude.{◌≡◌, map, option_map, IfOk};
-ghost use Rattle.witx_comments.specs.Documentation.{documentation_of, indent_in, indent_of, line_of, lines_of, margin_of};
+ghost use Rattle.witx_comments.specs.Documentation.{documentation_of, indent_in, indent_of, doc_line, doc_lines, margin_of};
 
 use std::alloc::Global;
 use witx_base::{OutOfMemory, Text};
@@ -10,7 +10,7 @@ use witx_base::{OutOfMemory, Text};
 /// a `;`, and the line is what follows. A comment without one gives none.
 #[tactic(auto, using(crate::proofs::Lines::stripped))]
 fn line(comment: &str) -> Option<&str>
-    ensures { option_map (λ line. line.now) result ≡ line_of comment.now }
+    ensures { option_map (λ line. line.now) result ≡ doc_line comment.now }
 {
     comment.trim_end().strip_prefix(';')
 }
@@ -36,7 +36,7 @@ fn line_indent(comment: &str) -> Option<usize>
 
 /// The smallest indent of the nonempty lines, 0 if there is none.
 fn margin(comments: &[&str]) -> usize
-    ensures { result ≡ margin_of (lines_of (map (λ comment. comment.now) comments.now)) }
+    ensures { result ≡ margin_of (doc_lines (map (λ comment. comment.now) comments.now)) }
 {
     comments
         .iter()

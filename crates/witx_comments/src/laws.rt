@@ -3,9 +3,9 @@
 ghost use Rattle.std.specs.Prelude.{ℕ, List};
 ghost use Rattle.std.specs.List.{AllByRecursion};
 ghost use Rattle.std.specs.Str.{IsUtf8};
-ghost use Rattle.witx_comments.specs.Documentation.{lines_of, AreCutBetweenCharacters};
+ghost use Rattle.witx_comments.specs.Documentation.{doc_lines, AreCutBetweenCharacters};
 
 /// No line of documentation that comments give is cut inside a character.
 pub fn lines_are_cut_between_characters()
-    ensures { (comments : List (List ℕ)) → AllByRecursion IsUtf8 comments → AreCutBetweenCharacters (lines_of comments) }
+    ensures { (comments : List (List ℕ)) → AllByRecursion IsUtf8 comments → AreCutBetweenCharacters (doc_lines comments) }
 {}

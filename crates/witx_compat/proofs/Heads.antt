@@ -14,7 +14,7 @@ use Rattle.witx_ast.proofs.Parts.{cases-bare, cases-carries, cases-end, members-
 use Rattle.witx_compat.specs.declared.answer.RepEquality.{RepEquality}
 use Rattle.witx_compat.specs.Answers.{worse, is_same}
 use Rattle.witx_compat.specs.Heads.{same_names, is_place, all_placed}
-use Rattle.witx_compat.specs.Represents.{Place, place, bare_at, carrying_at, last_case, last_place, represented, fields_same, cases_by, bare_by, carried_by}
+use Rattle.witx_compat.specs.Represents.{CasePlace, place_number, bare_at, carrying_at, last_case, last_place, represented, fields_same, cases_by, bare_by, carried_by}
 
 -- names of members
 
@@ -182,12 +182,12 @@ worse-refused RepEquality.Eq = refl
 worse-refused RepEquality.Superset = refl
 worse-refused RepEquality.NotEq = refl
 
-bare-off : (i : ℕ) (o : Option Place) → is_place i (option_map place o) ≡ false → bare_by i o ≡ RepEquality.NotEq
+bare-off : (i : ℕ) (o : Option CasePlace) → is_place i (option_map place_number o) ≡ false → bare_by i o ≡ RepEquality.NotEq
 bare-off i None h = refl
 bare-off i (Some (bare_at j)) h = rw h refl
 bare-off i (Some (carrying_at j u)) h = rw h refl
 
-carried-off : (f : Plain → RepEquality) (i : ℕ) (o : Option Place) → is_place i (option_map place o) ≡ false → carried_by f i o ≡ RepEquality.NotEq
+carried-off : (f : Plain → RepEquality) (i : ℕ) (o : Option CasePlace) → is_place i (option_map place_number o) ≡ false → carried_by f i o ≡ RepEquality.NotEq
 carried-off f i None h = refl
 carried-off f i (Some (bare_at j)) h = refl
 carried-off f i (Some (carrying_at j u)) h = rw h refl

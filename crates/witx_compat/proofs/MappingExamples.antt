@@ -9,7 +9,7 @@ use Rattle.witx_ast.specs.Items.{ItemTree, func_of}
 use Rattle.witx_ast.specs.Definitions.{ModuleTree, module_of, typename_of}
 use Rattle.witx_compat.specs.declared.answer.RepEquality.{RepEquality}
 use Rattle.witx_compat.specs.Conversions.{of_old, of_new, old_to_new, new_to_old, param_mapped, result_mapped, converted, conversion_answer, is_compatible, unknown_word}
-use Rattle.witx_compat.specs.Polyfills.{Refusal, no_module, no_function, mapped_params, mapped_results, params_unknown, results_unknown, MappedModule, function_mapped, is_fully_compatible, module_answer, polyfill_answer}
+use Rattle.witx_compat.specs.Polyfills.{PolyfillRefusal, no_module, no_function, mapped_params, mapped_results, params_unknown, results_unknown, MappedModule, function_mapped, is_fully_compatible, module_answer, polyfill_answer}
 use Rattle.witx_compat.specs.Once.{each_once, function_conversions}
 
 abbrev u8 : Tree
@@ -133,13 +133,13 @@ with_functions name items = record { name = name; comment = []; items = items }
 abbrev m : List ItemTree → ModuleTree
 m items = with_functions (codes "m") items
 
-abbrev answered : List MappedModule → Result (List MappedModule) Refusal
+abbrev answered : List MappedModule → Result (List MappedModule) PolyfillRefusal
 answered modules = Ok modules
 
-abbrev refused : Refusal → Result (List MappedModule) Refusal
+abbrev refused : PolyfillRefusal → Result (List MappedModule) PolyfillRefusal
 refused refusal = Err refusal
 
-abbrev refused_module : Refusal → Result MappedModule Refusal
+abbrev refused_module : PolyfillRefusal → Result MappedModule PolyfillRefusal
 refused_module refusal = Err refusal
 
 lacks-a-function : module_answer (m (func_of (f []) ∷ [])) (with_functions (codes "n") (func_of (f []) ∷ func_of g ∷ [])) ≡ refused_module (no_function (codes "m") (codes "g"))

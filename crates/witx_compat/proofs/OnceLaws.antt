@@ -17,7 +17,7 @@ use Rattle.witx_compat.specs.declared.modules.ModulePolyfill.{ModulePolyfill}
 use Rattle.witx_compat.specs.contracts.conversion.TypePolyfillPartialEq.TheImpl as conversions
 use Rattle.witx_compat.specs.Conversions.{Conversion, new_to_old, old_to_new}
 use Rattle.witx_compat.specs.Once.{same_conversion, new_after, each_once, function_conversions, module_conversions}
-use Rattle.witx_compat.specs.Seen.{Tells, taken, all_taken}
+use Rattle.witx_compat.specs.Seen.{TellsPairs, with_conversion, with_conversions}
 use Rattle.witx_compat.specs.Views.{conversion_view, mapped_view, function_view, module_view}
 
 -- the test of conversions holds exactly of equal ones
@@ -49,38 +49,38 @@ tested (TypePolyfill.NewToOld a b) (TypePolyfill.OldToNew c d) = refl
 tested (TypePolyfill.OldToNew a b) (TypePolyfill.NewToOld c d) = refl
 
 -- a list after a list
-pub once-append : (kept xs ys : List Conversion) → all_taken kept (xs ++ ys) ≡ all_taken (all_taken kept xs) ys
+pub once-append : (kept xs ys : List Conversion) → with_conversions kept (xs ++ ys) ≡ with_conversions (with_conversions kept xs) ys
 once-append kept [] ys = refl
-once-append kept (x ∷ xs) ys = once-append (taken kept x) xs ys
+once-append kept (x ∷ xs) ys = once-append (with_conversion kept x) xs ys
 
 -- the loops: what is kept so far, with what is left, makes the whole
 pub next-conversion : (kept whole : List Conversion) (xs : List ParamPolyfill) (i : ℕ) (x : ParamPolyfill) → i < length xs → x ≡ get_or xs i x
-    → all_taken kept (map (λ m. m.conversion) (map mapped_view (drop i xs))) ≡ whole
-    → all_taken (taken kept (conversion_view x.type_polyfill)) (map (λ m. m.conversion) (map mapped_view (drop (i + 1) xs))) ≡ whole
+    → with_conversions kept (map (λ m. m.conversion) (map mapped_view (drop i xs))) ≡ whole
+    → with_conversions (with_conversion kept (conversion_view x.type_polyfill)) (map (λ m. m.conversion) (map mapped_view (drop (i + 1) xs))) ≡ whole
 next-conversion kept whole xs i x l p h = rw (drop_more xs i x l, ← p) at h
 
 pub last-conversion : (kept whole : List Conversion) (xs : List ParamPolyfill) (i : ℕ) → length xs ≤ i
-    → all_taken kept (map (λ m. m.conversion) (map mapped_view (drop i xs))) ≡ whole → kept ≡ whole
+    → with_conversions kept (map (λ m. m.conversion) (map mapped_view (drop i xs))) ≡ whole → kept ≡ whole
 last-conversion kept whole xs i l h = rw (drop_all i xs l) at h
 
 pub next-function : (kept whole : List Conversion) (xs : List FuncPolyfill) (i : ℕ) (x : FuncPolyfill) → i < length xs → x ≡ get_or xs i x
-    → all_taken kept (flat_map function_conversions (map function_view (drop i xs))) ≡ whole
-    → all_taken (all_taken kept (function_conversions (function_view x))) (flat_map function_conversions (map function_view (drop (i + 1) xs))) ≡ whole
+    → with_conversions kept (flat_map function_conversions (map function_view (drop i xs))) ≡ whole
+    → with_conversions (with_conversions kept (function_conversions (function_view x))) (flat_map function_conversions (map function_view (drop (i + 1) xs))) ≡ whole
 next-function kept whole xs i x l p h =
     sym (once-append kept (function_conversions (function_view x)) (flat_map function_conversions (map function_view (drop (i + 1) xs)))) ∙ (rw (drop_more xs i x l, ← p) at h)
 
 pub last-function : (kept whole : List Conversion) (xs : List FuncPolyfill) (i : ℕ) → length xs ≤ i
-    → all_taken kept (flat_map function_conversions (map function_view (drop i xs))) ≡ whole → kept ≡ whole
+    → with_conversions kept (flat_map function_conversions (map function_view (drop i xs))) ≡ whole → kept ≡ whole
 last-function kept whole xs i l h = rw (drop_all i xs l) at h
 
 pub next-module : (kept whole : List Conversion) (xs : List ModulePolyfill) (i : ℕ) (x : ModulePolyfill) → i < length xs → x ≡ get_or xs i x
-    → all_taken kept (flat_map module_conversions (map module_view (drop i xs))) ≡ whole
-    → all_taken (all_taken kept (module_conversions (module_view x))) (flat_map module_conversions (map module_view (drop (i + 1) xs))) ≡ whole
+    → with_conversions kept (flat_map module_conversions (map module_view (drop i xs))) ≡ whole
+    → with_conversions (with_conversions kept (module_conversions (module_view x))) (flat_map module_conversions (map module_view (drop (i + 1) xs))) ≡ whole
 next-module kept whole xs i x l p h =
     sym (once-append kept (module_conversions (module_view x)) (flat_map module_conversions (map module_view (drop (i + 1) xs)))) ∙ (rw (drop_more xs i x l, ← p) at h)
 
 pub last-module : (kept whole : List Conversion) (xs : List ModulePolyfill) (i : ℕ) → length xs ≤ i
-    → all_taken kept (flat_map module_conversions (map module_view (drop i xs))) ≡ whole → kept ≡ whole
+    → with_conversions kept (flat_map module_conversions (map module_view (drop i xs))) ≡ whole → kept ≡ whole
 last-module kept whole xs i l h = rw (drop_all i xs l) at h
 
 -- what is taken, one after the other, is what stands nowhere before
@@ -99,36 +99,36 @@ taken-one kept before x false told h t = any-more t x kept ∙ ap (λ b. b || sa
 
 taken-by : (kept before rest : List Conversion) (x : Conversion) (xs : List Conversion) (b : Bool) → ((t : Conversion) → list_any (same_conversion t) kept ≡ list_any (same_conversion t) before)
     → list_any (same_conversion x) before ≡ b
-    → ((now : List Conversion) → ((t : Conversion) → list_any (same_conversion t) now ≡ list_any (same_conversion t) (before ++ x ∷ [])) → all_taken now xs ≡ now ++ rest)
-    → all_taken (cond b kept (kept ++ x ∷ [])) xs ≡ kept ++ cond b rest (x ∷ rest)
+    → ((now : List Conversion) → ((t : Conversion) → list_any (same_conversion t) now ≡ list_any (same_conversion t) (before ++ x ∷ [])) → with_conversions now xs ≡ now ++ rest)
+    → with_conversions (cond b kept (kept ++ x ∷ [])) xs ≡ kept ++ cond b rest (x ∷ rest)
 taken-by kept before rest x xs true told h more = more kept (taken-one kept before x true told h)
 taken-by kept before rest x xs false told h more = more (kept ++ x ∷ []) (taken-one kept before x false told h) ∙ append_assoc kept (x ∷ []) rest
 
 taken-new : (kept before xs : List Conversion) → ((t : Conversion) → list_any (same_conversion t) kept ≡ list_any (same_conversion t) before)
-    → all_taken kept xs ≡ kept ++ new_after before xs
+    → with_conversions kept xs ≡ kept ++ new_after before xs
 taken-new kept before [] told = sym (append-nil kept)
 taken-new kept before (x ∷ xs) told =
     rw (told x) (taken-by kept before (new_after (before ++ x ∷ []) xs) x xs (list_any (same_conversion x) before) told refl (λ now t. taken-new now (before ++ x ∷ []) xs t))
 
-pub taken-once : (xs : List Conversion) → all_taken [] xs ≡ each_once xs
+pub taken-once : (xs : List Conversion) → with_conversions [] xs ≡ each_once xs
 taken-once xs = taken-new [] [] xs (λ t. refl)
 
-pub then-more : (kept next now xs ys : List Conversion) → next ≡ all_taken kept xs → now ≡ all_taken next ys → now ≡ all_taken kept (xs ++ ys)
-then-more kept next now xs ys e n = n ∙ ap (λ k. all_taken k ys) e ∙ sym (once-append kept xs ys)
+pub then-more : (kept next now xs ys : List Conversion) → next ≡ with_conversions kept xs → now ≡ with_conversions next ys → now ≡ with_conversions kept (xs ++ ys)
+then-more kept next now xs ys e n = n ∙ ap (λ k. with_conversions k ys) e ∙ sym (once-append kept xs ys)
 
-pub from-none : (kept : List TypePolyfill) (now xs : List Conversion) → kept ≡ [] → now ≡ all_taken (map conversion_view kept) xs → now ≡ each_once xs
-from-none kept now xs e n = n ∙ ap (λ ts. all_taken (map conversion_view ts) xs) e ∙ taken-once xs
+pub from-none : (kept : List TypePolyfill) (now xs : List Conversion) → kept ≡ [] → now ≡ with_conversions (map conversion_view kept) xs → now ≡ each_once xs
+from-none kept now xs e n = n ∙ ap (λ ts. with_conversions (map conversion_view ts) xs) e ∙ taken-once xs
 
 -- the set after one more, and the list after one more
-pub none-told : {S : Type 0} (seen : HashSet TypePolyfill S) → IsEmpty seen → Tells seen []
+pub none-told : {S : Type 0} (seen : HashSet TypePolyfill S) → IsEmpty seen → TellsPairs seen []
 none-told seen e t = rw e refl
 
 one-any : {X : Type 0} (p : X → Bool) (x : X) (xs : List X) (b s : Bool) → s ≡ list_any p xs → b ≡ p x → cond b true s ≡ list_any p (xs ++ x ∷ [])
 one-any p x xs true s h k = rw (list_any-append p xs (x ∷ []), ← k) (sym (or-true (list_any p xs)))
 one-any p x xs false s h k = rw (list_any-append p xs (x ∷ []), ← k, h) (sym (or-false (list_any p xs)))
 
-pub told-more : {S : Type 0} (seen after : HashSet TypePolyfill S) (kept now : List TypePolyfill) (k c e : TypePolyfill) → Tells seen kept
-    → Updates conversions.ghosts.eq seen after k true → conversion_view k ≡ conversion_view e → conversion_view c ≡ conversion_view e → now ≡ kept ++ c ∷ [] → Tells after now
+pub told-more : {S : Type 0} (seen after : HashSet TypePolyfill S) (kept now : List TypePolyfill) (k c e : TypePolyfill) → TellsPairs seen kept
+    → Updates conversions.ghosts.eq seen after k true → conversion_view k ≡ conversion_view e → conversion_view c ≡ conversion_view e → now ≡ kept ++ c ∷ [] → TellsPairs after now
 told-more seen after kept now k c e told updates p q n t =
     let alike : conversions.ghosts.eq k t ≡ same_conversion (conversion_view t) (conversion_view c) =
     tested k t ∙ swap (conversion_view k) (conversion_view t) ∙ ap (same_conversion (conversion_view t)) (p ∙ sym q) in

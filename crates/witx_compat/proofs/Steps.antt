@@ -22,7 +22,7 @@ use Rattle.witx_ast.proofs.TreeKinds.{plain-behind}
 use Rattle.witx_base.specs.Found.{found}
 use Rattle.witx_compat.specs.declared.answer.RepEquality.{RepEquality}
 use Rattle.witx_compat.specs.Answers.{worse, is_same, is_refused, repr_by}
-use Rattle.witx_compat.specs.Represents.{Place, place, bare_at, carrying_at, last_case, last_place, later_of, only_if, number_if, represented, fields_same, cases_by, case_by, payload_by, count_by}
+use Rattle.witx_compat.specs.Represents.{CasePlace, place_number, bare_at, carrying_at, last_case, last_place, later_of, only_if, number_if, represented, fields_same, cases_by, case_by, payload_by, count_by}
 use Rattle.witx_compat.specs.Heads.{all_placed}
 use Rattle.witx_compat.proofs.Heads.{placed-here, worse-refused, misplaced}
 use Rattle.witx_compat.proofs.Standing.{standing, cases_from, found-there}
@@ -32,21 +32,21 @@ use Rattle.witx_compat.proofs.SameLaws.{builtin-alike, repr-alike, same-alike}
 
 -- what was found so far, and what is found in the cases from `i` on
 abbrev pub last_from : Option ℕ → ℕ → List ℕ → Arms → Option ℕ
-last_from found i name left = later_of found (option_map place (last_case i name left))
+last_from found i name left = later_of found (option_map place_number (last_case i name left))
 
 later-assoc : {A : Type 0} (a b c : Option A) → later_of a (later_of b c) ≡ later_of (later_of a b) c
 later-assoc a b None = refl
 later-assoc a b (Some c) = refl
 
-later-map : (a b : Option Place) → option_map place (later_of a b) ≡ later_of (option_map place a) (option_map place b)
+later-map : (a b : Option CasePlace) → option_map place_number (later_of a b) ≡ later_of (option_map place_number a) (option_map place_number b)
 later-map a None = refl
 later-map a (Some b) = refl
 
-bare-if : (b : Bool) (i : ℕ) → option_map place (only_if b (bare_at i)) ≡ number_if b i
+bare-if : (b : Bool) (i : ℕ) → option_map place_number (only_if b (bare_at i)) ≡ number_if b i
 bare-if true i = refl
 bare-if false i = refl
 
-carrying-if : (b : Bool) (i : ℕ) (t : Plain) → option_map place (only_if b (carrying_at i t)) ≡ number_if b i
+carrying-if : (b : Bool) (i : ℕ) (t : Plain) → option_map place_number (only_if b (carrying_at i t)) ≡ number_if b i
 carrying-if true i t = refl
 carrying-if false i t = refl
 
@@ -118,12 +118,12 @@ from-drop zero xs = refl
 from-drop (suc i) [] = refl
 from-drop (suc i) (x ∷ xs) = arm-from i _ _ (case_arm x).payload _ ∙ from-drop i xs
 
-record PlaceIs (o : Option Place) (j : ℕ) : Type 0 where
-  spot : Place
+record PlaceIs (o : Option CasePlace) (j : ℕ) : Type 0 where
+  spot : CasePlace
   found : o ≡ Some spot
-  there : place spot ≡ j
+  there : place_number spot ≡ j
 
-place-is : (o : Option Place) (j : ℕ) → option_map place o ≡ Some j → PlaceIs o j
+place-is : (o : Option CasePlace) (j : ℕ) → option_map place_number o ≡ Some j → PlaceIs o j
 place-is None j h = absurd (none-is h)
   where
     none-is : {x : ℕ} → None ≡ Some x → ⊥
@@ -133,11 +133,11 @@ place-is (Some p) j h = record { spot = p; found = refl; there = some-is h }
     some-is : {x y : ℕ} → Some x ≡ Some y → x ≡ y
     some-is h = cc
 
-no-standing : (p : Place) (name : List ℕ) (rest : Arms) → Arms.no_arms ≡ standing p name rest → ⊥
+no-standing : (p : CasePlace) (name : List ℕ) (rest : Arms) → Arms.no_arms ≡ standing p name rest → ⊥
 no-standing (bare_at i) name rest h = cc
 no-standing (carrying_at i t) name rest h = cc
 
-stands-in : (by : List Case) (name : List ℕ) (j : ℕ) (p : Place) → last_case 0 name (cases_plain by) ≡ Some p → place p ≡ j
+stands-in : (by : List Case) (name : List ℕ) (j : ℕ) (p : CasePlace) → last_case 0 name (cases_plain by) ≡ Some p → place_number p ≡ j
     → cases_plain (drop j by) ≡ standing p name (cases_from (j + 1) (cases_plain by))
 stands-in by name j p h e = sym (from-drop j by) ∙ found-there j name (cases_plain by) p e h
 
@@ -153,7 +153,7 @@ in-range by name j h = in-range-by by name j _ refl (place-is _ j h)
 at-self : (i k : ℕ) → k ≡ i → (i == k) ≡ true
 at-self i k e = grind (arith, e)
 
-met : (i : ℕ) (o : Option Plain) (p : Place) (c : Case) (t : Option TypeRef) (name : List ℕ) (rest others : Arms) → place p ≡ i → c.tref ≡ t
+met : (i : ℕ) (o : Option Plain) (p : CasePlace) (c : Case) (t : Option TypeRef) (name : List ℕ) (rest others : Arms) → place_number p ≡ i → c.tref ≡ t
     → (t ≡ None → standing p name rest ≡ Arms.bare c.name others)
     → ((u : TypeRef) → t ≡ Some u → standing p name rest ≡ Arms.carries c.name (plain (tree_of u)) others)
     → payload_by o (option_map (λ t. plain (tree_of t)) t) ≡ case_by i o (Some p)

@@ -36,6 +36,6 @@ abbrev pub IsTable : List (List ℕ × Bor InterfaceFuncParam) → List Field �
 IsTable entries fields = (name : List ℕ) → named entries name ≡ first_called name fields
 
 -- the first that is there
-abbrev pub earlier : Option Field → Option Field → Option Field
-earlier None later = later
-earlier (Some f) later = Some f
+abbrev pub earlier_field : Option Field → Option Field → Option Field
+earlier_field None later = later
+earlier_field (Some f) later = Some f

@@ -86,48 +86,48 @@ pub record MappedModule : Type 0 where
   pub functions : List MappedFunction
 
 -- a module that a document lacks; a function that a module lacks
-pub data Refusal : Type 0 where
-  no_module : List ℕ → Refusal
-  no_function : List ℕ → List ℕ → Refusal
+pub data PolyfillRefusal : Type 0 where
+  no_module : List ℕ → PolyfillRefusal
+  no_function : List ℕ → List ℕ → PolyfillRefusal
 
 -- all of them in order, or the first refusal
-abbrev pub one_more : {A : Type 0} → Result A Refusal → Result (List A) Refusal → Result (List A) Refusal
-one_more (Ok x) (Ok xs) = Ok (x ∷ xs)
-one_more (Ok x) (Err refusal) = Err refusal
-one_more (Err refusal) rest = Err refusal
+abbrev pub mapped_then : {A : Type 0} → Result A PolyfillRefusal → Result (List A) PolyfillRefusal → Result (List A) PolyfillRefusal
+mapped_then (Ok x) (Ok xs) = Ok (x ∷ xs)
+mapped_then (Ok x) (Err refusal) = Err refusal
+mapped_then (Err refusal) rest = Err refusal
 
-abbrev pub all_of : {A B : Type 0} → (A → Result B Refusal) → List A → Result (List B) Refusal
-all_of f [] = Ok []
-all_of f (x ∷ xs) = one_more (f x) (all_of f xs)
+abbrev pub all_or_refusal : {A B : Type 0} → (A → Result B PolyfillRefusal) → List A → Result (List B) PolyfillRefusal
+all_or_refusal f [] = Ok []
+all_or_refusal f (x ∷ xs) = mapped_then (f x) (all_or_refusal f xs)
 
-abbrev pub function_or_none : ModuleTree → FunctionTree → Option FunctionTree → Result MappedFunction Refusal
+abbrev pub function_or_none : ModuleTree → FunctionTree → Option FunctionTree → Result MappedFunction PolyfillRefusal
 function_or_none new old None = Err (no_function new.name old.name)
 function_or_none new old (Some f) = Ok (function_mapped f old)
 
 -- an old function to the new module's function of its name
-abbrev pub function_answer : ModuleTree → FunctionTree → Result MappedFunction Refusal
+abbrev pub function_answer : ModuleTree → FunctionTree → Result MappedFunction PolyfillRefusal
 function_answer new old = function_or_none new old (func_called new.items old.name)
 
-abbrev pub as_module : ModuleTree → ModuleTree → Result (List MappedFunction) Refusal → Result MappedModule Refusal
-as_module new old (Ok functions) = Ok (record { new = new; old = old; functions = functions })
-as_module new old (Err refusal) = Err refusal
+abbrev pub as_mapped_module : ModuleTree → ModuleTree → Result (List MappedFunction) PolyfillRefusal → Result MappedModule PolyfillRefusal
+as_mapped_module new old (Ok functions) = Ok (record { new = new; old = old; functions = functions })
+as_mapped_module new old (Err refusal) = Err refusal
 
 -- each old function in order, or the first that the new module lacks
-abbrev pub module_answer : ModuleTree → ModuleTree → Result MappedModule Refusal
-module_answer new old = as_module new old (all_of (function_answer new) (funcs_of old.items))
+abbrev pub module_answer : ModuleTree → ModuleTree → Result MappedModule PolyfillRefusal
+module_answer new old = as_mapped_module new old (all_or_refusal (function_answer new) (funcs_of old.items))
 
-abbrev pub old_or_none : List ℕ → ModuleTree → Option ModuleTree → Result MappedModule Refusal
+abbrev pub old_or_none : List ℕ → ModuleTree → Option ModuleTree → Result MappedModule PolyfillRefusal
 old_or_none old_name new None = Err (no_module old_name)
 old_or_none old_name new (Some old) = module_answer new old
 
-abbrev pub new_or_none : List ℕ → List ℕ → Option ModuleTree → Option ModuleTree → Result MappedModule Refusal
+abbrev pub new_or_none : List ℕ → List ℕ → Option ModuleTree → Option ModuleTree → Result MappedModule PolyfillRefusal
 new_or_none new_name old_name None old = Err (no_module new_name)
 new_or_none new_name old_name (Some new) old = old_or_none old_name new old
 
 -- a new module's name with an old one's: the new module is looked up first
-abbrev pub pair_answer : List DefinitionTree → List DefinitionTree → List ℕ × List ℕ → Result MappedModule Refusal
+abbrev pub pair_answer : List DefinitionTree → List DefinitionTree → List ℕ × List ℕ → Result MappedModule PolyfillRefusal
 pair_answer new old names = new_or_none names.0 names.1 (module_called new names.0) (module_called old names.1)
 
 -- all pairs, in order of the new names, which is the order of the map's entries
-abbrev pub polyfill_answer : List DefinitionTree → List DefinitionTree → List (List ℕ × List ℕ) → Result (List MappedModule) Refusal
-polyfill_answer new old pairs = all_of (pair_answer new old) pairs
+abbrev pub polyfill_answer : List DefinitionTree → List DefinitionTree → List (List ℕ × List ℕ) → Result (List MappedModule) PolyfillRefusal
+polyfill_answer new old pairs = all_or_refusal (pair_answer new old) pairs

@@ -8,13 +8,13 @@ use Rattle.witx_compat.specs.Once.{same_conversion}
 use Rattle.witx_compat.specs.Views.{conversion_view}
 use Rattle.witx_compat.specs.contracts.conversion.TypePolyfillPartialEq.TheImpl as conversions
 
-abbrev pub Tells : {S : Type 0} → HashSet TypePolyfill S → List TypePolyfill → Type 0
-Tells seen kept = (t : TypePolyfill) → contains conversions.ghosts.eq seen t ≡ list_any (same_conversion (conversion_view t)) (map conversion_view kept)
+abbrev pub TellsPairs : {S : Type 0} → HashSet TypePolyfill S → List TypePolyfill → Type 0
+TellsPairs seen kept = (t : TypePolyfill) → contains conversions.ghosts.eq seen t ≡ list_any (same_conversion (conversion_view t)) (map conversion_view kept)
 
 -- one more, unless it is there
-abbrev pub taken : List Conversion → Conversion → List Conversion
-taken kept x = if list_any (same_conversion x) kept then kept else kept ++ x ∷ []
+abbrev pub with_conversion : List Conversion → Conversion → List Conversion
+with_conversion kept x = if list_any (same_conversion x) kept then kept else kept ++ x ∷ []
 
-abbrev pub all_taken : List Conversion → List Conversion → List Conversion
-all_taken kept [] = kept
-all_taken kept (x ∷ xs) = all_taken (taken kept x) xs
+abbrev pub with_conversions : List Conversion → List Conversion → List Conversion
+with_conversions kept [] = kept
+with_conversions kept (x ∷ xs) = with_conversions (with_conversion kept x) xs

@@ -11,7 +11,7 @@ use Rattle.witx_compat.specs.declared.functions.FuncPolyfill.{FuncPolyfill}
 use Rattle.witx_compat.specs.declared.modules.ModulePolyfill.{ModulePolyfill}
 use Rattle.witx_compat.specs.declared.error.PolyfillError.{PolyfillError}
 use Rattle.witx_compat.specs.Conversions.{Conversion, new_to_old, old_to_new, Mapped, Unknown, of_old, of_new}
-use Rattle.witx_compat.specs.Polyfills.{MappedFunction, MappedModule, Refusal, no_module, no_function}
+use Rattle.witx_compat.specs.Polyfills.{MappedFunction, MappedModule, PolyfillRefusal, no_module, no_function}
 
 abbrev pub conversion_view : TypePolyfill → Conversion
 conversion_view (TypePolyfill.NewToOld new old) = new_to_old (tree_of new) (tree_of old)
@@ -46,7 +46,7 @@ abbrev pub IsModuleCopy : ModulePolyfill → ModulePolyfill → Type 0
 IsModuleCopy p c = (c.new.value ≡ p.new.value) × ((c.old.value ≡ p.old.value) × (map function_view c.funcs ≡ map function_view p.funcs))
 
 -- an error is this refusal; want of memory may come for any answer
-abbrev pub Says : {A : Type 0} → Result A Refusal → PolyfillError → Type 0
-Says answer (PolyfillError.ModuleNotPresent name) = answer ≡ Err (no_module name)
-Says answer (PolyfillError.FuncNotPresent owner name) = answer ≡ Err (no_function owner name)
-Says answer PolyfillError.OutOfMemory = Unit {0}
+abbrev pub IsPolyfillRefusal : {A : Type 0} → Result A PolyfillRefusal → PolyfillError → Type 0
+IsPolyfillRefusal answer (PolyfillError.ModuleNotPresent name) = answer ≡ Err (no_module name)
+IsPolyfillRefusal answer (PolyfillError.FuncNotPresent owner name) = answer ≡ Err (no_function owner name)
+IsPolyfillRefusal answer PolyfillError.OutOfMemory = Unit {0}

@@ -4,9 +4,9 @@ ghost use Rattle.std.specs.Prelude.{◌≡◌, IfOk, MatchResult, map, Ok};
 ghost use Rattle.witx_ast.specs.Items.{item_tree, funcs_of};
 ghost use Rattle.witx_ast.specs.Functions.{func_tree};
 ghost use Rattle.witx_ast.specs.Definitions.{definition_tree, module_tree};
-ghost use Rattle.witx_compat.specs.Polyfills.{all_of, function_answer, module_answer, pair_answer, polyfill_answer};
-ghost use Rattle.witx_compat.specs.Gathered.{put};
-ghost use Rattle.witx_compat.specs.Views.{function_view, module_view, Says};
+ghost use Rattle.witx_compat.specs.Polyfills.{all_or_refusal, function_answer, module_answer, pair_answer, polyfill_answer};
+ghost use Rattle.witx_compat.specs.Gathered.{put_before};
+ghost use Rattle.witx_compat.specs.Views.{function_view, module_view, IsPolyfillRefusal};
 
 use crate::error::PolyfillError;
 use crate::functions::{FuncPolyfill, FuncPolyfills};
@@ -41,7 +41,7 @@ impl ModulePolyfill {
         ensures modules { IfOk result (λ made. (made.new.value ≡ new.value) × (made.old.value ≡ old.value)) }
         ensures answer { MatchResult result
             (λ made. module_answer (module_tree new.value) (module_tree old.value) ≡ Ok (module_view made))
-            (Says (module_answer (module_tree new.value) (module_tree old.value))) }
+            (IsPolyfillRefusal (module_answer (module_tree new.value) (module_tree old.value))) }
     {
         let funcs = all_functions(alloc, &new, old.definitions().as_slice())?;
         Ok(ModulePolyfill { new, old, funcs })
@@ -56,8 +56,8 @@ fn all_functions(
     items: &[ModuleDefinition],
 ) -> Result<FuncPolyfills, PolyfillError>
     ensures { MatchResult result
-        (λ made. all_of (function_answer (module_tree new.now)) (funcs_of (map item_tree items.now)) ≡ Ok (map function_view made))
-        (Says (all_of (function_answer (module_tree new.now)) (funcs_of (map item_tree items.now)))) }
+        (λ made. all_or_refusal (function_answer (module_tree new.now)) (funcs_of (map item_tree items.now)) ≡ Ok (map function_view made))
+        (IsPolyfillRefusal (all_or_refusal (function_answer (module_tree new.now)) (funcs_of (map item_tree items.now)))) }
 {
     let mut made = Items::new(alloc);
     for item in items {
@@ -77,8 +77,8 @@ fn put_function(
     old: &Rc<InterfaceFunc>,
 ) -> Result<(), PolyfillError>
     ensures { MatchResult result
-        (λ _. put (map function_view made.old) (function_answer (module_tree new.now) (func_tree old.now.value)) ≡ Ok (map function_view made.new))
-        (Says (function_answer (module_tree new.now) (func_tree old.now.value))) }
+        (λ _. put_before (map function_view made.old) (function_answer (module_tree new.now) (func_tree old.now.value)) ≡ Ok (map function_view made.new))
+        (IsPolyfillRefusal (function_answer (module_tree new.now) (func_tree old.now.value))) }
 {
     made.push(one_function(alloc, new, old)?)?;
     Ok(())
@@ -93,7 +93,7 @@ fn one_function(
 ) -> Result<FuncPolyfill, PolyfillError>
     ensures { MatchResult result
         (λ made. function_answer (module_tree new.now) (func_tree old.now.value) ≡ Ok (function_view made))
-        (Says (function_answer (module_tree new.now) (func_tree old.now.value))) }
+        (IsPolyfillRefusal (function_answer (module_tree new.now) (func_tree old.now.value))) }
 {
     match new.func(&old.name) {
         Some(found) => Ok(FuncPolyfill::new(alloc, found.clone()?, old.clone()?)?),
@@ -121,7 +121,7 @@ impl Polyfill {
         module_mapping: &ModuleMap,
     ) -> Result<Polyfill, PolyfillError>
         ensures { let answer = polyfill_answer (map definition_tree new.now.definitions) (map definition_tree old.now.definitions) module_mapping.now in
-            MatchResult result (λ made. answer ≡ Ok (map module_view made.modules)) (Says answer) }
+            MatchResult result (λ made. answer ≡ Ok (map module_view made.modules)) (IsPolyfillRefusal answer) }
     {
         let mut modules = Items::new(alloc);
         for (new_name, old_name) in module_mapping {
@@ -142,7 +142,7 @@ fn put_module(
     old_name: &Id,
 ) -> Result<(), PolyfillError>
     ensures { let answer = pair_answer (map definition_tree new.now.definitions) (map definition_tree old.now.definitions) (new_name.now, old_name.now) in
-        MatchResult result (λ _. put (map module_view made.old) answer ≡ Ok (map module_view made.new)) (Says answer) }
+        MatchResult result (λ _. put_before (map module_view made.old) answer ≡ Ok (map module_view made.new)) (IsPolyfillRefusal answer) }
 {
     made.push(one_module(alloc, new, old, new_name, old_name)?)?;
     Ok(())
@@ -158,7 +158,7 @@ fn one_module(
     old_name: &Id,
 ) -> Result<ModulePolyfill, PolyfillError>
     ensures { let answer = pair_answer (map definition_tree new.now.definitions) (map definition_tree old.now.definitions) (new_name.now, old_name.now) in
-        MatchResult result (λ made. answer ≡ Ok (module_view made)) (Says answer) }
+        MatchResult result (λ made. answer ≡ Ok (module_view made)) (IsPolyfillRefusal answer) }
 {
     let Some(new_module) = new.module(new_name) else {
         return Err(PolyfillError::ModuleNotPresent {

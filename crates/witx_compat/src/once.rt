@@ -3,7 +3,7 @@
 ghost use Rattle.std.specs.Prelude.{◌≡◌, IfOk, OnOk, map, []};
 ghost use Rattle.std.specs.List.{flat_map};
 ghost use Rattle.witx_compat.specs.Once.{each_once, function_conversions, module_conversions};
-ghost use Rattle.witx_compat.specs.Seen.{Tells, taken, all_taken};
+ghost use Rattle.witx_compat.specs.Seen.{TellsPairs, with_conversion, with_conversions};
 ghost use Rattle.witx_compat.specs.Views.{conversion_view, mapped_view, function_view, module_view};
 
 use crate::conversion::{ParamPolyfill, TypePolyfill, TypePolyfills};
@@ -59,7 +59,7 @@ struct Found {
 impl Found {
     #[tactic(auto, using(crate::proofs::OnceLaws::once_rules))]
     fn new(alloc: Global) -> Found
-        ensures told { Tells result.seen result.types }
+        ensures told { TellsPairs result.seen result.types }
         ensures types { result.types ≡ [] }
     {
         Found {
@@ -70,9 +70,9 @@ impl Found {
 
     #[tactic(auto, using(crate::proofs::OnceLaws::once_rules))]
     fn add_modules(&mut self, modules: &[ModulePolyfill]) -> Result<(), OutOfMemory>
-        requires { Tells self.old.seen self.old.types }
+        requires { TellsPairs self.old.seen self.old.types }
         ensures { OnOk result (map conversion_view self.new.types
-            ≡ all_taken (map conversion_view self.old.types) (flat_map module_conversions (map module_view modules.now))) }
+            ≡ with_conversions (map conversion_view self.old.types) (flat_map module_conversions (map module_view modules.now))) }
     {
         for one in modules {
             self.add_functions(one.funcs.as_slice())?;
@@ -82,10 +82,10 @@ impl Found {
 
     #[tactic(auto, using(crate::proofs::OnceLaws::once_rules))]
     fn add_functions(&mut self, functions: &[FuncPolyfill]) -> Result<(), OutOfMemory>
-        requires { Tells self.old.seen self.old.types }
-        ensures told { OnOk result (Tells self.new.seen self.new.types) }
+        requires { TellsPairs self.old.seen self.old.types }
+        ensures told { OnOk result (TellsPairs self.new.seen self.new.types) }
         ensures types { OnOk result (map conversion_view self.new.types
-            ≡ all_taken (map conversion_view self.old.types) (flat_map function_conversions (map function_view functions.now))) }
+            ≡ with_conversions (map conversion_view self.old.types) (flat_map function_conversions (map function_view functions.now))) }
     {
         for function in functions {
             self.add_function(function)?;
@@ -95,10 +95,10 @@ impl Found {
 
     #[tactic(auto, using(crate::proofs::OnceLaws::once_rules))]
     fn add_function(&mut self, function: &FuncPolyfill) -> Result<(), OutOfMemory>
-        requires { Tells self.old.seen self.old.types }
-        ensures told { OnOk result (Tells self.new.seen self.new.types) }
+        requires { TellsPairs self.old.seen self.old.types }
+        ensures told { OnOk result (TellsPairs self.new.seen self.new.types) }
         ensures types { OnOk result (map conversion_view self.new.types
-            ≡ all_taken (map conversion_view self.old.types) (function_conversions (function_view function.now))) }
+            ≡ with_conversions (map conversion_view self.old.types) (function_conversions (function_view function.now))) }
     {
         self.add_mapped(function.mapped_params.as_slice())?;
         self.add_mapped(function.mapped_results.as_slice())?;
@@ -107,10 +107,10 @@ impl Found {
 
     #[tactic(auto, using(crate::proofs::OnceLaws::once_rules))]
     fn add_mapped(&mut self, mapped: &[ParamPolyfill]) -> Result<(), OutOfMemory>
-        requires { Tells self.old.seen self.old.types }
-        ensures told { OnOk result (Tells self.new.seen self.new.types) }
+        requires { TellsPairs self.old.seen self.old.types }
+        ensures told { OnOk result (TellsPairs self.new.seen self.new.types) }
         ensures types { OnOk result (map conversion_view self.new.types
-            ≡ all_taken (map conversion_view self.old.types) (map (λ m. m.conversion) (map mapped_view mapped.now))) }
+            ≡ with_conversions (map conversion_view self.old.types) (map (λ m. m.conversion) (map mapped_view mapped.now))) }
     {
         for one in mapped {
             self.add(&one.type_polyfill)?;
@@ -120,9 +120,9 @@ impl Found {
 
     #[tactic(auto, using(crate::proofs::OnceLaws::once_rules))]
     fn add(&mut self, conversion: &TypePolyfill) -> Result<(), OutOfMemory>
-        requires { Tells self.old.seen self.old.types }
-        ensures told { OnOk result (Tells self.new.seen self.new.types) }
-        ensures types { OnOk result (map conversion_view self.new.types ≡ taken (map conversion_view self.old.types) (conversion_view conversion.now)) }
+        requires { TellsPairs self.old.seen self.old.types }
+        ensures told { OnOk result (TellsPairs self.new.seen self.new.types) }
+        ensures types { OnOk result (map conversion_view self.new.types ≡ with_conversion (map conversion_view self.old.types) (conversion_view conversion.now)) }
     {
         if self.seen.insert(conversion.copy()?)? {
             self.types.push(conversion.copy()?)?;

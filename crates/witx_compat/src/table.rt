@@ -4,7 +4,7 @@ ghost use Rattle.std.specs.Prelude.{◌≡◌, ℕ, List, IfOk, OnOk, map, is_so
 ghost use Rattle.witx_ast.specs.Functions.{param_field};
 ghost use Rattle.witx_base.specs.SameBytes.{same_bytes};
 ghost use Rattle.witx_compat.specs.Polyfills.{prefer};
-ghost use Rattle.witx_compat.specs.Halves.{named, IsTable, earlier, target_of};
+ghost use Rattle.witx_compat.specs.Halves.{named, IsTable, earlier_field, target_of};
 ghost use Rattle.witx_compat.specs.Views.{mapped_view};
 
 use crate::conversion::ParamPolyfill;
@@ -51,7 +51,7 @@ pub fn table_of_targets<'a>(
 #[tactic(auto, using(crate::proofs::Tables::table_rules))]
 fn put_first<'a>(table: &mut Table<'a>, param: &'a InterfaceFuncParam) -> Result<(), OutOfMemory>
     ensures { (q : List ℕ) → OnOk result (named table.new q
-        ≡ earlier (named table.old q) (prefer (same_bytes param.now.name q) (param_field param.now) None)) }
+        ≡ earlier_field (named table.old q) (prefer (same_bytes param.now.name q) (param_field param.now) None)) }
 {
     if is_named(table, &param.name) {
         return Ok(());

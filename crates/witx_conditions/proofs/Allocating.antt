@@ -16,7 +16,7 @@ use Rattle.witx_machine.specs.Run.{itself}
 use Rattle.witx_instructions.specs.Views.{called, event_of, param_types}
 use Rattle.witx_instructions.specs.declared.event.Event as kept
 use Rattle.witx_bytes.proofs.TakenFit.{AllGood, AllOf, Fit, Good, GoodRow, IfGiven, taken_fits}
-use Rattle.witx_conditions.specs.FittingEvents.{TakeWritable, event_fits, events_fit, payload_fits, row_fits}
+use Rattle.witx_conditions.specs.FittingEvents.{TakeWritable, event_fits, events_fit, payload_tree_fits, row_fits}
 use Rattle.witx_conditions.proofs.Lists.{refused, passed, ended}
 
 -- ---- events, one after the other
@@ -48,13 +48,13 @@ pub ruleset event_rules = (event-refused, event-passed, events-ended)
 tree-fits : (t : Tree) → fits (plain t) ≡ true → Fit t
 tree-fits t h = (fits-decides (plain t)).0 h
 
-payload-given : (o : Option Tree) → payload_fits o ≡ true → IfGiven o
+payload-given : (o : Option Tree) → payload_tree_fits o ≡ true → IfGiven o
 payload-given None h = tt
 payload-given (Some t) h = tree-fits t h
 
 row-good : (r : Row) → row_fits r ≡ true → GoodRow r
 row-good (load t) h = tree-fits t h
-row-good (result_lower ok err) h = let p = both (payload_fits ok) (payload_fits err) h in (payload-given ok p.0, payload-given err p.1)
+row-good (result_lower ok err) h = let p = both (payload_tree_fits ok) (payload_tree_fits err) h in (payload-given ok p.0, payload-given err p.1)
 row-good _ h = tt
 
 event-good : (e : Event) → event_fits e ≡ true → Good e

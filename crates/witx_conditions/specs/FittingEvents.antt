@@ -18,13 +18,13 @@ pub record TakeWritable (f : Function) (caller callee : List Event) : Type 0 whe
   pub taken : (m : List ℕ) (arguments : List Value) (reply : Option Value) (memory : Cells) (addresses : List ℕ) (o : Outcome Value Word Memory)
       → run_cells m f caller callee arguments reply memory addresses ≡ Some o → AreWritable o.memory.taken
 
-abbrev pub payload_fits : Option Tree → Bool
-payload_fits None = true
-payload_fits (Some t) = fits (plain t)
+abbrev pub payload_tree_fits : Option Tree → Bool
+payload_tree_fits None = true
+payload_tree_fits (Some t) = fits (plain t)
 
 abbrev pub row_fits : Row → Bool
 row_fits (load t) = fits (plain t)
-row_fits (result_lower ok err) = payload_fits ok && payload_fits err
+row_fits (result_lower ok err) = payload_tree_fits ok && payload_tree_fits err
 row_fits _ = true
 
 abbrev pub event_fits : Event → Bool

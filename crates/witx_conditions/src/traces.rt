@@ -5,7 +5,7 @@ ghost use Rattle.witx_instructions.specs.Views.{called, event_of, kept_step};
 ghost use Rattle.witx_machine.specs.Rows.{row};
 ghost use Rattle.witx_run.specs.RowViews.{row_view};
 ghost use Rattle.witx_run.specs.Views.{type_tree};
-ghost use Rattle.witx_conditions.specs.FittingEvents.{TakeWritable, event_fits, events_fit, payload_fits, row_fits};
+ghost use Rattle.witx_conditions.specs.FittingEvents.{TakeWritable, event_fits, events_fit, payload_tree_fits, row_fits};
 
 use crate::values::fits;
 use witx_ast::{InterfaceFunc, TypeRef};
@@ -79,7 +79,7 @@ fn row_fits(row: Row<'_>) -> bool
 }
 
 fn payload_fits(payload: Option<&TypeRef>) -> bool
-    ensures { result ≡ payload_fits (type_tree payload.entry) }
+    ensures { result ≡ payload_tree_fits (type_tree payload.entry) }
 {
     match payload {
         Some(ty) => writable(ty),

@@ -12,7 +12,7 @@ use Rattle.witx_compat.specs.Conversions.{is_compatible}
 use Rattle.witx_compat.specs.Polyfills.{MappedFunction, is_fully_compatible}
 use Rattle.witx_compat.specs.Views.{mapped_view, unknown_view, unknown_param}
 use Rattle.witx_docs.proofs.Lines.{behind}
-use Rattle.witx_docs.specs.PolyfillTexts.{full_line, function_parts, function_text, renamed, mapped_part, unknown_part, unknown_name, part_line, parts_text}
+use Rattle.witx_docs.specs.PolyfillTexts.{full_line, mapped_function_parts, function_text, renamed, mapped_part, unknown_part, unknown_name, part_line, parts_text}
 use Rattle.witx_docs.specs.Pieces.{behind_colon, has_compatible_parts}
 
 -- the lines of parts that are left
@@ -78,7 +78,7 @@ name-of-unknown (ParamUnknown.New p) = refl
 pub ruleset unknown_rules = (next-unknown, no-unknown, name-of-unknown)
 
 -- the four sorts of parts, one behind the other
-pub all-parts : (f : MappedFunction) → flat_map part_line (function_parts f)
+pub all-parts : (f : MappedFunction) → flat_map part_line (mapped_function_parts f)
     ≡ flat_map part_line (map (mapped_part (codes "param")) f.params) ++ flat_map part_line (map (unknown_part (codes "param")) f.unknown_params)
     ++ flat_map part_line (map (mapped_part (codes "result")) f.results) ++ flat_map part_line (map (unknown_part (codes "result")) f.unknown_results)
 all-parts f =
@@ -127,17 +127,17 @@ told-in-full f before h =
 
 pub told-in-parts : (f : MappedFunction) (full compatible : Bool) (before empty parts shown one two after : List ℕ)
     → full ≡ (same_bytes f.new.name f.old.name && compatible) → full ≡ false → compatible ≡ has_compatible_parts f
-    → empty ≡ [] → parts ≡ empty ++ flat_map part_line (function_parts f) → shown ≡ parts
+    → empty ≡ [] → parts ≡ empty ++ flat_map part_line (mapped_function_parts f) → shown ≡ parts
     → one ≡ before ++ codes "* " → two ≡ one ++ renamed f.old.name f.new.name → after ≡ two ++ behind_colon shown
     → after ≡ before ++ function_text f
 told-in-parts f full compatible before empty parts shown one two after is_full not_full same_parts none all same p q r =
     let differs : is_fully_compatible f ≡ false =
     sym (is-full f) ∙ ap (λ t. same_bytes f.new.name f.old.name && t) (sym same_parts) ∙ sym is_full ∙ not_full in
     let name = renamed f.old.name f.new.name in
-    let told : function_text f ≡ codes "* " ++ renamed f.old.name f.new.name ++ parts_text (function_parts f) = rw differs refl in
-    let lines : shown ≡ flat_map part_line (function_parts f) = same ∙ all ∙ ap (λ t. t ++ flat_map part_line (function_parts f)) none in
-    let colon : behind_colon shown ≡ parts_text (function_parts f) = ap behind_colon lines ∙ parts-behind-colon (function_parts f) in
-    behind before (codes "* " ++ name) (parts_text (function_parts f)) two after
+    let told : function_text f ≡ codes "* " ++ renamed f.old.name f.new.name ++ parts_text (mapped_function_parts f) = rw differs refl in
+    let lines : shown ≡ flat_map part_line (mapped_function_parts f) = same ∙ all ∙ ap (λ t. t ++ flat_map part_line (mapped_function_parts f)) none in
+    let colon : behind_colon shown ≡ parts_text (mapped_function_parts f) = ap behind_colon lines ∙ parts-behind-colon (mapped_function_parts f) in
+    behind before (codes "* " ++ name) (parts_text (mapped_function_parts f)) two after
     (behind before (codes "* ") name one two p q) (r ∙ ap (λ t. two ++ t) colon)
     ∙ ap (λ text. before ++ text) (sym told)
 

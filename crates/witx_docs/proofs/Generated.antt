@@ -10,7 +10,7 @@ use Rattle.witx_markdown.specs.declared.content.MdContent.TheVariants as content
 use Rattle.witx_markdown.specs.declared.branch.Branch.{Branch}
 use Rattle.witx_docs.specs.declared.error.DocsError.TheVariants as docs_error
 use Rattle.witx_markdown.specs.Forests.{Forest, no_nodes, node, contents_of, node_count, parents_from, sprouted}
-use Rattle.witx_docs.specs.LaidOut.{too_large, refusal_fits, refusal_of, number_refusal}
+use Rattle.witx_docs.specs.LaidOut.{too_large, refusal_fits, layout_refusal, number_refusal}
 use Rattle.witx_markdown.specs.Trees.{PageTree, HaveParents, content_at, generated}
 use Rattle.witx_markdown.proofs.Ancestry.{have-append}
 use Rattle.witx_docs.proofs.Grown.{count-contents}
@@ -68,7 +68,7 @@ shown-alone t p d = rw (append-nil t.parents, append-nil (slice_set t.contents p
 pub numbers-accepted : (ns : List ℕ) → too_large ns ≡ false → number_refusal ns ≡ None
 numbers-accepted ns e = rw e refl
 
-pub numbers-refused : (ns : List ℕ) (e : LayoutError) → refusal_fits (too_large ns) e → (refusal_of e ≡ docs_error.OutOfMemory) ⊎ (number_refusal ns ≡ Some (refusal_of e))
+pub numbers-refused : (ns : List ℕ) (e : LayoutError) → refusal_fits (too_large ns) e → (layout_refusal e ≡ docs_error.OutOfMemory) ⊎ (number_refusal ns ≡ Some (layout_refusal e))
 numbers-refused ns layout_error.TooLarge h = inr (rw h refl)
 numbers-refused ns layout_error.OutOfMemory h = inl refl
 

@@ -4,7 +4,7 @@ use Rattle.std.specs.Prelude.{◌≡◌, ℕ, ◌+◌, [], ◌∷◌, ◌++◌, 
 use Rattle.std.proofs.Common.{arith, refl, sym, ap, ◌∙◌, append_assoc, append-nil, length-append}
 use Rattle.witx_markdown.specs.declared.content.MdContent.{MdContent}
 use Rattle.witx_markdown.specs.declared.branch.Branch.{Branch}
-use Rattle.witx_markdown.specs.Forests.{Forest, no_nodes, node, leaf, followed_by, contents_of, node_count, parents_from, next_number, sprouted}
+use Rattle.witx_markdown.specs.Forests.{Forest, no_nodes, node, lone_node, followed_by, contents_of, node_count, parents_from, next_number, sprouted}
 
 pub count-contents : (f : Forest) → length (contents_of f) ≡ node_count f
 count-contents no_nodes = refl
@@ -49,7 +49,7 @@ sprouted-followed b p f g =
     ) refl
 
 -- below what was just added
-pub sprouted-node : (b : Branch) (p : ℕ) (c : MdContent) (below : Forest) → sprouted (sprouted b p (leaf c)) (next_number b) below ≡ sprouted b p (node c below no_nodes)
+pub sprouted-node : (b : Branch) (p : ℕ) (c : MdContent) (below : Forest) → sprouted (sprouted b p (lone_node c)) (next_number b) below ≡ sprouted b p (node c below no_nodes)
 unfolding sprouted
 sprouted-node b p c below =
     let n : b.first + length (b.contents ++ c ∷ []) ≡ (b.first + length b.contents) + 1 = omega (arith, length-append b.contents (c ∷ [])) in
@@ -74,10 +74,10 @@ sprouted-contents b p f = refl
 
 -- two nodes with what stands below each
 pub sprouted-two : (b : Branch) (p : ℕ) (c d : MdContent) (f g : Forest)
-    → sprouted (sprouted (sprouted (sprouted b p (leaf c)) (next_number b) f) p (leaf d)) (next_number (sprouted (sprouted b p (leaf c)) (next_number b) f)) g
+    → sprouted (sprouted (sprouted (sprouted b p (lone_node c)) (next_number b) f) p (lone_node d)) (next_number (sprouted (sprouted b p (lone_node c)) (next_number b) f)) g
     ≡ sprouted b p (node c f (node d g no_nodes))
 sprouted-two b p c d f g =
-    sprouted-node (sprouted (sprouted b p (leaf c)) (next_number b) f) p d g
+    sprouted-node (sprouted (sprouted b p (lone_node c)) (next_number b) f) p d g
     ∙ ap (λ x. sprouted x p (node d g no_nodes)) (sprouted-node b p c f)
     ∙ sprouted-followed b p (node c f no_nodes) (node d g no_nodes)
 

@@ -9,7 +9,7 @@ use Rattle.std.proofs.lemmas.List.Folds.{flat_map-map}
 use Rattle.witx_ast.specs.Definitions.{DefinitionTree}
 use Rattle.witx_markdown.specs.declared.content.MdContent.{MdContent}
 use Rattle.witx_markdown.specs.declared.content.MdContent.TheVariants as content
-use Rattle.witx_markdown.specs.Contents.{header, content_text}
+use Rattle.witx_markdown.specs.Contents.{header_marks, content_text}
 use Rattle.witx_markdown.specs.Forests.{Forest, no_nodes, node, node_count, parents_from}
 use Rattle.witx_markdown.specs.Links.{ids, with_links, missing_in}
 use Rattle.witx_docs.specs.Parts.{document_parts}
@@ -140,13 +140,13 @@ told-whole told root f cs e =
 page-text : (ds : List DefinitionTree) → page_text ds ≡ text_of_contents (page_contents ds)
 unfolding page_tree
 page-text ds =
-    told-whole content_text (with_links (ids (page_contents ds)) content.Root) (document_parts (header 1) ds) (map (with_links (ids (page_contents ds))) (page_contents ds))
-    (length-map (page_contents ds) (with_links (ids (page_contents ds))) ∙ count-contents (document_parts (header 1) ds))
+    told-whole content_text (with_links (ids (page_contents ds)) content.Root) (document_parts (header_marks 1) ds) (map (with_links (ids (page_contents ds))) (page_contents ds))
+    (length-map (page_contents ds) (with_links (ids (page_contents ds))) ∙ count-contents (document_parts (header_marks 1) ds))
     ∙ flat_map-map content_text (with_links (ids (page_contents ds))) (page_contents ds)
 
 page-missing : (ds : List DefinitionTree) → missing_links ds ≡ missing_of_contents (page_contents ds)
 unfolding page_tree
-page-missing ds = told-whole (missing_in (ids (page_contents ds))) content.Root (document_parts (header 1) ds) (page_contents ds) (count-contents (document_parts (header 1) ds))
+page-missing ds = told-whole (missing_in (ids (page_contents ds))) content.Root (document_parts (header_marks 1) ds) (page_contents ds) (count-contents (document_parts (header_marks 1) ds))
 
 pub text-of-page : (cs : List MdContent) (ds : List DefinitionTree) → cs ≡ page_contents ds → text_of_contents cs ≡ page_text ds
 text-of-page cs ds e = ap text_of_contents e ∙ sym (page-text ds)

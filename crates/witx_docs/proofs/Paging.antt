@@ -5,8 +5,8 @@ use Rattle.std.proofs.Common.{get_or, refl, sym, ap, ◌∙◌, append_assoc, ap
 use Rattle.std.proofs.lemmas.List.{drop_more, drop_all}
 use Rattle.witx_base.specs.Texts.{same_text}
 use Rattle.witx_markdown.specs.declared.content.MdContent.{MdContent}
-use Rattle.witx_markdown.specs.Contents.{content_text, content_docs, with_docs}
-use Rattle.witx_markdown.specs.Links.{dotted, link, link_to, quoted, linked_pieces, missing_pieces, missing_if, pieces, docs_linked, with_links, missing_in_docs, missing_in}
+use Rattle.witx_markdown.specs.Contents.{content_text, content_docs, content_with_docs}
+use Rattle.witx_markdown.specs.Links.{dotted, link, link_to, quoted_link, linked_pieces, missing_pieces, missing_if, pieces, docs_linked, with_links, missing_in_docs, missing_in}
 use Rattle.witx_docs.specs.Pages.{text_with, missing_with}
 
 pub next-flat : {X A : Type 0} (f : X → List A) (xs : List X) (i : ℕ) (x : X) (before all : List A) → i < length xs → x ≡ get_or xs i x
@@ -25,7 +25,7 @@ abbrev pub TellSame : List (List ℕ) → List (List ℕ) → Type 0
 TellSame ks js = (q : List ℕ) → list_any (same_text q) ks ≡ list_any (same_text q) js
 
 link-same : (ks js : List (List ℕ)) (x : List ℕ) → TellSame ks js → link ks x ≡ link js x
-link-same ks js x h = ap (λ b. if b then link_to x (dotted x) else quoted x) (h (dotted x))
+link-same ks js x h = ap (λ b. if b then link_to x (dotted x) else quoted_link x) (h (dotted x))
 
 missing-same : (ks js : List (List ℕ)) (x : List ℕ) → TellSame ks js → missing_if ks x ≡ missing_if js x
 missing-same ks js x h = ap (λ b. if b then [] else x ∷ []) (h (dotted x))
@@ -46,7 +46,7 @@ names-same ks js (p ∷ x ∷ q ∷ rest) h =
 
 docs-same : (ks js : List (List ℕ)) (c : MdContent) (o : Option (List ℕ)) → TellSame ks js → docs_linked ks c o ≡ docs_linked js c o
 docs-same ks js c None h = refl
-docs-same ks js c (Some docs) h = ap (with_docs c) (pieces-same ks js (pieces docs) h)
+docs-same ks js c (Some docs) h = ap (content_with_docs c) (pieces-same ks js (pieces docs) h)
 
 in-docs-same : (ks js : List (List ℕ)) (o : Option (List ℕ)) → TellSame ks js → missing_in_docs ks o ≡ missing_in_docs js o
 in-docs-same ks js None h = refl

@@ -8,7 +8,7 @@ use Rattle.witx_docs.specs.declared.error.DocsError.{DocsError}
 use Rattle.witx_docs.specs.declared.error.DocsError.TheVariants as docs_error
 use Rattle.witx_docs.proofs.DocumentParts.{looked-through}
 use Rattle.witx_markdown.specs.Constants.{unknown_type}
-use Rattle.witx_docs.specs.LaidOut.{too_large, document_laid_out, document_refusal, number_refusal, refusal_fits, refusal_of}
+use Rattle.witx_docs.specs.LaidOut.{too_large, document_laid_out, document_refusal, number_refusal, refusal_fits, layout_refusal}
 
 pub accepted : (ds : List DefinitionTree) → unknown_type ds ≡ None → too_large (document_laid_out ds) ≡ false → document_refusal ds ≡ None
 accepted ds e f = rw (e, f) refl
@@ -17,7 +17,7 @@ pub unknown-refused : (ds : List DefinitionTree) (name : List ℕ) → unknown_t
 unknown-refused ds name e = rw e refl
 
 pub layout-refused : (ds : List DefinitionTree) (e : LayoutError) → unknown_type ds ≡ None → refusal_fits (too_large (document_laid_out ds)) e
-    → (refusal_of e ≡ docs_error.OutOfMemory) ⊎ (document_refusal ds ≡ Some (refusal_of e))
+    → (layout_refusal e ≡ docs_error.OutOfMemory) ⊎ (document_refusal ds ≡ Some (layout_refusal e))
 layout-refused ds layout_error.TooLarge e h = inr (rw (e, h) refl)
 layout-refused ds layout_error.OutOfMemory e h = inl refl
 

@@ -102,9 +102,9 @@ abbrev pub Judged : {A : Type 0} → Bool → Result A LayoutError → Type 0
 Judged large (Ok answer) = large ≡ false
 Judged large (Err refused) = refusal_fits large refused
 
-abbrev pub refusal_of : LayoutError → DocsError
-refusal_of layout_error.TooLarge = docs_error.TooLarge
-refusal_of layout_error.OutOfMemory = docs_error.OutOfMemory
+abbrev pub layout_refusal : LayoutError → DocsError
+layout_refusal layout_error.TooLarge = docs_error.TooLarge
+layout_refusal layout_error.OutOfMemory = docs_error.OutOfMemory
 
 -- numbers that don't all fit are a refusal
 abbrev pub number_refusal : List ℕ → Option DocsError

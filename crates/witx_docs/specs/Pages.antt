@@ -6,7 +6,7 @@ use Rattle.witx_ast.specs.Definitions.{DefinitionTree}
 use Rattle.witx_markdown.specs.declared.content.MdContent.{MdContent}
 use Rattle.witx_markdown.specs.declared.content.MdContent.TheVariants as content
 use Rattle.witx_docs.specs.declared.error.DocsError.{DocsError}
-use Rattle.witx_markdown.specs.Contents.{header, content_text}
+use Rattle.witx_markdown.specs.Contents.{header_marks, content_text}
 use Rattle.witx_markdown.specs.Forests.{contents_of}
 use Rattle.witx_markdown.specs.Trees.{PageTree, root_alone, heading_below, generated, told_of, tree_text}
 use Rattle.witx_docs.specs.Parts.{document_parts}
@@ -33,7 +33,7 @@ missing_links ds = all_missing (page_tree ds)
 
 -- the same by the contents alone, which stand in the order of the text before there are links
 abbrev pub page_contents : List DefinitionTree → List MdContent
-page_contents ds = contents_of (document_parts (header 1) ds)
+page_contents ds = contents_of (document_parts (header_marks 1) ds)
 
 abbrev pub text_with : List (List ℕ) → List MdContent → List ℕ
 text_with known = flat_map (λ c. content_text (with_links known c))

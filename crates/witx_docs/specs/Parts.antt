@@ -22,8 +22,8 @@ use Rattle.witx_markdown.specs.declared.heading.MdHeading.TheVariants.{Bullet}
 use Rattle.witx_markdown.specs.declared.content.MdContent.{MdContent}
 use Rattle.witx_markdown.specs.declared.content.MdContent.TheVariants as content
 use Rattle.witx_markdown.specs.Constants.{constants_in}
-use Rattle.witx_markdown.specs.Contents.{header, level_down}
-use Rattle.witx_markdown.specs.Forests.{Forest, no_nodes, node, leaf, followed_by, each}
+use Rattle.witx_markdown.specs.Contents.{header_marks, level_down}
+use Rattle.witx_markdown.specs.Forests.{Forest, no_nodes, node, lone_node, followed_by, each}
 
 abbrev pub section : MdHeading → List ℕ → MdContent
 section h title = content.Section (record { heading = h; id = None; title = title })
@@ -64,7 +64,7 @@ number_section word n = section Bullet (word ++ codes ": " ++ decimal n)
 abbrev pub layout_nodes : MdHeading → (size align tag : ℕ) → Forest
 layout_nodes h size align tag = node (section h (codes "Variant Layout")) no_nodes
     (node (number_section (codes "size") size) no_nodes (node (number_section (codes "align") align) no_nodes
-    (leaf (number_section (codes "tag_size") tag))))
+    (lone_node (number_section (codes "tag_size") tag))))
 
 -- the layout of a variant, where some case has a payload
 abbrev pub variant_layout : MdHeading → IntRepr → Arms → Forest
@@ -81,7 +81,7 @@ abbrev mutual
   pub type_parts : MdHeading → Option (List ℕ) → Tree → Forest
   type_parts h id (Tree.named name t docs) = no_nodes
   type_parts h id (Tree.builtin b) = no_nodes
-  type_parts h id Tree.handle = leaf (section h (codes "Supertypes"))
+  type_parts h id Tree.handle = lone_node (section h (codes "Supertypes"))
   type_parts h id (Tree.list_of t) = no_nodes
   type_parts h id (Tree.pointer_to t) = no_nodes
   type_parts h id (Tree.const_pointer_to t) = no_nodes
@@ -111,7 +111,7 @@ abbrev pub member_node : MdHeading → Option (List ℕ) → RecordKind → Fiel
 member_node h id kind m offset = typed_node h id m.called (member_docs kind m.comment offset) m.tree
 
 abbrev pub payload_node : MdHeading → Option (List ℕ) → List ℕ → List ℕ → Option Tree → Forest
-payload_node h id name docs None = leaf (item (inner_id id name) name docs None)
+payload_node h id name docs None = lone_node (item (inner_id id name) name docs None)
 payload_node h id name docs (Some t) = typed_node h id name docs t
 
 abbrev pub case_node : MdHeading → Option (List ℕ) → Arm → Forest
@@ -154,7 +154,7 @@ function_content h f = content.Func (record {
 
 -- imports and functions among what a module defines
 abbrev pub import_node : MdHeading → ItemTree → Forest
-import_node h (import_of i) = leaf (section h (codes "Memory"))
+import_node h (import_of i) = lone_node (section h (codes "Memory"))
 import_node h (func_of f) = no_nodes
 
 abbrev pub import_nodes : MdHeading → List ItemTree → Forest
@@ -176,7 +176,7 @@ abbrev pub constants_of : List ℕ → List Constant → List Constant
 constants_of name cs = filter (λ c. same_text name c.ty) cs
 
 abbrev pub constant_node : Constant → Forest
-constant_node c = leaf (item (c.ty ++ codes "." ++ c.name) c.name c.docs None)
+constant_node c = lone_node (item (c.ty ++ codes "." ++ c.name) c.name c.docs None)
 
 -- the section of constants, where there are some
 abbrev pub constants_part : MdHeading → List Constant → Forest
@@ -195,7 +195,7 @@ typename_docs docs size align = docs ++ layout_lines size align
 
 abbrev pub typename_shown : List ℕ → Tree → List ℕ → (size align : ℕ) → MdContent
 typename_shown name t docs size align =
-    content.Named (record { heading = header 2; id = name; name = name; docs = typename_docs docs size align; ty = Some (type_shown t) })
+    content.Named (record { heading = header_marks 2; id = name; name = name; docs = typename_docs docs size align; ty = Some (type_shown t) })
 
 abbrev pub typename_content : List ℕ → Tree → List ℕ → MdContent
 typename_content name t docs = typename_shown name t docs (size_of (plain t)) (align_of (plain t))
@@ -218,7 +218,7 @@ abbrev pub typename_nodes : MdHeading → List Constant → List DefinitionTree 
 typename_nodes h cs ds = each (typename_node h cs) ds
 
 abbrev pub module_content : List ℕ → MdContent
-module_content name = content.Section (record { heading = header 2; id = Some name; title = name })
+module_content name = content.Section (record { heading = header_marks 2; id = Some name; title = name })
 
 abbrev pub module_node : MdHeading → DefinitionTree → Forest
 module_node h (typename_of name t docs) = no_nodes
@@ -230,5 +230,5 @@ module_nodes h ds = each (module_node h) ds
 
 -- the types and the modules of a document
 abbrev pub document_parts : MdHeading → List DefinitionTree → Forest
-document_parts h ds = node (section (header 1) (codes "Types")) (typename_nodes (level_down h) (constants_in ds) ds)
-    (node (section (header 1) (codes "Modules")) (module_nodes (level_down h) ds) no_nodes)
+document_parts h ds = node (section (header_marks 1) (codes "Types")) (typename_nodes (level_down h) (constants_in ds) ds)
+    (node (section (header_marks 1) (codes "Modules")) (module_nodes (level_down h) ds) no_nodes)

@@ -40,12 +40,12 @@ conversion_text c = conversion_line (conversion_answer c) c
 -- parameters and results
 
 -- a name between backquotes
-abbrev pub quoted : List ℕ → List ℕ
-quoted name = codes "`" ++ name ++ codes "`"
+abbrev pub backquoted : List ℕ → List ℕ
+backquoted name = codes "`" ++ name ++ codes "`"
 
 -- the name, or the old name and then the new one
 abbrev pub renamed : (old new : List ℕ) → List ℕ
-renamed old new = if same_bytes new old then quoted new else quoted old ++ codes " => " ++ quoted new
+renamed old new = if same_bytes new old then backquoted new else backquoted old ++ codes " => " ++ backquoted new
 
 -- the old type, what it is to the new one, and the new one
 abbrev pub related : (relation : List ℕ) → (old new : List ℕ) → List ℕ
@@ -85,8 +85,8 @@ abbrev pub unknown_part : List ℕ → Unknown → List ℕ
 unknown_part word u = unknown_word u ++ codes " " ++ word ++ nothing_found (unknown_name u)
 
 -- parameters, then results; of each those that are mapped, then those that are not
-abbrev pub function_parts : MappedFunction → List (List ℕ)
-function_parts f =
+abbrev pub mapped_function_parts : MappedFunction → List (List ℕ)
+mapped_function_parts f =
     map (mapped_part (codes "param")) f.params ++ map (unknown_part (codes "param")) f.unknown_params
     ++ map (mapped_part (codes "result")) f.results ++ map (unknown_part (codes "result")) f.unknown_results
 
@@ -105,7 +105,7 @@ abbrev pub function_text : MappedFunction → List ℕ
 function_text f =
     if is_fully_compatible f
     then full_line f.new.name
-    else codes "* " ++ renamed f.old.name f.new.name ++ parts_text (function_parts f)
+    else codes "* " ++ renamed f.old.name f.new.name ++ parts_text (mapped_function_parts f)
 
 -- modules
 

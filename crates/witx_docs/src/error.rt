@@ -38,9 +38,9 @@ impl From<AllocError> for DocsError {
 }
 
 impl From<LayoutError> for DocsError {
-    ghost use Rattle.witx_docs.specs.LaidOut.{refusal_of};
+    ghost use Rattle.witx_docs.specs.LaidOut.{layout_refusal};
 
-    ghost from_gives = { λ layout e. e ≡ refusal_of layout };
+    ghost from_gives = { λ layout e. e ≡ layout_refusal layout };
 
     fn from(refused: LayoutError) -> DocsError {
         match refused {

@@ -8,7 +8,7 @@ ghost use Rattle.witx_ast.specs.Views.{tree_of};
 ghost use Rattle.witx_ast.specs.TypeNames.{type_text};
 ghost use Rattle.witx_compat.specs.Conversions.{is_compatible};
 ghost use Rattle.witx_compat.specs.Views.{mapped_view, unknown_view, function_view};
-ghost use Rattle.witx_docs.specs.PolyfillTexts.{compatible_part, full_line, function_parts, nothing_found, function_text, mapped_line, mapped_part, mapped_text, part_line, quoted, related, renamed, types_text, unknown_part};
+ghost use Rattle.witx_docs.specs.PolyfillTexts.{compatible_part, full_line, mapped_function_parts, nothing_found, function_text, mapped_line, mapped_part, mapped_text, part_line, backquoted, related, renamed, types_text, unknown_part};
 ghost use Rattle.witx_docs.specs.Pieces.{behind_colon, compared_part, has_compatible_parts};
 
 use crate::conversion_lines::is_alike;
@@ -51,7 +51,7 @@ fn put_renamed(out: &mut String, old: &Id, new: &Id) -> Result<(), OutOfMemory>
 
 /// A name between backquotes.
 fn put_name(out: &mut String, name: &str) -> Result<(), OutOfMemory>
-    ensures { OnOk result (string_bytes out.new ≡ string_bytes out.old ++ quoted name.now) }
+    ensures { OnOk result (string_bytes out.new ≡ string_bytes out.old ++ backquoted name.now) }
 {
     write!(out, "`{name}`")?;
     Ok(())
@@ -143,7 +143,7 @@ fn put_behind_colon(out: &mut String, text: &str) -> Result<(), OutOfMemory>
 /// The lines of a function's parts, and whether all that is mapped is compatible and nothing is unknown.
 #[tactic(auto, using(crate::proofs::FunctionParts::part_rules))]
 fn put_parts(out: &mut String, function: &FuncPolyfill) -> Result<bool, OutOfMemory>
-    ensures lines { OnOk result (string_bytes out.new ≡ string_bytes out.old ++ flat_map part_line (function_parts (function_view function.now))) }
+    ensures lines { OnOk result (string_bytes out.new ≡ string_bytes out.old ++ flat_map part_line (mapped_function_parts (function_view function.now))) }
     ensures compatible { IfOk result (λ compatible. compatible ≡ has_compatible_parts (function_view function.now)) }
 {
     let params = put_all_mapped(out, "param", function.mapped_params.as_slice())?;

@@ -5,7 +5,7 @@ ghost use Rattle.witx_ast.specs.Functions.{func_tree, param_field};
 ghost use Rattle.witx_ast.specs.Items.{item_tree};
 ghost use Rattle.witx_ast.specs.Definitions.{module_tree};
 ghost use Rattle.witx_markdown.specs.Contents.{level_down};
-ghost use Rattle.witx_markdown.specs.Forests.{leaf, sprouted, no_nodes, node};
+ghost use Rattle.witx_markdown.specs.Forests.{lone_node, sprouted, no_nodes, node};
 ghost use Rattle.witx_docs.specs.Parts.{section as section_of, param_nodes, function_parts, function_content, inputs_of, outputs_of, import_nodes, func_nodes, module_parts, func_node, import_node};
 ghost use Rattle.witx_markdown.specs.NamesKnown.{NamesKnown, InFunction, InItem, InItems, InParams};
 ghost use Rattle.witx_docs.specs.LaidOut.{Judged, too_large, params_laid_out, function_laid_out, items_laid_out, item_laid_out};
@@ -151,7 +151,7 @@ fn put_import(
 
 /// Adds an import: only memories can be imported.
 fn put_memory(branch: &mut Branch, parent: usize, heading: MdHeading) -> Result<(), OutOfMemory>
-    ensures { OnOk result (branch.new ≡ sprouted branch.old parent (leaf (section_of heading (codes "Memory")))) }
+    ensures { OnOk result (branch.new ≡ sprouted branch.old parent (lone_node (section_of heading (codes "Memory")))) }
 {
     put_group(branch, parent, heading, "Memory")?;
     Ok(())

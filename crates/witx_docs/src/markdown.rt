@@ -296,11 +296,11 @@ impl ToMarkdown for InterfaceFunc {
 
 impl ToMarkdown for InterfaceFuncParam {
     ghost use Rattle.witx_ast.specs.Views.{tree_of};
-    ghost use Rattle.witx_markdown.specs.Contents.{with_docs, with_type};
+    ghost use Rattle.witx_markdown.specs.Contents.{content_with_docs, with_type};
     ghost use Rattle.witx_docs.specs.Parts.{type_parts, type_shown};
     ghost use Rattle.witx_docs.specs.LaidOut.{laid_out, number_refusal};
 
-    ghost shown = { λ p c. with_docs (with_type c (type_shown (tree_of p.tref))) p.docs };
+    ghost shown = { λ p c. content_with_docs (with_type c (type_shown (tree_of p.tref))) p.docs };
 
     ghost parts = { λ p h id. type_parts h id (tree_of p.tref) };
 

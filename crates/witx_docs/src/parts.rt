@@ -9,7 +9,7 @@ ghost use Rattle.witx_ast.specs.Plain.{plain};
 ghost use Rattle.witx_ast.specs.Tree.{fields_of, arms_of};
 ghost use Rattle.witx_ast.specs.Views.{tree_of, datatype_tree, record_tree, variant_tree, member_field, case_arm, members_plain};
 ghost use Rattle.witx_layout.specs.Numbers.{align_of, offsets, size_of};
-ghost use Rattle.witx_markdown.specs.Forests.{leaf, next_number, sprouted};
+ghost use Rattle.witx_markdown.specs.Forests.{lone_node, next_number, sprouted};
 ghost use Rattle.witx_docs.specs.Parts.{section as section_of, item, inner_id, type_shown, type_parts, typed_node, placed_fields, placed_nodes, member_docs, number_section, layout_nodes, variant_layout, case_nodes, member_node, case_node};
 ghost use Rattle.witx_markdown.specs.NamesKnown.{NamesKnown, FieldNamesKnown, ArmNamesKnown, PayloadKnown};
 ghost use Rattle.witx_docs.specs.LaidOut.{Judged, too_large, laid_out, record_numbers, payload_numbers, members_laid_out, cases_laid_out, case_laid_out};
@@ -72,7 +72,7 @@ pub fn put_datatype(
 
 /// Adds the section of a handle, under which nothing stands.
 pub fn put_handle(branch: &mut Branch, at: &Place) -> Result<(), LayoutError>
-    ensures nodes { OnOk result (branch.new ≡ sprouted branch.old at.now.node (leaf (section_of at.now.heading (codes "Supertypes")))) }
+    ensures nodes { OnOk result (branch.new ≡ sprouted branch.old at.now.node (lone_node (section_of at.now.heading (codes "Supertypes")))) }
     ensures refusal { Judged false result }
 {
     Ok(put_section(branch, at, "Supertypes")?)
@@ -261,7 +261,7 @@ pub fn quoted(alloc: Global, name: &str) -> Result<Text, OutOfMemory>
 
 /// Adds a section under which nothing stands.
 pub fn put_section(branch: &mut Branch, at: &Place, title: &str) -> Result<(), OutOfMemory>
-    ensures { OnOk result (branch.new ≡ sprouted branch.old at.now.node (leaf (section_of at.now.heading title.now))) }
+    ensures { OnOk result (branch.new ≡ sprouted branch.old at.now.node (lone_node (section_of at.now.heading title.now))) }
 {
     put_group(branch, at.node, at.heading, title)?;
     Ok(())
@@ -275,7 +275,7 @@ pub fn put_group(
     title: &str,
 ) -> Result<usize, OutOfMemory>
     ensures number { IfOk result (λ number. number ≡ next_number branch.old) }
-    ensures node { OnOk result (branch.new ≡ sprouted branch.old parent (leaf (section_of heading title.now))) }
+    ensures node { OnOk result (branch.new ≡ sprouted branch.old parent (lone_node (section_of heading title.now))) }
 {
     let section = MdSection::new(branch.allocator(), heading, title)?;
     branch.push(parent, MdContent::Section(section))
@@ -361,7 +361,7 @@ fn put_number(
     word: &str,
     number: usize,
 ) -> Result<(), OutOfMemory>
-    ensures { OnOk result (branch.new ≡ sprouted branch.old node (leaf (number_section word.now number))) }
+    ensures { OnOk result (branch.new ≡ sprouted branch.old node (lone_node (number_section word.now number))) }
 {
     let title = format!(in branch.allocator(); "{word}: {number}")?;
     put_group(branch, node, MdHeading::Bullet, &title)?;
@@ -422,7 +422,7 @@ pub fn put_untyped(
     docs: &str,
 ) -> Result<(), OutOfMemory>
     ensures { OnOk result (branch.new ≡ sprouted branch.old at.now.node
-        (leaf (item (inner_id (option_map (λ id. id.now) at.now.id) name.now) name.now docs.now None))) }
+        (lone_node (item (inner_id (option_map (λ id. id.now) at.now.id) name.now) name.now docs.now None))) }
 {
     let id = at.inner_id(branch.allocator(), name)?;
     let content = bullet(branch.allocator(), id.as_str(), name, docs, None)?;

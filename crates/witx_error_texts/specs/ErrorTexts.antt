@@ -54,7 +54,7 @@ use Rattle.witx_invoke.specs.declared.error.ValuesError.{ValuesError}
 use Rattle.witx_invoke.specs.declared.error.ValuesError.TheVariants as values
 use Rattle.witx_traces.specs.declared.reading.TracesError.{TracesError}
 use Rattle.witx_traces.specs.declared.reading.TracesError.TheVariants as traces
-use Rattle.witx_commands.specs.Reports.{counts_text, function_text}
+use Rattle.witx_commands.specs.Reports.{counts_text, function_called}
 use Rattle.witx_commands.specs.declared.error.AdaptError.{AdaptError}
 use Rattle.witx_commands.specs.declared.error.AdaptError.TheVariants as adapt
 use Rattle.witx_commands.specs.declared.input.InputError.{InputError}
@@ -81,12 +81,12 @@ tag_text t = definition_text t.definition (counts_text t.count t.most)
 abbrev pub size_text : ℕ → List ℕ
 size_text definition = definition_text definition (codes "size too large")
 
-abbrev pub part_text : Place → List ℕ
-part_text (Place.Param i) = codes "parameter " ++ decimal i
-part_text (Place.Result i) = codes "result " ++ decimal i
+abbrev pub place_shown : Place → List ℕ
+place_shown (Place.Param i) = codes "parameter " ++ decimal i
+place_shown (Place.Result i) = codes "result " ++ decimal i
 
-abbrev pub unlowered : Place → List ℕ
-unlowered p = part_text p ++ codes " cannot be lowered"
+abbrev pub unlowered_text : Place → List ℕ
+unlowered_text p = place_shown p ++ codes " cannot be lowered"
 
 -- ---- texts, files and bundles
 
@@ -142,7 +142,7 @@ layouts_error (layouts.TooLarge definition) = size_text definition
 layouts_error layouts.OutOfMemory = no_memory
 
 abbrev pub unlowerable_text : (owner function : List ℕ) → Place → List ℕ
-unlowerable_text owner function p = function_text owner function ++ unlowered p
+unlowerable_text owner function p = function_called owner function ++ unlowered_text p
 
 abbrev pub document_error : DocumentError → List ℕ
 document_error (document.TagTooNarrow t) = tag_text t
@@ -157,24 +157,24 @@ IsAdaptText (adapt.TooLarge definition) text = text ≡ size_text definition
 IsAdaptText (adapt.Unlowerable owner function p) text = text ≡ unlowerable_text owner function p
 IsAdaptText adapt.OutOfMemory text = text ≡ no_memory
 
-abbrev pub unknown_type : List ℕ → List ℕ
-unknown_type name = codes "constant of unknown type `" ++ (name ++ codes "`")
+abbrev pub unknown_type_text : List ℕ → List ℕ
+unknown_type_text name = codes "constant of unknown type `" ++ (name ++ codes "`")
 
 abbrev pub docs_error : DocsError → List ℕ
-docs_error (docs.UnknownConstantType name) = unknown_type name
+docs_error (docs.UnknownConstantType name) = unknown_type_text name
 docs_error docs.TooLarge = codes "size too large"
 docs_error docs.OutOfMemory = no_memory
 
 -- ---- signatures, generators and shims
 
 abbrev pub signature_error : SignatureError → List ℕ
-signature_error (signature.Unlowerable p) = unlowered p
+signature_error (signature.Unlowerable p) = unlowered_text p
 signature_error signature.OutOfMemory = no_memory
 
-abbrev pub abi_error : AbiError → List ℕ
-abi_error (abi.Unlowerable p) = unlowered p
-abi_error abi.BindgenFailed = codes "generator failed"
-abi_error abi.OutOfMemory = no_memory
+abbrev pub abi_error_text : AbiError → List ℕ
+abi_error_text (abi.Unlowerable p) = unlowered_text p
+abi_error_text abi.BindgenFailed = codes "generator failed"
+abi_error_text abi.OutOfMemory = no_memory
 
 abbrev pub bindgen_error : BindgenError → List ℕ
 bindgen_error bindgen.Failed = codes "generator failed"
@@ -185,7 +185,7 @@ repeated name = codes "two parameters `" ++ (name ++ codes "`")
 
 -- of the old function, or the new one
 abbrev pub part_of : List ℕ → Place → List ℕ
-part_of which p = which ++ (codes " " ++ unlowered p)
+part_of which p = which ++ (codes " " ++ unlowered_text p)
 
 abbrev pub shim_error : ShimError → List ℕ
 shim_error (shim.Repeated name) = repeated name

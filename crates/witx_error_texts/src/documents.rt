@@ -1,8 +1,8 @@
 //! Errors of documents, of their layouts and of their pages.
 
 ghost use Rattle.std.specs.Prelude.{◌≡◌, ◌++◌, [], Ok, Some, IfOk, OnOk, codes, string_bytes};
-ghost use Rattle.witx_commands.specs.Reports.{function_text, owner_text};
-ghost use Rattle.witx_error_texts.specs.ErrorTexts.{IsAdaptText, IsRefusalText, IsValidationText, docs_error, document_error, layout_error, layouts_error, tag_text, unknown_type, unlowerable_text, unlowered};
+ghost use Rattle.witx_commands.specs.Reports.{function_called, owner_text};
+ghost use Rattle.witx_error_texts.specs.ErrorTexts.{IsAdaptText, IsRefusalText, IsValidationText, docs_error, document_error, layout_error, layouts_error, tag_text, unknown_type_text, unlowerable_text, unlowered_text};
 ghost use Rattle.witx_scope.specs.Blame.{fault_of};
 ghost use Rattle.witx_scope.specs.Messages.{fault_location};
 ghost use Rattle.witx_walk.specs.ErrorReports.{IsErrorReport};
@@ -170,7 +170,7 @@ fn unlowerable_text(
 }
 
 fn put_function(text: &mut String, owner: &str, function: &str) -> Result<(), AllocError>
-    ensures { OnOk result (string_bytes text.new ≡ string_bytes text.old ++ function_text owner.now function.now) }
+    ensures { OnOk result (string_bytes text.new ≡ string_bytes text.old ++ function_called owner.now function.now) }
 {
     text.push_str("function `")?;
     text.push_str(function)?;
@@ -184,7 +184,7 @@ fn put_owner(text: &mut String, owner: &str) -> Result<(), AllocError>
 }
 
 fn put_unlowered(text: &mut String, place: Place) -> Result<(), AllocError>
-    ensures { OnOk result (string_bytes text.new ≡ string_bytes text.old ++ unlowered place) }
+    ensures { OnOk result (string_bytes text.new ≡ string_bytes text.old ++ unlowered_text place) }
 {
     put_part(text, place)?;
     text.push_str(" cannot be lowered")
@@ -203,7 +203,7 @@ impl ErrorText for DocsError {
 }
 
 fn unknown_type(alloc: Global, name: &str) -> Result<Text, OutOfMemory>
-    ensures { IfOk result (λ text. text ≡ unknown_type name.now) }
+    ensures { IfOk result (λ text. text ≡ unknown_type_text name.now) }
 {
     Ok(Text::from_string(format!(in alloc; "constant of unknown type `{name}`")?))
 }

@@ -1,7 +1,7 @@
 //! Errors of signatures, generators, shims and polyfills.
 
 ghost use Rattle.std.specs.Prelude.{◌≡◌, IfOk};
-ghost use Rattle.witx_error_texts.specs.ErrorTexts.{abi_error, absent, bindgen_error, part_of, polyfill_error, repeated, shim_error, signature_error};
+ghost use Rattle.witx_error_texts.specs.ErrorTexts.{abi_error_text, absent, bindgen_error, part_of, polyfill_error, repeated, shim_error, signature_error};
 
 use crate::error_text::ErrorText;
 use crate::numbers::unlowered_text;
@@ -24,7 +24,7 @@ impl ErrorText for SignatureError {
 }
 
 impl ErrorText for AbiError {
-    ghost is_told = { λ e text. text ≡ abi_error e };
+    ghost is_told = { λ e text. text ≡ abi_error_text e };
 
     fn error_text(&self, alloc: Global) -> Result<Text, OutOfMemory> {
         match self {

@@ -2,7 +2,7 @@
 
 ghost use Rattle.std.specs.Prelude.{◌≡◌, ◌++◌, IfOk, OnOk, codes, string_bytes};
 ghost use Rattle.std.specs.Fmt.{decimal};
-ghost use Rattle.witx_error_texts.specs.ErrorTexts.{at_place, definition_text, in_file, part_text, tag_text, unlowered};
+ghost use Rattle.witx_error_texts.specs.ErrorTexts.{at_place, definition_text, in_file, place_shown, tag_text, unlowered_text};
 
 use std::alloc::{AllocError, Global};
 use std::fmt::Write;
@@ -74,7 +74,7 @@ pub fn tag_text(alloc: Global, tag: &TagTooNarrow) -> Result<Text, OutOfMemory>
 
 /// A part of a function that can't be lowered.
 pub fn unlowered_text(alloc: Global, place: Place) -> Result<Text, OutOfMemory>
-    ensures { IfOk result (λ text. text ≡ unlowered place) }
+    ensures { IfOk result (λ text. text ≡ unlowered_text place) }
 {
     let mut text = String::new(alloc);
     put_part(&mut text, place)?;
@@ -84,7 +84,7 @@ pub fn unlowered_text(alloc: Global, place: Place) -> Result<Text, OutOfMemory>
 
 /// A part of a function, by its number.
 pub fn put_part(text: &mut String, place: Place) -> Result<(), AllocError>
-    ensures { OnOk result (string_bytes text.new ≡ string_bytes text.old ++ part_text place) }
+    ensures { OnOk result (string_bytes text.new ≡ string_bytes text.old ++ place_shown place) }
 {
     match place {
         Place::Param(i) => write!(text, "parameter {i}"),

@@ -20,7 +20,7 @@ use Rattle.witx_ast.specs.declared.types.Variant.{Variant, out-Variant}
 use Rattle.witx_ast.proofs.Trees.{tree_rules, tree-Name, tree-Value, tree-NamedType, tree-Record, tree-Variant, tree-Handle, tree-List, tree-Pointer, tree-ConstPointer, tree-Builtin, tree-RecordDatatype, tree-VariantDatatype, tree-RecordMember, tree-Case}
 use Rattle.witx_extent.specs.declared.parts.Waiting.{Waiting}
 use Rattle.witx_extent.specs.Extents.{extent, fields_extent, arms_extent, params_extent}
-use Rattle.witx_extent.specs.Waiting.{waiting_extent, own_extent, members_extent, payloads_extent, payload_extent, case_extent, arm_count}
+use Rattle.witx_extent.specs.Waiting.{waiting_extent, own_extent, members_extent, payloads_extent, payload_extent, case_extent, waiting_arm_count}
 
 waiting-append : (xs ys : List Waiting) → waiting_extent (xs ++ ys) ≡ waiting_extent xs + waiting_extent ys
 waiting-append [] ys = omega arith
@@ -37,11 +37,11 @@ own-name t n e = rw (e, tree-Name n, tree-NamedType n.value) refl
 pub own-value : (t : TypeRef) (d : Rc Datatype Global) → t ≡ tref.Value d → own_extent (tree_of t) ≡ own_extent (datatype_tree d.value)
 own-value t d e = rw (e, tree-Value d) refl
 
-all-arms : (cs : List Case) → arm_count (arms_of (map case_arm cs)) ≡ length cs
+all-arms : (cs : List Case) → waiting_arm_count (arms_of (map case_arm cs)) ≡ length cs
 all-arms [] = refl
 all-arms (c ∷ cs) = rw (tree-Case c) (by c.tref (all-arms cs))
   where
-    by : (o : Option TypeRef) → arm_count (arms_of (map case_arm cs)) ≡ length cs → arm_count (arm c.name (option_map tree_of o) c.docs (arms_of (map case_arm cs))) ≡ length (c ∷ cs)
+    by : (o : Option TypeRef) → waiting_arm_count (arms_of (map case_arm cs)) ≡ length cs → waiting_arm_count (arm c.name (option_map tree_of o) c.docs (arms_of (map case_arm cs))) ≡ length (c ∷ cs)
     by None e = omega (arith, e)
     by (Some t) e = omega (arith, e)
 
@@ -68,7 +68,7 @@ value-parts n o t d e h = rw (e, tree-Value d) h
 pub record-parts : (n o : ℕ) (d : Datatype) (r : RecordDatatype) → d ≡ datatype.Record r → n ≡ o + members_extent (out-RecordDatatype r).members → n + own_extent (datatype_tree d) ≡ o + extent (datatype_tree d)
 record-parts n o d r e h = rw (e, tree-Record r, tree-RecordDatatype r) (omega (arith, h))
 
-all-cases : (cs : Arms) → arms_extent cs ≡ arm_count cs + payload_extent cs
+all-cases : (cs : Arms) → arms_extent cs ≡ waiting_arm_count cs + payload_extent cs
 all-cases Arms.no_arms = omega arith
 all-cases (Arms.bare name docs cs) = let e = all-cases cs in omega (arith, e)
 all-cases (Arms.carries name t docs cs) = let e = all-cases cs in omega (arith, e)

@@ -13,10 +13,10 @@ waiting_extent [] = 0
 waiting_extent (o ∷ os) = extent (tree_of o.tref.now) + waiting_extent os
 
 -- how many cases there are
-abbrev pub arm_count : Arms → ℕ
-arm_count Arms.no_arms = 0
-arm_count (Arms.bare name docs cs) = 1 + arm_count cs
-arm_count (Arms.carries name t docs cs) = 1 + arm_count cs
+abbrev pub waiting_arm_count : Arms → ℕ
+waiting_arm_count Arms.no_arms = 0
+waiting_arm_count (Arms.bare name docs cs) = 1 + waiting_arm_count cs
+waiting_arm_count (Arms.carries name t docs cs) = 1 + waiting_arm_count cs
 
 -- what there is to a type beside its parts: one, and one for each case
 abbrev pub own_extent : Tree → ℕ
@@ -27,7 +27,7 @@ own_extent (Tree.list_of t) = 1
 own_extent (Tree.pointer_to t) = 1
 own_extent (Tree.const_pointer_to t) = 1
 own_extent (Tree.record_of kind ms) = 1
-own_extent (Tree.variant_of repr cs) = 1 + arm_count cs
+own_extent (Tree.variant_of repr cs) = 1 + waiting_arm_count cs
 
 -- what there is to the types of members
 abbrev pub members_extent : List RecordMember → ℕ

@@ -1,7 +1,7 @@
 -- The definitions on small inputs.
 use Rattle.std.proofs.Common.{◌≡◌, [], ◌∷◌, Some, None, refl, codes}
 use Rattle.witx_base.specs.Paths.{Path}
-use Rattle.witx_files.specs.Files.{Files, Aliases, held, canonical, line_at, line_in}
+use Rattle.witx_files.specs.Files.{Files, Aliases, text_in, canonical, line_at, line_in}
 use Rattle.witx_files.specs.LocatedTexts.{caret}
 
 abbrev a : Path
@@ -20,10 +20,10 @@ files = (a, codes "one\r\n\ntwo\r") ∷ (b, []) ∷ []
 abbrev aliases : Aliases
 aliases = (a, c) ∷ (b, a) ∷ (b, c) ∷ []
 
-missing : held files c ≡ None
+missing : text_in files c ≡ None
 missing = refl
 
-empty : held files b ≡ Some []
+empty : text_in files b ≡ Some []
 empty = refl
 
 first-alias : canonical aliases b ≡ a

@@ -3,7 +3,7 @@
 use Rattle.std.specs.Prelude.{◌≡◌, ℕ, ◌≤◌, List, Option, None, Some, Result, Ok, Err}
 use Rattle.witx_base.specs.Causes.{Rose}
 use Rattle.witx_base.specs.Paths.{Path}
-use Rattle.witx_files.specs.Files.{Files, Aliases, held, canonical, line_at, line_in}
+use Rattle.witx_files.specs.Files.{Files, Aliases, text_in, canonical, line_at, line_in}
 use Rattle.witx_files.specs.declared.fault.IoError.{IoError}
 use Rattle.witx_files.specs.declared.fault.IoError.TheVariants.{Fault, OutOfMemory}
 use Rattle.witx_files.specs.declared.fault.IoFault.TheVariants.{NotFound, LineNotFound, Failed}
@@ -11,12 +11,12 @@ use Rattle.witx_files.specs.declared.fault.IoFault.TheVariants.{NotFound, LineNo
 -- the files, where they are told, have this text at the path
 abbrev pub Holds : Option Files → Path → List ℕ → Type 0
 Holds None p text = Unit {0}
-Holds (Some files) p text = held files p ≡ Some text
+Holds (Some files) p text = text_in files p ≡ Some text
 
 -- the files are told, and have nothing at the path
 abbrev pub Lacks : Option Files → Path → Type 0
 Lacks None p = ⊥
-Lacks (Some files) p = held files p ≡ None
+Lacks (Some files) p = text_in files p ≡ None
 
 -- the files, where they are told, have this line in the text at the path
 abbrev pub HoldsLine : Option Files → Path → ℕ → List ℕ → Type 0
@@ -26,7 +26,7 @@ HoldsLine (Some files) p n line = line_in files p n ≡ Some line
 -- the files are told, and the text at the path has no such line
 abbrev pub LacksLine : Option Files → Path → ℕ → Type 0
 LacksLine None p n = ⊥
-LacksLine (Some files) p n = (text : List ℕ) × (held files p ≡ Some text) × (line_at text n ≡ None)
+LacksLine (Some files) p n = (text : List ℕ) × (text_in files p ≡ Some text) × (line_at text n ≡ None)
 
 -- the first path stands for the second, where aliases are told
 abbrev pub StandsFor : Option Aliases → Path → Path → Type 0

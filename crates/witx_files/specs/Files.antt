@@ -15,8 +15,8 @@ abbrev pub Aliases : Type 0
 Aliases = List (Path × Path)
 
 -- the text at a path
-abbrev pub held : Files → Path → Option (List ℕ)
-held files p = lookup (same_path p) files
+abbrev pub text_in : Files → Path → Option (List ℕ)
+text_in files p = lookup (same_path p) files
 
 -- the path that this one stands for: that of its first alias, or itself
 abbrev pub canonical : Aliases → Path → Path
@@ -32,4 +32,4 @@ line_of None n = None
 line_of (Some text) n = line_at text n
 
 abbrev pub line_in : Files → Path → ℕ → Option (List ℕ)
-line_in files p n = line_of (held files p) n
+line_in files p n = line_of (text_in files p) n

@@ -3,7 +3,7 @@
 ghost use Rattle.std.specs.Prelude.{◌≡◌, [], Some, None, OnErr, OnOk, if◌then◌else◌};
 ghost use Rattle.witx_base.specs.Paths.{Path};
 ghost use Rattle.witx_files.specs.Answers.{IsLineOf};
-ghost use Rattle.witx_files.specs.Files.{held, same_path};
+ghost use Rattle.witx_files.specs.Files.{text_in, same_path};
 
 use crate::fault::{IoError, IoFault};
 use crate::io::WitxIo;
@@ -40,7 +40,7 @@ impl MockFs {
     /// The path has this text from now on, and every other path what it had; a refused insert changes
     /// nothing.
     pub fn insert(&mut self, path: WitxPath, text: Text) -> Result<(), OutOfMemory>
-        ensures put { OnOk result ((q : Path) → held self.new q ≡ (if same_path path q then Some text else held self.old q)) }
+        ensures put { OnOk result ((q : Path) → text_in self.new q ≡ (if same_path path q then Some text else text_in self.old q)) }
         ensures kept { OnErr result (self.new ≡ self.old) }
     {
         let shared = text.share()?;

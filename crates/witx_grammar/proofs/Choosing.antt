@@ -6,12 +6,12 @@ use Rattle.std.proofs.lemmas.List.Elements.{All-push, All-set}
 use Rattle.witx_grammar.specs.declared.table.Production.{Production}
 use Rattle.witx_grammar.specs.declared.known.Known.{Known}
 use Rattle.witx_grammar.specs.Grammar.{Rewrite, rewrite_view, rewrites_of}
-use Rattle.witx_grammar.specs.Prediction.{begins, lookahead, candidate, pick}
+use Rattle.witx_grammar.specs.Prediction.{begins_with, lookahead, candidate, pick}
 use Rattle.witx_grammar.specs.Choices.{first_of, AlikeBehind, IsRest, IsKnown, AreKnown}
 use Rattle.witx_grammar.proofs.Lookahead.{ruled_out}
 
 pub one_ruled_out : {T N P : Type 0} (e : T → T → Bool) (next : List T) (ps : List (Production T N P)) (i k : ℕ) (p : Production T N P)
-    → i < length ps → p ≡ get_or ps i p → k ≤ length next → begins e (lookahead (take k p.symbols.now)) next ≡ false
+    → i < length ps → p ≡ get_or ps i p → k ≤ length next → begins_with e (lookahead (take k p.symbols.now)) next ≡ false
     → AlikeBehind e next (drop i ps) ps → AlikeBehind e next (drop (i + 1) ps) ps
 one_ruled_out {T} {N} {P} e next ps i k p inside is low out alike f ts =
     let split : drop i ps ≡ p ∷ drop (i + 1) ps = drop_more ps i p inside ∙ ap (λ (x : Production T N P). x ∷ drop (i + 1) ps) (sym is) in

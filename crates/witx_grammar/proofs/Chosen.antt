@@ -11,7 +11,7 @@ use Rattle.witx_grammar.specs.declared.table.Symbol.{Symbol}
 use Rattle.witx_grammar.specs.declared.table.Production.{Production}
 use Rattle.witx_grammar.specs.declared.table.Table.{Table}
 use Rattle.witx_grammar.specs.Grammar.{In, Rewrite, Wants, grammar, rewrite_view}
-use Rattle.witx_grammar.specs.Prediction.{IsPredictive, choose, begins, lookahead}
+use Rattle.witx_grammar.specs.Prediction.{IsPredictive, choose, begins_with, lookahead}
 use Rattle.witx_grammar.proofs.Tables.{grounded}
 use Rattle.witx_grammar.proofs.Grounded.{least, least_step}
 use Rattle.witx_grammar.proofs.Parts.{takes, shown}
@@ -20,10 +20,10 @@ use Rattle.witx_grammar.proofs.Predicts.{Takes}
 use Rattle.witx_grammar.proofs.Progress.{Sofar, sofar_token, sofar_production, sofar_pop, popped, rest_is}
 
 module _ {T N P : Type 0} (e : T → T → Bool) (et : (x y : T) → Decides (e x y) (x ≡ y)) (g : List (Rewrite T N P)) (start : Wants T N) (ts : List T) where
-  more_tokens : (t : T) (ps : List T) (at : ℕ) → begins e (t ∷ ps) (drop at ts) ≡ true → at < length ts
+  more_tokens : (t : T) (ps : List T) (at : ℕ) → begins_with e (t ∷ ps) (drop at ts) ≡ true → at < length ts
   more_tokens t ps at b = elim (cases_lt at (length ts)) [
     | inl lt ↦ lt
-    | inr ge ↦ absurd (not_both (sym b ∙ ap (λ (us : List T). begins e (t ∷ ps) us) (drop_all at ts ge)))
+    | inr ge ↦ absurd (not_both (sym b ∙ ap (λ (us : List T). begins_with e (t ∷ ps) us) (drop_all at ts ge)))
   ]
 
   as_far : (w : Wants T N) (steps more : List (Step P)) (at : ℕ) → Sofar g start ts w steps at → more ≡ [] → Sofar g start ts w (steps ++ more) (at + 0)
@@ -32,13 +32,13 @@ module _ {T N P : Type 0} (e : T → T → Bool) (et : (x y : T) → Decides (e 
       subst (λ (n : ℕ). Sofar g start ts w (steps ++ more) n) same
       (subst (λ (ms : List (Step P)). Sofar g start ts w ms at) (sym (ap (λ (x : List (Step P)). steps ++ x) none ∙ append-nil steps)) s)
 
-  pub sofar_front : (v w : Wants T N) (steps : List (Step P)) (at : ℕ) → begins e (lookahead v) (drop at ts) ≡ true → Sofar g start ts (v ++ w) steps at
+  pub sofar_front : (v w : Wants T N) (steps : List (Step P)) (at : ℕ) → begins_with e (lookahead v) (drop at ts) ≡ true → Sofar g start ts (v ++ w) steps at
       → Sofar g start ts (drop (length (lookahead v)) v ++ w) (steps ++ replicate (length (lookahead v)) Leaf) (at + length (lookahead v))
   sofar_front [] w steps at b s = as_far w steps [] at s refl
   sofar_front (Nonterminal f ∷ v) w steps at b s = as_far (Nonterminal f ∷ (v ++ w)) steps [] at s refl
   sofar_front (Terminal t ∷ v) w steps at b s =
       let lt = more_tokens t (lookahead v) at b in
-      let both = and_parts (e t (get_or ts at t)) (begins e (lookahead v) (drop (at + 1) ts)) (subst (λ (us : List T). begins e (t ∷ lookahead v) us ≡ true) (drop_more ts at t lt) b) in
+      let both = and_parts (e t (get_or ts at t)) (begins_with e (lookahead v) (drop (at + 1) ts)) (subst (λ (us : List T). begins_with e (t ∷ lookahead v) us ≡ true) (drop_more ts at t lt) b) in
       let one = sofar_token g start ts t t (v ++ w) steps at s lt (sym ((et t (get_or ts at t)).0 both.0)) in
       let all = sofar_front v w (steps ++ Leaf ∷ []) (at + 1) both.1 one in
       let far : (at + 1) + length (lookahead v) ≡ at + length (t ∷ lookahead v) = omega arith in
@@ -47,7 +47,7 @@ module _ {T N P : Type 0} (e : T → T → Bool) (et : (x y : T) → Decides (e 
 
   pub sofar_chosen : (q : N → N → Bool) → Takes e q g → (f : N) (w : Wants T N) (steps : List (Step P)) (at n : ℕ) (x : Rewrite T N P)
       → Sofar g start ts (Nonterminal f ∷ w) steps at → choose e q g f (drop at ts) ≡ Some x → In x g → x.nonterminal ≡ f
-      → begins e (lookahead x.symbols) (drop at ts) ≡ true → n ≡ length (lookahead x.symbols)
+      → begins_with e (lookahead x.symbols) (drop at ts) ≡ true → n ≡ length (lookahead x.symbols)
       → Sofar g start ts (drop n x.symbols ++ w) ((steps ++ Node x.name ∷ []) ++ replicate n Leaf) (at + n)
   sofar_chosen q takes f w steps at n x s shown i is b front =
       subst (λ (k : ℕ). Sofar g start ts (drop k x.symbols ++ w) ((steps ++ Node x.name ∷ []) ++ replicate k Leaf) (at + k)) (sym front)
@@ -58,7 +58,7 @@ module _ {T N P : Type 0} (e : T → T → Bool) (q : N → N → Bool) (l : P �
     (t : Table T N P) (fine : IsPredictive e q l t) (start : Wants T N) (ts : List T) where
   pub chosen_from : (old new : List (Symbol T N)) (y : Symbol T N) (f : N) (steps : List (Step P)) (at n : ℕ) (p : Production T N P)
       → Sofar (grammar t) start ts (reverse old) steps at → old ≡ new ++ y ∷ [] → y ≡ Nonterminal f
-      → Some (rewrite_view f p) ≡ choose e q (grammar t) f (take (length ts - at) (drop at ts)) → begins e (lookahead p.symbols.now) (take (length ts - at) (drop at ts)) ≡ true
+      → Some (rewrite_view f p) ≡ choose e q (grammar t) f (take (length ts - at) (drop at ts)) → begins_with e (lookahead p.symbols.now) (take (length ts - at) (drop at ts)) ≡ true
       → n ≡ length (lookahead p.symbols.now)
       → Sofar (grammar t) start ts (drop n p.symbols.now ++ reverse new) ((steps ++ Node p.name ∷ []) ++ replicate n Leaf) (at + n)
   chosen_from old new y f steps at n p s popped is shows b front =
@@ -67,7 +67,7 @@ module _ {T N P : Type 0} (e : T → T → Bool) (q : N → N → Bool) (l : P �
       let i = shown e q l qn lp t fine f (drop at ts) x chosen in
       sofar_chosen e et (grammar t) start ts q (takes e q l qn lp t fine) f (reverse new) steps at n x
       (sofar_pop (grammar t) start ts old new y (Nonterminal f) steps at s popped is) chosen i.0 i.1
-      (ap (λ (us : List T). begins e (lookahead p.symbols.now) us) (sym (rest_is ts at)) ∙ b) front
+      (ap (λ (us : List T). begins_with e (lookahead p.symbols.now) us) (sym (rest_is ts at)) ∙ b) front
 
   -- where no token is read fewer nonterminals are opened
   pub chosen_opens : (old new up : List (Symbol T N)) (y : Symbol T N) (f : N) (n at : ℕ) (p : Production T N P)

@@ -8,7 +8,7 @@ use Rattle.witx_grammar.specs.declared.table.Symbol.TheVariants.{Terminal, Nonte
 use Rattle.witx_grammar.specs.declared.table.Step.{Step}
 use Rattle.witx_grammar.specs.declared.table.Step.TheVariants.{Leaf, Node}
 use Rattle.witx_grammar.specs.Grammar.{In, Rewrite, Wants, rewrites_of, Derives}
-use Rattle.witx_grammar.specs.Prediction.{steps, Candidate, candidate, begins, candidates, pick, choose, onward, advance, is_empty, is_shown, is_first, leads, all_lead, are_distinct, names}
+use Rattle.witx_grammar.specs.Prediction.{steps, Candidate, candidate, begins_with, candidates, pick, choose, onward, advance, is_empty, is_shown, is_first, leads, all_lead, are_distinct, names}
 use Rattle.witx_grammar.proofs.Steps.{not_both, not_nothing, one_of, of_map, way_in, way_of}
 
 -- what a test that is true says of its parts
@@ -47,7 +47,7 @@ module _ {T N P : Type 0} (e : T → T → Bool) (q : N → N → Bool) (l : P �
 
   picked : (cs : List (Candidate T N P)) (ts : List T) (x : Rewrite T N P) → pick e cs ts ≡ Some x → (c : Candidate T N P) × In c cs × (c.rewrite ≡ x)
   picked [] ts x o = absurd (none_is x o)
-  picked (c ∷ cs) ts x o = elim (picked_one (begins e c.tokens ts) c.rewrite x (pick e cs ts) o) [
+  picked (c ∷ cs) ts x o = elim (picked_one (begins_with e c.tokens ts) c.rewrite x (pick e cs ts) o) [
     | inl s ↦ (c, inl refl, s)
     | inr r ↦ let more = picked cs ts x r in (more.0, inr more.1, more.2)
   ]
@@ -88,7 +88,7 @@ module _ {T N P : Type 0} (e : T → T → Bool) (q : N → N → Bool) (l : P �
   abbrev Picks : List (Candidate T N P) → List T → P → Type 0
   Picks cs ts p = (x : Rewrite T N P) × (pick e cs ts ≡ Some x) × (x.name ≡ p)
 
-  begins_empty : (ps ts : List T) → is_empty ps ≡ true → begins e ps ts ≡ true
+  begins_empty : (ps ts : List T) → is_empty ps ≡ true → begins_with e ps ts ≡ true
   begins_empty [] ts h = refl
   begins_empty (p ∷ ps) ts h = absurd (not_both (sym h))
 
@@ -97,19 +97,19 @@ module _ {T N P : Type 0} (e : T → T → Bool) (q : N → N → Bool) (l : P �
   picks_first (c ∷ cs) ts p s f = (c.rewrite, ap (λ (b : Bool). cond b (Some c.rewrite) (pick e cs ts)) (begins_empty c.tokens ts s), (lp c.rewrite.name p).0 f)
 
   onward_one : (b : Bool) (ps : List T) (x : Rewrite T N P) (more : List (Candidate T N P)) (ts : List T)
-      → cond (b && begins e ps ts) (Some x) (pick e more ts) ≡ pick e (cond b (record { rewrite = x; tokens = ps } ∷ more) more) ts
+      → cond (b && begins_with e ps ts) (Some x) (pick e more ts) ≡ pick e (cond b (record { rewrite = x; tokens = ps } ∷ more) more) ts
   onward_one true ps x more ts = refl
   onward_one false ps x more ts = refl
 
   pick_onward : (t : T) (ps : List T) (x : Rewrite T N P) (more : List (Candidate T N P)) (ts : List T)
-      → cond (begins e ps (t ∷ ts)) (Some x) (pick e more ts) ≡ pick e (onward e t ps x more) ts
+      → cond (begins_with e ps (t ∷ ts)) (Some x) (pick e more ts) ≡ pick e (onward e t ps x more) ts
   pick_onward t [] x more ts = refl
   pick_onward t (p ∷ ps) x more ts = onward_one (e p t) ps x more ts
 
   pick_advance : (t : T) (cs : List (Candidate T N P)) (ts : List T) → pick e cs (t ∷ ts) ≡ pick e (advance e t cs) ts
   pick_advance t [] ts = refl
   pick_advance t (c ∷ cs) ts =
-      ap (λ (o : Option (Rewrite T N P)). cond (begins e c.tokens (t ∷ ts)) (Some c.rewrite) o) (pick_advance t cs ts) ∙ pick_onward t c.tokens c.rewrite (advance e t cs) ts
+      ap (λ (o : Option (Rewrite T N P)). cond (begins_with e c.tokens (t ∷ ts)) (Some c.rewrite) o) (pick_advance t cs ts) ∙ pick_onward t c.tokens c.rewrite (advance e t cs) ts
 
   leads_picks : (g : List (Rewrite T N P)) (n : ℕ) (cs : List (Candidate T N P)) (w : Wants T N) (p : P) (k : Wants T N) (ms : List (Step P)) (ts : List T)
       → leads e q l g n cs w p ≡ true → Derives g ms (w ++ k) ts → Picks cs ts p

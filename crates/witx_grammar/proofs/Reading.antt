@@ -5,11 +5,11 @@ use Rattle.witx_grammar.specs.declared.table.Symbol.TheVariants.{Terminal, Nonte
 use Rattle.witx_grammar.specs.declared.table.Step.{Step}
 use Rattle.witx_grammar.specs.declared.table.Step.TheVariants.{Leaf, Node}
 use Rattle.witx_grammar.specs.Grammar.{In, Rewrite, Wants, Derives}
-use Rattle.witx_grammar.specs.Reading.{leaves, values}
+use Rattle.witx_grammar.specs.Reading.{leaf_count, values}
 
 -- an end of a derivation derives what is then wanted
 pub end_of : {T N P : Type 0} (g : List (Rewrite T N P)) (pre ms : List (Step P)) (w : Wants T N) (ts : List T) → Derives g (pre ++ ms) w ts
-    → (v : Wants T N) × (leaves pre ≤ length ts) × Derives g ms v (drop (leaves pre) ts)
+    → (v : Wants T N) × (leaf_count pre ≤ length ts) × Derives g ms v (drop (leaf_count pre) ts)
 end_of g [] ms w ts d = (w, (omega arith), d)
 end_of g (Leaf ∷ pre) ms [] ts d = absurd d
 end_of g (Leaf ∷ pre) ms (Terminal t ∷ w) [] d = absurd d
@@ -24,20 +24,20 @@ end_of g (Node p ∷ pre) ms (Nonterminal f ∷ w) ts d = end_of g pre ms (d.0.s
 drop_one : {X : Type 0} (ms : List X) (n : ℕ) (d x : X) → n < length ms → get_or ms n d ≡ x → drop n ms ≡ x ∷ drop (n + 1) ms
 drop_one {X} ms n d x lt e = drop_more ms n d lt ∙ ap (λ (y : X). y ∷ drop (n + 1) ms) e
 
-leaves_append : {P : Type 0} (xs ys : List (Step P)) → leaves (xs ++ ys) ≡ leaves xs + leaves ys
+leaves_append : {P : Type 0} (xs ys : List (Step P)) → leaf_count (xs ++ ys) ≡ leaf_count xs + leaf_count ys
 leaves_append [] ys = omega arith
 leaves_append (Leaf ∷ xs) ys = omega (arith, leaves_append xs ys)
 leaves_append (Node p ∷ xs) ys = leaves_append xs ys
 
-leaves_more : {P : Type 0} (ms : List (Step P)) (n : ℕ) (x : Step P) → n < length ms → get_or ms n Leaf ≡ x → leaves (take (n + 1) ms) ≡ leaves (take n ms) + leaves (x ∷ [])
+leaves_more : {P : Type 0} (ms : List (Step P)) (n : ℕ) (x : Step P) → n < length ms → get_or ms n Leaf ≡ x → leaf_count (take (n + 1) ms) ≡ leaf_count (take n ms) + leaf_count (x ∷ [])
 leaves_more {P} ms n x lt e =
-    ap (λ (xs : List (Step P)). leaves xs) (take_more ms n Leaf lt) ∙ leaves_append (take n ms) (get_or ms n Leaf ∷ []) ∙ ap (λ (y : Step P). leaves (take n ms) + leaves (y ∷ [])) e
+    ap (λ (xs : List (Step P)). leaf_count xs) (take_more ms n Leaf lt) ∙ leaves_append (take n ms) (get_or ms n Leaf ∷ []) ∙ ap (λ (y : Step P). leaf_count (take n ms) + leaf_count (y ∷ [])) e
 
 -- At the step n of a derivation and the place at, the values are those of the steps from there on, read over the tokens from there on, and fit whatever these derive.
 pub record Back {T N P L V : Type 0} (g : List (Rewrite T N P)) (start : Wants T N) (ms : List (Step P)) (ts : List T) (ls : List L) (leaf : L → List V) (act : P → List L → List V → List V) (fits : Wants T N → List V → Type 0)
     (n at : ℕ) (vs : List V) : Type 0 where
   pub inside : n ≤ length ms
-  pub place : at ≡ leaves (take n ms)
+  pub place : at ≡ leaf_count (take n ms)
   pub value : vs ≡ values leaf act (drop n ms) (drop at ls)
   pub typed : (w : Wants T N) → Derives g (drop n ms) w (drop at ts) → fits w vs
 
@@ -46,7 +46,7 @@ module _ {T N P L V : Type 0} (g : List (Rewrite T N P)) (start : Wants T N) (ms
   none_wanted : (w : Wants T N) (us : List T) → Derives g [] w us → (w ≡ []) × (us ≡ [])
   none_wanted w us h = (h.1, h.0)
 
-  here_of : (n : ℕ) → (v : Wants T N) × (leaves (take n ms) ≤ length ts) × Derives g (drop n ms) v (drop (leaves (take n ms)) ts)
+  here_of : (n : ℕ) → (v : Wants T N) × (leaf_count (take n ms) ≤ length ts) × Derives g (drop n ms) v (drop (leaf_count (take n ms)) ts)
   here_of n = end_of g (take n ms) (drop n ms) start ts (subst (λ (x : List (Step P)). Derives g x start ts) (sym (take-append-drop n ms)) d)
 
   token_typed : (s : T) (ns : List (Step P)) (w : Wants T N) (us : List T) (vs : List V) → Derives g (Leaf ∷ ns) w (s ∷ us) → ((v : Wants T N) → Derives g ns v us → fits (Terminal s ∷ v) vs) → fits w vs
@@ -69,17 +69,17 @@ module _ {T N P L V : Type 0} (g : List (Rewrite T N P)) (start : Wants T N) (ms
   back_start f =
       let r = here_of (length ms) in
       let e : drop (length ms) ms ≡ [] = drop_all (length ms) ms (omega arith) in
-      let none = none_wanted r.0 (drop (leaves (take (length ms) ms)) ts) (subst (λ (x : List (Step P)). Derives g x r.0 (drop (leaves (take (length ms) ms)) ts)) e r.2) in
-      let l : length (drop (leaves (take (length ms) ms)) ts) ≡ 0 = ap (λ (x : List T). length x) none.1 in
+      let none = none_wanted r.0 (drop (leaf_count (take (length ms) ms)) ts) (subst (λ (x : List (Step P)). Derives g x r.0 (drop (leaf_count (take (length ms) ms)) ts)) e r.2) in
+      let l : length (drop (leaf_count (take (length ms) ms)) ts) ≡ 0 = ap (λ (x : List T). length x) none.1 in
       record {
         inside = (omega arith);
-        place = (omega (arith, l, r.1, length-drop (leaves (take (length ms) ms)) ts));
+        place = (omega (arith, l, r.1, length-drop (leaf_count (take (length ms) ms)) ts));
         value = sym (ap (λ (x : List (Step P)). values leaf act x (drop (length ts) ls)) e);
         typed = (λ w h. subst (λ (x : Wants T N). fits x []) (sym (none_wanted w (drop (length ts) ts) (subst (λ (x : List (Step P)). Derives g x w (drop (length ts) ts)) e h)).0) f);
       }
 
   -- a token has a place before
-  pub back_before : (n at : ℕ) (vs : List V) → Back g start ms ts ls leaf act fits (n + 1) at vs → get_or ms n Leaf ≡ Leaf → (leaves (take n ms) + 1 ≡ at) × (at ≤ length ts)
+  pub back_before : (n at : ℕ) (vs : List V) → Back g start ms ts ls leaf act fits (n + 1) at vs → get_or ms n Leaf ≡ Leaf → (leaf_count (take n ms) + 1 ≡ at) × (at ≤ length ts)
   back_before n at vs b e =
       let lt : n < length ms = omega (arith, b.inside) in
       let r = here_of (n + 1) in
@@ -122,10 +122,10 @@ module _ {T N P L V : Type 0} (g : List (Rewrite T N P)) (start : Wants T N) (ms
   pub back_wanted : (n at : ℕ) (p : P) (vs : List V) → Back g start ms ts ls leaf act fits (n + 1) at vs → get_or ms n Leaf ≡ Node p → (x : Rewrite T N P) × (w : Wants T N) × In x g × (x.name ≡ p) × fits (x.symbols ++ w) vs
   back_wanted n at p vs b e =
       let lt : n < length ms = omega (arith, b.inside) in
-      let same : leaves (take n ms) ≡ at = omega (arith, leaves_more ms n (Node p) lt e, b.place) in
+      let same : leaf_count (take n ms) ≡ at = omega (arith, leaves_more ms n (Node p) lt e, b.place) in
       let r = here_of n in
       let split : drop n ms ≡ Node p ∷ drop (n + 1) ms = drop_one ms n Leaf (Node p) lt e in
-      let h : Derives g (Node p ∷ drop (n + 1) ms) r.0 (drop at ts) = subst (λ (x : ℕ). Derives g (Node p ∷ drop (n + 1) ms) r.0 (drop x ts)) same (subst (λ (x : List (Step P)). Derives g x r.0 (drop (leaves (take n ms)) ts)) split r.2) in
+      let h : Derives g (Node p ∷ drop (n + 1) ms) r.0 (drop at ts) = subst (λ (x : ℕ). Derives g (Node p ∷ drop (n + 1) ms) r.0 (drop x ts)) same (subst (λ (x : List (Step P)). Derives g x r.0 (drop (leaf_count (take n ms)) ts)) split r.2) in
       let o = production_taken p (drop (n + 1) ms) r.0 (drop at ts) h in
       (o.0, o.1, o.2, o.3, b.typed (o.0.symbols ++ o.1) o.4)
 

@@ -9,8 +9,8 @@ use Rattle.witx_grammar.specs.declared.table.Symbol.TheVariants.{Terminal, Nonte
 use Rattle.witx_grammar.specs.declared.table.Step.{Step}
 use Rattle.witx_grammar.specs.declared.table.Step.TheVariants.{Leaf, Node}
 use Rattle.witx_grammar.specs.Grammar.{In, Rewrite, Wants, Reaches, Derives}
-use Rattle.witx_grammar.specs.Faults.{IsNext, IsFault, IsSameFault, HasDerivation}
-use Rattle.witx_grammar.specs.Search.{ways, all_ways, firsts, all_firsts, is_nothing, is_stuck, Found, search_fault, IsVerdict}
+use Rattle.witx_grammar.specs.Faults.{IsNext, IsTokenFault, IsSameFault, HasDerivation}
+use Rattle.witx_grammar.specs.Search.{ways, all_ways, firsts, all_firsts, is_nothing, is_stuck, Found, search_fault, IsSearched}
 use Rattle.witx_grammar.specs.Prediction.{is_grounded}
 use Rattle.witx_grammar.proofs.Steps.{not_nothing, not_both, in_all, of_all, reaches_append, reads_one}
 use Rattle.witx_grammar.proofs.Firsts.{ways_sound, ways_complete, firsts_sound, firsts_complete, never_nothing, nothing_among, nothing_some}
@@ -38,11 +38,11 @@ some_where_not : {T N : Type 0} (ws : List (Wants T N)) → is_stuck ws ≡ fals
 some_where_not [] e = absurd (not_both e)
 some_where_not (w ∷ ws) e = (w, inl refl)
 
-choose_end : {T N P : Type 0} (g : List (Rewrite T N P)) (f : N) (ts : List T) (x : Found T) (b : Bool) → (b ≡ true → HasDerivation g f ts) → (b ≡ false → IsFault g f ts x.at x.expected) → IsVerdict g f ts (cond b None (Some x))
+choose_end : {T N P : Type 0} (g : List (Rewrite T N P)) (f : N) (ts : List T) (x : Found T) (b : Bool) → (b ≡ true → HasDerivation g f ts) → (b ≡ false → IsTokenFault g f ts x.at x.expected) → IsSearched g f ts (cond b None (Some x))
 choose_end g f ts x true when_true when_false = when_true refl
 choose_end g f ts x false when_true when_false = when_false refl
 
-choose_step : {T N P : Type 0} (g : List (Rewrite T N P)) (f : N) (ts : List T) (x : Found T) (o : Option (Found T)) (b : Bool) → (b ≡ true → IsFault g f ts x.at x.expected) → (b ≡ false → IsVerdict g f ts o) → IsVerdict g f ts (cond b (Some x) o)
+choose_step : {T N P : Type 0} (g : List (Rewrite T N P)) (f : N) (ts : List T) (x : Found T) (o : Option (Found T)) (b : Bool) → (b ≡ true → IsTokenFault g f ts x.at x.expected) → (b ≡ false → IsSearched g f ts o) → IsSearched g f ts (cond b (Some x) o)
 choose_step g f ts x o true when_true when_false = when_true refl
 choose_step g f ts x o false when_true when_false = when_false refl
 
@@ -140,7 +140,7 @@ module _ {T N P : Type 0} (e : T → T → Bool) (q : N → N → Bool) (et : (x
 
   fault_here : (f : N) (ws : List (Wants T N)) (all pre ts : List T) → all ≡ pre ++ ts → Cover g (Nonterminal f ∷ []) ws pre → Before f all (length pre)
       → ((t : T) (us : List T) → ts ≡ t ∷ us → IsNext g f pre t → ⊥) → (ts ≡ [] → (ms : List (Step P)) → Derives g ms (Nonterminal f ∷ []) pre → ⊥)
-      → IsFault g f all (length pre) (all_firsts q g k ws)
+      → IsTokenFault g f all (length pre) (all_firsts q g k ws)
   fault_here f ws all pre ts is c b here unfinished =
       let front : take (length pre) all ≡ pre = ap (λ (l : List T). take (length pre) l) is ∙ take-append_seam pre ts in
       record {
@@ -155,16 +155,16 @@ module _ {T N P : Type 0} (e : T → T → Bool) (q : N → N → Bool) (et : (x
       }
 
   pub search_meets : (f : N) (ws : List (Wants T N)) (all pre : List T) (at : ℕ) (ts : List T) → all ≡ pre ++ ts → length pre ≡ at → Cover g (Nonterminal f ∷ []) ws pre → Before f all (length pre)
-      → IsVerdict g f all (search_fault e q g k ws at ts)
+      → IsSearched g f all (search_fault e q g k ws at ts)
   search_meets f ws all pre at [] is place c b =
       let whole : all ≡ pre = is ∙ append-nil pre in
       choose_end g f all (record { at = at; expected = all_firsts q g k ws }) (list_any is_nothing ws)
       (λ is_so. subst (λ (l : List T). HasDerivation g f l) (sym whole) (done f ws pre c is_so))
-      (λ is_not. subst (λ (n : ℕ). IsFault g f all n (all_firsts q g k ws)) place
+      (λ is_not. subst (λ (n : ℕ). IsTokenFault g f all n (all_firsts q g k ws)) place
       (fault_here f ws all pre [] is c b (λ t us n h. not_nothing t us (sym n)) (λ n ms d. not_done f ws pre ms c is_not d)))
   search_meets f ws all pre at (t ∷ ts) is place c b =
       choose_step g f all (record { at = at; expected = all_firsts q g k ws }) (search_fault e q g k (all_ways e q g k t ws) (at + 1) ts) (is_stuck (all_ways e q g k t ws))
-      (λ is_so. subst (λ (n : ℕ). IsFault g f all n (all_firsts q g k ws)) place
+      (λ is_so. subst (λ (n : ℕ). IsTokenFault g f all n (all_firsts q g k ws)) place
       (fault_here f ws all pre (t ∷ ts) is c b
       (λ u us n h. stops (Nonterminal f ∷ []) ws pre t c is_so (subst (λ (x : T). IsNext g f pre x) (sym (head_is t u ts us n)) h))
       (λ n ms d. not_nothing t ts n)))
@@ -173,7 +173,7 @@ module _ {T N P : Type 0} (e : T → T → Bool) (q : N → N → Bool) (et : (x
       (cover_step (Nonterminal f ∷ []) ws pre t c)
       (subst (λ (n : ℕ). Before f all n) (sym long) (before_more f all pre t ts is b (goes_on (Nonterminal f ∷ []) ws pre t c is_not))))
 
-  pub search_is_right : (f : N) (ts : List T) → IsVerdict g f ts (search_fault e q g k ((Nonterminal f ∷ []) ∷ []) 0 ts)
+  pub search_is_right : (f : N) (ts : List T) → IsSearched g f ts (search_fault e q g k ((Nonterminal f ∷ []) ∷ []) 0 ts)
   search_is_right f ts = search_meets f ((Nonterminal f ∷ []) ∷ []) ts [] 0 ts refl refl (cover_start g (Nonterminal f ∷ [])) (λ i d lt. absurd (omega arith))
 
 -- ---- a derivation's tokens can all come
@@ -200,7 +200,7 @@ some_first : {T : Type 0} (ts : List T) (at : ℕ) → at < length ts → T
 some_first [] at lt = absurd (omega arith)
 some_first (t ∷ ts) at lt = t
 
-pub no_fault : {T N P : Type 0} (g : List (Rewrite T N P)) (f : N) (ts : List T) (ms : List (Step P)) (at : ℕ) (expected : List T) → Derives g ms (Nonterminal f ∷ []) ts → IsFault g f ts at expected → ⊥
+pub no_fault : {T N P : Type 0} (g : List (Rewrite T N P)) (f : N) (ts : List T) (ms : List (Step P)) (at : ℕ) (expected : List T) → Derives g ms (Nonterminal f ∷ []) ts → IsTokenFault g f ts at expected → ⊥
 no_fault {T} g f ts ms at expected d fault =
     elim (cases_lt at (length ts)) [
       | inl lt ↦
@@ -212,14 +212,14 @@ no_fault {T} g f ts ms at expected d fault =
 
 -- ---- one fault
 
-earlier : {T N P : Type 0} (g : List (Rewrite T N P)) (f : N) (ts : List T) (at place : ℕ) (expected kinds : List T) → IsFault g f ts at expected → IsFault g f ts place kinds → at < place → ⊥
+earlier : {T N P : Type 0} (g : List (Rewrite T N P)) (f : N) (ts : List T) (at place : ℕ) (expected kinds : List T) → IsTokenFault g f ts at expected → IsTokenFault g f ts place kinds → at < place → ⊥
 earlier {T} g f ts at place expected kinds a b lt =
     let within : place ≤ length ts = b.within in
     let inside : at < length ts = omega arith in
     let t : T = some_first ts at inside in
     a.here t inside (b.before at t lt)
 
-one_place : {T N P : Type 0} (g : List (Rewrite T N P)) (f : N) (ts : List T) (at place : ℕ) (expected kinds : List T) → IsFault g f ts at expected → IsFault g f ts place kinds → at ≡ place
+one_place : {T N P : Type 0} (g : List (Rewrite T N P)) (f : N) (ts : List T) (at place : ℕ) (expected kinds : List T) → IsTokenFault g f ts at expected → IsTokenFault g f ts place kinds → at ≡ place
 one_place g f ts at place expected kinds a b =
     elim (cases_lt at place) [
       | inl lt ↦ absurd (earlier g f ts at place expected kinds a b lt)
@@ -229,7 +229,7 @@ one_place g f ts at place expected kinds a b =
       ]
     ]
 
-pub one_fault : {T N P : Type 0} (g : List (Rewrite T N P)) (f : N) (ts : List T) (at place : ℕ) (expected kinds : List T) → IsFault g f ts at expected → IsFault g f ts place kinds → IsSameFault at expected place kinds
+pub one_fault : {T N P : Type 0} (g : List (Rewrite T N P)) (f : N) (ts : List T) (at place : ℕ) (expected kinds : List T) → IsTokenFault g f ts at expected → IsTokenFault g f ts place kinds → IsSameFault at expected place kinds
 one_fault g f ts at place expected kinds a b =
     let same = one_place g f ts at place expected kinds a b in
     record {

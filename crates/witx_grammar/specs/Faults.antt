@@ -13,7 +13,7 @@ IsNext {T} {N} {P} g f ts t = (ms : List (Step P)) × (w : Wants T N) × Reaches
 
 -- The place is that of the first token that can't come after those before it, or the end of the tokens where more is wanted;
 -- the list holds exactly the kinds that can come there. (The d of a token's place stands for tokens behind the end, which are not asked for.)
-pub record IsFault {T N P : Type 0} (g : List (Rewrite T N P)) (f : N) (ts : List T) (at : ℕ) (expected : List T) : Type 0 where
+pub record IsTokenFault {T N P : Type 0} (g : List (Rewrite T N P)) (f : N) (ts : List T) (at : ℕ) (expected : List T) : Type 0 where
   pub within : at ≤ length ts
   pub before : (k : ℕ) (d : T) → k < at → IsNext g f (take k ts) (slice_index_or ts k d)
   pub here : (d : T) → at < length ts → IsNext g f (take at ts) (slice_index_or ts at d) → ⊥
@@ -30,10 +30,10 @@ pub record IsSameFault {T : Type 0} (at : ℕ) (expected : List T) (place : ℕ)
 abbrev pub HasDerivation : {T N P : Type 0} → List (Rewrite T N P) → N → List T → Type 0
 HasDerivation {T} {N} {P} g f ts = (ms : List (Step P)) × Derives g ms (Nonterminal f ∷ []) ts
 
-abbrev pub HasFault : {T N P : Type 0} → List (Rewrite T N P) → N → List T → Type 0
-HasFault {T} {N} {P} g f ts = (at : ℕ) × (expected : List T) × IsFault g f ts at expected
+abbrev pub HasTokenFault : {T N P : Type 0} → List (Rewrite T N P) → N → List T → Type 0
+HasTokenFault {T} {N} {P} g f ts = (at : ℕ) × (expected : List T) × IsTokenFault g f ts at expected
 
 -- what the tokens read as: their derivation from the nonterminal, or their fault
 abbrev pub IsParsed : {T N P : Type 0} → List (Rewrite T N P) → N → List T → Parsed T P → Type 0
 IsParsed g f ts (Derivation ms) = Derives g ms.items (Nonterminal f ∷ []) ts
-IsParsed g f ts (Fault fault) = IsFault g f ts fault.at fault.expected.items
+IsParsed g f ts (Fault fault) = IsTokenFault g f ts fault.at fault.expected.items

@@ -22,10 +22,10 @@ abbrev pub candidate : {T N P : Type 0} → Rewrite T N P → Candidate T N P
 candidate x = record { rewrite = x; tokens = lookahead x.symbols }
 
 -- the tokens begin with these
-abbrev pub begins : {T : Type 0} → (T → T → Bool) → List T → List T → Bool
-begins e [] ts = true
-begins e (p ∷ ps) [] = false
-begins e (p ∷ ps) (t ∷ ts) = e p t && begins e ps ts
+abbrev pub begins_with : {T : Type 0} → (T → T → Bool) → List T → List T → Bool
+begins_with e [] ts = true
+begins_with e (p ∷ ps) [] = false
+begins_with e (p ∷ ps) (t ∷ ts) = e p t && begins_with e ps ts
 
 -- what can be shown for a nonterminal
 abbrev pub candidates : {T N P : Type 0} → (N → N → Bool) → List (Rewrite T N P) → N → List (Candidate T N P)
@@ -34,7 +34,7 @@ candidates q g f = map candidate (rewrites_of q g f)
 -- the first that fits
 abbrev pub pick : {T N P : Type 0} → (T → T → Bool) → List (Candidate T N P) → List T → Option (Rewrite T N P)
 pick e [] ts = None
-pick e (c ∷ cs) ts = if begins e c.tokens ts then Some c.rewrite else pick e cs ts
+pick e (c ∷ cs) ts = if begins_with e c.tokens ts then Some c.rewrite else pick e cs ts
 
 -- what is shown for a nonterminal at these tokens
 abbrev pub choose : {T N P : Type 0} → (T → T → Bool) → (N → N → Bool) → List (Rewrite T N P) → N → List T → Option (Rewrite T N P)

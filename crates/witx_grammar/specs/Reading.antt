@@ -12,7 +12,7 @@ values leaf act (Leaf ∷ ms) (l ∷ ls) = leaf l ++ values leaf act ms ls
 values leaf act (Node p ∷ ms) ls = act p ls (values leaf act ms ls)
 
 -- how many tokens steps read
-abbrev pub leaves : {P : Type 0} → List (Step P) → ℕ
-leaves [] = 0
-leaves (Leaf ∷ ms) = suc (leaves ms)
-leaves (Node p ∷ ms) = leaves ms
+abbrev pub leaf_count : {P : Type 0} → List (Step P) → ℕ
+leaf_count [] = 0
+leaf_count (Leaf ∷ ms) = suc (leaf_count ms)
+leaf_count (Node p ∷ ms) = leaf_count ms

@@ -8,7 +8,7 @@ use Rattle.witx_grammar.specs.declared.table.Symbol.{Symbol}
 use Rattle.witx_grammar.specs.declared.table.Symbol.TheVariants.{Terminal, Nonterminal}
 use Rattle.witx_grammar.specs.declared.fault.Fault.{Fault}
 use Rattle.witx_grammar.specs.Grammar.{Rewrite, Wants, rewrites_of}
-use Rattle.witx_grammar.specs.Faults.{HasDerivation, IsFault}
+use Rattle.witx_grammar.specs.Faults.{HasDerivation, IsTokenFault}
 
 -- what can be wanted after a token of the kind t, where a list of symbols is wanted before it
 abbrev pub ways : {T N P : Type 0} → (T → T → Bool) → (N → N → Bool) → List (Rewrite T N P) → ℕ → T → Wants T N → List (Wants T N)
@@ -53,13 +53,13 @@ search_fault e q g k ws at (t ∷ ts) =
     if is_stuck (all_ways e q g k t ws) then Some (record { at = at; expected = all_firsts q g k ws }) else search_fault e q g k (all_ways e q g k t ws) (at + 1) ts
 
 -- what the search says: without a fault there is a derivation
-abbrev pub IsVerdict : {T N P : Type 0} → List (Rewrite T N P) → N → List T → Option (Found T) → Type 0
-IsVerdict g f ts None = HasDerivation g f ts
-IsVerdict g f ts (Some x) = IsFault g f ts x.at x.expected
+abbrev pub IsSearched : {T N P : Type 0} → List (Rewrite T N P) → N → List T → Option (Found T) → Type 0
+IsSearched g f ts None = HasDerivation g f ts
+IsSearched g f ts (Some x) = IsTokenFault g f ts x.at x.expected
 
 -- the lists that the code holds
 abbrev pub all_wants : {T N : Type 0} → List (Vec (Symbol T N)) → List (Wants T N)
 all_wants vs = map (λ v. v.items) vs
 
-abbrev pub fault_view : {T : Type 0} → Fault T → Found T
-fault_view f = record { at = f.at; expected = f.expected.items }
+abbrev pub found_view : {T : Type 0} → Fault T → Found T
+found_view f = record { at = f.at; expected = f.expected.items }

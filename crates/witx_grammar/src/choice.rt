@@ -3,7 +3,7 @@
 ghost use Rattle.std.specs.Prelude.{◌≡◌, List, ◌++◌, length, map, option_map, true, IfOk, IfSome, if◌then◌else◌, Some, None};
 ghost use Rattle.witx_grammar.specs.Choices.{AreKnown, AlikeBehind, IsRest};
 ghost use Rattle.witx_grammar.specs.Grammar.{grammar, rewrite_view};
-ghost use Rattle.witx_grammar.specs.Prediction.{HasOneRuleEach, begins, choose as choose_of, lookahead};
+ghost use Rattle.witx_grammar.specs.Prediction.{HasOneRuleEach, begins_with, choose as choose_of, lookahead};
 
 use crate::engine::productions_of;
 use crate::kind::Kind;
@@ -38,7 +38,7 @@ pub fn nothing_known<'a, T: Kind, N: Kind, P: Kind>(
 
 /// How many tokens the lookahead of the symbols takes, where the tokens begin with it.
 fn fits<T: Kind, N: Kind>(symbols: &[Symbol<T, N>], tokens: &[T]) -> Option<usize>
-    ensures { result ≡ (if begins T.eq (lookahead symbols.now) tokens.now then Some (length (lookahead symbols.now)) else None) }
+    ensures { result ≡ (if begins_with T.eq (lookahead symbols.now) tokens.now then Some (length (lookahead symbols.now)) else None) }
 {
     for (i, symbol) in symbols.iter().enumerate() {
         match symbol {
@@ -136,7 +136,7 @@ pub fn choose<'a, T: Kind, N: Kind, P: Kind>(
     requires known { AreKnown T.eq N.eq (grammar table.now) known.old.items }
     ensures known { AreKnown T.eq N.eq (grammar table.now) known.new.items }
     ensures choice { option_map (λ c. rewrite_view wanted c.0.now) result ≡ choose_of T.eq N.eq (grammar table.now) wanted tokens.now }
-    ensures comes_next { IfSome result (λ c. begins T.eq (lookahead c.0.now.symbols.now) tokens.now ≡ true) }
+    ensures comes_next { IfSome result (λ c. begins_with T.eq (lookahead c.0.now.symbols.now) tokens.now ≡ true) }
     ensures front { IfSome result (λ c. c.1 ≡ length (lookahead c.0.now.symbols.now)) }
 {
     let productions = remaining(table, known, wanted, tokens);

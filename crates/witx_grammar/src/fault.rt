@@ -4,7 +4,7 @@ ghost use Rattle.std.specs.Prelude.{◌≡◌, [], ◌∷◌, ◌++◌, if◌the
 ghost use Rattle.std.specs.List.{list_any};
 ghost use Rattle.witx_grammar.specs.Grammar.{grammar};
 ghost use Rattle.witx_grammar.specs.Prediction.{HasOneRuleEach};
-ghost use Rattle.witx_grammar.specs.Search.{all_wants, fault_view, ways, all_ways, firsts, all_firsts, is_nothing, search_fault};
+ghost use Rattle.witx_grammar.specs.Search.{all_wants, found_view, ways, all_ways, firsts, all_firsts, is_nothing, search_fault};
 ghost use Rattle.witx_grammar.specs.declared.table.Symbol.TheVariants.{Nonterminal};
 
 use crate::engine::productions_of;
@@ -201,7 +201,7 @@ pub fn find_fault<T: Kind, N: Kind, P: Kind>(
     tokens: &[T],
 ) -> Result<Option<Fault<T>>, AllocError>
     requires { HasOneRuleEach N.eq table.now.rules.now }
-    ensures { IfOk result (λ o. option_map fault_view o
+    ensures { IfOk result (λ o. option_map found_view o
         ≡ search_fault T.eq N.eq (grammar table.now) DEPTH ((Nonterminal start ∷ []) ∷ []) 0 tokens.now) }
 {
     let mut wants = Vec::new(alloc);

@@ -3,8 +3,8 @@
 ghost use Rattle.std.specs.Prelude.{◌≡◌, ◌⊎◌, ◌≤◌, ℕ, List, [], ◌∷◌};
 ghost use Rattle.witx_grammar.specs.Grammar.{Derives, Rewrite, grammar};
 ghost use Rattle.witx_grammar.specs.Prediction.{IsPredictive};
-ghost use Rattle.witx_grammar.specs.Faults.{HasDerivation, HasFault, IsFault, IsSameFault};
-ghost use Rattle.witx_grammar.specs.Search.{IsVerdict, search_fault};
+ghost use Rattle.witx_grammar.specs.Faults.{HasDerivation, HasTokenFault, IsTokenFault, IsSameFault};
+ghost use Rattle.witx_grammar.specs.Search.{IsSearched, search_fault};
 ghost use Rattle.witx_grammar.specs.declared.table.Symbol.TheVariants.{Nonterminal};
 ghost use Rattle.witx_grammar.specs.declared.table.Step.{Step};
 ghost use Rattle.witx_grammar.specs.declared.table.Table.{Table};
@@ -21,23 +21,23 @@ pub fn at_most_one_derivation<T: Kind, N: Kind, P: Kind>()
 /// A list of tokens has at most one fault: one place, and one set of kinds that can stand there.
 pub fn at_most_one_fault<T: Kind, N: Kind, P: Kind>()
     ensures { (g : List (Rewrite T N P)) (f : N) (at place : ℕ) (expected kinds : List T) (ts : List T)
-        → IsFault g f ts at expected → IsFault g f ts place kinds → IsSameFault at expected place kinds }
+        → IsTokenFault g f ts at expected → IsTokenFault g f ts place kinds → IsSameFault at expected place kinds }
 {}
 
 /// A list of tokens has a derivation or a fault.
 pub fn derivation_or_fault<T: Kind, N: Kind, P: Kind>()
     ensures { (t : Table T N P) (f : N) (ts : List T) → IsPredictive T.eq N.eq P.eq t
-        → HasDerivation (grammar t) f ts ⊎ HasFault (grammar t) f ts }
+        → HasDerivation (grammar t) f ts ⊎ HasTokenFault (grammar t) f ts }
 {}
 
 /// No list of tokens has a derivation and a fault.
 pub fn no_fault_where_derived<T: Kind, N: Kind, P: Kind>()
-    ensures { (g : List (Rewrite T N P)) (f : N) (ts : List T) → HasDerivation g f ts → HasFault g f ts → ⊥ }
+    ensures { (g : List (Rewrite T N P)) (f : N) (ts : List T) → HasDerivation g f ts → HasTokenFault g f ts → ⊥ }
 {}
 
 /// The fault that is computed is the fault, whatever larger bound it is computed with: a larger
 /// bound changes nothing.
 pub fn fault_at_every_depth<T: Kind, N: Kind, P: Kind>()
     ensures { (t : Table T N P) (depth : ℕ) (f : N) (ts : List T) → IsPredictive T.eq N.eq P.eq t → DEPTH ≤ depth
-        → IsVerdict (grammar t) f ts (search_fault T.eq N.eq (grammar t) depth ((Nonterminal f ∷ []) ∷ []) 0 ts) }
+        → IsSearched (grammar t) f ts (search_fault T.eq N.eq (grammar t) depth ((Nonterminal f ∷ []) ∷ []) 0 ts) }
 {}

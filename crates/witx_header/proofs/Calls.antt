@@ -5,38 +5,38 @@ use Rattle.std.proofs.Math.Seq.{drop-append_seam, take-append_seam}
 use Rattle.witx_ast.specs.Tree.{Tree}
 use Rattle.witx_machine.specs.Events.{Event, Step, emit, finish, push, space}
 use Rattle.witx_machine.specs.Rows.{operands_count, results_count}
-use Rattle.witx_instructions.specs.Handed.{Call, HandOn, OperandsInOrder, began, called_for, emitted, ended, made_room}
+use Rattle.witx_instructions.specs.Handed.{GeneratorCall, HandOn, OperandsInOrder, began, called_for, emitted, ended, made_room}
 use Rattle.witx_header.specs.declared.handed.Variable.{Variable}
-use Rattle.witx_header.specs.Bodies.{below, calls_from, numbered, topmost}
+use Rattle.witx_header.specs.Bodies.{below, calls_from, numbered_variables, topmost}
 use Rattle.witx_header.specs.declared.handed.Handed.{Handed}
 use Rattle.witx_instructions.specs.Views.{event_of}
 use Rattle.witx_header.specs.Kept.{AreNumbered, Leaves, call_for, call_of, left_by, left_by_all}
 
 -- ---- numbers
 
-pub one-numbered : (first next : ℕ) → first < next → numbered first (next - first) ≡ (record { number = first }) ∷ numbered (first + 1) (next - (first + 1))
+pub one-numbered : (first next : ℕ) → first < next → numbered_variables first (next - first) ≡ (record { number = first }) ∷ numbered_variables (first + 1) (next - (first + 1))
 one-numbered first next l =
     let e : next - first ≡ suc (next - (first + 1)) = omega arith in
-    ap (numbered first) e
+    ap (numbered_variables first) e
 
 pub push-numbered : (done now : List Variable) (first next : ℕ) (total : List Variable) → first < next → now ≡ done ++ (record { number = first }) ∷ []
-    → done ++ numbered first (next - first) ≡ total → now ++ numbered (first + 1) (next - (first + 1)) ≡ total
+    → done ++ numbered_variables first (next - first) ≡ total → now ++ numbered_variables (first + 1) (next - (first + 1)) ≡ total
 push-numbered done now first next total l w e =
-    ap (λ s. s ++ numbered (first + 1) (next - (first + 1))) w ∙ append_assoc done ((record { number = first }) ∷ []) (numbered (first + 1) (next - (first + 1)))
+    ap (λ s. s ++ numbered_variables (first + 1) (next - (first + 1))) w ∙ append_assoc done ((record { number = first }) ∷ []) (numbered_variables (first + 1) (next - (first + 1)))
     ∙ ap (λ t. done ++ t) (sym (one-numbered first next l)) ∙ e
 
-pub all-numbered : (done : List Variable) (first next : ℕ) (total : List Variable) → next ≤ first → done ++ numbered first (next - first) ≡ total → done ≡ total
+pub all-numbered : (done : List Variable) (first next : ℕ) (total : List Variable) → next ≤ first → done ++ numbered_variables first (next - first) ≡ total → done ≡ total
 all-numbered done first next total l e =
     let z : next - first ≡ 0 = omega arith in
-    sym (append-nil done) ∙ ap (λ n. done ++ numbered first n) (sym z) ∙ e
+    sym (append-nil done) ∙ ap (λ n. done ++ numbered_variables first n) (sym z) ∙ e
 
-pub numbered-length : (first n : ℕ) → length (numbered first n) ≡ n
+pub numbered-length : (first n : ℕ) → length (numbered_variables first n) ≡ n
 numbered-length first zero = refl
 numbered-length first (suc n) = ap suc (numbered-length (first + 1) n)
 
 -- ---- one call more
 
-pub one-more : (next : ℕ) (cs : List (Call Variable)) (c : Call Variable) → AreNumbered next cs → Leaves (next + left_by_all cs) c → AreNumbered next (cs ++ c ∷ [])
+pub one-more : (next : ℕ) (cs : List (GeneratorCall Variable)) (c : GeneratorCall Variable) → AreNumbered next cs → Leaves (next + left_by_all cs) c → AreNumbered next (cs ++ c ∷ [])
 one-more next [] c h l =
     let e : next + 0 ≡ next = omega arith in
     (subst (λ n. Leaves n c) e l, tt)
@@ -44,7 +44,7 @@ one-more next (d ∷ cs) c h l =
     let e : next + (left_by d + left_by_all cs) ≡ next + left_by d + left_by_all cs = omega arith in
     (h.0, one-more (next + left_by d) cs c h.1 (subst (λ n. Leaves n c) e l))
 
-pub one-left : (cs : List (Call Variable)) (c : Call Variable) → left_by_all (cs ++ c ∷ []) ≡ left_by_all cs + left_by c
+pub one-left : (cs : List (GeneratorCall Variable)) (c : GeneratorCall Variable) → left_by_all (cs ++ c ∷ []) ≡ left_by_all cs + left_by c
 one-left [] c = omega arith
 one-left (d ∷ cs) c =
     let e : left_by d + (left_by_all cs + left_by c) ≡ left_by d + left_by_all cs + left_by c = omega arith in
@@ -62,26 +62,26 @@ under : (low operands stack : List Variable) (n : ℕ) → stack ≡ low ++ oper
 under low operands stack n s l = ap (below n) s ∙ ap (λ k. take k (low ++ operands)) (above low operands n l) ∙ take-append_seam low operands
 
 -- an instruction, before calls that are as they should be
-one-call : (next : ℕ) (x : Step) (low operands results stack between : List Variable) (cs : List (Call Variable)) (es : List Event)
-    → stack ≡ low ++ operands → between ≡ low ++ results → length operands ≡ operands_count x → results ≡ numbered next (results_count x)
+one-call : (next : ℕ) (x : Step) (low operands results stack between : List Variable) (cs : List (GeneratorCall Variable)) (es : List Event)
+    → stack ≡ low ++ operands → between ≡ low ++ results → length operands ≡ operands_count x → results ≡ numbered_variables next (results_count x)
     → cs ≡ calls_from (next + results_count x) between es → emitted x operands results ∷ cs ≡ calls_from next stack (emit x ∷ es)
 one-call next x low operands results stack between cs es s b l r rest =
     let top = on-top low operands stack (operands_count x) s l in
     let low-is = under low operands stack (operands_count x) s l in
-    let new = numbered next (results_count x) in
+    let new = numbered_variables next (results_count x) in
     ap (λ os. emitted x os results ∷ cs) (sym top)
     ∙ ap (λ rs. emitted x (topmost (operands_count x) stack) rs ∷ cs) r
     ∙ ap (λ t. emitted x (topmost (operands_count x) stack) new ∷ t) (rest ∙ ap (λ st. calls_from (next + results_count x) st es)
     (b ∙ ap (λ w. w ++ results) (sym low-is) ∙ ap (λ rs. below (operands_count x) stack ++ rs) r))
 
 -- a call that moves no variable
-no-move : (c : Call Variable) (next : ℕ) (stack between : List Variable) (cs : List (Call Variable)) (es : List Event) → between ≡ stack
+no-move : (c : GeneratorCall Variable) (next : ℕ) (stack between : List Variable) (cs : List (GeneratorCall Variable)) (es : List Event) → between ≡ stack
     → cs ≡ calls_from (next + 0) between es → c ∷ cs ≡ c ∷ calls_from next stack es
 no-move c next stack between cs es b rest =
     let e : next + 0 ≡ next = omega arith in
     ap (λ t. c ∷ t) (rest ∙ ap (λ n. calls_from n between es) e ∙ ap (λ st. calls_from next st es) b)
 
-pub calls-are : (next : ℕ) (stack behind : List Variable) (cs : List (Call Variable)) → HandOn cs stack behind → AreNumbered next cs
+pub calls-are : (next : ℕ) (stack behind : List Variable) (cs : List (GeneratorCall Variable)) → HandOn cs stack behind → AreNumbered next cs
     → cs ≡ calls_from next stack (map called_for cs)
 calls-are next stack behind [] h n = refl
 calls-are next stack behind (emitted x operands results ∷ cs) h n =
@@ -98,12 +98,12 @@ calls-are next stack behind (ended (Some v) ∷ cs) h n =
     ap (λ os. ended (slice_get os 0) ∷ cs) (sym top)
     ∙ no-move (ended (slice_get (topmost 1 stack) 0)) next (below 1 stack) h.0 cs (map called_for cs) (sym low-is) (calls-are (next + 0) h.0 behind cs h.2 n.1)
 
-told-list : Option (List (Call Variable)) → List (Call Variable)
+told-list : Option (List (GeneratorCall Variable)) → List (GeneratorCall Variable)
 told-list None = []
 told-list (Some cs) = cs
 
 -- what a body holds, once it was called for these events
-pub caller-calls : (es : List Event) (held : List (Call Variable)) → OperandsInOrder es (Some []) (Some held) → AreNumbered 0 held → held ≡ calls_from 0 [] es
+pub caller-calls : (es : List Event) (held : List (GeneratorCall Variable)) → OperandsInOrder es (Some []) (Some held) → AreNumbered 0 held → held ≡ calls_from 0 [] es
 unfolding told-list
 caller-calls es held o n =
     let is : held ≡ o.in_order.calls = ap told-list o.in_order.told in
@@ -128,10 +128,10 @@ pub kept-end : (h : Handed) (v : Bool) (operand : Option Variable) → map event
 kept-end h v operand is at = ap (λ es. call_for es h.operands h.results) is ∙ ap ended at
 
 -- one call more
-pub kept-more : (calls now : List Handed) (h : Handed) (c : Call Variable) → now ≡ calls ++ h ∷ [] → call_of h ≡ c → map call_of now ≡ map call_of calls ++ c ∷ []
+pub kept-more : (calls now : List Handed) (h : Handed) (c : GeneratorCall Variable) → now ≡ calls ++ h ∷ [] → call_of h ≡ c → map call_of now ≡ map call_of calls ++ c ∷ []
 kept-more calls now h c w is = ap (map call_of) w ∙ map-append call_of calls (h ∷ []) ∙ ap (λ d. map call_of calls ++ d ∷ []) is
 
-pub kept-numbered : (calls now : List Handed) (h : Handed) (c : Call Variable) (next after : ℕ) → now ≡ calls ++ h ∷ [] → call_of h ≡ c → Leaves next c → after ≡ next + left_by c
+pub kept-numbered : (calls now : List Handed) (h : Handed) (c : GeneratorCall Variable) (next after : ℕ) → now ≡ calls ++ h ∷ [] → call_of h ≡ c → Leaves next c → after ≡ next + left_by c
     → AreNumbered 0 (map call_of calls) → next ≡ left_by_all (map call_of calls) → AreNumbered 0 (map call_of now) × (after ≡ left_by_all (map call_of now))
 kept-numbered calls now h c next after w is l a n e =
     let more = kept-more calls now h c w is in
@@ -140,12 +140,12 @@ kept-numbered calls now h c next after w is l a n e =
       a ∙ ap (λ k. k + left_by c) e ∙ sym (one-left (map call_of calls) c) ∙ ap left_by_all (sym more),
     )
 
-pub kept-call : (before calls now : List Handed) (h : Handed) (c : Call Variable) → calls ≡ before → now ≡ calls ++ h ∷ [] → call_of h ≡ c
+pub kept-call : (before calls now : List Handed) (h : Handed) (c : GeneratorCall Variable) → calls ≡ before → now ≡ calls ++ h ∷ [] → call_of h ≡ c
     → Some (map call_of now) ≡ Some (map call_of before ++ c ∷ [])
 kept-call before calls now h c v w is = ap Some (kept-more calls now h c w is ∙ ap (λ cs. map call_of cs ++ c ∷ []) v)
 
 -- one that leaves no variable, and none
-pub kept-unmoved : (calls now : List Handed) (h : Handed) (c : Call Variable) (next : ℕ) → now ≡ calls ++ h ∷ [] → call_of h ≡ c → Leaves next c → left_by c ≡ 0
+pub kept-unmoved : (calls now : List Handed) (h : Handed) (c : GeneratorCall Variable) (next : ℕ) → now ≡ calls ++ h ∷ [] → call_of h ≡ c → Leaves next c → left_by c ≡ 0
     → AreNumbered 0 (map call_of calls) × (next ≡ left_by_all (map call_of calls)) → AreNumbered 0 (map call_of now) × (next ≡ left_by_all (map call_of now))
 kept-unmoved calls now h c next w is l none held =
     let a : next ≡ next + left_by c = omega (arith, none) in
@@ -160,9 +160,9 @@ as-many : (first after count : ℕ) (x : Step) → after ≡ first + count → c
 as-many first after count x a n = omega (arith, a, n)
 
 pub filled : (first after count : ℕ) (x : Step) (results : List Variable) (len : ℕ) → after ≡ first + count → count ≡ results_count x
-    → results ≡ numbered first (after - first) → length results ≡ len → len ≡ results_count x
+    → results ≡ numbered_variables first (after - first) → length results ≡ len → len ≡ results_count x
 filled first after count x results len a n r l = sym l ∙ ap length r ∙ numbered-length first (after - first) ∙ as-many first after count x a n
 
 pub leaves : (first after count : ℕ) (x : Step) (operands results : List Variable) → length operands ≡ operands_count x → after ≡ first + count
-    → count ≡ results_count x → results ≡ numbered first (after - first) → Leaves first (emitted x operands results)
-leaves first after count x operands results o a n r = (o, r ∙ ap (numbered first) (as-many first after count x a n))
+    → count ≡ results_count x → results ≡ numbered_variables first (after - first) → Leaves first (emitted x operands results)
+leaves first after count x operands results o a n r = (o, r ∙ ap (numbered_variables first) (as-many first after count x a n))

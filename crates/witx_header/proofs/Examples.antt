@@ -14,7 +14,7 @@ use Rattle.witx_machine.specs.declared.surface.WasmType.{WasmType}
 use Rattle.witx_header.specs.CNames.{comment, literal, member_name}
 use Rattle.witx_header.specs.Bodies.{body_lines}
 use Rattle.witx_header.specs.Headers.{prototype}
-use Rattle.witx_header.specs.Typedefs.{typename_lines}
+use Rattle.witx_header.specs.Typedefs.{header_typename_lines}
 
 a_quote : literal (codes "a\"b") ≡ codes "\"a\\042b\""
 a_quote = refl
@@ -36,20 +36,20 @@ clock = Tree.record_of RecordKind.Other
     (Fields.field (codes "precision") timestamp []
     (Fields.field (codes "flags") (Tree.named (codes "subclockflags") (Tree.record_of (RecordKind.Bitflags IntRepr.U16) Fields.no_fields) []) [] Fields.no_fields))))
 
-a_record : typename_lines (codes "subscription_clock") clock [] ≡ codes "typedef struct __wasi_subscription_clock_t {\n    __wasi_clockid_t id;\n    __wasi_timestamp_t timeout;\n    __wasi_timestamp_t precision;\n    __wasi_subclockflags_t flags;\n} __wasi_subscription_clock_t;\n_Static_assert(sizeof(__wasi_subscription_clock_t) == 32, \"size\");\n_Static_assert(_Alignof(__wasi_subscription_clock_t) == 8, \"alignment\");\n_Static_assert(offsetof(__wasi_subscription_clock_t, id) == 0, \"offset\");\n_Static_assert(offsetof(__wasi_subscription_clock_t, timeout) == 8, \"offset\");\n_Static_assert(offsetof(__wasi_subscription_clock_t, precision) == 16, \"offset\");\n_Static_assert(offsetof(__wasi_subscription_clock_t, flags) == 24, \"offset\");\n\n"
+a_record : header_typename_lines (codes "subscription_clock") clock [] ≡ codes "typedef struct __wasi_subscription_clock_t {\n    __wasi_clockid_t id;\n    __wasi_timestamp_t timeout;\n    __wasi_timestamp_t precision;\n    __wasi_subclockflags_t flags;\n} __wasi_subscription_clock_t;\n_Static_assert(sizeof(__wasi_subscription_clock_t) == 32, \"size\");\n_Static_assert(_Alignof(__wasi_subscription_clock_t) == 8, \"alignment\");\n_Static_assert(offsetof(__wasi_subscription_clock_t, id) == 0, \"offset\");\n_Static_assert(offsetof(__wasi_subscription_clock_t, timeout) == 8, \"offset\");\n_Static_assert(offsetof(__wasi_subscription_clock_t, precision) == 16, \"offset\");\n_Static_assert(offsetof(__wasi_subscription_clock_t, flags) == 24, \"offset\");\n\n"
 unfolding digits
 a_record = refl
 
 abbrev readwrite : Tree
 readwrite = Tree.named (codes "subscription_fd_readwrite") (Tree.record_of RecordKind.Other (Fields.field (codes "file_descriptor") (Tree.named (codes "fd") Tree.handle []) [] Fields.no_fields)) []
 
-a_variant : typename_lines (codes "subscription_u")
+a_variant : header_typename_lines (codes "subscription_u")
     (Tree.variant_of IntRepr.U8 (Arms.carries (codes "clock") (Tree.named (codes "subscription_clock") clock []) [] (Arms.carries (codes "fd_read") readwrite [] (Arms.carries (codes "fd_write") readwrite [] Arms.no_arms)))) []
     ≡ codes "typedef struct __wasi_subscription_u_t {\n    uint8_t tag;\n    union {\n        __wasi_subscription_clock_t clock;\n        __wasi_subscription_fd_readwrite_t fd_read;\n        __wasi_subscription_fd_readwrite_t fd_write;\n    } u;\n} __wasi_subscription_u_t;\n#define __WASI_SUBSCRIPTION_U_CLOCK UINT8_C(0)\n#define __WASI_SUBSCRIPTION_U_FD_READ UINT8_C(1)\n#define __WASI_SUBSCRIPTION_U_FD_WRITE UINT8_C(2)\n_Static_assert(sizeof(__wasi_subscription_u_t) == 40, \"size\");\n_Static_assert(_Alignof(__wasi_subscription_u_t) == 8, \"alignment\");\n_Static_assert(offsetof(__wasi_subscription_u_t, u) == 8, \"offset\");\n\n"
 unfolding digits
 a_variant = refl
 
-an_enum : typename_lines (codes "whence") (Tree.variant_of IntRepr.U8 (Arms.bare (codes "set") [] (Arms.bare (codes "cur") [] Arms.no_arms))) []
+an_enum : header_typename_lines (codes "whence") (Tree.variant_of IntRepr.U8 (Arms.bare (codes "set") [] (Arms.bare (codes "cur") [] Arms.no_arms))) []
     ≡ codes "typedef uint8_t __wasi_whence_t;\n#define __WASI_WHENCE_SET UINT8_C(0)\n#define __WASI_WHENCE_CUR UINT8_C(1)\n_Static_assert(sizeof(__wasi_whence_t) == 1, \"size\");\n_Static_assert(_Alignof(__wasi_whence_t) == 1, \"alignment\");\n\n"
 unfolding digits
 an_enum = refl

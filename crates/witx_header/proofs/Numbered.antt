@@ -17,8 +17,8 @@ use Rattle.witx_ast.specs.Words.{all_arms_bare}
 use Rattle.witx_layout.specs.declared.members.RecordMemberLayout.{RecordMemberLayout}
 use Rattle.witx_layout.specs.Numbers.{payload_offset}
 use Rattle.witx_header.specs.CNames.{member_name}
-use Rattle.witx_header.specs.Headers.{definition_lines, definition_numbers, header_numbers}
-use Rattle.witx_header.specs.Typedefs.{offset_line, part_offsets, placed_lines, typename_lines}
+use Rattle.witx_header.specs.Headers.{c_definition_lines, definition_numbers, header_numbers}
+use Rattle.witx_header.specs.Typedefs.{offset_line, c_part_offsets, placed_lines, header_typename_lines}
 use Rattle.witx_header.proofs.Appending.{joined, next-of, none-left, read-more, read-end}
 use Rattle.witx_header.proofs.Reading.{reading_rules, read-RecordMember, read-VariantDatatype}
 use Rattle.witx_header.proofs.Typing.{arms-listed, nothing-more}
@@ -65,11 +65,11 @@ all-offsets name xs i done total l e = sym (append-nil done) ∙ ap (λ t. done 
 
 -- ---- a variant, by whether no case has a payload
 
-pub bare-offsets : (name : List ℕ) (v : Variant) → all_arms_bare (map case_arm (out-Variant v).cases) ≡ true → part_offsets name (variant_tree v) ≡ []
+pub bare-offsets : (name : List ℕ) (v : Variant) → all_arms_bare (map case_arm (out-Variant v).cases) ≡ true → c_part_offsets name (variant_tree v) ≡ []
 bare-offsets name v h = rw (read-VariantDatatype v, arms-listed (map case_arm (out-Variant v).cases), h) refl
 
 pub tagged-offsets : (name : List ℕ) (v : Variant) → all_arms_bare (map case_arm (out-Variant v).cases) ≡ false
-    → part_offsets name (variant_tree v) ≡ offset_line name (codes "u") (payload_offset (out-Variant v).tag_repr (cases_plain (out-Variant v).cases))
+    → c_part_offsets name (variant_tree v) ≡ offset_line name (codes "u") (payload_offset (out-Variant v).tag_repr (cases_plain (out-Variant v).cases))
 tagged-offsets name v h = rw (read-VariantDatatype v, arms-listed (map case_arm (out-Variant v).cases), h) refl
 
 pub ruleset number_rules = (reading_rules, none-unfit, both-fit, first-large, later-large, next-offset, all-offsets, bare-offsets, tagged-offsets, nothing-more)
@@ -103,7 +103,7 @@ pub ruleset definition_rules = (next-fits, next-large, this-large, all-fit, read
 
 -- what was written of a typename, as one of the definitions
 pub of-typename : {T E : Type 0} (n : Rc NamedType Global) (m : NamedType) (d : Definition) (r : Result T E) (done now : List ℕ) → d ≡ definition_variant.Typename n → m ≡ n.value
-    → OnOk r (now ≡ done ++ typename_lines m.name (tree_of m.tref) m.docs) → OnOk r (now ≡ done ++ definition_lines (definition_tree d))
+    → OnOk r (now ≡ done ++ header_typename_lines m.name (tree_of m.tref) m.docs) → OnOk r (now ≡ done ++ c_definition_lines (definition_tree d))
 of-typename n m d r done now is same h =
-    subst (λ x. OnOk r (now ≡ done ++ definition_lines (definition_tree x))) (sym is)
-    (subst (λ x. OnOk r (now ≡ done ++ typename_lines x.name (tree_of x.tref) x.docs)) same h)
+    subst (λ x. OnOk r (now ≡ done ++ c_definition_lines (definition_tree x))) (sym is)
+    (subst (λ x. OnOk r (now ≡ done ++ header_typename_lines x.name (tree_of x.tref) x.docs)) same h)

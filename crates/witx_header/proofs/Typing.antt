@@ -10,9 +10,9 @@ use Rattle.witx_ast.specs.Tree.{Tree, Arms, Arm, Fields, arm, arm_list, arms_of,
 use Rattle.witx_ast.specs.Views.{case_arm, member_field, tree_of, variant_tree}
 use Rattle.witx_ast.specs.Words.{all_arms_bare}
 use Rattle.witx_machine.specs.declared.surface.WasmType.{WasmType}
-use Rattle.witx_header.specs.CTypes.{members_text, part_text, payload_text, payloads_text, repr_word, tagged_text, type_text}
+use Rattle.witx_header.specs.CTypes.{members_text, member_text, c_payload_text, payloads_text, c_repr_word, tagged_text, type_text}
 use Rattle.witx_header.specs.Headers.{param_text, params_from}
-use Rattle.witx_header.specs.Typedefs.{body_text, case_line, case_lines, case_payload, flag_line, flag_lines, margin, member_lines, part_lines, payload_lines, tagged_body, value_lines}
+use Rattle.witx_header.specs.Typedefs.{body_text, case_line, case_lines, case_payload, flag_line, flag_lines, margin, member_lines, c_part_lines, payload_lines, tagged_body, value_lines}
 use Rattle.witx_header.proofs.Appending.{joined, next-of, none-left}
 use Rattle.witx_header.proofs.Reading.{reading_rules, read-Case, read-RecordMember, read-VariantDatatype}
 
@@ -30,20 +30,20 @@ pub no-fields : (xs : List RecordMember) (i : ℕ) → length xs ≤ i → field
 no-fields xs i l = ap fields_of (none-left member_field xs i l)
 
 pub next-part : (xs : List RecordMember) (i : ℕ) (m : RecordMember) (done now total : List ℕ) → i < length xs → m ≡ get_or xs i m
-    → now ≡ done ++ part_text (type_text (tree_of m.tref)) m.name
+    → now ≡ done ++ member_text (type_text (tree_of m.tref)) m.name
     → done ++ members_text (fields_from xs i) ≡ total → now ++ members_text (fields_from xs (i + 1)) ≡ total
 next-part xs i m done now total l p w e =
-    joined done now (part_text (type_text (tree_of m.tref)) m.name) (members_text (fields_from xs (i + 1))) total w
+    joined done now (member_text (type_text (tree_of m.tref)) m.name) (members_text (fields_from xs (i + 1))) total w
     (ap (λ f. done ++ members_text f) (sym (next-fields xs i m l p)) ∙ e)
 
 pub all-parts : (xs : List RecordMember) (i : ℕ) (done total : List ℕ) → length xs ≤ i → done ++ members_text (fields_from xs i) ≡ total → done ≡ total
 all-parts xs i done total l e = sym (append-nil done) ∙ ap (λ f. done ++ members_text f) (sym (no-fields xs i l)) ∙ e
 
 pub next-member : (xs : List RecordMember) (i : ℕ) (m : RecordMember) (done now total : List ℕ) → i < length xs → m ≡ get_or xs i m
-    → now ≡ done ++ part_lines margin (type_text (tree_of m.tref)) m.name m.docs
+    → now ≡ done ++ c_part_lines margin (type_text (tree_of m.tref)) m.name m.docs
     → done ++ member_lines (fields_from xs i) ≡ total → now ++ member_lines (fields_from xs (i + 1)) ≡ total
 next-member xs i m done now total l p w e =
-    joined done now (part_lines margin (type_text (tree_of m.tref)) m.name m.docs) (member_lines (fields_from xs (i + 1))) total w
+    joined done now (c_part_lines margin (type_text (tree_of m.tref)) m.name m.docs) (member_lines (fields_from xs (i + 1))) total w
     (ap (λ f. done ++ member_lines f) (sym (next-fields xs i m l p)) ∙ e)
 
 pub all-members : (xs : List RecordMember) (i : ℕ) (done total : List ℕ) → length xs ≤ i → done ++ member_lines (fields_from xs i) ≡ total → done ≡ total
@@ -73,15 +73,15 @@ next-arms xs i c l p =
 pub no-arms : (xs : List Case) (i : ℕ) → length xs ≤ i → arms_from xs i ≡ Arms.no_arms
 no-arms xs i l = ap arms_of (none-left case_arm xs i l)
 
-payload-first : (name docs : List ℕ) (o : Option Tree) (cs : Arms) → payloads_text (arm name o docs cs) ≡ payload_text name o ++ payloads_text cs
+payload-first : (name docs : List ℕ) (o : Option Tree) (cs : Arms) → payloads_text (arm name o docs cs) ≡ c_payload_text name o ++ payloads_text cs
 payload-first name docs None cs = refl
 payload-first name docs (Some t) cs = refl
 
 pub next-payload : (xs : List Case) (i : ℕ) (c : Case) (done now total : List ℕ) → i < length xs → c ≡ get_or xs i c
-    → now ≡ done ++ payload_text c.name (option_map tree_of c.tref)
+    → now ≡ done ++ c_payload_text c.name (option_map tree_of c.tref)
     → done ++ payloads_text (arms_from xs i) ≡ total → now ++ payloads_text (arms_from xs (i + 1)) ≡ total
 next-payload xs i c done now total l p w e =
-    joined done now (payload_text c.name (option_map tree_of c.tref)) (payloads_text (arms_from xs (i + 1))) total w
+    joined done now (c_payload_text c.name (option_map tree_of c.tref)) (payloads_text (arms_from xs (i + 1))) total w
     (ap (λ t. done ++ t) (sym (ap payloads_text (next-arms xs i c l p) ∙ payload-first c.name c.docs (option_map tree_of c.tref) (arms_from xs (i + 1)))) ∙ e)
 
 pub all-payloads : (xs : List Case) (i : ℕ) (done total : List ℕ) → length xs ≤ i → done ++ payloads_text (arms_from xs i) ≡ total → done ≡ total
@@ -124,18 +124,18 @@ arms-listed (a ∷ more) = one-listed a.called a.comment a.payload (arms_of more
 
 -- ---- a variant, by whether no case has a payload
 
-pub bare-text : (v : Variant) → all_arms_bare (map case_arm (out-Variant v).cases) ≡ true → type_text (variant_tree v) ≡ repr_word (out-Variant v).tag_repr
+pub bare-text : (v : Variant) → all_arms_bare (map case_arm (out-Variant v).cases) ≡ true → type_text (variant_tree v) ≡ c_repr_word (out-Variant v).tag_repr
 bare-text v h = rw (read-VariantDatatype v, arms-listed (map case_arm (out-Variant v).cases), h) refl
 
 pub tagged-text : (v : Variant) → all_arms_bare (map case_arm (out-Variant v).cases) ≡ false
-    → type_text (variant_tree v) ≡ tagged_text (repr_word (out-Variant v).tag_repr) (payloads_text (arms_of (map case_arm (out-Variant v).cases)))
+    → type_text (variant_tree v) ≡ tagged_text (c_repr_word (out-Variant v).tag_repr) (payloads_text (arms_of (map case_arm (out-Variant v).cases)))
 tagged-text v h = rw (read-VariantDatatype v, arms-listed (map case_arm (out-Variant v).cases), h) refl
 
-pub bare-body : (name : List ℕ) (v : Variant) → all_arms_bare (map case_arm (out-Variant v).cases) ≡ true → body_text name (variant_tree v) ≡ repr_word (out-Variant v).tag_repr
+pub bare-body : (name : List ℕ) (v : Variant) → all_arms_bare (map case_arm (out-Variant v).cases) ≡ true → body_text name (variant_tree v) ≡ c_repr_word (out-Variant v).tag_repr
 bare-body name v h = rw (read-VariantDatatype v, arms-listed (map case_arm (out-Variant v).cases), h) refl
 
 pub tagged-body : (name : List ℕ) (v : Variant) → all_arms_bare (map case_arm (out-Variant v).cases) ≡ false
-    → body_text name (variant_tree v) ≡ tagged_body name (repr_word (out-Variant v).tag_repr) (arms_of (map case_arm (out-Variant v).cases))
+    → body_text name (variant_tree v) ≡ tagged_body name (c_repr_word (out-Variant v).tag_repr) (arms_of (map case_arm (out-Variant v).cases))
 tagged-body name v h = rw (read-VariantDatatype v, arms-listed (map case_arm (out-Variant v).cases), h) refl
 
 pub variant-values : (name : List ℕ) (v : Variant) → value_lines name (variant_tree v) ≡ case_lines name (out-Variant v).tag_repr 0 (map case_arm (out-Variant v).cases)

@@ -13,10 +13,10 @@ use Rattle.witx_machine.specs.Functions.{function_of}
 use Rattle.witx_machine.specs.Lowerable.{unlowerable}
 use Rattle.witx_machine.specs.Rows.{operands_count, results_count}
 use Rattle.witx_machine.specs.Traces.{caller_events}
-use Rattle.witx_instructions.specs.Handed.{Call, emitted, made_room, began, ended}
+use Rattle.witx_instructions.specs.Handed.{GeneratorCall, emitted, made_room, began, ended}
 use Rattle.witx_header.specs.declared.handed.Variable.{Variable}
 use Rattle.witx_header.specs.CNames.{c_name, imported_name}
-use Rattle.witx_header.specs.CTypes.{type_text, wasm_word}
+use Rattle.witx_header.specs.CTypes.{type_text, c_word}
 
 -- ---- variables
 
@@ -31,9 +31,9 @@ variables_text [] = []
 variables_text (v ∷ vs) = variable_text v ++ flat_map behind_comma vs
 
 -- so many variables, from this number on
-abbrev pub numbered : (first count : ℕ) → List Variable
-numbered first zero = []
-numbered first (suc n) = record { number = first } ∷ numbered (first + 1) n
+abbrev pub numbered_variables : (first count : ℕ) → List Variable
+numbered_variables first zero = []
+numbered_variables first (suc n) = record { number = first } ∷ numbered_variables (first + 1) n
 
 -- ---- which variables each event takes and leaves
 
@@ -46,11 +46,11 @@ below count stack = take (length stack - count) stack
 
 -- THE CALLS of a generator for these events, with the variables that each is handed and leaves: from the variable of this number
 -- on, with these on the stack
-abbrev pub calls_from : (next : ℕ) → (stack : List Variable) → List Event → List (Call Variable)
+abbrev pub calls_from : (next : ℕ) → (stack : List Variable) → List Event → List (GeneratorCall Variable)
 calls_from next stack [] = []
 calls_from next stack (emit x ∷ es) =
-    emitted x (topmost (operands_count x) stack) (numbered next (results_count x))
-    ∷ calls_from (next + results_count x) (below (operands_count x) stack ++ numbered next (results_count x)) es
+    emitted x (topmost (operands_count x) stack) (numbered_variables next (results_count x))
+    ∷ calls_from (next + results_count x) (below (operands_count x) stack ++ numbered_variables next (results_count x)) es
 calls_from next stack (space slot t ∷ es) = made_room slot t ∷ calls_from next stack es
 calls_from next stack (push ∷ es) = began ∷ calls_from next stack es
 calls_from next stack (finish true ∷ es) = ended (slice_get (topmost 1 stack) 0) ∷ calls_from next (below 1 stack) es
@@ -86,27 +86,27 @@ tuple_line operands results =
     (codes "    struct { " ++ flat_map member operands ++ codes "} " ++ variables_text results) ++ codes " = { " ++ variables_text operands ++ codes " };\n"
 
 -- the call: the word that comes back has a name of its own, besides its variable; a function that can be lowered has no second one
-abbrev pub call_text : (owner name : List ℕ) → (operands : List Variable) → List ℕ
-call_text owner name operands = imported_name owner name ++ codes "(" ++ variables_text operands ++ codes ")"
+abbrev pub c_call_text : (owner name : List ℕ) → (operands : List Variable) → List ℕ
+c_call_text owner name operands = imported_name owner name ++ codes "(" ++ variables_text operands ++ codes ")"
 
 abbrev pub call_begin : List WasmType → List ℕ
 call_begin [] = codes "    "
-call_begin (w ∷ ws) = codes "    " ++ wasm_word w ++ codes " returned = "
+call_begin (w ∷ ws) = codes "    " ++ c_word w ++ codes " returned = "
 
 abbrev pub call_end : List WasmType → (results : List Variable) → List ℕ
 call_end [] results = codes ";\n"
 call_end (w ∷ ws) results = codes ", " ++ variables_text results ++ codes " = returned;\n"
 
 abbrev pub wasm_line : (owner name : List ℕ) → List WasmType → (operands results : List Variable) → List ℕ
-wasm_line owner name words operands results = call_begin words ++ call_text owner name operands ++ call_end words results
+wasm_line owner name words operands results = call_begin words ++ c_call_text owner name operands ++ call_end words results
 
 -- an address of a value
 abbrev pub address_line : (operands results : List Variable) → List ℕ
 address_line operands results = declared (codes "int32_t") results ++ codes "(int32_t)&" ++ variables_text operands ++ codes ";\n"
 
 -- the word that the call gave, once more
-abbrev pub returned_line : (results : List Variable) → List ℕ
-returned_line results = declared (codes "__auto_type") results ++ codes "returned;\n"
+abbrev pub c_returned_line : (results : List Variable) → List ℕ
+c_returned_line results = declared (codes "__auto_type") results ++ codes "returned;\n"
 
 -- a result, which is told by its word
 abbrev pub result_line : (operands results : List Variable) → List ℕ
@@ -168,7 +168,7 @@ own_line (Step.PointerFromI32 t) operands results = cast_line (type_text t ++ co
 own_line (Step.ConstPointerFromI32 t) operands results = cast_line (type_text t ++ codes " const *") operands results
 own_line (Step.Load t) operands results = load_line (type_text t) operands results
 own_line (Step.TupleLift n) operands results = tuple_line operands results
-own_line Step.ReuseReturn operands results = returned_line results
+own_line Step.ReuseReturn operands results = c_returned_line results
 own_line Step.ResultLift operands results = result_line operands results
 own_line (Step.Return n) operands results = return_line operands
 own_line _ operands results = []
@@ -188,7 +188,7 @@ end_line None = codes "    // end\n"
 end_line (Some v) = codes "    // end, gives " ++ variable_text v ++ codes "\n"
 
 -- THE LINE of a call of the generator
-abbrev pub call_line : Call Variable → List ℕ
+abbrev pub call_line : GeneratorCall Variable → List ℕ
 call_line (emitted x operands results) = step_line x operands results
 call_line (made_room slot t) = room_line slot t
 call_line began = codes "    // block\n"
@@ -200,12 +200,12 @@ call_line (ended operand) = end_line operand
 abbrev pub value_line : ℕ → Field → List ℕ
 value_line place p = (codes "    // value" ++ decimal place ++ codes ": ") ++ type_text p.tree ++ codes " " ++ c_name p.called ++ codes "\n"
 
-abbrev pub value_lines : ℕ → List Field → List ℕ
-value_lines place [] = []
-value_lines place (p ∷ ps) = value_line place p ++ value_lines (place + 1) ps
+abbrev pub field_lines : ℕ → List Field → List ℕ
+field_lines place [] = []
+field_lines place (p ∷ ps) = value_line place p ++ field_lines (place + 1) ps
 
-abbrev pub side_text : List Field → List (Call Variable) → List ℕ
-side_text params calls = codes "/* The caller's side:\n" ++ value_lines 0 params ++ flat_map call_line calls ++ codes "*/\n\n"
+abbrev pub side_text : List Field → List (GeneratorCall Variable) → List ℕ
+side_text params calls = codes "/* The caller's side:\n" ++ field_lines 0 params ++ flat_map call_line calls ++ codes "*/\n\n"
 
 -- THE BODY of a function's caller side; there is none where it can't be lowered
 abbrev pub lowered_side : Option Place → (owner : List ℕ) → FunctionTree → List ℕ

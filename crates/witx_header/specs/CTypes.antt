@@ -26,23 +26,23 @@ builtin_word BuiltinType.S64 = codes "int64_t"
 builtin_word BuiltinType.F32 = codes "float"
 builtin_word BuiltinType.F64 = codes "double"
 
-abbrev pub repr_word : IntRepr → List ℕ
-repr_word repr = builtin_word (repr_builtin repr)
+abbrev pub c_repr_word : IntRepr → List ℕ
+c_repr_word repr = builtin_word (repr_builtin repr)
 
 -- the type of a word
-abbrev pub wasm_word : WasmType → List ℕ
-wasm_word WasmType.I32 = codes "int32_t"
-wasm_word WasmType.I64 = codes "int64_t"
-wasm_word WasmType.F32 = codes "float"
-wasm_word WasmType.F64 = codes "double"
+abbrev pub c_word : WasmType → List ℕ
+c_word WasmType.I32 = codes "int32_t"
+c_word WasmType.I64 = codes "int64_t"
+c_word WasmType.F32 = codes "float"
+c_word WasmType.F64 = codes "double"
 
 -- a part of a struct or a union that is written on one line
-abbrev pub part_text : (type name : List ℕ) → List ℕ
-part_text type name = type ++ codes " " ++ member_name name ++ codes "; "
+abbrev pub member_text : (type name : List ℕ) → List ℕ
+member_text type name = type ++ codes " " ++ member_name name ++ codes "; "
 
 -- a string is a list of characters, whose elements are those of C
-abbrev pub list_text : Tree → List ℕ → List ℕ
-list_text t element = codes "struct { " ++ (if is_char (behind t) then codes "char" else element) ++ codes " const *ptr; size_t len; }"
+abbrev pub c_list_text : Tree → List ℕ → List ℕ
+c_list_text t element = codes "struct { " ++ (if is_char (behind t) then codes "char" else element) ++ codes " const *ptr; size_t len; }"
 
 abbrev pub struct_text : List ℕ → List ℕ
 struct_text parts = codes "struct { " ++ parts ++ codes "}"
@@ -55,25 +55,25 @@ abbrev mutual
   type_text (Tree.named name t docs) = typedef_name name
   type_text (Tree.builtin b) = builtin_word b
   type_text Tree.handle = codes "int"
-  type_text (Tree.list_of t) = list_text t (type_text t)
+  type_text (Tree.list_of t) = c_list_text t (type_text t)
   type_text (Tree.pointer_to t) = type_text t ++ codes " *"
   type_text (Tree.const_pointer_to t) = type_text t ++ codes " const *"
-  type_text (Tree.record_of (RecordKind.Bitflags repr) ms) = repr_word repr
+  type_text (Tree.record_of (RecordKind.Bitflags repr) ms) = c_repr_word repr
   type_text (Tree.record_of RecordKind.Tuple ms) = struct_text (members_text ms)
   type_text (Tree.record_of RecordKind.Other ms) = struct_text (members_text ms)
-  type_text (Tree.variant_of repr cs) = if all_arms_bare (arm_list cs) then repr_word repr else tagged_text (repr_word repr) (payloads_text cs)
+  type_text (Tree.variant_of repr cs) = if all_arms_bare (arm_list cs) then c_repr_word repr else tagged_text (c_repr_word repr) (payloads_text cs)
 
   pub members_text : Fields → List ℕ
   members_text Fields.no_fields = []
-  members_text (Fields.field name t docs ms) = part_text (type_text t) name ++ members_text ms
+  members_text (Fields.field name t docs ms) = member_text (type_text t) name ++ members_text ms
 
   -- a case without a payload has no part
   pub payloads_text : Arms → List ℕ
   payloads_text Arms.no_arms = []
   payloads_text (Arms.bare name docs cs) = payloads_text cs
-  payloads_text (Arms.carries name t docs cs) = part_text (type_text t) name ++ payloads_text cs
+  payloads_text (Arms.carries name t docs cs) = member_text (type_text t) name ++ payloads_text cs
 
 -- one case
-abbrev pub payload_text : List ℕ → Option Tree → List ℕ
-payload_text name None = []
-payload_text name (Some t) = part_text (type_text t) name
+abbrev pub c_payload_text : List ℕ → Option Tree → List ℕ
+c_payload_text name None = []
+c_payload_text name (Some t) = member_text (type_text t) name

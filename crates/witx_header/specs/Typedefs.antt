@@ -11,7 +11,7 @@ use Rattle.witx_ast.specs.Words.{all_arms_bare}
 use Rattle.witx_layout.specs.declared.members.RecordMemberLayout.{RecordMemberLayout}
 use Rattle.witx_layout.specs.Numbers.{size_of, align_of, offsets, payload_offset}
 use Rattle.witx_header.specs.CNames.{c_upper, comment, member_name}
-use Rattle.witx_header.specs.CTypes.{typedef_name, type_text, repr_word}
+use Rattle.witx_header.specs.CTypes.{typedef_name, type_text, c_repr_word}
 
 abbrev pub margin : List ℕ
 margin = codes "    "
@@ -22,22 +22,22 @@ wide_margin = codes "        "
 -- ---- the typedef
 
 -- a part of a struct or a union on a line of its own, below its documentation
-abbrev pub part_lines : (margin type name docs : List ℕ) → List ℕ
-part_lines margin type name docs = comment margin docs ++ (margin ++ type ++ codes " " ++ member_name name ++ codes ";\n")
+abbrev pub c_part_lines : (margin type name docs : List ℕ) → List ℕ
+c_part_lines margin type name docs = comment margin docs ++ (margin ++ type ++ codes " " ++ member_name name ++ codes ";\n")
 
 abbrev pub member_lines : Fields → List ℕ
 member_lines Fields.no_fields = []
-member_lines (Fields.field name t docs ms) = part_lines margin (type_text t) name docs ++ member_lines ms
+member_lines (Fields.field name t docs ms) = c_part_lines margin (type_text t) name docs ++ member_lines ms
 
 abbrev pub payload_lines : Arms → List ℕ
 payload_lines Arms.no_arms = []
 payload_lines (Arms.bare name docs cs) = payload_lines cs
-payload_lines (Arms.carries name t docs cs) = part_lines wide_margin (type_text t) name docs ++ payload_lines cs
+payload_lines (Arms.carries name t docs cs) = c_part_lines wide_margin (type_text t) name docs ++ payload_lines cs
 
 -- one case
 abbrev pub case_payload : (name : List ℕ) → Option Tree → (docs : List ℕ) → List ℕ
 case_payload name None docs = []
-case_payload name (Some t) docs = part_lines wide_margin (type_text t) name docs
+case_payload name (Some t) docs = c_part_lines wide_margin (type_text t) name docs
 
 abbrev pub struct_begin : List ℕ → List ℕ
 struct_begin name = codes "struct " ++ typedef_name name ++ codes " {\n"
@@ -52,7 +52,7 @@ tagged_body name tag cs = struct_begin name ++ (codes "    " ++ tag ++ codes " t
 abbrev pub body_text : List ℕ → Tree → List ℕ
 body_text name (Tree.record_of RecordKind.Tuple ms) = struct_body name ms
 body_text name (Tree.record_of RecordKind.Other ms) = struct_body name ms
-body_text name (Tree.variant_of repr cs) = if all_arms_bare (arm_list cs) then repr_word repr else tagged_body name (repr_word repr) cs
+body_text name (Tree.variant_of repr cs) = if all_arms_bare (arm_list cs) then c_repr_word repr else tagged_body name (c_repr_word repr) cs
 body_text name t = type_text t
 
 abbrev pub typedef_lines : List ℕ → Tree → List ℕ
@@ -126,20 +126,20 @@ record_fields r = fields_of (map member_field (out-RecordDatatype r).members)
 abbrev pub record_offsets : List ℕ → Fields → List ℕ
 record_offsets name ms = offset_lines name ms (offsets 0 (plain_fields ms))
 
-abbrev pub part_offsets : List ℕ → Tree → List ℕ
-part_offsets name (Tree.record_of RecordKind.Tuple ms) = record_offsets name ms
-part_offsets name (Tree.record_of RecordKind.Other ms) = record_offsets name ms
-part_offsets name (Tree.variant_of repr cs) = if all_arms_bare (arm_list cs) then [] else offset_line name (codes "u") (payload_offset repr (plain_arms cs))
-part_offsets name t = []
+abbrev pub c_part_offsets : List ℕ → Tree → List ℕ
+c_part_offsets name (Tree.record_of RecordKind.Tuple ms) = record_offsets name ms
+c_part_offsets name (Tree.record_of RecordKind.Other ms) = record_offsets name ms
+c_part_offsets name (Tree.variant_of repr cs) = if all_arms_bare (arm_list cs) then [] else offset_line name (codes "u") (payload_offset repr (plain_arms cs))
+c_part_offsets name t = []
 
-abbrev pub layout_lines : List ℕ → Tree → List ℕ
-layout_lines name t = size_line name (size_of (plain t)) ++ align_line name (align_of (plain t)) ++ part_offsets name t
+abbrev pub c_layout_lines : List ℕ → Tree → List ℕ
+c_layout_lines name t = size_line name (size_of (plain t)) ++ align_line name (align_of (plain t)) ++ c_part_offsets name t
 
 abbrev pub declared_lines : (name : List ℕ) → Tree → (docs : List ℕ) → List ℕ
 declared_lines name t docs = comment [] docs ++ typedef_lines name t ++ value_lines name t
 
-abbrev pub typename_lines : (name : List ℕ) → Tree → (docs : List ℕ) → List ℕ
-typename_lines name t docs = declared_lines name t docs ++ layout_lines name t ++ codes "\n"
+abbrev pub header_typename_lines : (name : List ℕ) → Tree → (docs : List ℕ) → List ℕ
+header_typename_lines name t docs = declared_lines name t docs ++ c_layout_lines name t ++ codes "\n"
 
 -- ---- the numbers that are asserted, and may be too large
 

@@ -10,7 +10,7 @@ ghost use Rattle.witx_instructions.specs.Told.{unlowerable_place};
 ghost use Rattle.witx_instructions.specs.Views.{called};
 ghost use Rattle.witx_header.specs.CNames.{c_name};
 ghost use Rattle.witx_header.specs.CTypes.{type_text};
-ghost use Rattle.witx_header.specs.Bodies.{body_lines, call_line, calls_from, side_text, value_line, value_lines};
+ghost use Rattle.witx_header.specs.Bodies.{body_lines, call_line, calls_from, side_text, value_line, field_lines};
 ghost use Rattle.witx_header.specs.Kept.{call_of};
 
 use crate::body::Body;
@@ -81,7 +81,7 @@ fn put_lines(alloc: Global, text: &mut String, calls: &[Handed]) -> Result<(), A
 /// Appends the values that go in, by their numbers.
 #[tactic(auto, using(crate::proofs::Sides::value_rules))]
 fn put_values(text: &mut String, params: &[InterfaceFuncParam]) -> Result<(), AllocError>
-    ensures { OnOk result (string_bytes text.new ≡ string_bytes text.old ++ value_lines 0 (map param_field params.now)) }
+    ensures { OnOk result (string_bytes text.new ≡ string_bytes text.old ++ field_lines 0 (map param_field params.now)) }
 {
     for (place, param) in params.iter().enumerate() {
         put_value(text, place, param)?;

@@ -6,7 +6,7 @@ ghost use Rattle.witx_machine.specs.Rows.{operands_count, results_count};
 ghost use Rattle.witx_instructions.specs.Views.{step_of};
 ghost use Rattle.witx_instructions.specs.Told.{Counts, is_fault, told_after};
 ghost use Rattle.witx_instructions.specs.Handed.{emitted, ended};
-ghost use Rattle.witx_header.specs.Bodies.{numbered};
+ghost use Rattle.witx_header.specs.Bodies.{numbered_variables};
 ghost use Rattle.witx_header.specs.Kept.{AreNumbered, call_of};
 
 use crate::handed::{Handed, Variable, Variables};
@@ -144,7 +144,7 @@ impl Bindgen for Body {
 fn push_numbered(results: &mut Vec<Variable>, first: usize, next: usize) -> Result<(), OutOfMemory>
     requires ordered { first ≤ next }
     requires empty { results.old.items ≡ [] }
-    ensures { OnOk result (results.new.items ≡ numbered first (next - first)) }
+    ensures { OnOk result (results.new.items ≡ numbered_variables first (next - first)) }
 {
     for number in first..next {
         results.push(Variable { number })?;

@@ -3,7 +3,7 @@
 ghost use Rattle.std.specs.Prelude.{◌≡◌, ◌++◌, OnOk, codes, string_bytes};
 ghost use Rattle.witx_ast.specs.Functions.{func_tree};
 ghost use Rattle.witx_header.specs.CNames.{imported_name, literal};
-ghost use Rattle.witx_header.specs.Headers.{func_lines, import_lines, noreturn_line, param_text, params_from, params_text, prototype, result_text};
+ghost use Rattle.witx_header.specs.Headers.{c_func_lines, import_lines, noreturn_line, param_text, params_from, params_text, prototype, c_result_text};
 
 use crate::bodies::put_body;
 use crate::comments::put_comment;
@@ -25,7 +25,7 @@ pub fn put_func(
     owner: &Id,
     func: &InterfaceFunc,
 ) -> Result<(), OutOfMemory>
-    ensures { OnOk result (string_bytes text.new ≡ string_bytes text.old ++ func_lines owner.now (func_tree func.now)) }
+    ensures { OnOk result (string_bytes text.new ≡ string_bytes text.old ++ c_func_lines owner.now (func_tree func.now)) }
 {
     put_comment(text, "", func.docs.as_str())?;
     put_import(alloc, text, owner.as_str(), func)?;
@@ -82,7 +82,7 @@ fn put_declared(
     results: &[WasmType],
 ) -> Result<(), AllocError>
     ensures { OnOk result (string_bytes text.new ≡ string_bytes text.old
-        ++ (result_text results.now ++ codes " " ++ imported_name owner.now name.now)) }
+        ++ (c_result_text results.now ++ codes " " ++ imported_name owner.now name.now)) }
 {
     text.push_str(result_text(results))?;
     text.push_str(" ")?;
@@ -90,7 +90,7 @@ fn put_declared(
 }
 
 fn result_text(results: &[WasmType]) -> &'static str
-    ensures { result.now ≡ result_text results.now }
+    ensures { result.now ≡ c_result_text results.now }
 {
     match results {
         [] => "void",

@@ -5,8 +5,8 @@ ghost use Rattle.std.specs.List.{flat_map};
 ghost use Rattle.witx_ast.specs.Items.{item_tree};
 ghost use Rattle.witx_ast.specs.Definitions.{definition_tree, module_tree};
 ghost use Rattle.witx_ast.specs.Views.{tree_of};
-ghost use Rattle.witx_header.specs.Headers.{constant_lines, definition_lines, definition_numbers, header as header_of, header_numbers, item_lines, module_lines};
-ghost use Rattle.witx_header.specs.Typedefs.{declared_lines, typename_lines, typename_numbers};
+ghost use Rattle.witx_header.specs.Headers.{constant_lines, c_definition_lines, definition_numbers, header as header_of, header_numbers, c_item_lines, c_module_lines};
+ghost use Rattle.witx_header.specs.Typedefs.{declared_lines, header_typename_lines, typename_numbers};
 
 use crate::comments::put_comment;
 use crate::functions::put_func;
@@ -53,7 +53,7 @@ fn put_definitions(
     text: &mut String,
     definitions: &[Definition],
 ) -> Result<(), LayoutError>
-    ensures lines { OnOk result (string_bytes text.new ≡ string_bytes text.old ++ flat_map definition_lines (map definition_tree definitions.now)) }
+    ensures lines { OnOk result (string_bytes text.new ≡ string_bytes text.old ++ flat_map c_definition_lines (map definition_tree definitions.now)) }
     ensures fits { OnOk result (All (λ n. n < 2 ^ 64) (header_numbers (map definition_tree definitions.now))) }
     ensures too_large { result ≡ Err LayoutError.TooLarge → Any (λ n. 2 ^ 64 ≤ n) (header_numbers (map definition_tree definitions.now)) }
 {
@@ -69,7 +69,7 @@ fn put_definition(
     text: &mut String,
     definition: &Definition,
 ) -> Result<(), LayoutError>
-    ensures lines { OnOk result (string_bytes text.new ≡ string_bytes text.old ++ definition_lines (definition_tree definition.now)) }
+    ensures lines { OnOk result (string_bytes text.new ≡ string_bytes text.old ++ c_definition_lines (definition_tree definition.now)) }
     ensures fits { OnOk result (All (λ n. n < 2 ^ 64) (definition_numbers (definition_tree definition.now))) }
     ensures too_large { result ≡ Err LayoutError.TooLarge → Any (λ n. 2 ^ 64 ≤ n) (definition_numbers (definition_tree definition.now)) }
 {
@@ -81,7 +81,7 @@ fn put_definition(
 }
 
 fn put_typename(alloc: Global, text: &mut String, named: &NamedType) -> Result<(), LayoutError>
-    ensures lines { OnOk result (string_bytes text.new ≡ string_bytes text.old ++ typename_lines named.now.name (tree_of named.now.tref) named.now.docs) }
+    ensures lines { OnOk result (string_bytes text.new ≡ string_bytes text.old ++ header_typename_lines named.now.name (tree_of named.now.tref) named.now.docs) }
     ensures fits { OnOk result (All (λ n. n < 2 ^ 64) (typename_numbers (tree_of named.now.tref))) }
     ensures too_large { result ≡ Err LayoutError.TooLarge → Any (λ n. 2 ^ 64 ≤ n) (typename_numbers (tree_of named.now.tref)) }
 {
@@ -111,7 +111,7 @@ fn put_constant(text: &mut String, constant: &Constant) -> Result<(), OutOfMemor
 }
 
 fn put_module(alloc: Global, text: &mut String, module: &Module) -> Result<(), OutOfMemory>
-    ensures { OnOk result (string_bytes text.new ≡ string_bytes text.old ++ module_lines (module_tree «module».now)) }
+    ensures { OnOk result (string_bytes text.new ≡ string_bytes text.old ++ c_module_lines (module_tree «module».now)) }
 {
     put_comment(text, "", module.docs.as_str())?;
     text.push('\n')?;
@@ -125,7 +125,7 @@ fn put_items(
     owner: &Id,
     items: &[ModuleDefinition],
 ) -> Result<(), OutOfMemory>
-    ensures { OnOk result (string_bytes text.new ≡ string_bytes text.old ++ flat_map (item_lines owner.now) (map item_tree items.now)) }
+    ensures { OnOk result (string_bytes text.new ≡ string_bytes text.old ++ flat_map (c_item_lines owner.now) (map item_tree items.now)) }
 {
     for item in items {
         put_item(alloc, text, owner, item)?;
@@ -139,7 +139,7 @@ fn put_item(
     owner: &Id,
     item: &ModuleDefinition,
 ) -> Result<(), OutOfMemory>
-    ensures { OnOk result (string_bytes text.new ≡ string_bytes text.old ++ item_lines owner.now (item_tree item.now)) }
+    ensures { OnOk result (string_bytes text.new ≡ string_bytes text.old ++ c_item_lines owner.now (item_tree item.now)) }
 {
     match item {
         ModuleDefinition::Import(_) => Ok(()),

@@ -7,7 +7,7 @@ ghost use Rattle.witx_ast.specs.Views.{datatype_tree, record_tree, tree_of, vari
 ghost use Rattle.witx_layout.specs.Numbers.{offsets};
 ghost use Rattle.witx_header.specs.CNames.{member_name};
 ghost use Rattle.witx_header.specs.CTypes.{typedef_name};
-ghost use Rattle.witx_header.specs.Typedefs.{align_line, layout_lines, offset_line, offset_numbers, part_offsets, placed_lines, record_fields, record_offsets, size_line, typename_numbers};
+ghost use Rattle.witx_header.specs.Typedefs.{align_line, c_layout_lines, offset_line, offset_numbers, c_part_offsets, placed_lines, record_fields, record_offsets, size_line, typename_numbers};
 
 use crate::names::{put_member_name, put_typedef_name};
 use std::alloc::{AllocError, Global};
@@ -25,7 +25,7 @@ pub fn put_layout(
     name: &str,
     tref: &TypeRef,
 ) -> Result<(), LayoutError>
-    ensures lines { OnOk result (string_bytes text.new ≡ string_bytes text.old ++ layout_lines name.now (tree_of tref.now)) }
+    ensures lines { OnOk result (string_bytes text.new ≡ string_bytes text.old ++ c_layout_lines name.now (tree_of tref.now)) }
     ensures fits { OnOk result (All (λ n. n < 2 ^ 64) (typename_numbers (tree_of tref.now))) }
     ensures too_large { result ≡ Err LayoutError.TooLarge → Any (λ n. 2 ^ 64 ≤ n) (typename_numbers (tree_of tref.now)) }
 {
@@ -62,7 +62,7 @@ fn put_offsets(
     name: &str,
     tref: &TypeRef,
 ) -> Result<(), LayoutError>
-    ensures lines { OnOk result (string_bytes text.new ≡ string_bytes text.old ++ part_offsets name.now (tree_of tref.now)) }
+    ensures lines { OnOk result (string_bytes text.new ≡ string_bytes text.old ++ c_part_offsets name.now (tree_of tref.now)) }
     ensures fits { OnOk result (All (λ n. n < 2 ^ 64) (offset_numbers (tree_of tref.now))) }
     ensures too_large { result ≡ Err LayoutError.TooLarge → Any (λ n. 2 ^ 64 ≤ n) (offset_numbers (tree_of tref.now)) }
 {
@@ -79,7 +79,7 @@ fn put_offsets_of(
     name: &str,
     datatype: &Datatype,
 ) -> Result<(), LayoutError>
-    ensures lines { OnOk result (string_bytes text.new ≡ string_bytes text.old ++ part_offsets name.now (datatype_tree datatype.now)) }
+    ensures lines { OnOk result (string_bytes text.new ≡ string_bytes text.old ++ c_part_offsets name.now (datatype_tree datatype.now)) }
     ensures fits { OnOk result (All (λ n. n < 2 ^ 64) (offset_numbers (datatype_tree datatype.now))) }
     ensures too_large { result ≡ Err LayoutError.TooLarge → Any (λ n. 2 ^ 64 ≤ n) (offset_numbers (datatype_tree datatype.now)) }
 {
@@ -101,7 +101,7 @@ fn put_record_offsets(
     name: &str,
     record_type: &RecordDatatype,
 ) -> Result<(), LayoutError>
-    ensures lines { OnOk result (string_bytes text.new ≡ string_bytes text.old ++ part_offsets name.now (record_tree record_type.now)) }
+    ensures lines { OnOk result (string_bytes text.new ≡ string_bytes text.old ++ c_part_offsets name.now (record_tree record_type.now)) }
     ensures fits { OnOk result (All (λ n. n < 2 ^ 64) (offset_numbers (record_tree record_type.now))) }
     ensures too_large { result ≡ Err LayoutError.TooLarge → Any (λ n. 2 ^ 64 ≤ n) (offset_numbers (record_tree record_type.now)) }
 {
@@ -155,7 +155,7 @@ fn put_member_offset(
 
 #[tactic(auto, using(crate::proofs::Numbered::number_rules))]
 fn put_variant_offset(text: &mut String, name: &str, variant: &Variant) -> Result<(), OutOfMemory>
-    ensures { OnOk result (string_bytes text.new ≡ string_bytes text.old ++ part_offsets name.now (variant_tree variant.now)) }
+    ensures { OnOk result (string_bytes text.new ≡ string_bytes text.old ++ c_part_offsets name.now (variant_tree variant.now)) }
 {
     if variant.is_enum() {
         return Ok(());

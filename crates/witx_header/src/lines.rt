@@ -6,7 +6,7 @@ ghost use Rattle.std.specs.List.{flat_map};
 ghost use Rattle.witx_ast.specs.Views.{named_tree, tree_of};
 ghost use Rattle.witx_instructions.specs.Views.{event_of, kept_step};
 ghost use Rattle.witx_header.specs.CTypes.{type_text};
-ghost use Rattle.witx_header.specs.Bodies.{address_line, call_begin, call_end, call_line, call_text, cast_line, cast_word, declared, end_line, list_line, load_line, member, own_line, result_line, return_line, returned_line, room_line, step_line, tuple_line, variable_text, variables_text, wasm_line};
+ghost use Rattle.witx_header.specs.Bodies.{address_line, call_begin, call_end, call_line, c_call_text, cast_line, cast_word, declared, end_line, list_line, load_line, member, own_line, result_line, return_line, c_returned_line, room_line, step_line, tuple_line, variable_text, variables_text, wasm_line};
 ghost use Rattle.witx_header.specs.Kept.{call_for, call_of};
 
 use crate::handed::{Handed, Variable};
@@ -303,7 +303,7 @@ fn put_address(
 }
 
 fn put_returned(text: &mut String, results: &[Variable]) -> Result<(), AllocError>
-    ensures { OnOk result (string_bytes text.new ≡ string_bytes text.old ++ returned_line results.now) }
+    ensures { OnOk result (string_bytes text.new ≡ string_bytes text.old ++ c_returned_line results.now) }
 {
     put_declared(text, "__auto_type", results)?;
     text.push_str("returned;\n")
@@ -438,7 +438,7 @@ fn put_call_text(
     name: &str,
     operands: &[Variable],
 ) -> Result<(), AllocError>
-    ensures { OnOk result (string_bytes text.new ≡ string_bytes text.old ++ call_text owner.now name.now operands.now) }
+    ensures { OnOk result (string_bytes text.new ≡ string_bytes text.old ++ c_call_text owner.now name.now operands.now) }
 {
     put_imported_name(text, owner, name)?;
     text.push_str("(")?;

@@ -4,7 +4,7 @@ ghost use Rattle.std.specs.Prelude.{◌≡◌, ◌++◌, OnOk, map, option_map, 
 ghost use Rattle.witx_ast.specs.Tree.{arms_of, fields_of};
 ghost use Rattle.witx_ast.specs.Views.{case_arm, datatype_tree, member_field, record_tree, tree_of, variant_tree};
 ghost use Rattle.witx_header.specs.CTypes.{type_text};
-ghost use Rattle.witx_header.specs.Typedefs.{body_text, case_payload, member_lines, part_lines, payload_lines, struct_begin, struct_body, tagged_body, typedef_lines};
+ghost use Rattle.witx_header.specs.Typedefs.{body_text, case_payload, member_lines, c_part_lines, payload_lines, struct_begin, struct_body, tagged_body, typedef_lines};
 
 use crate::comments::put_comment;
 use crate::names::{put_member_name, put_typedef_name};
@@ -112,7 +112,7 @@ fn put_part_lines(
     name: &str,
     docs: &str,
 ) -> Result<(), AllocError>
-    ensures { OnOk result (string_bytes text.new ≡ string_bytes text.old ++ part_lines margin.now (type_text (tree_of tref.now)) name.now docs.now) }
+    ensures { OnOk result (string_bytes text.new ≡ string_bytes text.old ++ c_part_lines margin.now (type_text (tree_of tref.now)) name.now docs.now) }
 {
     put_comment(text, margin, docs)?;
     text.push_str(margin)?;

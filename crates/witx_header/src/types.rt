@@ -5,7 +5,7 @@ ghost use Rattle.witx_ast.specs.Tree.{arms_of, fields_of, list_of};
 ghost use Rattle.witx_ast.specs.TypeNames.{is_char};
 ghost use Rattle.witx_ast.specs.Tree.{behind};
 ghost use Rattle.witx_ast.specs.Views.{case_arm, datatype_tree, member_field, named_tree, record_tree, tree_of, variant_tree};
-ghost use Rattle.witx_header.specs.CTypes.{builtin_word, members_text, part_text, payload_text, payloads_text, repr_word, struct_text, tagged_text, type_text, wasm_word};
+ghost use Rattle.witx_header.specs.CTypes.{builtin_word, members_text, member_text, c_payload_text, payloads_text, c_repr_word, struct_text, tagged_text, type_text, c_word};
 
 use crate::names::{put_member_name, put_typedef_name};
 use std::alloc::AllocError;
@@ -117,7 +117,7 @@ fn put_members(text: &mut String, members: &[RecordMember]) -> Result<(), AllocE
 #[cycle(typing)]
 #[tactic(auto, using(crate::proofs::Typing::typing_rules))]
 fn put_part(text: &mut String, tref: &TypeRef, name: &str) -> Result<(), AllocError>
-    ensures { OnOk result (string_bytes text.new ≡ string_bytes text.old ++ part_text (type_text (tree_of tref.now)) name.now) }
+    ensures { OnOk result (string_bytes text.new ≡ string_bytes text.old ++ member_text (type_text (tree_of tref.now)) name.now) }
 {
     put_type(text, tref)?;
     text.push(' ')?;
@@ -163,7 +163,7 @@ fn put_payloads(text: &mut String, cases: &[Case]) -> Result<(), AllocError>
 #[cycle(typing)]
 #[tactic(auto, using(crate::proofs::Typing::typing_rules))]
 fn put_payload(text: &mut String, case: &Case) -> Result<(), AllocError>
-    ensures { OnOk result (string_bytes text.new ≡ string_bytes text.old ++ payload_text case.now.name (option_map tree_of case.now.tref)) }
+    ensures { OnOk result (string_bytes text.new ≡ string_bytes text.old ++ c_payload_text case.now.name (option_map tree_of case.now.tref)) }
 {
     match &case.tref {
         Some(tref) => put_part(text, tref, case.name.as_str()),
@@ -173,7 +173,7 @@ fn put_payload(text: &mut String, case: &Case) -> Result<(), AllocError>
 
 /// The unsigned integer of C that flags and tags are kept in.
 pub fn repr_word(repr: IntRepr) -> &'static str
-    ensures { result.now ≡ repr_word repr }
+    ensures { result.now ≡ c_repr_word repr }
 {
     builtin_word(repr.to_builtin())
 }
@@ -198,7 +198,7 @@ fn builtin_word(builtin: BuiltinType) -> &'static str
 
 /// The type of C for a word.
 pub fn wasm_word(word: WasmType) -> &'static str
-    ensures { result.now ≡ wasm_word word }
+    ensures { result.now ≡ c_word word }
 {
     match word {
         WasmType::I32 => "int32_t",

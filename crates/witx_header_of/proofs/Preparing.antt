@@ -2,7 +2,7 @@
 use Rattle.std.specs.Prelude.{◌≡◌, ℕ, ◌≤◌, ◌+◌, List, [], Option, None, Some, Result, Ok, Err, IfErr, IfOk}
 use Rattle.std.proofs.Common.{refl, sym, subst}
 use Rattle.witx_files.specs.Files.{Files}
-use Rattle.witx_commands.specs.Causes.{InputCause, Reads, stop_of}
+use Rattle.witx_commands.specs.Causes.{InputCause, IsBundle, stop_of}
 use Rattle.witx_commands.specs.Runs.{AnswerCause, IsPrepared, RunInput, StopCause}
 use Rattle.witx_commands.specs.Stops.{StopsWith}
 use Rattle.witx_commands.specs.Streams.{Finished, NoFault, SourceSeen, TookInput}
@@ -30,7 +30,7 @@ by-cause words s kept answer later reads taken c = record {
   taken = taken;
 }
 
-stop-cause : (words : List (List ℕ)) (s : SourceSeen) (files : Files) (end : Stop) → NoFault s → Reads s.left (Ok files)
+stop-cause : (words : List (List ℕ)) (s : SourceSeen) (files : Files) (end : Stop) → NoFault s → IsBundle s.left (Ok files)
     → StopsWith (HeaderFails files (paths_of words)) end → StopCause (asked words s) end
 stop-cause words s files (stop.Refused (refusal.Usage known)) n b k = absurd k
 stop-cause words s files (stop.Refused refusal.Source) n b k = absurd k
@@ -38,14 +38,14 @@ stop-cause words s files (stop.Refused (refusal.Bundle e)) n b k = absurd k
 stop-cause words s files (stop.Refused (refusal.Command report)) n b k = (n, files, b, k)
 stop-cause words s files stop.OutOfMemory n b k = n
 
-answer-cause : (words : List (List ℕ)) (s : SourceSeen) (files : Files) (answer : Result Output Stop) → Finished s.left s.left_after → NoFault s → Reads s.left (Ok files)
+answer-cause : (words : List (List ℕ)) (s : SourceSeen) (files : Files) (answer : Result Output Stop) → Finished s.left s.left_after → NoFault s → IsBundle s.left (Ok files)
     → IfOk answer (λ o. (o.notes ≡ []) × (o.adapted ≡ None) × IsHeader files (paths_of words) o.text)
     → IfErr answer (StopsWith (HeaderFails files (paths_of words))) → AnswerCause (asked words s) answer
 answer-cause words s files (Ok o) f n b t k = record { finished = λ reads. f; no_fault = n; files = files; bundle = b; output = t }
 answer-cause words s files (Err end) f n b t k = stop-cause words s files end n b k
 
 pub over-files : (words : List (List ℕ)) (s : SourceSeen) (kept : Type 0) (files : Files) (answer : Result Output Stop) → s.before ≤ s.now → s.asked_after ≤ s.asked + 4194305 → TookInput s
-    → Finished s.left s.left_after → NoFault s → Reads s.left (Ok files)
+    → Finished s.left s.left_after → NoFault s → IsBundle s.left (Ok files)
     → IfOk answer (λ o. (o.notes ≡ []) × (o.adapted ≡ None) × IsHeader files (paths_of words) o.text)
     → IfErr answer (StopsWith (HeaderFails files (paths_of words))) → IsPrepared (asked words s) answer kept
 over-files words s kept files answer later reads taken f n b t k =

@@ -1,7 +1,7 @@
 //! A run of the program over a source and two sinks.
 
 ghost use Rattle.std.specs.Prelude.{◌≡◌, [], IfErr, IfOk, None};
-ghost use Rattle.witx_commands.specs.Runs.{IsPrepared, run_input, seen};
+ghost use Rattle.witx_commands.specs.Runs.{IsPrepared, run_input, sink_seen};
 ghost use Rattle.witx_commands.specs.Stops.{StopsWith};
 ghost use Rattle.witx_commands.specs.Words.{paths_of};
 ghost use Rattle.witx_header_of.specs.HeaderRuns.{HeaderFails, IsHeader, IsHeaderRun, header_task};
@@ -24,7 +24,7 @@ pub fn run<S: Source, O: Sink, E: Sink>(
     err: &mut E,
 ) -> Ran
     ensures { IsHeaderRun (run_input (header_task words.now) S.left S.faults S.reads source.old source.new) result.status
-        (seen O.taken O.faults out.old out.new) (seen E.taken E.faults err.old err.new)
+        (sink_seen O.taken O.faults out.old out.new) (sink_seen E.taken E.faults err.old err.new)
         (source.new ≡ source.old) (out.new ≡ out.old) (err.new ≡ err.old) }
 {
     finish(alloc, prepare(alloc, words, source), out, err)

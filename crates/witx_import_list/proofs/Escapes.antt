@@ -10,7 +10,7 @@ use Rattle.std.proofs.lemmas.List.{append-nil}
 use Rattle.std.proofs.lemmas.List.Concat.{flat_map-append}
 use Rattle.std.proofs.lemmas.Str.{encode_ascii, encodes-chars, inside_one}
 use Rattle.witx_adapt.specs.Names.{digit, escaped}
-use Rattle.witx_adapt.specs.Names.{quoted as quoted_name}
+use Rattle.witx_adapt.specs.Names.{in_quotes as quoted_name}
 use Rattle.witx_lex.specs.Characters.{is_raw}
 use Rattle.witx_lex.specs.Pieces.{Part, raw, letter, two_digits, quoted, part_spelling, part_value, spelling, is_part, IsPiece}
 

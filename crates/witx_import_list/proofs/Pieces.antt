@@ -4,12 +4,12 @@ use Rattle.std.specs.Prelude.{codes}
 use Rattle.std.specs.List.{flat_map}
 use Rattle.std.specs.Str.{IsUtf8}
 use Rattle.witx_adapt.specs.Names.{spaced, wasm_word}
-use Rattle.witx_adapt.specs.Names.{quoted as quoted_name}
+use Rattle.witx_adapt.specs.Names.{in_quotes as quoted_name}
 use Rattle.witx_import_list.proofs.Escapes.{name_parts, name-value, name-piece, name-spelled}
-use Rattle.witx_import_list.specs.ListTexts.{two_names, group, line_of, list_text, AreNames}
+use Rattle.witx_import_list.specs.ListTexts.{quoted_names, group, wasm_import_line, list_text, AreNames}
 use Rattle.witx_imports.specs.declared.import.WasmImport.{WasmImport}
-use Rattle.witx_lex.specs.Characters.{is_name, begins, semicolon}
-use Rattle.witx_lex.specs.Meaning.{run_token, Seen, nothing, comment, token, seen, with_seen, tokens_from, tokens_of, HasTokens}
+use Rattle.witx_lex.specs.Characters.{is_name_character, begins, semicolon}
+use Rattle.witx_lex.specs.Meaning.{run_token, Seen, nothing, comment, token, piece_seen, with_seen, tokens_from, tokens_of, HasTokens}
 use Rattle.witx_lex.specs.Pieces.{Piece, blank, opening, closing, run, quoted, spelling, IsPiece, Stand, most_open}
 use Rattle.witx_lex.specs.Tokens.{Token, left, right, word, quoted as quoted_token, Lexed}
 use Rattle.witx_machine.specs.declared.surface.WasmType.{WasmType}
@@ -57,11 +57,11 @@ result-word : IsWord (codes "result")
 result-word = record { piece = (λ e. cc, refl, λ e. cc); begins = λ after. refl }
 
 -- behind words no name goes on
-words-end : (ts : List WasmType) (after : List ℕ) → begins is_name after ≡ false → begins is_name (flat_map spaced ts ++ after) ≡ false
+words-end : (ts : List WasmType) (after : List ℕ) → begins is_name_character after ≡ false → begins is_name_character (flat_map spaced ts ++ after) ≡ false
 words-end [] after h = h
 words-end (t ∷ ts) after h = refl
 
-words-stand : (n : ℕ) → n ≤ most_open → (ts : List WasmType) (more : List Piece) (after rest : List ℕ) → begins is_name after ≡ false → Stand n more after rest
+words-stand : (n : ℕ) → n ≤ most_open → (ts : List WasmType) (more : List Piece) (after rest : List ℕ) → begins is_name_character after ≡ false → Stand n more after rest
     → Stand n (word_pieces ts more) (flat_map spaced ts ++ after) rest
 words-stand n le [] more after rest h k = k
 words-stand n le (t ∷ ts) more after rest h k = (
@@ -94,7 +94,7 @@ words-group n le t ts more after rest k =
     words-stand (n + 1) le (t ∷ ts) (closing ∷ more) (41 ∷ after) rest refl
     (after, record { piece = tt; spelled = refl; ended = tt; depth = less-one n le }, subst (λ (m : ℕ). Stand m more after rest) (sym (back-again n)) k)
 
-group-stand : (n : ℕ) → n + 1 ≤ most_open → (head : List ℕ) → IsWord head → (ts : List WasmType) (more : List Piece) (after rest : List ℕ) → begins is_name after ≡ false → Stand n more after rest
+group-stand : (n : ℕ) → n + 1 ≤ most_open → (head : List ℕ) → IsWord head → (ts : List WasmType) (more : List Piece) (after rest : List ℕ) → begins is_name_character after ≡ false → Stand n more after rest
     → Stand n (group_pieces head ts more) (group head ts ++ after) rest
 group-stand n le head is [] more after rest h k = k
 group-stand n le head is (t ∷ ts) more after rest h k =
@@ -109,7 +109,7 @@ group-stand n le head is (t ∷ ts) more after rest h k =
       ),
     )
 
-group-end : (head : List ℕ) (ts : List WasmType) (after : List ℕ) → begins is_name after ≡ false → begins is_name (group head ts ++ after) ≡ false
+group-end : (head : List ℕ) (ts : List WasmType) (after : List ℕ) → begins is_name_character after ≡ false → begins is_name_character (group head ts ++ after) ≡ false
 group-end head [] after h = h
 group-end head (t ∷ ts) after h = refl
 
@@ -117,17 +117,17 @@ group-end head (t ∷ ts) after h = refl
 abbrev behind_names : WasmImport → List ℕ → List ℕ
 behind_names i after = codes " (func" ++ (group (codes "param") i.params ++ (group (codes "result") i.results ++ (41 ∷ 41 ∷ 10 ∷ after)))
 
-line-text : (i : WasmImport) (after : List ℕ) → line_of i ++ after ≡ codes "(import " ++ (quoted_name i.module ++ 32 ∷ (quoted_name i.name ++ behind_names i after))
+line-text : (i : WasmImport) (after : List ℕ) → wasm_import_line i ++ after ≡ codes "(import " ++ (quoted_name i.module ++ 32 ∷ (quoted_name i.name ++ behind_names i after))
 line-text i after =
     let m = quoted_name i.module in
     let f = quoted_name i.name in
     let ps = group (codes "param") i.params in
     let rs = group (codes "result") i.results in
-    append_assoc (codes "(import " ++ two_names i.module i.name ++ codes " (func" ++ ps ++ rs) (codes "))\n") after
-    ∙ append_assoc (codes "(import " ++ two_names i.module i.name ++ codes " (func" ++ ps) rs (41 ∷ 41 ∷ 10 ∷ after)
-    ∙ append_assoc (codes "(import " ++ two_names i.module i.name ++ codes " (func") ps (rs ++ (41 ∷ 41 ∷ 10 ∷ after))
-    ∙ append_assoc (codes "(import " ++ two_names i.module i.name) (codes " (func") (ps ++ (rs ++ (41 ∷ 41 ∷ 10 ∷ after)))
-    ∙ append_assoc (codes "(import ") (two_names i.module i.name) (behind_names i after)
+    append_assoc (codes "(import " ++ quoted_names i.module i.name ++ codes " (func" ++ ps ++ rs) (codes "))\n") after
+    ∙ append_assoc (codes "(import " ++ quoted_names i.module i.name ++ codes " (func" ++ ps) rs (41 ∷ 41 ∷ 10 ∷ after)
+    ∙ append_assoc (codes "(import " ++ quoted_names i.module i.name ++ codes " (func") ps (rs ++ (41 ∷ 41 ∷ 10 ∷ after))
+    ∙ append_assoc (codes "(import " ++ quoted_names i.module i.name) (codes " (func") (ps ++ (rs ++ (41 ∷ 41 ∷ 10 ∷ after)))
+    ∙ append_assoc (codes "(import ") (quoted_names i.module i.name) (behind_names i after)
     ∙ ap (λ (x : List ℕ). codes "(import " ++ x) (append_assoc (m ++ codes " ") f (behind_names i after) ∙ append_assoc m (codes " ") (f ++ behind_names i after))
 
 end-stand : (more : List Piece) (after rest : List ℕ) → Stand 0 more after rest → Stand 2 (closing ∷ closing ∷ blank 10 ∷ more) (41 ∷ 41 ∷ 10 ∷ after) rest
@@ -149,7 +149,7 @@ groups-stand i more after rest k =
     group-stand 2 (omega arith) (codes "param") param-word i.params (group_pieces (codes "result") i.results end)
     (group (codes "result") i.results ++ (41 ∷ 41 ∷ 10 ∷ after)) rest (group-end (codes "result") i.results (41 ∷ 41 ∷ 10 ∷ after) refl) results
 
-line-stand : (i : WasmImport) → IsUtf8 i.module → IsUtf8 i.name → (more : List Piece) (after rest : List ℕ) → Stand 0 more after rest → Stand 0 (line_pieces i more) (line_of i ++ after) rest
+line-stand : (i : WasmImport) → IsUtf8 i.module → IsUtf8 i.name → (more : List Piece) (after rest : List ℕ) → Stand 0 more after rest → Stand 0 (line_pieces i more) (wasm_import_line i ++ after) rest
 line-stand i um un more after rest k =
     let groups = group (codes "param") i.params ++ (group (codes "result") i.results ++ (41 ∷ 41 ∷ 10 ∷ after)) in
     let named = quoted_name i.name ++ behind_names i after in
@@ -213,7 +213,7 @@ onto (token t) ts = t ∷ ts
 
 abbrev piece_tokens : List Piece → List Token
 piece_tokens [] = []
-piece_tokens (p ∷ ps) = onto (seen p) (piece_tokens ps)
+piece_tokens (p ∷ ps) = onto (piece_seen p) (piece_tokens ps)
 
 with-seen : (s : Seen) (at end : ℕ) (cs : List (List ℕ)) (more : List (List ℕ) → List Lexed) (xs : List Token) → ((ds : List (List ℕ)) → tokens (more ds) ≡ xs)
     → tokens (with_seen s at end cs more) ≡ onto s xs
@@ -223,7 +223,7 @@ with-seen (token t) at end cs more xs h = ap (λ (l : List Token). t ∷ l) (h [
 
 from-pieces : (at : ℕ) (cs : List (List ℕ)) (ps : List Piece) → tokens (tokens_from at cs ps) ≡ piece_tokens ps
 from-pieces at cs [] = refl
-from-pieces at cs (p ∷ ps) = with-seen (seen p) at (at + length (spelling p)) cs (λ ds. tokens_from (at + length (spelling p)) ds ps) (piece_tokens ps)
+from-pieces at cs (p ∷ ps) = with-seen (piece_seen p) at (at + length (spelling p)) cs (λ ds. tokens_from (at + length (spelling p)) ds ps) (piece_tokens ps)
     (λ ds. from-pieces (at + length (spelling p)) ds ps)
 
 -- the tokens of a line

@@ -1,7 +1,7 @@
 //! The function imports of a module, with the words that their types stand for.
 
 ghost use Rattle.std.specs.Prelude.{◌≡◌, IfOk};
-ghost use Rattle.witx_import_list.specs.Functions.{word_of, words_of, with_words, left_behind, import_at, function_at, functions, Gives};
+ghost use Rattle.witx_import_list.specs.Functions.{wasm_type_of, wasm_types_of, with_words, left_behind, function_import_at, function_at, functions, GivesAnswer};
 
 use std::alloc::Global;
 use witx_base::{Duplicate, Items, OutOfMemory};
@@ -38,7 +38,7 @@ impl From<OutOfMemory> for ListError {
 
 /// The word that a value is; none for a reference.
 fn word_of(value: ValueType) -> Option<WasmType>
-    ensures { result ≡ word_of value }
+    ensures { result ≡ wasm_type_of value }
 {
     match value {
         ValueType::I32 => Some(WasmType::I32),
@@ -51,7 +51,7 @@ fn word_of(value: ValueType) -> Option<WasmType>
 
 /// The words that values are, unless one is a reference.
 fn words_of(alloc: Global, values: &[ValueType]) -> Result<Option<Items<WasmType>>, OutOfMemory>
-    ensures { IfOk result (λ words. words ≡ words_of values.now) }
+    ensures { IfOk result (λ words. words ≡ wasm_types_of values.now) }
 {
     let mut words = Items::new(alloc);
     for value in values {
@@ -108,7 +108,7 @@ fn import_at(
     ty: u32,
     room: usize,
 ) -> Result<(WasmImport, usize), ListError>
-    ensures { Gives (λ x. x) result (import_at types.now import.now number ty room) }
+    ensures { GivesAnswer (λ x. x) result (function_import_at types.now import.now number ty room) }
 {
     let Some(ty) = types.get(ty as usize) else {
         return Err(ListError::NoWords { import: number });
@@ -131,7 +131,7 @@ fn function_at(
     number: usize,
     room: usize,
 ) -> Result<(Option<WasmImport>, usize), ListError>
-    ensures { Gives (λ x. x) result (function_at types.now import.now number room) }
+    ensures { GivesAnswer (λ x. x) result (function_at types.now import.now number room) }
 {
     match import.description {
         ImportDescription::Function(ty) => {
@@ -150,7 +150,7 @@ fn function_at(
 /// The first import without words is told, or the first up to which there are too many. So much is copied
 /// and no more, however often one type is imported.
 pub fn function_imports(alloc: Global, module: &WasmModule) -> Result<WasmImports, ListError>
-    ensures { Gives (λ x. x) result (functions «module».now.types 0 MOST_WORDS «module».now.imports) }
+    ensures { GivesAnswer (λ x. x) result (functions «module».now.types 0 MOST_WORDS «module».now.imports) }
 {
     functions(alloc, module.types.as_slice(), module.imports.as_slice())
 }
@@ -161,7 +161,7 @@ fn functions(
     types: &[FunctionType],
     imports: &[Import],
 ) -> Result<WasmImports, ListError>
-    ensures { Gives (λ x. x) result (functions types.now 0 MOST_WORDS imports.now) }
+    ensures { GivesAnswer (λ x. x) result (functions types.now 0 MOST_WORDS imports.now) }
 {
     let mut list = Items::new(alloc);
     let mut room = MOST_WORDS;

@@ -3,10 +3,10 @@
 ghost use Rattle.std.specs.Prelude.{List};
 ghost use Rattle.witx_import_list.specs.ListTexts.{AreNames, list_text};
 ghost use Rattle.witx_imports.specs.declared.import.WasmImport.{WasmImport};
-ghost use Rattle.witx_imports.specs.Reads.{Reads};
+ghost use Rattle.witx_imports.specs.Reads.{Lists};
 
 /// The text of a list of imports whose names are texts, as all names of the code are, reads as these
 /// imports, and so `read_imports` gives them back.
 pub fn lists_read_back()
-    ensures { (imports : List WasmImport) → AreNames imports → Reads (list_text imports) imports }
+    ensures { (imports : List WasmImport) → AreNames imports → Lists (list_text imports) imports }
 {}

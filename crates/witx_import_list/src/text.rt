@@ -2,8 +2,8 @@
 
 ghost use Rattle.std.specs.Prelude.{◌≡◌, ◌++◌, IfOk, OnOk, string_bytes, codes};
 ghost use Rattle.std.specs.List.{flat_map};
-ghost use Rattle.witx_adapt.specs.Names.{quoted, spaced};
-ghost use Rattle.witx_import_list.specs.ListTexts.{two_names, group, line, line_of, list_text};
+ghost use Rattle.witx_adapt.specs.Names.{in_quotes, spaced};
+ghost use Rattle.witx_import_list.specs.ListTexts.{quoted_names, group, import_words_line, wasm_import_line, list_text};
 
 use std::alloc::{AllocError, Global};
 use witx_adapt::put_quoted;
@@ -26,7 +26,7 @@ pub fn import_list_text(alloc: Global, imports: &WasmImports) -> Result<Text, Ou
 
 /// Appends the line of an import.
 fn put_import(text: &mut String, import: &WasmImport) -> Result<(), AllocError>
-    ensures { OnOk result (string_bytes text.new ≡ string_bytes text.old ++ line_of import.now) }
+    ensures { OnOk result (string_bytes text.new ≡ string_bytes text.old ++ wasm_import_line import.now) }
 {
     put_line(
         text,
@@ -46,7 +46,7 @@ pub fn put_line(
     params: &[WasmType],
     results: &[WasmType],
 ) -> Result<(), AllocError>
-    ensures { OnOk result (string_bytes text.new ≡ string_bytes text.old ++ line «module».now name.now params.now results.now) }
+    ensures { OnOk result (string_bytes text.new ≡ string_bytes text.old ++ import_words_line «module».now name.now params.now results.now) }
 {
     text.push_str("(import ")?;
     put_names(text, module, name)?;
@@ -59,7 +59,7 @@ pub fn put_line(
 /// Appends the names of an import.
 #[tactic(auto, using(crate::proofs::Appending::joining_rules))]
 fn put_names(text: &mut String, module: &str, name: &str) -> Result<(), AllocError>
-    ensures { OnOk result (string_bytes text.new ≡ string_bytes text.old ++ two_names «module».now name.now) }
+    ensures { OnOk result (string_bytes text.new ≡ string_bytes text.old ++ quoted_names «module».now name.now) }
 {
     put_quoted(text, module)?;
     text.push_str(" ")?;

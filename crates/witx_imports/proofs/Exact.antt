@@ -20,7 +20,7 @@ use Rattle.witx_imports.specs.declared.fault.ImportFault.TheVariants.{Missing, D
 use Rattle.witx_imports.specs.declared.import.WasmImport.{WasmImport}
 use Rattle.witx_imports.specs.Actions.{import_of}
 use Rattle.witx_imports.specs.Exact.{import_number, HasNames, IsFirstNamed, IsFaultOfImport, IsFaultAmong}
-use Rattle.witx_imports.specs.Faults.{same_words, has_names, has_words, fault_by, fault_of, import_faults}
+use Rattle.witx_imports.specs.Faults.{same_words, has_import_names, has_words, fault_by, import_fault_of, import_faults}
 
 no_some : {A : Type 0} (x : A) → None ≡ Some x → ⊥
 no_some x e = cc
@@ -40,15 +40,15 @@ word_decides a b = enum_exact the_type tt a b
 words_decide : (xs ys : List WasmType) → Decides (same_words xs ys) (xs ≡ ys)
 words_decide xs ys = slice_eq-Decides word_decides xs ys (same_words xs ys) refl
 
-names_of : (i x : WasmImport) → has_names i x ≡ true → HasNames i x
+names_of : (i x : WasmImport) → has_import_names i x ≡ true → HasNames i x
 names_of i x e =
     let p = and_parts (same_text x.module i.module) (same_text x.name i.name) e in
     record { owner = (text_decides x.module i.module).0 p.0; name = (text_decides x.name i.name).0 p.1 }
 
-named : (i x : WasmImport) → HasNames i x → has_names i x ≡ true
+named : (i x : WasmImport) → HasNames i x → has_import_names i x ≡ true
 named i x h = both_true (same_text x.module i.module) (same_text x.name i.name) ((text_decides x.module i.module).1 h.owner) ((text_decides x.name i.name).1 h.name)
 
-unnamed : (i x : WasmImport) → has_names i x ≡ false → HasNames i x → ⊥
+unnamed : (i x : WasmImport) → has_import_names i x ≡ false → HasNames i x → ⊥
 unnamed i x f h = not_both (sym (named i x h) ∙ f)
 
 same_import : (i x : WasmImport) → HasNames i x → has_words i x ≡ true → x ≡ i
@@ -95,7 +95,7 @@ found_is p k (x ∷ xs) = found_step p k x xs (find (λ y. p y.1) (enumerate_fro
 -- ---- one import
 
 module _ (xs : List WasmImport) (n : ℕ) (i : WasmImport) where
-  differs_some : (r : ℕ × WasmImport) (f : ImportFault) (b : Bool) → has_words i r.1 ≡ b → Found (has_names i) 0 xs (Some r) → cond b None (Some (Differs n r.0)) ≡ Some f
+  differs_some : (r : ℕ × WasmImport) (f : ImportFault) (b : Bool) → has_words i r.1 ≡ b → Found (has_import_names i) 0 xs (Some r) → cond b None (Some (Differs n r.0)) ≡ Some f
       → IsFaultOfImport xs n i f
   differs_some r f true t h e = absurd (no_some f e)
   differs_some r f false t h e =
@@ -107,13 +107,13 @@ module _ (xs : List WasmImport) (n : ℕ) (i : WasmImport) where
       } in
       subst (λ (g : ImportFault). IsFaultOfImport xs n i g) (one_some (Differs n r.0) f e) (refl, r.1, first, (λ same. not_both (sym (words_of i r.1 same) ∙ t)))
 
-  sound_by : (o : Option (ℕ × WasmImport)) (f : ImportFault) → Found (has_names i) 0 xs o → fault_by n i o ≡ Some f → IsFaultOfImport xs n i f
+  sound_by : (o : Option (ℕ × WasmImport)) (f : ImportFault) → Found (has_import_names i) 0 xs o → fault_by n i o ≡ Some f → IsFaultOfImport xs n i f
   sound_by None f h e =
       subst (λ (g : ImportFault). IsFaultOfImport xs n i g) (one_some (Missing n) f e) (refl, (λ k x g. unnamed i x (h k x g)))
   sound_by (Some r) f h e = differs_some r f (has_words i r.1) refl h e
 
-  pub sound : (f : ImportFault) → fault_of xs n i ≡ Some f → IsFaultOfImport xs n i f
-  sound f e = sound_by (find (λ x. has_names i x.1) (enumerate_from 0 xs)) f (found_is (has_names i) 0 xs) e
+  pub sound : (f : ImportFault) → import_fault_of xs n i ≡ Some f → IsFaultOfImport xs n i f
+  sound f e = sound_by (find (λ x. has_import_names i x.1) (enumerate_from 0 xs)) f (found_is (has_import_names i) 0 xs) e
 
   -- of two firsts with the names neither stands before the other
   same_place : (j k : ℕ) (x y : WasmImport) → (j < k → ⊥) → (k < j → ⊥) → slice_get xs j ≡ Some x → slice_get xs k ≡ Some y → (j ≡ k) × (x ≡ y)
@@ -126,7 +126,7 @@ module _ (xs : List WasmImport) (n : ℕ) (i : WasmImport) where
   differ_by k x r true t h place same other = absurd (other (sym same ∙ same_import i r.1 h t))
   differ_by k x r false t h place same other = ap (λ (m : ℕ). Some (Differs n m)) place
 
-  complete_by : (o : Option (ℕ × WasmImport)) (f : ImportFault) → Found (has_names i) 0 xs o → IsFaultOfImport xs n i f → fault_by n i o ≡ Some f
+  complete_by : (o : Option (ℕ × WasmImport)) (f : ImportFault) → Found (has_import_names i) 0 xs o → IsFaultOfImport xs n i f → fault_by n i o ≡ Some f
   complete_by None (Missing m) h e = ap (λ (l : ℕ). Some (Missing l)) (sym e.0)
   complete_by (Some r) (Missing m) h e = absurd (e.1 h.0 r.1 h.2 (names_of i r.1 h.3))
   complete_by None (Differs m k) h e = absurd (unnamed i e.1 (h k e.1 e.2.here) e.2.named)
@@ -135,8 +135,8 @@ module _ (xs : List WasmImport) (n : ℕ) (i : WasmImport) where
       differ_by k e.1 r (has_words i r.1) refl (names_of i r.1 h.3) (omega (arith, h.1, there.0)) there.1 e.3
       ∙ ap (λ (l : ℕ). Some (Differs l k)) (sym e.0)
 
-  pub complete : (f : ImportFault) → IsFaultOfImport xs n i f → fault_of xs n i ≡ Some f
-  complete f e = complete_by (find (λ x. has_names i x.1) (enumerate_from 0 xs)) f (found_is (has_names i) 0 xs) e
+  pub complete : (f : ImportFault) → IsFaultOfImport xs n i f → import_fault_of xs n i ≡ Some f
+  complete f e = complete_by (find (λ x. has_import_names i x.1) (enumerate_from 0 xs)) f (found_is (has_import_names i) 0 xs) e
 
 -- ---- all imports
 
@@ -156,11 +156,11 @@ from_zero j = omega arith
 
 module _ (xs : List WasmImport) where
   abbrev told : ℕ × WasmImport → Option ImportFault
-  told x = fault_of xs x.0 x.1
+  told x = import_fault_of xs x.0 x.1
 
   -- of the imports, numbered from k on, one is told this
   abbrev Told : ℕ → List WasmImport → ImportFault → Type 0
-  Told k is f = (j : ℕ) × (i : WasmImport) × (slice_get is j ≡ Some i) × (fault_of xs (k + j) i ≡ Some f)
+  Told k is f = (j : ℕ) × (i : WasmImport) × (slice_get is j ≡ Some i) × (import_fault_of xs (k + j) i ≡ Some f)
 
   abbrev front : (o : Option ImportFault) (fs : List ImportFault) → List ImportFault
   front None fs = fs
@@ -188,37 +188,37 @@ module _ (xs : List WasmImport) where
   told_of k (i ∷ is) f h =
       elim (in_front (told (k, i)) f (filter_map told (enumerate_from (k + 1) is))
       (subst (λ (fs : List ImportFault). In f fs) (parts (k, i) (enumerate_from (k + 1) is) (told (k, i)) refl) h)) [
-        | inl e ↦ (0, i, refl, ap (λ (m : ℕ). fault_of xs m i) (at_first k) ∙ e)
+        | inl e ↦ (0, i, refl, ap (λ (m : ℕ). import_fault_of xs m i) (at_first k) ∙ e)
         | inr g ↦
             let r = told_of (k + 1) is f g in
-            (suc r.0, r.1, r.2, ap (λ (m : ℕ). fault_of xs m r.1) (at_next k r.0) ∙ r.3)
+            (suc r.0, r.1, r.2, ap (λ (m : ℕ). import_fault_of xs m r.1) (at_next k r.0) ∙ r.3)
       ]
 
-  in_told : (k : ℕ) (is : List WasmImport) (f : ImportFault) (j : ℕ) (i : WasmImport) → slice_get is j ≡ Some i → fault_of xs (k + j) i ≡ Some f
+  in_told : (k : ℕ) (is : List WasmImport) (f : ImportFault) (j : ℕ) (i : WasmImport) → slice_get is j ≡ Some i → import_fault_of xs (k + j) i ≡ Some f
       → In f (filter_map told (enumerate_from k is))
   in_told k [] f j i g e = absurd (no_some i g)
   in_told k (x ∷ is) f zero i g e =
       subst (λ (fs : List ImportFault). In f fs) (sym (parts (k, x) (enumerate_from (k + 1) is) (told (k, x)) refl))
       (here_in (told (k, x)) f (filter_map told (enumerate_from (k + 1) is))
-      (ap (λ (y : WasmImport). fault_of xs k y) (one_some x i g) ∙ ap (λ (m : ℕ). fault_of xs m i) (sym (at_first k)) ∙ e))
+      (ap (λ (y : WasmImport). import_fault_of xs k y) (one_some x i g) ∙ ap (λ (m : ℕ). import_fault_of xs m i) (sym (at_first k)) ∙ e))
   in_told k (x ∷ is) f (suc j) i g e =
       subst (λ (fs : List ImportFault). In f fs) (sym (parts (k, x) (enumerate_from (k + 1) is) (told (k, x)) refl))
       (there_in (told (k, x)) f (filter_map told (enumerate_from (k + 1) is))
-      (in_told (k + 1) is f j i g (ap (λ (m : ℕ). fault_of xs m i) (sym (at_next k j)) ∙ e)))
+      (in_told (k + 1) is f j i g (ap (λ (m : ℕ). import_fault_of xs m i) (sym (at_next k j)) ∙ e)))
 
   pub only_faults : (is : List WasmImport) (f : ImportFault) → In f (import_faults xs is) → IsFaultAmong xs is f
   only_faults is f h =
       let r = told_of 0 is f h in
-      (r.0, r.1, r.2, sound xs r.0 r.1 f (ap (λ (m : ℕ). fault_of xs m r.1) (sym (from_zero r.0)) ∙ r.3))
+      (r.0, r.1, r.2, sound xs r.0 r.1 f (ap (λ (m : ℕ). import_fault_of xs m r.1) (sym (from_zero r.0)) ∙ r.3))
 
   pub all_faults : (is : List WasmImport) (f : ImportFault) → IsFaultAmong xs is f → In f (import_faults xs is)
-  all_faults is f h = in_told 0 is f h.0 h.1 h.2 (ap (λ (m : ℕ). fault_of xs m h.1) (from_zero h.0) ∙ complete xs h.0 h.1 f h.3)
+  all_faults is f h = in_told 0 is f h.0 h.1 h.2 (ap (λ (m : ℕ). import_fault_of xs m h.1) (from_zero h.0) ∙ complete xs h.0 h.1 f h.3)
 
   number_of : (n : ℕ) (i : WasmImport) (f : ImportFault) → IsFaultOfImport xs n i f → import_number f ≡ n
   number_of n i (Missing m) e = e.0
   number_of n i (Differs m k) e = e.0
 
-  told_number : (n : ℕ) (i : WasmImport) (f : ImportFault) → fault_of xs n i ≡ Some f → import_number f ≡ n
+  told_number : (n : ℕ) (i : WasmImport) (f : ImportFault) → import_fault_of xs n i ≡ Some f → import_number f ≡ n
   told_number n i f e = number_of n i f (sound xs n i f e)
 
   abbrev Before : ImportFault → ImportFault → Type 0

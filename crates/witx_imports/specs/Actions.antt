@@ -12,10 +12,10 @@ use Rattle.witx_imports.specs.declared.production.ProductionName.TheVariants as 
 use Rattle.witx_imports.specs.declared.token_kind.TokenKind.{TokenKind}
 use Rattle.witx_imports.specs.declared.token_kind.TokenKind.TheVariants.{End}
 use Rattle.witx_imports.specs.declared.value.Sort.{Sort}
-use Rattle.witx_imports.specs.Grammar.{the_names, written}
-use Rattle.witx_imports.specs.Sorts.{sorting, sort_of, terminal_sorts, nonterminal_sort}
-use Rattle.witx_imports.specs.TokenKinds.{token_kind}
-use Rattle.witx_imports.specs.Values.{Signature, Val, leaf}
+use Rattle.witx_imports.specs.Grammar.{import_productions, import_written}
+use Rattle.witx_imports.specs.Sorts.{import_sorting, import_sort_of, import_terminal_sorts, import_nonterminal_sort}
+use Rattle.witx_imports.specs.TokenKinds.{import_token_kind}
+use Rattle.witx_imports.specs.Values.{Signature, ImportVal, import_leaf}
 
 -- the import of these names and words
 abbrev pub import_of : List ℕ → List ℕ → List WasmType → List WasmType → WasmImport
@@ -28,42 +28,42 @@ words ps rs = record { params = ps; results = rs }
 -- ---- production by production, of the values of its parts in their order
 
 -- what a production makes
-abbrev pub meaning : (x : ProductionName) → Meaning sorting (written x)
-meaning p.NoImports = []
-meaning p.MoreImports = λ i is. i ∷ is
-meaning p.Import = λ m f s. import_of m f s.params s.results
+abbrev pub import_meaning : (x : ProductionName) → Meaning import_sorting (import_written x)
+import_meaning p.NoImports = []
+import_meaning p.MoreImports = λ i is. i ∷ is
+import_meaning p.Import = λ m f s. import_of m f s.params s.results
 -- an identifier says nothing
-meaning p.NamedFunc = λ s. s
-meaning p.BareFunc = λ s. s
+import_meaning p.NamedFunc = λ s. s
+import_meaning p.BareFunc = λ s. s
 -- groups are joined in order
-meaning p.NoParams = words [] []
-meaning p.MoreParams = λ ts s. words (ts ++ s.params) s.results
-meaning p.FirstResults = λ ts s. words s.params (ts ++ s.results)
-meaning p.NamedParam = λ t. t ∷ []
-meaning p.BareParams = λ ts. ts
-meaning p.NoResults = words [] []
-meaning p.MoreResults = λ ts s. words s.params (ts ++ s.results)
-meaning p.NoTypes = []
-meaning p.MoreTypes = λ t ts. t ∷ ts
-meaning p.I32 = w.I32
-meaning p.I64 = w.I64
-meaning p.F32 = w.F32
-meaning p.F64 = w.F64
+import_meaning p.NoParams = words [] []
+import_meaning p.MoreParams = λ ts s. words (ts ++ s.params) s.results
+import_meaning p.FirstResults = λ ts s. words s.params (ts ++ s.results)
+import_meaning p.NamedParam = λ t. t ∷ []
+import_meaning p.BareParams = λ ts. ts
+import_meaning p.NoResults = words [] []
+import_meaning p.MoreResults = λ ts s. words s.params (ts ++ s.results)
+import_meaning p.NoTypes = []
+import_meaning p.MoreTypes = λ t ts. t ∷ ts
+import_meaning p.I32 = w.I32
+import_meaning p.I64 = w.I64
+import_meaning p.F32 = w.F32
+import_meaning p.F64 = w.F64
 
 -- in place of the values of its parts, which stand first; no production sees more of the tokens than these
-abbrev pub act : ProductionName → List Lexed → List Val → List Val
-act p ts vs = in_place sorting (written p) (meaning p) vs
+abbrev pub import_act : ProductionName → List Lexed → List ImportVal → List ImportVal
+import_act p ts vs = in_place import_sorting (import_written p) (import_meaning p) vs
 
 -- the language of lists of imports
-abbrev pub the_language : Language TokenKind Nonterminal ProductionName Lexed Sort Val
-the_language = record {
-  names = the_names;
-  written = written;
-  kind = (λ l. token_kind l.token);
+abbrev pub import_language : Language TokenKind Nonterminal ProductionName Lexed Sort ImportVal
+import_language = record {
+  names = import_productions;
+  written = import_written;
+  kind = (λ l. import_token_kind l.token);
   end = End;
-  leaf = leaf;
-  act = act;
-  sort_of = sort_of;
-  terminal_sorts = terminal_sorts;
-  nonterminal_sort = nonterminal_sort;
+  leaf = import_leaf;
+  act = import_act;
+  sort_of = import_sort_of;
+  terminal_sorts = import_terminal_sorts;
+  nonterminal_sort = import_nonterminal_sort;
 }

@@ -12,35 +12,35 @@ use Rattle.witx_imports.specs.declared.production.ProductionName.{ProductionName
 use Rattle.witx_imports.specs.declared.production.ProductionName.TheVariants as p
 
 -- which nonterminal each production writes, and by what
-abbrev pub written : ProductionName → Written TokenKind Nonterminal
+abbrev pub import_written : ProductionName → Written TokenKind Nonterminal
 -- a text: imports up to its end
-written p.NoImports = write n.Text (T End ∷ [])
-written p.MoreImports = write n.Text (N n.Import ∷ N n.Text ∷ [])
+import_written p.NoImports = write n.Text (T End ∷ [])
+import_written p.MoreImports = write n.Text (N n.Import ∷ N n.Text ∷ [])
 -- ( import "m" "f" ( func .. ) )
-written p.Import = write n.Import (T Left ∷ T ImportWord ∷ T Quoted ∷ T Quoted ∷ T Left ∷ T FuncWord ∷ N n.Func ∷ T Right ∷ [])
+import_written p.Import = write n.Import (T Left ∷ T ImportWord ∷ T Quoted ∷ T Quoted ∷ T Left ∷ T FuncWord ∷ N n.Func ∷ T Right ∷ [])
 -- an identifier or none
-written p.NamedFunc = write n.Func (T Id ∷ N n.Params ∷ [])
-written p.BareFunc = write n.Func (N n.Params ∷ [])
+import_written p.NamedFunc = write n.Func (T Id ∷ N n.Params ∷ [])
+import_written p.BareFunc = write n.Func (N n.Params ∷ [])
 -- groups of parameters, and then groups of results, up to the ) of func
-written p.NoParams = write n.Params (T Right ∷ [])
-written p.MoreParams = write n.Params (T Left ∷ T ParamWord ∷ N n.Param ∷ N n.Params ∷ [])
-written p.FirstResults = write n.Params (T Left ∷ T ResultWord ∷ N n.Types ∷ N n.Results ∷ [])
+import_written p.NoParams = write n.Params (T Right ∷ [])
+import_written p.MoreParams = write n.Params (T Left ∷ T ParamWord ∷ N n.Param ∷ N n.Params ∷ [])
+import_written p.FirstResults = write n.Params (T Left ∷ T ResultWord ∷ N n.Types ∷ N n.Results ∷ [])
 -- one type behind an identifier, or types
-written p.NamedParam = write n.Param (T Id ∷ N n.Type ∷ T Right ∷ [])
-written p.BareParams = write n.Param (N n.Types ∷ [])
-written p.NoResults = write n.Results (T Right ∷ [])
-written p.MoreResults = write n.Results (T Left ∷ T ResultWord ∷ N n.Types ∷ N n.Results ∷ [])
-written p.NoTypes = write n.Types (T Right ∷ [])
-written p.MoreTypes = write n.Types (N n.Type ∷ N n.Types ∷ [])
-written p.I32 = write n.Type (T I32Word ∷ [])
-written p.I64 = write n.Type (T I64Word ∷ [])
-written p.F32 = write n.Type (T F32Word ∷ [])
-written p.F64 = write n.Type (T F64Word ∷ [])
+import_written p.NamedParam = write n.Param (T Id ∷ N n.Type ∷ T Right ∷ [])
+import_written p.BareParams = write n.Param (N n.Types ∷ [])
+import_written p.NoResults = write n.Results (T Right ∷ [])
+import_written p.MoreResults = write n.Results (T Left ∷ T ResultWord ∷ N n.Types ∷ N n.Results ∷ [])
+import_written p.NoTypes = write n.Types (T Right ∷ [])
+import_written p.MoreTypes = write n.Types (N n.Type ∷ N n.Types ∷ [])
+import_written p.I32 = write n.Type (T I32Word ∷ [])
+import_written p.I64 = write n.Type (T I64Word ∷ [])
+import_written p.F32 = write n.Type (T F32Word ∷ [])
+import_written p.F64 = write n.Type (T F64Word ∷ [])
 
-abbrev pub the_names : List ProductionName
-the_names =
+abbrev pub import_productions : List ProductionName
+import_productions =
     p.NoImports ∷ p.MoreImports ∷ p.Import ∷ p.NamedFunc ∷ p.BareFunc ∷ p.NoParams ∷ p.MoreParams ∷ p.FirstResults ∷ p.NamedParam ∷ p.BareParams
     ∷ p.NoResults ∷ p.MoreResults ∷ p.NoTypes ∷ p.MoreTypes ∷ p.I32 ∷ p.I64 ∷ p.F32 ∷ p.F64 ∷ []
 
-abbrev pub the_grammar : List (Rewrite TokenKind Nonterminal ProductionName)
-the_grammar = map (production_of written) the_names
+abbrev pub import_grammar : List (Rewrite TokenKind Nonterminal ProductionName)
+import_grammar = map (production_of import_written) import_productions

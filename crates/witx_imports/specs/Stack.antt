@@ -5,23 +5,23 @@ use Rattle.witx_imports.specs.declared.value.Value.TheVariants as value
 use Rattle.witx_imports.specs.declared.production.ProductionName.{ProductionName}
 use Rattle.witx_imports.specs.declared.production.ProductionName.TheVariants as p
 use Rattle.witx_values.specs.Language.{stack_of}
-use Rattle.witx_imports.specs.Actions.{act, words}
-use Rattle.witx_imports.specs.Values.{Val, a_name, a_type, some_types, a_signature, an_import, some_imports}
+use Rattle.witx_imports.specs.Actions.{import_act, words}
+use Rattle.witx_imports.specs.Values.{ImportVal, a_name, a_type, some_types, a_signature, an_import, some_imports}
 
 -- what a value of the code stands for
-abbrev pub value_view : Value → Val
-value_view (value.Name n) = a_name n
-value_view (value.Type t) = a_type t
-value_view (value.Types ts) = some_types (reverse ts.items)
-value_view (value.Signature s) = a_signature (words (reverse s.params.items) (reverse s.results.items))
-value_view (value.Import i) = an_import i
-value_view (value.Imports is) = some_imports (reverse is.items)
+abbrev pub import_value_view : Value → ImportVal
+import_value_view (value.Name n) = a_name n
+import_value_view (value.Type t) = a_type t
+import_value_view (value.Types ts) = some_types (reverse ts.items)
+import_value_view (value.Signature s) = a_signature (words (reverse s.params.items) (reverse s.results.items))
+import_value_view (value.Import i) = an_import i
+import_value_view (value.Imports is) = some_imports (reverse is.items)
 
 -- what a production makes of its parts. Of one that isn't known this is a word alone, in which a match puts the one that it is
-abbrev pub performed : ProductionName → List Val → List Val
-performed p.NoImports vs = act p.NoImports [] vs
-performed p vs = act p [] vs
+abbrev pub import_performed : ProductionName → List ImportVal → List ImportVal
+import_performed p.NoImports vs = import_act p.NoImports [] vs
+import_performed p vs = import_act p [] vs
 
 -- the production's value lies in place of that
-abbrev pub Made : ProductionName → List Value → List Value → Type 0
-Made p old new = stack_of value_view new ≡ performed p (stack_of value_view old)
+abbrev pub ImportMade : ProductionName → List Value → List Value → Type 0
+ImportMade p old new = stack_of import_value_view new ≡ import_performed p (stack_of import_value_view old)

@@ -6,17 +6,17 @@ use Rattle.witx_imports.specs.declared.token_kind.TokenKind.TheVariants.{Left, R
 use Rattle.witx_values.specs.Words.{Spelling, spelled, kind_spelled}
 
 -- the words, those that stand often first
-abbrev pub the_words : List (Spelling TokenKind)
-the_words =
+abbrev pub import_words : List (Spelling TokenKind)
+import_words =
     spelled I32Word (codes "i32") ∷ spelled I64Word (codes "i64") ∷ spelled F32Word (codes "f32") ∷ spelled F64Word (codes "f64")
     ∷ spelled ParamWord (codes "param") ∷ spelled ResultWord (codes "result") ∷ spelled FuncWord (codes "func")
     ∷ spelled ImportWord (codes "import") ∷ []
 
 -- the kind of a token
-abbrev pub token_kind : Token → TokenKind
-token_kind left = Left
-token_kind right = Right
-token_kind (id t) = Id
-token_kind (quoted t) = Quoted
-token_kind (word t) = kind_spelled Other the_words t
-token_kind t = Other
+abbrev pub import_token_kind : Token → TokenKind
+import_token_kind left = Left
+import_token_kind right = Right
+import_token_kind (id t) = Id
+import_token_kind (quoted t) = Quoted
+import_token_kind (word t) = kind_spelled Other import_words t
+import_token_kind t = Other

@@ -10,19 +10,19 @@ pub record Signature : Type 0 where
   pub results : List WasmType
 
 -- what a token or a nonterminal stands for
-pub data Val : Type 0 where
-  a_name : List ℕ → Val
-  a_type : WasmType → Val
-  some_types : List WasmType → Val
-  a_signature : Signature → Val
-  an_import : WasmImport → Val
-  some_imports : List WasmImport → Val
+pub data ImportVal : Type 0 where
+  a_name : List ℕ → ImportVal
+  a_type : WasmType → ImportVal
+  some_types : List WasmType → ImportVal
+  a_signature : Signature → ImportVal
+  an_import : WasmImport → ImportVal
+  some_imports : List WasmImport → ImportVal
 
 -- A string stands for its text; other tokens, identifiers among them, for nothing.
-abbrev pub token_values : Token → List Val
-token_values (quoted t) = a_name t ∷ []
-token_values t = []
+abbrev pub import_token_values : Token → List ImportVal
+import_token_values (quoted t) = a_name t ∷ []
+import_token_values t = []
 
 -- what a token of the text stands for
-abbrev pub leaf : Lexed → List Val
-leaf l = token_values l.token
+abbrev pub import_leaf : Lexed → List ImportVal
+import_leaf l = import_token_values l.token

@@ -2,9 +2,9 @@
 
 ghost use Rattle.std.specs.Prelude.{◌≡◌, ◌++◌, reverse, IfOk};
 ghost use Rattle.witx_values.specs.Language.{Ready};
-ghost use Rattle.witx_imports.specs.Actions.{the_language};
+ghost use Rattle.witx_imports.specs.Actions.{import_language};
 ghost use Rattle.witx_imports.specs.declared.production.ProductionName.TheVariants as production;
-ghost use Rattle.witx_imports.specs.Stack.{Made, value_view};
+ghost use Rattle.witx_imports.specs.Stack.{ImportMade, import_value_view};
 
 use crate::import::WasmImport;
 use crate::stack::push;
@@ -16,7 +16,7 @@ use witx_values::{appended, held, reversed, top};
 
 /// No words.
 pub fn no_words(alloc: Global, stack: &mut Vec<Value>) -> Result<(), OutOfMemory>
-    ensures { IfOk result (λ _. Made production.NoParams stack.old.items stack.new.items) }
+    ensures { IfOk result (λ _. ImportMade production.NoParams stack.old.items stack.new.items) }
 {
     let signature = Signature {
         params: Vec::new(alloc),
@@ -27,8 +27,8 @@ pub fn no_words(alloc: Global, stack: &mut Vec<Value>) -> Result<(), OutOfMemory
 
 /// An import in front of those behind it.
 pub fn more_imports(stack: &mut Vec<Value>) -> Result<(), OutOfMemory>
-    requires { Ready the_language value_view production.MoreImports stack.old.items }
-    ensures { IfOk result (λ _. Made production.MoreImports stack.old.items stack.new.items) }
+    requires { Ready import_language import_value_view production.MoreImports stack.old.items }
+    ensures { IfOk result (λ _. ImportMade production.MoreImports stack.old.items stack.new.items) }
 {
     let import = held!(top!(stack), Value::Import);
     let imports = appended(held!(top!(stack), Value::Imports), import)?;
@@ -37,8 +37,8 @@ pub fn more_imports(stack: &mut Vec<Value>) -> Result<(), OutOfMemory>
 
 /// `(import "m" "f" (func ..))`: its names and words.
 pub fn import(stack: &mut Vec<Value>) -> Result<(), OutOfMemory>
-    requires { Ready the_language value_view production.Import stack.old.items }
-    ensures { IfOk result (λ _. Made production.Import stack.old.items stack.new.items) }
+    requires { Ready import_language import_value_view production.Import stack.old.items }
+    ensures { IfOk result (λ _. ImportMade production.Import stack.old.items stack.new.items) }
 {
     let module = held!(top!(stack), Value::Name);
     let name = held!(top!(stack), Value::Name);
@@ -54,8 +54,8 @@ pub fn import(stack: &mut Vec<Value>) -> Result<(), OutOfMemory>
 
 /// A group of parameters in front of the others.
 pub fn more_params(stack: &mut Vec<Value>) -> Result<(), OutOfMemory>
-    requires { Ready the_language value_view production.MoreParams stack.old.items }
-    ensures { IfOk result (λ _. Made production.MoreParams stack.old.items stack.new.items) }
+    requires { Ready import_language import_value_view production.MoreParams stack.old.items }
+    ensures { IfOk result (λ _. ImportMade production.MoreParams stack.old.items stack.new.items) }
 {
     let group = held!(top!(stack), Value::Types);
     let signature = held!(top!(stack), Value::Signature);
@@ -66,8 +66,8 @@ pub fn more_params(stack: &mut Vec<Value>) -> Result<(), OutOfMemory>
 
 /// A group of results in front of the others.
 pub fn more_results(stack: &mut Vec<Value>) -> Result<(), OutOfMemory>
-    requires { Ready the_language value_view production.MoreResults stack.old.items }
-    ensures { IfOk result (λ _. Made production.MoreResults stack.old.items stack.new.items) }
+    requires { Ready import_language import_value_view production.MoreResults stack.old.items }
+    ensures { IfOk result (λ _. ImportMade production.MoreResults stack.old.items stack.new.items) }
 {
     let group = held!(top!(stack), Value::Types);
     let signature = held!(top!(stack), Value::Signature);
@@ -78,8 +78,8 @@ pub fn more_results(stack: &mut Vec<Value>) -> Result<(), OutOfMemory>
 
 /// `(param $n W)`: a group of one type.
 pub fn named_param(alloc: Global, stack: &mut Vec<Value>) -> Result<(), OutOfMemory>
-    requires { Ready the_language value_view production.NamedParam stack.old.items }
-    ensures { IfOk result (λ _. Made production.NamedParam stack.old.items stack.new.items) }
+    requires { Ready import_language import_value_view production.NamedParam stack.old.items }
+    ensures { IfOk result (λ _. ImportMade production.NamedParam stack.old.items stack.new.items) }
 {
     let group = appended(Vec::new(alloc), held!(top!(stack), Value::Type))?;
     push(stack, Value::Types(group))
@@ -87,8 +87,8 @@ pub fn named_param(alloc: Global, stack: &mut Vec<Value>) -> Result<(), OutOfMem
 
 /// A type in front of those behind it.
 pub fn more_types(stack: &mut Vec<Value>) -> Result<(), OutOfMemory>
-    requires { Ready the_language value_view production.MoreTypes stack.old.items }
-    ensures { IfOk result (λ _. Made production.MoreTypes stack.old.items stack.new.items) }
+    requires { Ready import_language import_value_view production.MoreTypes stack.old.items }
+    ensures { IfOk result (λ _. ImportMade production.MoreTypes stack.old.items stack.new.items) }
 {
     let word = held!(top!(stack), Value::Type);
     let group = appended(held!(top!(stack), Value::Types), word)?;

@@ -5,10 +5,10 @@ ghost use Rattle.witx_lex.specs.Tokens as tokens;
 ghost use Rattle.witx_lex.specs.Views.{lexed_view};
 ghost use Rattle.witx_values.specs.Language.{Ready};
 ghost use Rattle.witx_imports.specs.declared.value.Sort.{Sort};
-ghost use Rattle.witx_imports.specs.Actions.{the_language};
+ghost use Rattle.witx_imports.specs.Actions.{import_language};
 ghost use Rattle.witx_imports.specs.Lawful.{lawful};
-ghost use Rattle.witx_imports.specs.Stack.{Made, value_view};
-ghost use Rattle.witx_imports.specs.Values.{Val};
+ghost use Rattle.witx_imports.specs.Stack.{ImportMade, import_value_view};
+ghost use Rattle.witx_imports.specs.Values.{ImportVal};
 
 use crate::actions;
 use crate::nonterminal::Nonterminal;
@@ -46,13 +46,13 @@ impl<'a> Actions for Building<'a> {
 
     ghost S = { Sort };
 
-    ghost V = { Val };
+    ghost V = { ImportVal };
 
     ghost token_of = { lexed_view };
 
-    ghost value_of = { value_view };
+    ghost value_of = { import_value_view };
 
-    ghost language = { the_language };
+    ghost language = { import_language };
 
     fn kind(&self, lexed: &Lexed<'a>) -> TokenKind {
         kind_of(&lexed.token)
@@ -87,8 +87,8 @@ impl<'a> Actions for Building<'a> {
 
 /// Puts the value of a production in place of its parts.
 fn perform(alloc: Global, production: P, stack: &mut Vec<Value>) -> Result<(), OutOfMemory>
-    requires { Ready the_language value_view production stack.old.items }
-    ensures { IfOk result (λ _. Made production stack.old.items stack.new.items) }
+    requires { Ready import_language import_value_view production stack.old.items }
+    ensures { IfOk result (λ _. ImportMade production stack.old.items stack.new.items) }
 {
     match production {
         P::NoImports => push(stack, Value::Imports(Vec::new(alloc))),

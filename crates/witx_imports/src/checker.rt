@@ -11,7 +11,7 @@ use witx_base::{Items, OutOfMemory};
 
 /// Whether the entry's words are those of the import.
 fn has_words(entry: &AdaptedFunc, import: &WasmImport) -> bool
-    ensures { result ≡ spec.has_words import.now (spec.offered entry.now) }
+    ensures { result ≡ spec.has_words import.now (spec.offered_import entry.now) }
 {
     entry.params == import.params && entry.results == import.results
 }
@@ -23,8 +23,8 @@ fn fault_of(
     index: usize,
     import: &WasmImport,
 ) -> Option<ImportFault>
-    requires { first ≡ position (λ e. spec.has_names import.now (spec.offered e)) functions.now }
-    ensures { result ≡ spec.fault_of (map spec.offered functions.now) index import.now }
+    requires { first ≡ position (λ e. spec.has_import_names import.now (spec.offered_import e)) functions.now }
+    ensures { result ≡ spec.import_fault_of (map spec.offered_import functions.now) index import.now }
 {
     let Some(function) = first else {
         return Some(ImportFault::Missing { index });
@@ -42,7 +42,7 @@ fn faults_of(
     functions: &[AdaptedFunc],
     imports: &[WasmImport],
 ) -> Result<ImportFaults, OutOfMemory>
-    ensures { IfOk result (λ faults. faults ≡ spec.import_faults (map spec.offered functions.now) imports.now) }
+    ensures { IfOk result (λ faults. faults ≡ spec.import_faults (map spec.offered_import functions.now) imports.now) }
 {
     let entries = first_entries(alloc, functions)?;
     let mut faults = Items::new(alloc);
@@ -67,7 +67,7 @@ pub fn check_imports(
     imports: &WasmImports,
 ) -> Result<ImportFaults, OutOfMemory>
     ensures { IfOk result (λ faults. faults
-        ≡ spec.import_faults (map spec.offered adapted.now.functions) imports.now) }
+        ≡ spec.import_faults (map spec.offered_import adapted.now.functions) imports.now) }
 {
     faults_of(alloc, adapted.functions.as_slice(), imports.as_slice())
 }

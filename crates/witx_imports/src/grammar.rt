@@ -7,7 +7,7 @@
 ghost use Rattle.std.specs.Prelude.{◌≡◌};
 ghost use Rattle.witx_grammar.specs.Grammar.{grammar};
 ghost use Rattle.witx_grammar.specs.Prediction.{IsPredictive};
-ghost use Rattle.witx_imports.specs.Grammar.{the_grammar};
+ghost use Rattle.witx_imports.specs.Grammar.{import_grammar};
 
 use crate::nonterminal::Nonterminal;
 use crate::production::ProductionName;
@@ -56,7 +56,7 @@ static RULES: [Rule<'static, TokenKind, Nonterminal, ProductionName>; 8] = [
 pub fn the_table() -> Table<'static, TokenKind, Nonterminal, ProductionName>
     ensures predictive { IsPredictive ⟦<TokenKind as PartialEq>⟧.eq ⟦<Nonterminal as PartialEq>⟧.eq
         ⟦<ProductionName as PartialEq>⟧.eq result }
-    ensures grammar { grammar result ≡ the_grammar }
+    ensures grammar { grammar result ≡ import_grammar }
 {
     Table { rules: &RULES }
 }

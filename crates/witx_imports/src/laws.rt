@@ -7,7 +7,7 @@ ghost use Rattle.std.specs.List.{AllPairs};
 ghost use Rattle.witx_grammar.specs.Grammar.{In};
 ghost use Rattle.witx_imports.specs.Exact.{IsFaultAmong, import_number};
 ghost use Rattle.witx_imports.specs.Faults.{import_faults};
-ghost use Rattle.witx_imports.specs.Reads.{IsFaultOf, Place, Reads};
+ghost use Rattle.witx_imports.specs.Reads.{IsBadAt, LineColumn, Lists};
 
 use crate::grammar::the_table;
 use crate::nonterminal::Nonterminal;
@@ -17,7 +17,7 @@ use witx_grammar::{at_most_one_derivation, derivation_or_fault};
 
 /// A text is at most one list of imports.
 pub fn at_most_one_import_list()
-    ensures { (text : List ℕ) (d e : List WasmImport) → Reads text d → Reads text e → d ≡ e }
+    ensures { (text : List ℕ) (d e : List WasmImport) → Lists text d → Lists text e → d ≡ e }
 {
     at_most_one_derivation::<TokenKind, Nonterminal, ProductionName>();
     let _table = the_table();
@@ -25,12 +25,12 @@ pub fn at_most_one_import_list()
 
 /// A text that is a list of imports has no fault.
 pub fn no_fault_where_imports_are_read()
-    ensures { (text : List ℕ) (d : List WasmImport) (place : Place) → Reads text d → IsFaultOf text place → ⊥ }
+    ensures { (text : List ℕ) (d : List WasmImport) (place : LineColumn) → Lists text d → IsBadAt text place → ⊥ }
 {}
 
 /// A text is a list of imports or has a fault.
 pub fn an_import_list_or_a_fault()
-    ensures { (text : List ℕ) → ((d : List WasmImport) × Reads text d) ⊎ ((place : Place) × IsFaultOf text place) }
+    ensures { (text : List ℕ) → ((d : List WasmImport) × Lists text d) ⊎ ((place : LineColumn) × IsBadAt text place) }
 {
     derivation_or_fault::<TokenKind, Nonterminal, ProductionName>();
     let _table = the_table();
@@ -38,7 +38,7 @@ pub fn an_import_list_or_a_fault()
 
 /// A text has at most one fault: one line and one column.
 pub fn at_most_one_import_list_fault()
-    ensures { (text : List ℕ) (place other : Place) → IsFaultOf text place → IsFaultOf text other → place ≡ other }
+    ensures { (text : List ℕ) (place other : LineColumn) → IsBadAt text place → IsBadAt text other → place ≡ other }
 {}
 
 /// The faults of imports are exactly those that one of the imports has, in the order of the imports,

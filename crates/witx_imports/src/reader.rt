@@ -3,7 +3,7 @@
 ghost use Rattle.std.specs.Prelude.{◌≡◌, IfOk, IfErr};
 ghost use Rattle.witx_lex.specs.Meaning.{HasTokens};
 ghost use Rattle.witx_lex.specs.Views.{tokens_view};
-ghost use Rattle.witx_imports.specs.Reads.{BadPlace, IsFaultOf, Reads, told_at};
+ghost use Rattle.witx_imports.specs.Reads.{BadPlace, IsBadAt, Lists, line_column_at};
 
 use crate::builder::Building;
 use crate::error::ImportsError;
@@ -18,7 +18,7 @@ use witx_values::{Reading, kinds_of, read, start_of_token};
 
 /// The fault at an offset.
 fn fault_at(text: &str, offset: usize) -> ImportsError
-    ensures { BadPlace result (λ place. place ≡ told_at text.now offset) }
+    ensures { BadPlace result (λ place. place ≡ line_column_at text.now offset) }
 {
     let (line, column) = line_column(text, offset);
     ImportsError::Bad { line, column }
@@ -27,8 +27,8 @@ fn fault_at(text: &str, offset: usize) -> ImportsError
 /// The imports that the tokens of a text spell, or their fault.
 fn read_tokens(alloc: Global, text: &str, tokens: &[Lexed]) -> Result<WasmImports, ImportsError>
     requires { HasTokens text.now (tokens_view tokens.now) }
-    ensures imports { IfOk result (λ imports. Reads text.now imports) }
-    ensures fault { IfErr result (λ e. BadPlace e (λ place. IsFaultOf text.now place)) }
+    ensures imports { IfOk result (λ imports. Lists text.now imports) }
+    ensures fault { IfErr result (λ e. BadPlace e (λ place. IsBadAt text.now place)) }
 {
     let actions = Building {
         alloc,
@@ -59,8 +59,8 @@ fn read_tokens(alloc: Global, text: &str, tokens: &[Lexed]) -> Result<WasmImport
 /// `Bad` is the place of the text's lexical fault, else of the first token that cannot stand behind
 /// those before it, or the end of the text where a form is still open.
 pub fn read_imports(alloc: Global, text: &str) -> Result<WasmImports, ImportsError>
-    ensures imports { IfOk result (λ imports. Reads text.now imports) }
-    ensures fault { IfErr result (λ e. BadPlace e (λ place. IsFaultOf text.now place)) }
+    ensures imports { IfOk result (λ imports. Lists text.now imports) }
+    ensures fault { IfErr result (λ e. BadPlace e (λ place. IsBadAt text.now place)) }
 {
     match lex(alloc, text) {
         Ok(tokens) => read_tokens(alloc, text, tokens.as_slice()),

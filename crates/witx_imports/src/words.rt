@@ -2,7 +2,7 @@
 
 ghost use Rattle.std.specs.Prelude.{◌≡◌, map};
 ghost use Rattle.witx_lex.specs.Views.{token_view};
-ghost use Rattle.witx_imports.specs.TokenKinds.{the_words, token_kind as kind_of_token};
+ghost use Rattle.witx_imports.specs.TokenKinds.{import_words, import_token_kind as kind_of_token};
 ghost use Rattle.witx_values.specs.Words.{spelling_view};
 
 use crate::token_kind::TokenKind;
@@ -36,7 +36,7 @@ static WORDS: [Word; 8] = [
 
 /// The words.
 fn words() -> &'static [Word]
-    ensures { map spelling_view result.now ≡ the_words }
+    ensures { map spelling_view result.now ≡ import_words }
 {
     &WORDS
 }

@@ -6,7 +6,7 @@ use Rattle.witx_instructions.specs.declared.plan.Planned.{Planned}
 use Rattle.witx_instructions.specs.declared.bindgen.BindgenError.{BindgenError}
 use Rattle.witx_instructions.specs.declared.error.AbiError.{AbiError}
 use Rattle.witx_instructions.specs.Views.{planned_event, planned_events}
-use Rattle.witx_instructions.specs.Told.{after, TellsFront, abi_error, is_fault, is_bindgen_fault, unlowerable_place}
+use Rattle.witx_instructions.specs.Told.{told_further, TellsFront, abi_error, is_fault, is_bindgen_fault, unlowerable_place}
 use Rattle.witx_machine.specs.Functions.{Function}
 use Rattle.witx_machine.specs.Lowerable.{unlowerable, lowerable}
 use Rattle.witx_machine.specs.Traces.{caller_events, callee_events}
@@ -21,11 +21,11 @@ map-append f (x ∷ xs) ys = ap (λ zs. f x ∷ zs) (map-append f xs ys)
 pub planned-more : (plan : List Planned) (p : Planned) → planned_events (plan ++ p ∷ []) ≡ planned_events plan ++ planned_event p ∷ []
 planned-more plan p = map-append planned_event plan (p ∷ [])
 
-pub told-none : {A : Type 0} (told : Option (List A)) → told ≡ after told []
+pub told-none : {A : Type 0} (told : Option (List A)) → told ≡ told_further told []
 told-none None = refl
 told-none (Some es) = ap Some (sym (append-nil es))
 
-pub told-then : {A : Type 0} (told : Option (List A)) (a b : List A) → after (after told a) b ≡ after told (a ++ b)
+pub told-then : {A : Type 0} (told : Option (List A)) (a b : List A) → told_further (told_further told a) b ≡ told_further told (a ++ b)
 told-then None a b = refl
 told-then (Some es) a b = ap Some (append_assoc es a b)
 
@@ -35,9 +35,9 @@ take-next (q ∷ plan) zero p l e = ap (λ p. planned_event p ∷ []) (sym e)
 take-next (q ∷ plan) (suc i) p l e = ap (λ es. planned_event q ∷ es) (take-next plan i p (omega arith) e)
 
 -- one more event of the plan was told
-pub told-next : (plan : List Planned) (i : ℕ) (p : Planned) (before now later : Option (List Event)) → i < length plan → p ≡ get_or plan i p → now ≡ after before (take i (planned_events plan)) → later ≡ after now (planned_event p ∷ []) → later ≡ after before (take (i + 1) (planned_events plan))
+pub told-next : (plan : List Planned) (i : ℕ) (p : Planned) (before now later : Option (List Event)) → i < length plan → p ≡ get_or plan i p → now ≡ told_further before (take i (planned_events plan)) → later ≡ told_further now (planned_event p ∷ []) → later ≡ told_further before (take (i + 1) (planned_events plan))
 told-next plan i p before now later l e n m =
-    m ∙ ap (λ t. after t (planned_event p ∷ [])) n ∙ told-then before (take i (planned_events plan)) (planned_event p ∷ []) ∙ ap (after before) (sym (take-next plan i p l e)) ∙ ap (λ k. after before (take k (planned_events plan))) (sym (add-one i))
+    m ∙ ap (λ t. told_further t (planned_event p ∷ [])) n ∙ told-then before (take i (planned_events plan)) (planned_event p ∷ []) ∙ ap (told_further before) (sym (take-next plan i p l e)) ∙ ap (λ k. told_further before (take k (planned_events plan))) (sym (add-one i))
 
 pub take-all : (n : ℕ) (es : List Event) → length es ≤ n → take n es ≡ es
 take-all zero [] l = refl
@@ -62,12 +62,12 @@ take-none k (e ∷ es) h = absurd (clash h)
     clash h = cc
 
 -- the plan was told up to this event, which may have been told or not
-pub front-next : (plan : List Planned) (i : ℕ) (p : Planned) (before now later : Option (List Event)) → i < length plan → p ≡ get_or plan i p → now ≡ after before (take i (planned_events plan)) → TellsFront (planned_event p ∷ []) now later → TellsFront (planned_events plan) before later
+pub front-next : (plan : List Planned) (i : ℕ) (p : Planned) (before now later : Option (List Event)) → i < length plan → p ≡ get_or plan i p → now ≡ told_further before (take i (planned_events plan)) → TellsFront (planned_event p ∷ []) now later → TellsFront (planned_events plan) before later
 front-next plan i p before now later l e n h = go h.0 h.1
   where
-    go : (k : ℕ) → later ≡ after now (take k (planned_event p ∷ [])) → TellsFront (planned_events plan) before later
+    go : (k : ℕ) → later ≡ told_further now (take k (planned_event p ∷ [])) → TellsFront (planned_events plan) before later
     go zero m = (i, m ∙ sym (told-none now) ∙ n)
-    go (suc k) m = (i + 1, told-next plan i p before now later l e n (m ∙ ap (λ es. after now (planned_event p ∷ es)) (take-none k [] refl)))
+    go (suc k) m = (i + 1, told-next plan i p before now later l e n (m ∙ ap (λ es. told_further now (planned_event p ∷ es)) (take-none k [] refl)))
 
 pub ready-next : (plan : List Planned) (i n m : ℕ) (p : Planned) → i < length plan → p ≡ get_or plan i p → height_after (planned_event p) n ≡ Some m → IsSome (heights (planned_events (drop i plan)) n) → IsSome (heights (planned_events (drop (i + 1) plan)) m)
 ready-next plan i n m p l e a h = subst (λ o. IsSome (option_and_then (λ m. heights (planned_events (drop (i + 1) plan)) m) o)) a (subst (λ ps. IsSome (heights (planned_events ps) n)) (drop-is plan i p l e) h)
@@ -86,10 +86,10 @@ no-place BindgenError.OutOfMemory e i = ap (λ e. unlowerable_place {R = Unit {0
 
 -- no event was told
 pub front-none : (es : List Event) (told : Option (List Event)) → TellsFront es told told
-front-none es told = (0, told-none told ∙ ap (after told) (sym (take-zero es)))
+front-none es told = (0, told-none told ∙ ap (told_further told) (sym (take-zero es)))
 
 -- one event was told
-pub all-front : (e : Event) (before now : Option (List Event)) → now ≡ after before (e ∷ []) → TellsFront (e ∷ []) before now
+pub all-front : (e : Event) (before now : Option (List Event)) → now ≡ told_further before (e ∷ []) → TellsFront (e ∷ []) before now
 all-front e before now h = (1, h)
 
 some-zero : IsSome {T = ℕ} (Some 0)

@@ -14,7 +14,7 @@ use Rattle.witx_ast.specs.declared.types.RecordMember.{RecordMember}
 use Rattle.witx_ast.specs.declared.types.Variant.{Variant, out-Variant}
 use Rattle.witx_ast.specs.declared.function.InterfaceFuncParam.{InterfaceFuncParam}
 use Rattle.witx_machine.specs.Functions.{has_payload}
-use Rattle.witx_machine.specs.Lowerable.{can_be_param, can_be_result, can_return, first_place, unlowerable_result, none_or_names, members_are_named, all_names}
+use Rattle.witx_machine.specs.Lowerable.{can_be_param, can_be_result, can_return, earlier_place, unlowerable_result, none_or_names, members_are_named, all_names}
 use Rattle.witx_machine.specs.declared.surface.Place.{Place}
 use Rattle.witx_instructions.specs.Views.{variant_arms, param_types}
 use Rattle.witx_instructions.proofs.Types.{bare-arms, members-are, tuples-at}
@@ -31,10 +31,10 @@ length-map f (x ∷ xs) = ap suc (length-map f xs)
 pub position-types : (ps : List InterfaceFuncParam) → position (λ t. not (can_be_param t)) (param_types ps) ≡ position (λ p. not (can_be_param (tree_of p.tref))) ps
 position-types ps = rw (prefix-map (λ t. not (not (can_be_param t))) (λ p. tree_of p.tref) ps, length-map (λ p. tree_of p.tref) ps) refl
 
-pub first-found : (ps : List InterfaceFuncParam) (i : ℕ) (r : Option Place) → position (λ p. not (can_be_param (tree_of p.tref))) ps ≡ Some i → first_place (position (λ t. not (can_be_param t)) (param_types ps)) r ≡ Some (Place.Param i)
+pub first-found : (ps : List InterfaceFuncParam) (i : ℕ) (r : Option Place) → position (λ p. not (can_be_param (tree_of p.tref))) ps ≡ Some i → earlier_place (position (λ t. not (can_be_param t)) (param_types ps)) r ≡ Some (Place.Param i)
 first-found ps i r e = rw (position-types ps, e) refl
 
-pub first-missing : (ps : List InterfaceFuncParam) (r : Option Place) → position (λ p. not (can_be_param (tree_of p.tref))) ps ≡ None → first_place (position (λ t. not (can_be_param t)) (param_types ps)) r ≡ r
+pub first-missing : (ps : List InterfaceFuncParam) (r : Option Place) → position (λ p. not (can_be_param (tree_of p.tref))) ps ≡ None → earlier_place (position (λ t. not (can_be_param t)) (param_types ps)) r ≡ r
 first-missing ps r e = rw (position-types ps, e) refl
 
 pub result-none : (abi : Abi) (xs : List InterfaceFuncParam) → length xs < 1 → unlowerable_result abi (param_types xs) ≡ None

@@ -20,14 +20,14 @@ use Rattle.witx_machine.specs.declared.surface.Place.{Place}
 use Rattle.witx_machine.specs.Events.{Step, Event, emit, space, push, finish}
 use Rattle.witx_machine.specs.Functions.{has_payload, ok_of, err_of, result_cases}
 use Rattle.witx_machine.specs.Signature.{param_words, words_of_params, words_of_results, ok_pointers, pointers_by, pointers_of}
-use Rattle.witx_machine.specs.Lowerable.{can_be_param, can_be_result, can_return, can_be_ok, can_be_err, is_narrow, unlowerable_result, first_place, unlowerable}
-use Rattle.witx_machine.specs.Traces.{lower_step, lift_step, lower_params, get_args, lift_params, make_spaces, load_all, store_all, lift_cases, lift_by, lift_of, lower_cases, lower_by, lower_of, block_of}
+use Rattle.witx_machine.specs.Lowerable.{can_be_param, can_be_result, can_return, can_be_ok, can_be_err, is_narrow, unlowerable_result, earlier_place, unlowerable}
+use Rattle.witx_machine.specs.Traces.{lower_step, lift_step, lower_params, get_args, lift_params, make_spaces, load_all, store_all, lift_cases, lift_by, lift_of, lower_cases, lower_by, lower_of, block_events}
 use Rattle.witx_machine.proofs.HeightLaws.{words-count}
 use Rattle.witx_instructions.specs.Views.{called, param_types, pointer_types, is_list_type}
 use Rattle.witx_instructions.proofs.Signatures.{types-drop, types-end}
 
 -- chains
-pub block-chain : (es l : List Event) (v : Bool) → ((es ++ push ∷ []) ++ l) ++ finish v ∷ [] ≡ es ++ block_of l v
+pub block-chain : (es l : List Event) (v : Bool) → ((es ++ push ∷ []) ++ l) ++ finish v ∷ [] ≡ es ++ block_events l v
 block-chain es l v = append_assoc (es ++ push ∷ []) l (finish v ∷ []) ∙ append_assoc es (push ∷ []) (l ++ finish v ∷ [])
 
 pub cases-chain : (es a b : List Event) (x : Event) → ((es ++ a) ++ b) ++ x ∷ [] ≡ es ++ (a ++ (b ++ x ∷ []))
@@ -445,7 +445,7 @@ found-at (q ∷ ps) j (suc i) p l e h = go (can_be_param (tree_of q.tref)) h (fo
 pub param-can : (ps : List InterfaceFuncParam) (i : ℕ) (p : InterfaceFuncParam) → i < length ps → p ≡ get_or ps i p → position (λ t. not (can_be_param t)) (param_types ps) ≡ None → can_be_param (tree_of p.tref) ≡ true
 param-can ps i p l e h = found-at ps 0 i p l e (sym (position_from-zero (λ t. not (can_be_param t)) (param_types ps)) ∙ h)
 
-none-first : (o : Option ℕ) (r : Option Place) → first_place o r ≡ None → (o ≡ None) × (r ≡ None)
+none-first : (o : Option ℕ) (r : Option Place) → earlier_place o r ≡ None → (o ≡ None) × (r ≡ None)
 none-first None r h = (refl, h)
 none-first (Some i) r h = absurd (some h)
   where

@@ -10,17 +10,17 @@ use Rattle.witx_instructions.specs.declared.error.AbiError.{AbiError}
 use Rattle.witx_instructions.specs.declared.error.SignatureError.{SignatureError}
 
 -- the events told so far, where they are told, after some more; so too of calls
-abbrev pub after : {A : Type 0} → Option (List A) → List A → Option (List A)
-after told es = option_map (λ before. before ++ es) told
+abbrev pub told_further : {A : Type 0} → Option (List A) → List A → Option (List A)
+told_further told es = option_map (λ before. before ++ es) told
 
 -- one more event where the call was done, else none
 abbrev pub told_after : {A R E : Type 0} → Result R E → A → Option (List A) → Option (List A)
-told_after (Ok r) e told = after told (e ∷ [])
+told_after (Ok r) e told = told_further told (e ∷ [])
 told_after (Err x) e told = told
 
 -- the events so far are a front of those that were to come
 abbrev pub TellsFront : List Event → Option (List Event) → Option (List Event) → Type 0
-TellsFront es before now = (n : ℕ) × (now ≡ after before (take n es))
+TellsFront es before now = (n : ℕ) × (now ≡ told_further before (take n es))
 
 abbrev pub is_fault : {R : Type 0} → Result R BindgenError → Bool
 is_fault (Err BindgenError.Failed) = true

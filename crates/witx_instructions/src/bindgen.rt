@@ -6,7 +6,7 @@ ghost use Rattle.witx_machine.specs.Events.{Event, emit, space, push, finish};
 ghost use Rattle.witx_ast.specs.Views.{named_tree};
 ghost use Rattle.witx_instructions.specs.Views.{step_of};
 ghost use Rattle.witx_instructions.specs.Told.{told_after, is_fault, Counts};
-ghost use Rattle.witx_instructions.specs.Handed.{Call, emitted, made_room, began, ended};
+ghost use Rattle.witx_instructions.specs.Handed.{GeneratorCall, emitted, made_room, began, ended};
 
 use crate::instruction::Instruction;
 use std::alloc::{AllocError, AllocFailed};
@@ -75,7 +75,7 @@ pub trait Bindgen {
     ghost told: { Self → Option (List Event) };
 
     /// The calls so far, with the operands that passed, where the generator tells them.
-    ghost calls: { Self → Option (List (Call Self.Operand)) };
+    ghost calls: { Self → Option (List (GeneratorCall Self.Operand)) };
 
     /// How often it has failed.
     ghost faults: { Self → ℕ };

@@ -7,7 +7,7 @@ ghost use Rattle.witx_machine.specs.Events.{emit, space, push, finish};
 ghost use Rattle.witx_machine.specs.Rows.{operands_count, results_count};
 ghost use Rattle.witx_instructions.specs.Views.{event_of, step_of};
 ghost use Rattle.witx_instructions.specs.Told.{told_after, is_fault, Counts};
-ghost use Rattle.witx_instructions.specs.Handed.{Call, emitted, made_room, began, ended};
+ghost use Rattle.witx_instructions.specs.Handed.{GeneratorCall, emitted, made_room, began, ended};
 
 use crate::bindgen::{Bindgen, BindgenError};
 use crate::event::Events;
@@ -84,7 +84,7 @@ impl Bindgen for FailingBindgen {
     fn allocate_space(&mut self, slot: usize, ty: &Rc<NamedType>) -> Result<(), BindgenError>
         ensures event { Some (map event_of self.new.trace.events)
             ≡ told_after result (space slot (named_tree ty.now.value)) (Some (map event_of self.old.trace.events)) }
-        ensures call { None ≡ told_after {A = Call ℕ} result (made_room slot (named_tree ty.now.value)) None }
+        ensures call { None ≡ told_after {A = GeneratorCall ℕ} result (made_room slot (named_tree ty.now.value)) None }
         ensures cause { Counts (is_fault result) self.old.calls.faults self.new.calls.faults }
         ensures fails { is_fault result ≡ fails_next self.old.calls }
         ensures counted { self.new.calls ≡ counted (is_fault result) self.old.calls }
@@ -95,7 +95,7 @@ impl Bindgen for FailingBindgen {
 
     fn push_block(&mut self) -> Result<(), BindgenError>
         ensures event { Some (map event_of self.new.trace.events) ≡ told_after result push (Some (map event_of self.old.trace.events)) }
-        ensures call { None ≡ told_after {A = Call ℕ} result began None }
+        ensures call { None ≡ told_after {A = GeneratorCall ℕ} result began None }
         ensures cause { Counts (is_fault result) self.old.calls.faults self.new.calls.faults }
         ensures fails { is_fault result ≡ fails_next self.old.calls }
         ensures counted { self.new.calls ≡ counted (is_fault result) self.old.calls }

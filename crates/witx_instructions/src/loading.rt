@@ -37,7 +37,7 @@ pub fn lift_ok_block<'a>(
 ) -> Result<(), OutOfMemory>
     requires { pointer_types pointers.now ≡ ok_pointers (payload_tree ok) }
     ensures { IfOk result (λ _. planned_events plan.new ≡ planned_events plan.old
-        ++ traces.block_of (traces.ok_lifted (payload_tree ok.entry)) (is_some (payload_tree ok.entry))) }
+        ++ traces.block_events (traces.ok_lifted (payload_tree ok.entry)) (is_some (payload_tree ok.entry))) }
 {
     add(plan, Planned::Push)?;
     lift_ok(plan, ok, pointers)?;

@@ -5,7 +5,7 @@ ghost use Rattle.witx_machine.specs.Events as machine;
 ghost use Rattle.witx_machine.specs.Rows.{operands_count, results_count};
 ghost use Rattle.witx_instructions.specs.Views.{planned_event, planned_events, step_of};
 ghost use Rattle.witx_machine.specs.Heights.{height_after, heights};
-ghost use Rattle.witx_instructions.specs.Told.{after, TellsFront, is_fault, is_bindgen_fault, unlowerable_place, Counts};
+ghost use Rattle.witx_instructions.specs.Told.{told_further, TellsFront, is_fault, is_bindgen_fault, unlowerable_place, Counts};
 ghost use Rattle.witx_instructions.specs.Handed.{InOrder, OperandsInOrder, FrontInOrder};
 
 use crate::bindgen::{Bindgen, BindgenError};
@@ -59,7 +59,7 @@ pub fn put<'a>(plan: &mut Plan<'a>, instruction: Instruction<'a>) -> Result<(), 
 /// Hands the events of a plan to a generator; each instruction gets the operands that earlier ones left, in order.
 pub fn play<B: Bindgen>(alloc: Global, plan: &Plan<'_>, bindgen: &mut B) -> Result<(), AbiError>
     requires { IsSome (heights (planned_events plan.now) 0) }
-    ensures events { OnOk result (B.told bindgen.new ≡ after (B.told bindgen.old) (planned_events plan.now)) }
+    ensures events { OnOk result (B.told bindgen.new ≡ told_further (B.told bindgen.old) (planned_events plan.now)) }
     ensures front { OnErr result (TellsFront (planned_events plan.now) (B.told bindgen.old) (B.told bindgen.new)) }
     ensures operands { OnOk result (OperandsInOrder (planned_events plan.now) (B.calls bindgen.old) (B.calls bindgen.new)) }
     ensures front_operands { OnErr result (FrontInOrder (planned_events plan.now) (B.calls bindgen.old) (B.calls bindgen.new) []) }
@@ -82,7 +82,7 @@ fn play_one<B: Bindgen>(
 ) -> Result<(), BindgenError>
     requires { IsSome (height_after (planned_event planned.now) (vec_len stack.old)) }
     ensures height { OnOk result (height_after (planned_event planned.now) (vec_len stack.old) ≡ Some (vec_len stack.new)) }
-    ensures event { OnOk result (B.told bindgen.new ≡ after (B.told bindgen.old) (planned_event planned.now ∷ [])) }
+    ensures event { OnOk result (B.told bindgen.new ≡ told_further (B.told bindgen.old) (planned_event planned.now ∷ [])) }
     ensures front { OnErr result (TellsFront (planned_event planned.now ∷ []) (B.told bindgen.old) (B.told bindgen.new)) }
     ensures operands { OnOk result (InOrder (planned_event planned.now ∷ []) (B.calls bindgen.old) (B.calls bindgen.new) stack.old.items stack.new.items) }
     ensures front_operands { OnErr result (FrontInOrder (planned_event planned.now ∷ []) (B.calls bindgen.old) (B.calls bindgen.new) stack.old.items) }
@@ -101,7 +101,7 @@ fn play_one<B: Bindgen>(
 fn finish<B: Bindgen>(stack: &mut Vec<B::Operand>, bindgen: &mut B) -> Result<(), BindgenError>
     requires { 0 < vec_len stack.old }
     ensures height { OnOk result (height_after (machine.finish true) (vec_len stack.old) ≡ Some (vec_len stack.new)) }
-    ensures event { OnOk result (B.told bindgen.new ≡ after (B.told bindgen.old) (machine.finish true ∷ [])) }
+    ensures event { OnOk result (B.told bindgen.new ≡ told_further (B.told bindgen.old) (machine.finish true ∷ [])) }
     ensures front { OnErr result (TellsFront (machine.finish true ∷ []) (B.told bindgen.old) (B.told bindgen.new)) }
     ensures operands { OnOk result (InOrder (machine.finish true ∷ []) (B.calls bindgen.old) (B.calls bindgen.new) stack.old.items stack.new.items) }
     ensures front_operands { OnErr result (FrontInOrder (machine.finish true ∷ []) (B.calls bindgen.old) (B.calls bindgen.new) stack.old.items) }
@@ -120,7 +120,7 @@ fn emit<B: Bindgen>(
 ) -> Result<(), BindgenError>
     requires { operands_count (step_of instruction.now) ≤ vec_len stack.old }
     ensures height { OnOk result (height_after (machine.emit (step_of instruction.now)) (vec_len stack.old) ≡ Some (vec_len stack.new)) }
-    ensures event { OnOk result (B.told bindgen.new ≡ after (B.told bindgen.old) (machine.emit (step_of instruction.now) ∷ [])) }
+    ensures event { OnOk result (B.told bindgen.new ≡ told_further (B.told bindgen.old) (machine.emit (step_of instruction.now) ∷ [])) }
     ensures front { OnErr result (TellsFront (machine.emit (step_of instruction.now) ∷ []) (B.told bindgen.old) (B.told bindgen.new)) }
     ensures operands { OnOk result
         (InOrder (machine.emit (step_of instruction.now) ∷ []) (B.calls bindgen.old) (B.calls bindgen.new) stack.old.items stack.new.items) }

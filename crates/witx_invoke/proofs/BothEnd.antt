@@ -7,9 +7,9 @@ use Rattle.witx_machine.specs.Words.{Scalar}
 use Rattle.witx_machine.specs.Events.{Event, emit, space, push, finish}
 use Rattle.witx_machine.specs.Functions.{Function}
 use Rattle.witx_machine.specs.Rows.{Row, row, get_arg, addr_of, lowering, lifting, list_pointer_length, list_from_pointer_length, return_pointer_get, load, store, tuple_lift, tuple_lower, variant_payload, reuse_return, result_lower, result_lift, call_wasm, call_interface, returns}
-use Rattle.witx_machine.specs.Machine.{Domain, Tried, went, no_rule, stuck_at, found, next, only, Item, word_item, value_item, plain_item, Block, State, Inside, outside, in_lower, in_lift, Side, is_nil, slot_word, values_off, items_off, words_off, pushed, top_word, top_value, two_blocks, payload_item, payload_in, with_stack, left_over, return_items, run_block, block_word, lifted_payload, act, give_slot, Flow, flowing, gathering, after, set_aside, flows, gathers, play, runs_within, ended, run_trace}
+use Rattle.witx_machine.specs.Machine.{Domain, Tried, went, no_rule, stuck_at, if_found, goes_on, only, Item, word_item, value_item, plain_item, Block, State, Inside, outside, in_lower, in_lift, Side, is_nil, slot_word, values_off, items_off, words_off, pushed, top_word, top_value, two_blocks, payload_item, payload_in, with_stack, left_over, return_items, run_block, block_word, lifted_payload, act, give_slot, Flow, flowing, gathering, after, set_aside, flows, gathers, play, runs_within, ended, run_trace}
 use Rattle.witx_machine.specs.Signature.{signature_results}
-use Rattle.witx_machine.specs.Run.{words_in, typed, reply_items, Call, Outcome, start, Receiver, in_order, callee_side, answered, handed_on, caller_side, run_to}
+use Rattle.witx_machine.specs.Run.{words_in, typed, reply_items, Call, Outcome, start, Receiver, picked_in_order, callee_side, answered, handed_on, caller_side, run_to}
 
 -- where both have an answer, the answers are related
 abbrev pub Meets : {A B : Type 0} → (A → B → Type 0) → Option A → Option B → Type 0
@@ -61,12 +61,12 @@ module _ {P P' C D : Type 0} (S : C → D → Type 0) where
   cond_joins p p' true true t t' h = h
 
 module _ {P P' A B C D : Type 0} (S : C → D → Type 0) where
-  found_joins : (R : A → B → Type 0) (f : A → Tried P C) (g : B → Tried P' D) (o : Option A) (p : Option B) → Meets R o p → ((x : A) (y : B) → R x y → Joins S (f x) (g y)) → Joins S (found o f) (found p g)
+  found_joins : (R : A → B → Type 0) (f : A → Tried P C) (g : B → Tried P' D) (o : Option A) (p : Option B) → Meets R o p → ((x : A) (y : B) → R x y → Joins S (f x) (g y)) → Joins S (if_found o f) (if_found p g)
   found_joins R f g None p h k = tt
   found_joins R f g (Some x) None h k = stops P' S (f x)
   found_joins R f g (Some x) (Some y) h k = k x y h
 
-  next_joins : (R : A → B → Type 0) (f : A → Tried P C) (g : B → Tried P' D) (t : Tried P A) (t' : Tried P' B) → Joins R t t' → ((x : A) (y : B) → R x y → Joins S (f x) (g y)) → Joins S (next t f) (next t' g)
+  next_joins : (R : A → B → Type 0) (f : A → Tried P C) (g : B → Tried P' D) (t : Tried P A) (t' : Tried P' B) → Joins R t t' → ((x : A) (y : B) → R x y → Joins S (f x) (g y)) → Joins S (goes_on t f) (goes_on t' g)
   next_joins R f g (went x) (went y) h k = k x y h
   next_joins R f g (went x) no_rule h k = stops P' S (f x)
   next_joins R f g (went x) (stuck_at p) h k = stuck S p (f x)
@@ -75,10 +75,10 @@ module _ {P P' A B C D : Type 0} (S : C → D → Type 0) where
 
 module _ {P P' A C D : Type 0} (S : C → D → Type 0) where
   -- of one answer
-  same_joins : (f : A → Tried P C) (g : A → Tried P' D) (o p : Option A) → Meets ◌≡◌ o p → ((x : A) → Joins S (f x) (g x)) → Joins S (found o f) (found p g)
+  same_joins : (f : A → Tried P C) (g : A → Tried P' D) (o p : Option A) → Meets ◌≡◌ o p → ((x : A) → Joins S (f x) (g x)) → Joins S (if_found o f) (if_found p g)
   same_joins f g o p h k = found_joins S ◌≡◌ f g o p h (λ x y e. subst (λ y. Joins S (f x) (g y)) e (k x))
 
-  one_joins : (f : A → Tried P C) (g : A → Tried P' D) (o : Option A) → ((x : A) → Joins S (f x) (g x)) → Joins S (found o f) (found o g)
+  one_joins : (f : A → Tried P C) (g : A → Tried P' D) (o : Option A) → ((x : A) → Joins S (f x) (g x)) → Joins S (if_found o f) (if_found o g)
   one_joins f g o k = same_joins f g o o (meets_self o) k
 
 module _ {P P' V W C D : Type 0} (S : C → D → Type 0) where
@@ -196,15 +196,15 @@ module _ {V W M M' : Type 0} (D : Domain V W M) (D' : Domain V W M') (RM : M →
               onto xs = record { memory = m; called = c; is = refl; remembers = r; calls = q }
 
               lowered : (rest : List (Item V W)) (a b : Block E) (more : List (Block E)) (d : Bool × Option (V × Option Tree)) →
-                  Joins Beside (next (run_block event place D side runs (in_lower (payload_item d.1)) (cond d.0 b a) (record s { blocks = more })) (λ r. found (block_word D d.0 r.0) (λ w. went (with_stack (word_item w ∷ rest) r.1))))
-                  (next (run_block event place' D' side' runs' (in_lower (payload_item d.1)) (cond d.0 b a) (record new { blocks = more })) (λ r. found (block_word D' d.0 r.0) (λ w. went (with_stack (word_item w ∷ rest) r.1))))
+                  Joins Beside (goes_on (run_block event place D side runs (in_lower (payload_item d.1)) (cond d.0 b a) (record s { blocks = more })) (λ r. if_found (block_word D d.0 r.0) (λ w. went (with_stack (word_item w ∷ rest) r.1))))
+                  (goes_on (run_block event place' D' side' runs' (in_lower (payload_item d.1)) (cond d.0 b a) (record new { blocks = more })) (λ r. if_found (block_word D' d.0 r.0) (λ w. went (with_stack (word_item w ∷ rest) r.1))))
               lowered rest a b more d =
                   next_joins Beside Left _ _ _ _ (block_joins (in_lower (payload_item d.1)) (cond d.0 b a) (record s { blocks = more }) (record new { blocks = more }) (record { memory = m; called = c; is = refl; remembers = r; calls = q }))
                   (λ x y l. same_joins Beside _ _ (block_word D d.0 x.0) (block_word D' d.0 y.0) (subst (λ o. Meets ◌≡◌ (block_word D d.0 x.0) (block_word D' d.0 o)) l.0 (word_of_block d.0 x.0)) (λ w. stacked (word_item w ∷ rest) x.1 y.1 l.1))
 
               lifted : (rest : List (Item V W)) (a b : Block E) (more : List (Block E)) (e : Bool) →
-                  Joins Beside (next (run_block event place D side runs in_lift (cond e b a) (record s { blocks = more })) (λ r. found (lifted_payload r.0) (λ p. went (with_stack (plain_item (D.result e p) ∷ rest) r.1))))
-                  (next (run_block event place' D' side' runs' in_lift (cond e b a) (record new { blocks = more })) (λ r. found (lifted_payload r.0) (λ p. went (with_stack (plain_item (D'.result e p) ∷ rest) r.1))))
+                  Joins Beside (goes_on (run_block event place D side runs in_lift (cond e b a) (record s { blocks = more })) (λ r. if_found (lifted_payload r.0) (λ p. went (with_stack (plain_item (D.result e p) ∷ rest) r.1))))
+                  (goes_on (run_block event place' D' side' runs' in_lift (cond e b a) (record new { blocks = more })) (λ r. if_found (lifted_payload r.0) (λ p. went (with_stack (plain_item (D'.result e p) ∷ rest) r.1))))
               lifted rest a b more e =
                   next_joins Beside Left _ _ _ _ (block_joins in_lift (cond e b a) (record s { blocks = more }) (record new { blocks = more }) (record { memory = m; called = c; is = refl; remembers = r; calls = q }))
                   (λ x y l. same_joins Beside _ _ (lifted_payload x.0) (lifted_payload y.0) (meets_same _ _ (ap lifted_payload l.0)) (λ p. subst (λ v. Beside (with_stack (plain_item (D.result e p) ∷ rest) x.1) (with_stack (plain_item v ∷ rest) y.1)) (H.result e p) (stacked (plain_item (D.result e p) ∷ rest) x.1 y.1 l.1)))
@@ -326,7 +326,7 @@ module _ {V W M M' : Type 0} (D : Domain V W M) (D' : Domain V W M') (RM : M →
         wasm_joins k n ps rs s s' b =
             of_moved Calls (Beside Calls) ((caller_side event place D m f to last callee arguments reply).on_wasm k n ps rs s) ((caller_side event place' D' m f to last' callee arguments reply).on_wasm k n ps rs) s s' b (λ a c r q.
             only_joins (Beside Calls) _ _ _ _ (one_joins (Beside Calls) _ _ (words_off (length ps) [] s.stack) (λ p.
-            only_joins (Beside Calls) _ _ _ _ (one_joins (Beside Calls) _ _ (in_order to.order p.0) (λ own. handed_joins p.0 own (record s { stack = p.1 }) a c r q)))))
+            only_joins (Beside Calls) _ _ _ _ (one_joins (Beside Calls) _ _ (picked_in_order to.order p.0) (λ own. handed_joins p.0 own (record s { stack = p.1 }) a c r q)))))
 
         pub run_joins : (p : P) (p' : P') (caller : List E) (a : M) (b : M') → RM a b → Joins Outcomes (run_to event place D m f to p last caller callee arguments reply a) (run_to event place' D' m f to p' last' caller callee arguments reply b)
         run_joins p p' caller a b h =

@@ -14,9 +14,9 @@ use Rattle.witx_ast.proofs.AlikeLaws.{alike-decides}
 use Rattle.witx_ast.proofs.TagLaws.{fits-decides}
 use Rattle.witx_machine.specs.Words.{Word, i32, when}
 use Rattle.witx_machine.specs.Functions.{by_address}
-use Rattle.witx_machine.specs.Cells.{Cell, Cells, Memory, get, insert, given, loaded, stored, is_i32, cells}
+use Rattle.witx_machine.specs.Cells.{Cell, Cells, Memory, get, insert, cell_given, loaded, stored, is_i32, cells}
 use Rattle.witx_machine.proofs.CellLaws.{own_cell}
-use Rattle.witx_bytes.specs.Bytes.{Bytes, Agrees, written, placed, in_bounds, none_held, all_held, holds, is_free}
+use Rattle.witx_bytes.specs.Bytes.{Bytes, Agrees, image_written, with_zeros, in_bounds, none_held, all_held, holds, is_free}
 use Rattle.witx_bytes.specs.Images.{image}
 use Rattle.witx_bytes.specs.Reading.{value_at}
 use Rattle.witx_bytes.specs.ByteMachine.{Store, range_size, range_given, value_written, has_room}
@@ -77,7 +77,7 @@ module _ (list : List ℕ) where
   cells_with t v a more m = record { cells = insert m.cells a (record { made_for = t; content = v }); fresh = more; taken = m.taken ++ (a, t) ∷ [] }
 
   abbrev store_with : Tree → ℕ → List ℕ → Store → Store
-  store_with t a more n = record { bytes = placed a (range_size (plain t)) n.bytes; fresh = more; taken = n.taken ++ (a, t) ∷ [] }
+  store_with t a more n = record { bytes = with_zeros a (range_size (plain t)) n.bytes; fresh = more; taken = n.taken ++ (a, t) ∷ [] }
 
   -- one more cell, empty, and its range
   one_more : (t : Tree) (n : Store) (m : Memory) (a : ℕ) (more : List ℕ) (r : CellsStand n m) → m.fresh ≡ a ∷ more → is_free a (range_size (plain t)) n.bytes ≡ true → CellsStand (store_with t a (more ++ r.tail) n) (cells_with t None a more m)
@@ -90,9 +90,9 @@ module _ (list : List ℕ) where
     apart = λ x y c d e f differs. parted x y c d (nat_eq x a) refl (nat_eq y a) refl e f differs;
   }
     where
-      stood : (x : ℕ) (c : Cell) (b : Bool) → nat_eq x a ≡ b → cond b (Some (empty_cell t)) (get m.cells x) ≡ Some c → StandsAt (placed a (range_size (plain t)) n.bytes) x c
+      stood : (x : ℕ) (c : Cell) (b : Bool) → nat_eq x a ≡ b → cond b (Some (empty_cell t)) (get m.cells x) ≡ Some c → StandsAt (with_zeros a (range_size (plain t)) n.bytes) x c
       stood x c true h e =
-          subst (StandsAt (placed a (range_size (plain t)) n.bytes) x) (some-same e) (subst (λ x. StandsAt (placed a (range_size (plain t)) n.bytes) x (empty_cell t)) (sym ((decides-eq x a).0 h)) (held-own a (range_size (plain t)) n.bytes free, λ v e. absurd (some-none e)))
+          subst (StandsAt (with_zeros a (range_size (plain t)) n.bytes) x) (some-same e) (subst (λ x. StandsAt (with_zeros a (range_size (plain t)) n.bytes) x (empty_cell t)) (sym ((decides-eq x a).0 h)) (held-own a (range_size (plain t)) n.bytes free, λ v e. absurd (some-none e)))
       stood x c false h e =
           let s = r.stands x c e in
           let k = range_size (plain c.made_for) in (
@@ -124,11 +124,11 @@ module _ (list : List ℕ) where
     apart = λ x y d d' e f differs. parted x y d d' (nat_eq x a) refl (nat_eq y a) refl e f differs;
   }
     where
-      stood : (x : ℕ) (d : Cell) (b : Bool) → nat_eq x a ≡ b → cond b (Some (full_cell c v)) (get m.cells x) ≡ Some d → StandsAt (written a (image (plain t) v) n.bytes) x d
+      stood : (x : ℕ) (d : Cell) (b : Bool) → nat_eq x a ≡ b → cond b (Some (full_cell c v)) (get m.cells x) ≡ Some d → StandsAt (image_written a (image (plain t) v) n.bytes) x d
       stood x d true h e =
-          subst (StandsAt (written a (image (plain t) v) n.bytes) x) (some-same e) (subst (λ x. StandsAt (written a (image (plain t) v) n.bytes) x (full_cell c v)) (sym ((decides-eq x a).0 h)) (
+          subst (StandsAt (image_written a (image (plain t) v) n.bytes) x) (some-same e) (subst (λ x. StandsAt (image_written a (image (plain t) v) n.bytes) x (full_cell c v)) (sym ((decides-eq x a).0 h)) (
             held-written a (image (plain t) v) a (range_size (plain c.made_for)) n.bytes (r.stands a c found).0,
-            λ u q. subst (λ u. (is_value (plain c.made_for) u ≡ true) × Agrees (written a (image (plain t) v) n.bytes) a (image (plain c.made_for) u)) (some-same q) (subst (λ p. (is_value p v ≡ true) × Agrees (written a (image (plain t) v) n.bytes) a (image p v)) (sym alike) (is, written-own a (image (plain t) v) n.bytes)),
+            λ u q. subst (λ u. (is_value (plain c.made_for) u ≡ true) × Agrees (image_written a (image (plain t) v) n.bytes) a (image (plain c.made_for) u)) (some-same q) (subst (λ p. (is_value p v ≡ true) × Agrees (image_written a (image (plain t) v) n.bytes) a (image p v)) (sym alike) (is, written-own a (image (plain t) v) n.bytes)),
           ))
       stood x d false h e =
           let o = r.stands x d e in
@@ -174,9 +174,9 @@ module _ (list : List ℕ) where
       by a more is false free = tt
       by a more is true free = (refl, one_more t n m a more r is free)
 
-      go : (fs : List ℕ) → m.fresh ≡ fs → Meets GivesCell (range_given t n.bytes n.fresh n.taken) (given t None m.cells fs m.taken)
+      go : (fs : List ℕ) → m.fresh ≡ fs → Meets GivesCell (range_given t n.bytes n.fresh n.taken) (cell_given t None m.cells fs m.taken)
       go [] is = meets-none GivesCell (range_given t n.bytes n.fresh n.taken)
-      go (a ∷ more) is = subst (λ l. Meets GivesCell (range_given t n.bytes l n.taken) (given t None m.cells (a ∷ more) m.taken)) (sym (r.fresh ∙ ap (λ l. l ++ r.tail) is)) (by a more is (is_free a (range_size (plain t)) n.bytes) refl)
+      go (a ∷ more) is = subst (λ l. Meets GivesCell (range_given t n.bytes l n.taken) (cell_given t None m.cells (a ∷ more) m.taken)) (sym (r.fresh ∙ ap (λ l. l ++ r.tail) is)) (by a more is (is_free a (range_size (plain t)) n.bytes) refl)
 
   abbrev put_in : Tree → Value → Word × Store → Word × Store
   put_in t v r = (r.0, value_written (plain t) v r.0.bits r.1)
@@ -188,11 +188,11 @@ module _ (list : List ℕ) where
       by val a more is false free = tt
       by val a more is true free = (refl, one_full t v n m a more r is free val)
 
-      go : is_value (plain t) v ≡ true → (fs : List ℕ) → m.fresh ≡ fs → Meets GivesCell (option_map (put_in t v) (range_given t n.bytes n.fresh n.taken)) (given t (Some v) m.cells fs m.taken)
+      go : is_value (plain t) v ≡ true → (fs : List ℕ) → m.fresh ≡ fs → Meets GivesCell (option_map (put_in t v) (range_given t n.bytes n.fresh n.taken)) (cell_given t (Some v) m.cells fs m.taken)
       go val [] is = meets-none GivesCell (option_map (put_in t v) (range_given t n.bytes n.fresh n.taken))
-      go val (a ∷ more) is = subst (λ l. Meets GivesCell (option_map (put_in t v) (range_given t n.bytes l n.taken)) (given t (Some v) m.cells (a ∷ more) m.taken)) (sym (r.fresh ∙ ap (λ l. l ++ r.tail) is)) (by val a more is (is_free a (range_size (plain t)) n.bytes) refl)
+      go val (a ∷ more) is = subst (λ l. Meets GivesCell (option_map (put_in t v) (range_given t n.bytes l n.taken)) (cell_given t (Some v) m.cells (a ∷ more) m.taken)) (sym (r.fresh ∙ ap (λ l. l ++ r.tail) is)) (by val a more is (is_free a (range_size (plain t)) n.bytes) refl)
 
-      tested : (b w : Bool) → is_writable (plain t) v ≡ w → Meets GivesCell (when (b && w) (option_map (put_in t v) (range_given t n.bytes n.fresh n.taken))) (when b (given t (Some v) m.cells m.fresh m.taken))
+      tested : (b w : Bool) → is_writable (plain t) v ≡ w → Meets GivesCell (when (b && w) (option_map (put_in t v) (range_given t n.bytes n.fresh n.taken))) (when b (cell_given t (Some v) m.cells m.fresh m.taken))
       tested false w e = tt
       tested true false e = tt
       tested true true e = go (both (is_value (plain t) v) (fits (plain t)) e).0 m.fresh refl

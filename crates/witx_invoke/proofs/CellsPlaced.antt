@@ -14,13 +14,13 @@ use Rattle.witx_layout.specs.Numbers.{size_of}
 use Rattle.witx_machine.specs.Words.{Word, i32, is_u32, when}
 use Rattle.witx_machine.specs.Functions.{by_address}
 use Rattle.witx_machine.specs.Cells.{Cell, Memory, Taken, get, insert, loaded, stored, is_i32, cells}
-use Rattle.witx_bytes.specs.Bytes.{Bytes, written, placed, in_bounds, all_held, holds, is_free}
+use Rattle.witx_bytes.specs.Bytes.{Bytes, image_written, with_zeros, in_bounds, all_held, holds, is_free}
 use Rattle.witx_bytes.specs.Images.{image}
 use Rattle.witx_bytes.specs.Reading.{value_at}
 use Rattle.witx_bytes.specs.ByteMachine.{Store, bytes, range_size, range_given, value_written, has_room}
-use Rattle.witx_bytes.specs.Follow.{AreApart, AreUnused, AreWritable}
+use Rattle.witx_bytes.specs.Follow.{AreRangesApart, AreUnused, AreWritable}
 use Rattle.witx_call.specs.Ranges.{StandFrom, EndBelow, AreStated}
-use Rattle.witx_call.specs.Room.{no_bytes, Room, is_place, range_placed, next_address}
+use Rattle.witx_call.specs.Room.{no_bytes, Room, is_range_place, range_placed, next_address}
 use Rattle.witx_invoke.specs.Placing.{is_writable, is_readable, is_address, value_put, placing}
 use Rattle.witx_machine.proofs.Simulation.{Follows, Makes, Simulates, Backwards}
 use Rattle.witx_bytes.proofs.BytesFollow.{Related, Same, Front, bytes_simulate_cells, fronts_go_back}
@@ -32,13 +32,13 @@ record Given (t : Tree) (m : Bytes) (fresh : List ℕ) (before : Taken) (q : Wor
   at : ℕ
   word : q.0 ≡ i32 at
   free : is_free at (range_size (plain t)) m ≡ true
-  bytes : q.1.bytes ≡ placed at (range_size (plain t)) m
+  bytes : q.1.bytes ≡ with_zeros at (range_size (plain t)) m
   taken : q.1.taken ≡ before ++ (at, t) ∷ []
 
 given-is : (t : Tree) (m : Bytes) (fresh : List ℕ) (taken : Taken) (q : Word × Store) → range_given t m fresh taken ≡ Some q → Given t m fresh taken q
 given-is t m [] taken q e = absurd (some-none e)
 given-is t m (a ∷ more) taken q e =
-    let p = when-some (is_free a (range_size (plain t)) m) (Some (i32 a, record { bytes = placed a (range_size (plain t)) m; fresh = more; taken = taken ++ (a, t) ∷ [] })) q e in
+    let p = when-some (is_free a (range_size (plain t)) m) (Some (i32 a, record { bytes = with_zeros a (range_size (plain t)) m; fresh = more; taken = taken ++ (a, t) ∷ [] })) q e in
     let is = some-same p.1 in
     record { at = a; word = ap (λ q. q.0) (sym is); free = p.0; bytes = ap (λ q. q.1.bytes) (sym is); taken = ap (λ q. q.1.taken) (sym is) }
 
@@ -72,7 +72,7 @@ writable-at (y ∷ xs) x ys h = writable-at xs x ys h.1
 
 -- whole: what the whole run takes
 module _ (whole : Taken) (stated : AreStated whole) (writable : AreWritable whole) where
-  abbrev pub fit : AreApart whole
+  abbrev pub fit : AreRangesApart whole
   fit = stated-apart 16 whole stated.stand
 
   abbrev pub unused : AreUnused no_bytes whole
@@ -107,7 +107,7 @@ module _ (whole : Taken) (stated : AreStated whole) (writable : AreWritable whol
   KnownGiven p = Known p.1
 
   abbrev room_at : ℕ → Tree → Room → Room
-  room_at a t r = record { bytes = placed a (range_size (plain t)) r.bytes; taken = r.taken ++ (a, t) ∷ [] }
+  room_at a t r = record { bytes = with_zeros a (range_size (plain t)) r.bytes; taken = r.taken ++ (a, t) ∷ [] }
 
   -- the range stands where it is to stand, and its type fits
   record Comes (t : Tree) (r : Room) (a : ℕ) : Type 0 where
@@ -121,9 +121,9 @@ module _ (whole : Taken) (stated : AreStated whole) (writable : AreWritable whol
       let is : r.taken ++ (a, t) ∷ rest ≡ whole = in-front s.taken r.taken q.1.taken (a, t) rest whole k g.taken e in
       let here : a ≡ next_address r.taken = stand-at 16 r.taken (a, t) rest (subst (λ l. StandFrom 16 l) (sym is) stated.stand) in
       let limit : a + size ≤ 2 ^ 20 = below-at (2 ^ 20) r.taken (a, t) rest (subst (λ l. EndBelow (2 ^ 20) l) (sym is) stated.room) in
-      let place : is_place a size r.bytes ≡ true = free-place a size r.bytes limit (subst (λ m. is_free a size m ≡ true) b g.free) in
+      let place : is_range_place a size r.bytes ≡ true = free-place a size r.bytes limit (subst (λ m. is_free a size m ≡ true) b g.free) in
       record {
-        gives = ap (λ a. range_placed t a size r) (sym here) ∙ when-true (is_place a size r.bytes) (Some (i32 a, room_at a t r)) place;
+        gives = ap (λ a. range_placed t a size r) (sym here) ∙ when-true (is_range_place a size r.bytes) (Some (i32 a, room_at a t r)) place;
         fit = (fits-decides (plain t)).1 (writable-at r.taken (a, t) rest (subst AreWritable (sym is) writable));
       }
 
@@ -135,7 +135,7 @@ module _ (whole : Taken) (stated : AreStated whole) (writable : AreWritable whol
       let c = comes t s r o.0 g p.bytes p.taken k.0 (ap (λ l. l ++ k.0) o.2.1.taken ∙ k.1) in (
         (i32 g.at, room_at g.at t r),
         c.gives,
-        (o.2.0 ∙ g.word, record { store = o.0.1; related = o.2.1; bytes = g.bytes ∙ ap (placed g.at (range_size (plain t))) p.bytes; taken = g.taken ∙ ap (λ l. l ++ (g.at, t) ∷ []) p.taken }),
+        (o.2.0 ∙ g.word, record { store = o.0.1; related = o.2.1; bytes = g.bytes ∙ ap (with_zeros g.at (range_size (plain t))) p.bytes; taken = g.taken ∙ ap (λ l. l ++ (g.at, t) ∷ []) p.taken }),
       ))
 
   abbrev put_in : Tree → Value → Word × Store → Word × Store
@@ -144,8 +144,8 @@ module _ (whole : Taken) (stated : AreStated whole) (writable : AreWritable whol
   put-gives : (t : Tree) (v : Value) (r : Room) (q : Word × Room) → by_address (plain t) && is_writable (plain t) v ≡ true → placing.give t r ≡ Some q → placing.put t v r ≡ Some (q.0, value_put (plain t) v q.0.bits q.1)
   put-gives t v r q h e = when-true (by_address (plain t) && is_writable (plain t) v) (option_map (λ r. (r.0, value_put (plain t) v r.0.bits r.1)) (placing.give t r)) h ∙ ap (option_map (λ r. (r.0, value_put (plain t) v r.0.bits r.1))) e
 
-  put-bytes : (t : Tree) (v : Value) (given q : Word × Store) (a : ℕ) (m : Bytes) → put_in t v given ≡ q → given.0 ≡ i32 a → given.1.bytes ≡ m → q.1.bytes ≡ written a (image (plain t) v) m
-  put-bytes t v given q a m e w b = ap (λ q. q.1.bytes) (sym e) ∙ (λ i. written (w i).bits (image (plain t) v) (b i))
+  put-bytes : (t : Tree) (v : Value) (given q : Word × Store) (a : ℕ) (m : Bytes) → put_in t v given ≡ q → given.0 ≡ i32 a → given.1.bytes ≡ m → q.1.bytes ≡ image_written a (image (plain t) v) m
+  put-bytes t v given q a m e w b = ap (λ q. q.1.bytes) (sym e) ∙ (λ i. image_written (w i).bits (image (plain t) v) (b i))
 
   put-taken : (t : Tree) (v : Value) (given q : Word × Store) (l : Taken) → put_in t v given ≡ q → given.1.taken ≡ l → q.1.taken ≡ l
   put-taken t v given q l e k = ap (λ q. q.1.taken) (sym e) ∙ k
@@ -167,7 +167,7 @@ module _ (whole : Taken) (stated : AreStated whole) (writable : AreWritable whol
           record {
             store = o.0.1;
             related = o.2.1;
-            bytes = put-bytes t v f.0 o.0 g.at (placed g.at (range_size (plain t)) r.bytes) f.2 g.word (g.bytes ∙ ap (placed g.at (range_size (plain t))) p.bytes);
+            bytes = put-bytes t v f.0 o.0 g.at (with_zeros g.at (range_size (plain t)) r.bytes) f.2 g.word (g.bytes ∙ ap (with_zeros g.at (range_size (plain t))) p.bytes);
             taken = put-taken t v f.0 o.0 (s.taken ++ (g.at, t) ∷ []) f.2 g.taken ∙ ap (λ l. l ++ (g.at, t) ∷ []) p.taken;
           },
         ),

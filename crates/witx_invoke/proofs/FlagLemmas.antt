@@ -12,7 +12,7 @@ use Rattle.witx_ast.specs.Views.{tree_of, named_tree}
 use Rattle.witx_ast.proofs.Decided.{decides-eq}
 use Rattle.witx_ast.proofs.Trees.{tree-NamedType}
 use Rattle.witx_machine.specs.declared.surface.WasmType.{WasmType}
-use Rattle.witx_machine.specs.Words.{Word, when, checked, flags_from, flags_in, is_for, same_type, repr_modulus, repr_word_type, value_in, value_of, word_in, word_of, enum_of, flags_of}
+use Rattle.witx_machine.specs.Words.{Word, when, checked_value, flags_from, flags_in, is_for, same_type, repr_modulus, repr_word_type, value_in, value_of, word_in, word_of, enum_of, flags_of}
 use Rattle.witx_bytes.proofs.NumberLaws.{flags-long}
 use Rattle.witx_invoke.specs.Representing.{flags_in_word, flags_kept, tag_kept}
 
@@ -86,7 +86,7 @@ word-of-flags w x v r k e = go (plain x) e
 pub flags-of-none : (w : WasmType) (x : Tree) (u : Word) → None ≡ flags_kept (plain x) → None ≡ value_of (flags_of w x) u
 flags-of-none w x u e = go (plain x) e
   where
-    go : (t : Plain) → None ≡ flags_kept t → None ≡ when (is_for (flags_of w x) t && same_type u.type w) (option_and_then (checked t) (value_in t u.bits))
+    go : (t : Plain) → None ≡ flags_kept t → None ≡ when (is_for (flags_of w x) t && same_type u.type w) (option_and_then (checked_value t) (value_in t u.bits))
     go Plain.handle e = refl
     go (Plain.builtin c) e = refl
     go (Plain.list_of t) e = refl
@@ -101,11 +101,11 @@ eq-self : (n : ℕ) → nat_eq n n ≡ true
 eq-self n = (decides-eq n n).1 refl
 
 -- so many flags are a value of the type
-all-checked : (r : IntRepr) (ms : _) (x : ℕ) → flags_in (field_count ms) x ≡ option_and_then (checked (Plain.record_of (RecordKind.Bitflags r) ms)) (flags_in (field_count ms) x)
+all-checked : (r : IntRepr) (ms : _) (x : ℕ) → flags_in (field_count ms) x ≡ option_and_then (checked_value (Plain.record_of (RecordKind.Bitflags r) ms)) (flags_in (field_count ms) x)
 all-checked r ms x = by (nat_lt x (2 ^ field_count ms))
   where
     by : (b : Bool) → when b (Some (plain_value.flag_bits (flags_from (field_count ms) x)))
-        ≡ option_and_then (checked (Plain.record_of (RecordKind.Bitflags r) ms)) (when b (Some (plain_value.flag_bits (flags_from (field_count ms) x))))
+        ≡ option_and_then (checked_value (Plain.record_of (RecordKind.Bitflags r) ms)) (when b (Some (plain_value.flag_bits (flags_from (field_count ms) x))))
     by true =
         sym (ap (λ n. when (nat_eq n (field_count ms)) (Some (plain_value.flag_bits (flags_from (field_count ms) x)))) (flags-long (field_count ms) x)
         ∙ ap (λ b. when b (Some (plain_value.flag_bits (flags_from (field_count ms) x)))) (eq-self (field_count ms)))
@@ -116,7 +116,7 @@ pub flags-of-word : (w : WasmType) (x : Tree) (u : Word) (r : IntRepr) (k : ℕ)
 flags-of-word w x u r k e = go (plain x) e
   where
     go : (t : Plain) → Some (r, k) ≡ flags_kept t
-        → when (same_type w (repr_word_type r) && same_type u.type w) (flags_in k (u.bits % repr_modulus r)) ≡ when (is_for (flags_of w x) t && same_type u.type w) (option_and_then (checked t) (value_in t u.bits))
+        → when (same_type w (repr_word_type r) && same_type u.type w) (flags_in k (u.bits % repr_modulus r)) ≡ when (is_for (flags_of w x) t && same_type u.type w) (option_and_then (checked_value t) (value_in t u.bits))
     go (Plain.record_of (RecordKind.Bitflags q) ms) e =
         ap (λ r. when (same_type w (repr_word_type r) && same_type u.type w) (flags_in k (u.bits % repr_modulus r))) (first-same e)
         ∙ ap (λ k. when (same_type w (repr_word_type q) && same_type u.type w) (flags_in k (u.bits % repr_modulus q))) (second-same e)
@@ -134,7 +134,7 @@ flags-of-word w x u r k e = go (plain x) e
 pub case-of-none : (x : Tree) (u : Word) → None ≡ tag_kept (plain x) → None ≡ value_of (enum_of x) u
 case-of-none x u e = go (plain x) e
   where
-    go : (t : Plain) → None ≡ tag_kept t → None ≡ when (is_for (enum_of x) t && same_type u.type WasmType.I32) (option_and_then (checked t) (value_in t u.bits))
+    go : (t : Plain) → None ≡ tag_kept t → None ≡ when (is_for (enum_of x) t && same_type u.type WasmType.I32) (option_and_then (checked_value t) (value_in t u.bits))
     go Plain.handle e = refl
     go (Plain.builtin c) e = refl
     go (Plain.list_of t) e = refl
@@ -145,10 +145,10 @@ case-of-none x u e = go (plain x) e
 
 pub case-of-other : (x : Tree) (u : Word) → same_type u.type WasmType.I32 ≡ false → None ≡ value_of (enum_of x) u
 case-of-other x u e =
-    sym (ap (λ b. when (is_for (enum_of x) (plain x) && b) (option_and_then (checked (plain x)) (value_in (plain x) u.bits))) e ∙ neither (is_for (enum_of x) (plain x)) _)
+    sym (ap (λ b. when (is_for (enum_of x) (plain x) && b) (option_and_then (checked_value (plain x)) (value_in (plain x) u.bits))) e ∙ neither (is_for (enum_of x) (plain x)) _)
 
 pub case-of-word : (x : Tree) (u : Word) (r : IntRepr) → same_type u.type WasmType.I32 ≡ true → Some r ≡ tag_kept (plain x)
-    → checked (plain x) (plain_value.enum_index (u.bits % repr_modulus r)) ≡ value_of (enum_of x) u
+    → checked_value (plain x) (plain_value.enum_index (u.bits % repr_modulus r)) ≡ value_of (enum_of x) u
 case-of-word x u r h e = go (plain x) e
   where
     twice : {A : Type 0} (a l b : Bool) (o : Option A) → b ≡ true → when (a && l) o ≡ when (a && b) (when (a && l) o)
@@ -156,9 +156,9 @@ case-of-word x u r h e = go (plain x) e
     twice false l b o h = refl
 
     go : (t : Plain) → Some r ≡ tag_kept t
-        → checked t (plain_value.enum_index (u.bits % repr_modulus r)) ≡ when (is_for (enum_of x) t && same_type u.type WasmType.I32) (option_and_then (checked t) (value_in t u.bits))
+        → checked_value t (plain_value.enum_index (u.bits % repr_modulus r)) ≡ when (is_for (enum_of x) t && same_type u.type WasmType.I32) (option_and_then (checked_value t) (value_in t u.bits))
     go (Plain.variant_of q cs) e =
-        ap (λ r. checked (Plain.variant_of q cs) (plain_value.enum_index (u.bits % repr_modulus r))) (some-same e)
+        ap (λ r. checked_value (Plain.variant_of q cs) (plain_value.enum_index (u.bits % repr_modulus r))) (some-same e)
         ∙ twice (all_bare cs) (nat_lt (u.bits % repr_modulus q) (arm_count cs)) (same_type u.type WasmType.I32) (Some (plain_value.enum_index (u.bits % repr_modulus q))) h
     go Plain.handle e = absurd (none_some (sym e))
     go (Plain.builtin c) e = absurd (none_some (sym e))
@@ -216,9 +216,9 @@ module _ (n : NamedType) where
   lifts-no-case u e = case-of-none (named_tree n) u (e ∙ ap tag_kept named)
 
   pub lifts-case : (u : Word) (r : IntRepr) (i : ℕ) → same_type u.type WasmType.I32 ≡ true → Some r ≡ tag_kept (plain (tree_of n.tref)) → i ≡ u.bits % repr_modulus r
-      → checked (plain (tree_of n.tref)) (plain_value.enum_index i) ≡ value_of (enum_of (named_tree n)) u
+      → checked_value (plain (tree_of n.tref)) (plain_value.enum_index i) ≡ value_of (enum_of (named_tree n)) u
   lifts-case u r i h e f =
-      ap (λ i. checked (plain (tree_of n.tref)) (plain_value.enum_index i)) f
-      ∙ ap (λ t. checked t (plain_value.enum_index (u.bits % repr_modulus r))) named ∙ case-of-word (named_tree n) u r h (e ∙ ap tag_kept named)
+      ap (λ i. checked_value (plain (tree_of n.tref)) (plain_value.enum_index i)) f
+      ∙ ap (λ t. checked_value t (plain_value.enum_index (u.bits % repr_modulus r))) named ∙ case-of-word (named_tree n) u r h (e ∙ ap tag_kept named)
 
 pub ruleset flag_rules = (not-flags, lifts-no-flags, lifts-no-case, case-of-other)

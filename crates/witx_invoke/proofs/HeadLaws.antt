@@ -2,16 +2,16 @@
 use Rattle.std.proofs.Common.{◌≡◌, ℕ, zero, suc, ◌+◌, ◌-◌, ◌*◌, ◌^◌, ◌<◌, min, List, ◌∷◌, true, false, cond, Some, None, refl, ap, arith}
 use Rattle.std.specs.Char.{is_digit, digit_value}
 use Rattle.std.proofs.lemmas.Bool.Decides.{nat_tests}
-use Rattle.witx_invoke.specs.Reading.{after, digits_at, grown, item_at, flag_at}
+use Rattle.witx_invoke.specs.Reading.{past, digits_at, grown, item_past, flag_at}
 
 -- the byte stands there, or another one
-pub after_it : (b c : ℕ) (s : List ℕ) → c ≡ b → after b (c ∷ s) ≡ Some s
+pub after_it : (b c : ℕ) (s : List ℕ) → c ≡ b → past b (c ∷ s) ≡ Some s
 after_it b c s e = grind (arith, nat_tests)
 
-pub after_other : (b c : ℕ) (s : List ℕ) → (c ≡ b → ⊥) → after b (c ∷ s) ≡ None
+pub after_other : (b c : ℕ) (s : List ℕ) → (c ≡ b → ⊥) → past b (c ∷ s) ≡ None
 after_other b c s n = grind (arith, nat_tests)
 
-pub item_behind : (i : ℕ) (s : List ℕ) → (i ≡ 0 → ⊥) → item_at i s ≡ after 32 s
+pub item_behind : (i : ℕ) (s : List ℕ) → (i ≡ 0 → ⊥) → item_past i s ≡ past 32 s
 item_behind zero s n = absurd (n refl)
 item_behind (suc i) s n = refl
 

@@ -14,7 +14,7 @@ use Rattle.witx_machine.specs.Run.{Outcome}
 use Rattle.witx_instructions.specs.Views.{event_of}
 use Rattle.witx_instructions.specs.declared.event.Event as declared_event
 use Rattle.witx_call.specs.CallSeen.{IsSeen, seen_of}
-use Rattle.witx_invoke.specs.Answering.{EndsSeen, HasNotEnded, IsStuck, stated_run}
+use Rattle.witx_invoke.specs.Answering.{EndsSeen, HasNotEnded, HasNoRoom, stated_run}
 use Rattle.witx_invoke.specs.Excepting.{is_excepted}
 use Rattle.witx_invoke.specs.Invoking.{CanRun, IsAnswer, Refuses}
 use Rattle.witx_call.specs.Room.{Room}
@@ -78,7 +78,7 @@ module _ (m : List ℕ) (f : Function) (caller callee : List Event) (arguments :
         by no_rule g s = cc
         by (stuck_at p) g s = cc
 
-    stuck-refused : (x : InvokeError) → IsStuck t x → Refuses m f caller callee arguments reply x
+    stuck-refused : (x : InvokeError) → HasNoRoom t x → Refuses m f caller callee arguments reply x
     stuck-refused InvokeError.ZeroError s = absurd s
     stuck-refused InvokeError.NoRoom s =
         (accepted b e h, inr (λ more o runs. no-run m f caller callee arguments reply can.writable can.arguments_fit can.reply_fits (λ q g. not-ended q s g) more o runs))
@@ -88,7 +88,7 @@ module _ (m : List ℕ) (f : Function) (caller callee : List Event) (arguments :
     answers (Ok i) s = answered i s
     answers (Err x) s = s
 
-    pub refusals : (r : Result Invoked InvokeError) → IfErr r (IsStuck t) → IfErr r (Refuses m f caller callee arguments reply)
+    pub refusals : (r : Result Invoked InvokeError) → IfErr r (HasNoRoom t) → IfErr r (Refuses m f caller callee arguments reply)
     refusals (Ok i) s = s
     refusals (Err x) s = stuck-refused x s
 

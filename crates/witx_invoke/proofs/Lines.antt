@@ -17,17 +17,17 @@ use Rattle.witx_ast.proofs.TagLaws.{fits-decides}
 use Rattle.witx_ast.proofs.ValueLaws.{value-decides}
 use Rattle.witx_machine.specs.Faithful.{are_arguments, is_reply}
 use Rattle.witx_machine.specs.Functions.{function_of}
-use Rattle.witx_bytes.specs.Readings.{Reads}
+use Rattle.witx_bytes.specs.Readings.{ReadAs}
 use Rattle.witx_bytes.specs.Seen.{seen}
 use Rattle.witx_bytes.specs.declared.read_error.ReadError.{ReadError}
 use Rattle.witx_bytes.specs.declared.value.Value as program
-use Rattle.witx_call.specs.Lines.{AreLines, FirstFault, Gives, IsBehind, IsLine, NoLine, line_text, lines_text, param_types, types_of, values_given}
+use Rattle.witx_call.specs.Lines.{AreLines, FirstFault, Gives, IsBehindLine, IsValueLine, NoLine, line_text, lines_text, line_param_types, line_types, values_given}
 use Rattle.witx_invoke.specs.Reading.{taken, type_at}
 use Rattle.witx_call.specs.ValueTexts.{value_text}
 use Rattle.witx_invoke.proofs.ReadBack.{type-taken}
 
 -- of the line of a value the reader takes the value
-pub line-taken : (t : Tree) (text : List ℕ) (v : Value) (rest : List ℕ) → fits (plain t) ≡ true → IsLine t text v rest → type_at (plain t) text ≡ Some (v, 10 ∷ rest)
+pub line-taken : (t : Tree) (text : List ℕ) (v : Value) (rest : List ℕ) → fits (plain t) ≡ true → IsValueLine t text v rest → type_at (plain t) text ≡ Some (v, 10 ∷ rest)
 line-taken t text v rest f l =
     ap (type_at (plain t)) (l.spelled ∙ append_assoc (value_text v) (10 ∷ []) rest)
     ∙ type-taken (plain t) v (10 ∷ rest) ((value-decides (plain t) v).0 l.value) ((fits-decides (plain t)).0 f) refl
@@ -51,7 +51,7 @@ same-rest : (s r : List ℕ) → 10 ∷ s ≡ 10 ∷ r → s ≡ r
 same-rest s r e = cc
 
 -- a line tells its value and what follows it
-pub line-tells : (t : Tree) (text : List ℕ) (v w : Value) (rest more : List ℕ) → fits (plain t) ≡ true → IsLine t text v rest → IsLine t text w more → (v ≡ w) × (rest ≡ more)
+pub line-tells : (t : Tree) (text : List ℕ) (v w : Value) (rest more : List ℕ) → fits (plain t) ≡ true → IsValueLine t text v rest → IsValueLine t text w more → (v ≡ w) × (rest ≡ more)
 line-tells t text v w rest more f l m =
     let e = line-taken t text v rest f l in
     let k = line-taken t text w more f m in
@@ -68,13 +68,13 @@ text-tells t v w f h k e = one-taken (type_at t (value_text v)) v w [] [] (alone
 pub no-line-none : (t : Tree) (text : List ℕ) → fits (plain t) ≡ true → type_at (plain t) text ≡ None → NoLine t text
 no-line-none t text f e v rest l = none-taken (type_at (plain t) text) v (10 ∷ rest) e (line-taken t text v rest f l)
 
-pub no-line-other : (t : Tree) (text : List ℕ) (v : Value) (behind : List ℕ) → fits (plain t) ≡ true → type_at (plain t) text ≡ Some (v, behind) → IsBehind t text v None → NoLine t text
+pub no-line-other : (t : Tree) (text : List ℕ) (v : Value) (behind : List ℕ) → fits (plain t) ≡ true → type_at (plain t) text ≡ Some (v, behind) → IsBehindLine t text v None → NoLine t text
 no-line-other t text v behind f e none w rest l =
     let value : w ≡ v = one-taken (type_at (plain t) text) w v (10 ∷ rest) behind (line-taken t text w rest f l) e in
-    none rest (subst (λ v. IsLine t text v rest) value l)
+    none rest (subst (λ v. IsValueLine t text v rest) value l)
 
 -- one line and the rest
-lines-more : (t : Tree) (ts : List Tree) (text rest more : List ℕ) (v : Value) (vs : List Value) → IsLine t text v rest → AreLines ts rest vs more → AreLines (t ∷ ts) text (v ∷ vs) more
+lines-more : (t : Tree) (ts : List Tree) (text rest more : List ℕ) (v : Value) (vs : List Value) → IsValueLine t text v rest → AreLines ts rest vs more → AreLines (t ∷ ts) text (v ∷ vs) more
 lines-more t ts text rest more v vs l m = record {
   values = ap (λ b. cond b (are_arguments ts vs) false) l.value ∙ m.values;
   spelled = l.spelled ∙ ap (λ r. line_text v ++ r) m.spelled ∙ sym (append_assoc (line_text v) (lines_text vs) more);
@@ -83,14 +83,14 @@ lines-more t ts text rest more v vs l m = record {
 -- the lines of these parameters from number i on are left, where so many values are read
 pub record LinesLeft (done : List Value) (ps : List InterfaceFuncParam) (before i : ℕ) (text rest : List ℕ) : Type 0 where
   pub fit : types_fit (map param_field (drop i ps)) ≡ true
-  pub lines : (vs : List Value) (more : List ℕ) → AreLines (param_types (drop i ps)) rest vs more → AreLines (param_types ps) text (done ++ vs) more
-  pub fault : (more : List Tree) (n : ℕ) → FirstFault (before + i + 1) (param_types (drop i ps) ++ more) rest n → FirstFault (before + 1) (param_types ps ++ more) text n
+  pub lines : (vs : List Value) (more : List ℕ) → AreLines (line_param_types (drop i ps)) rest vs more → AreLines (line_param_types ps) text (done ++ vs) more
+  pub fault : (more : List Tree) (n : ℕ) → FirstFault (before + i + 1) (line_param_types (drop i ps) ++ more) rest n → FirstFault (before + 1) (line_param_types ps ++ more) text n
 
 pub lines-first : (ps : List InterfaceFuncParam) (before : ℕ) (text : List ℕ) → types_fit (map param_field ps) ≡ true → LinesLeft [] ps before 0 text text
 lines-first ps before text f = record {
   fit = f;
   lines = λ vs more a. a;
-  fault = λ more n a. subst (λ k. FirstFault k (param_types ps ++ more) text n) (omega arith) a;
+  fault = λ more n a. subst (λ k. FirstFault k (line_param_types ps ++ more) text n) (omega arith) a;
 }
 
 module _ (done : List Value) (ps : List InterfaceFuncParam) (before i : ℕ) (text rest : List ℕ) (p : InterfaceFuncParam) (f : LinesLeft done ps before i text rest) (l : i < length ps) (e : p ≡ get_or ps i p) where
@@ -103,29 +103,29 @@ module _ (done : List Value) (ps : List InterfaceFuncParam) (before i : ℕ) (te
   pub lines-fit : fits (plain (tree_of p.tref)) ≡ true
   lines-fit = both-fit.0
 
-  pub lines-next : (v : Value) (next : List ℕ) → IsLine (tree_of p.tref) rest v next → LinesLeft (done ++ v ∷ []) ps before (i + 1) text next
+  pub lines-next : (v : Value) (next : List ℕ) → IsValueLine (tree_of p.tref) rest v next → LinesLeft (done ++ v ∷ []) ps before (i + 1) text next
   lines-next v next line = record {
     fit = both-fit.1;
     lines = λ vs more a.
-        let here : AreLines (param_types (p ∷ drop (i + 1) ps)) rest (v ∷ vs) more = lines-more (tree_of p.tref) (param_types (drop (i + 1) ps)) rest next more v vs line a in
-        subst (λ us. AreLines (param_types ps) text us more) (sym (append_assoc done (v ∷ []) vs))
-        (f.lines (v ∷ vs) more (subst (λ ps. AreLines (param_types ps) rest (v ∷ vs) more) (sym left) here));
+        let here : AreLines (line_param_types (p ∷ drop (i + 1) ps)) rest (v ∷ vs) more = lines-more (tree_of p.tref) (line_param_types (drop (i + 1) ps)) rest next more v vs line a in
+        subst (λ us. AreLines (line_param_types ps) text us more) (sym (append_assoc done (v ∷ []) vs))
+        (f.lines (v ∷ vs) more (subst (λ ps. AreLines (line_param_types ps) rest (v ∷ vs) more) (sym left) here));
     fault = λ more n a.
         let count : before + (i + 1) + 1 ≡ before + i + 1 + 1 = omega arith in
-        let here : FirstFault (before + i + 1) (param_types (p ∷ drop (i + 1) ps) ++ more) rest n = inr (v, next, line, subst (λ k. FirstFault k (param_types (drop (i + 1) ps) ++ more) next n) count a) in
-        f.fault more n (subst (λ ps. FirstFault (before + i + 1) (param_types ps ++ more) rest n) (sym left) here);
+        let here : FirstFault (before + i + 1) (line_param_types (p ∷ drop (i + 1) ps) ++ more) rest n = inr (v, next, line, subst (λ k. FirstFault k (line_param_types (drop (i + 1) ps) ++ more) next n) count a) in
+        f.fault more n (subst (λ ps. FirstFault (before + i + 1) (line_param_types ps ++ more) rest n) (sym left) here);
   }
 
-  pub lines-stop : (n : ℕ) → (n ≡ before + i + 1) × NoLine (tree_of p.tref) rest → (more : List Tree) → FirstFault (before + 1) (param_types ps ++ more) text n
+  pub lines-stop : (n : ℕ) → (n ≡ before + i + 1) × NoLine (tree_of p.tref) rest → (more : List Tree) → FirstFault (before + 1) (line_param_types ps ++ more) text n
   lines-stop n h more =
-      let here : FirstFault (before + i + 1) (param_types (p ∷ drop (i + 1) ps) ++ more) rest n = inl h in
-      f.fault more n (subst (λ ps. FirstFault (before + i + 1) (param_types ps ++ more) rest n) (sym left) here)
+      let here : FirstFault (before + i + 1) (line_param_types (p ∷ drop (i + 1) ps) ++ more) rest n = inl h in
+      f.fault more n (subst (λ ps. FirstFault (before + i + 1) (line_param_types ps ++ more) rest n) (sym left) here)
 
-pub lines-done : (done : List Value) (ps : List InterfaceFuncParam) (before i : ℕ) (text rest : List ℕ) → LinesLeft done ps before i text rest → length ps ≤ i → AreLines (param_types ps) text done rest
+pub lines-done : (done : List Value) (ps : List InterfaceFuncParam) (before i : ℕ) (text rest : List ℕ) → LinesLeft done ps before i text rest → length ps ≤ i → AreLines (line_param_types ps) text done rest
 lines-done done ps before i text rest f l =
     let none : drop i ps ≡ [] = drop_all i ps l in
     let end : AreLines [] rest [] rest = record { values = refl; spelled = refl } in
-    subst (λ us. AreLines (param_types ps) text us rest) (append-nil done) (f.lines [] rest (subst (λ ps. AreLines (param_types ps) rest [] rest) (sym none) end))
+    subst (λ us. AreLines (line_param_types ps) text us rest) (append-nil done) (f.lines [] rest (subst (λ ps. AreLines (line_param_types ps) rest [] rest) (sym none) end))
 
 -- a text is never empty
 either : (b : Bool) (xs ys : List ℕ) → 0 < length xs → 0 < length ys → 0 < length (cond b xs ys)
@@ -174,14 +174,14 @@ lines-long (v ∷ vs) rest =
     let e : length ((line_text v ++ lines_text vs) ++ rest) ≡ length (line_text v ++ (lines_text vs ++ rest)) = ap length (append_assoc (line_text v) (lines_text vs) rest) in
     omega (arith, e, line-long v (lines_text vs ++ rest), lines-long vs rest)
 
-param-count : (ps : List InterfaceFuncParam) → length (param_types ps) ≡ length ps
+param-count : (ps : List InterfaceFuncParam) → length (line_param_types ps) ≡ length ps
 param-count [] = refl
 param-count (p ∷ ps) = ap suc (param-count ps)
 
 -- each line has two bytes at least
-pub lines-room : (ps : List InterfaceFuncParam) (text : List ℕ) (vs : List Value) (rest : List ℕ) → AreLines (param_types ps) text vs rest → (2 * length ps + length rest ≤ length text) × (length ps ≡ length vs)
+pub lines-room : (ps : List InterfaceFuncParam) (text : List ℕ) (vs : List Value) (rest : List ℕ) → AreLines (line_param_types ps) text vs rest → (2 * length ps + length rest ≤ length text) × (length ps ≡ length vs)
 lines-room ps text vs rest a =
-    let count : length ps ≡ length vs = sym (param-count ps) ∙ lines-count (param_types ps) vs a.values in
+    let count : length ps ≡ length vs = sym (param-count ps) ∙ lines-count (line_param_types ps) vs a.values in
     let e : length text ≡ length (lines_text vs ++ rest) = ap length a.spelled in
     let room : 2 * length ps + length rest ≤ length text = omega (arith, count, e, lines-long vs rest) in
     (room, count)
@@ -195,7 +195,7 @@ fault-behind [] us (v ∷ vs) text rest k n a f = absurd (false-true a.values)
 fault-behind (t ∷ ts) us [] text rest k n a f = absurd (false-true a.values)
 fault-behind (t ∷ ts) us (v ∷ vs) text rest k n a f =
     let h = go (is_value (plain t) v) refl a.values in
-    let line : IsLine t text v (lines_text vs ++ rest) = record { value = h.0; spelled = a.spelled ∙ append_assoc (line_text v) (lines_text vs) rest } in
+    let line : IsValueLine t text v (lines_text vs ++ rest) = record { value = h.0; spelled = a.spelled ∙ append_assoc (line_text v) (lines_text vs) rest } in
     let more : AreLines ts (lines_text vs ++ rest) vs rest = record { values = h.1; spelled = refl } in
     let count : k + suc (length ts) ≡ k + 1 + length ts = omega arith in
     inr (v, lines_text vs ++ rest, line, fault-behind ts us vs (lines_text vs ++ rest) rest (k + 1) n more (subst (λ k. FirstFault k us rest n) count f))
@@ -205,7 +205,7 @@ fault-behind (t ∷ ts) us (v ∷ vs) text rest k n a f =
     go false e h = absurd (false-true h)
 
 -- the reader's refusal
-pub none_read : (t : Tree) (text : List ℕ) → fits (plain t) ≡ true → (e : ReadError) → Reads (taken seen) (type_at (plain t) text) (Err e) → e ≡ ReadError.NoValue → NoLine t text
+pub none_read : (t : Tree) (text : List ℕ) → fits (plain t) ≡ true → (e : ReadError) → ReadAs (taken seen) (type_at (plain t) text) (Err e) → e ≡ ReadError.NoValue → NoLine t text
 none_read t text f ReadError.NoValue h n = no-line-none t text f h
 none_read t text f ReadError.OutOfMemory h n = absurd (clash n)
   where
@@ -218,24 +218,24 @@ lines-append [] us = refl
 lines-append (v ∷ vs) us = ap (λ s. line_text v ++ s) (lines-append vs us) ∙ sym (append_assoc (line_text v) (lines_text vs) (lines_text us))
 
 -- all values of one call, whose function has these parameters and results
-module _ (func : InterfaceFunc) (ps rs : List InterfaceFuncParam) (p : ps ≡ func.params) (r : rs ≡ func.results) (text next : List ℕ) (args : List Value) (a : AreLines (param_types ps) text args next) where
-  all-types : param_types ps ++ param_types rs ≡ types_of (function_of (func_tree func))
-  all-types = ap (λ ps. param_types ps ++ param_types rs) p ∙ ap (λ rs. param_types func.params ++ param_types rs) r
+module _ (func : InterfaceFunc) (ps rs : List InterfaceFuncParam) (p : ps ≡ func.params) (r : rs ≡ func.results) (text next : List ℕ) (args : List Value) (a : AreLines (line_param_types ps) text args next) where
+  all-types : line_param_types ps ++ line_param_types rs ≡ line_types (function_of (func_tree func))
+  all-types = ap (λ ps. line_param_types ps ++ line_param_types rs) p ∙ ap (λ rs. line_param_types func.params ++ line_param_types rs) r
 
-  behind-args : (n : ℕ) → FirstFault (1 + length ps) (param_types rs) next n → FirstFault 1 (types_of (function_of (func_tree func))) text n
-  behind-args n f = subst (λ ts. FirstFault 1 ts text n) all-types (fault-behind (param_types ps) (param_types rs) args text next 1 n a (subst (λ k. FirstFault (1 + k) (param_types rs) next n) (sym (param-count ps)) f))
+  behind-args : (n : ℕ) → FirstFault (1 + length ps) (line_param_types rs) next n → FirstFault 1 (line_types (function_of (func_tree func))) text n
+  behind-args n f = subst (λ ts. FirstFault 1 ts text n) all-types (fault-behind (line_param_types ps) (line_param_types rs) args text next 1 n a (subst (λ k. FirstFault (1 + k) (line_param_types rs) next n) (sym (param-count ps)) f))
 
-  pub reply-fault : (n : ℕ) → ((more : List Tree) → FirstFault (length ps + 1) (param_types rs ++ more) next n) → FirstFault 1 (types_of (function_of (func_tree func))) text n
+  pub reply-fault : (n : ℕ) → ((more : List Tree) → FirstFault (length ps + 1) (line_param_types rs ++ more) next n) → FirstFault 1 (line_types (function_of (func_tree func))) text n
   reply-fault n f =
       let count : length ps + 1 ≡ 1 + length ps = omega arith in
-      behind-args n (subst (λ k. FirstFault k (param_types rs) next n) count (subst (λ ts. FirstFault (length ps + 1) ts next n) (append-nil (param_types rs)) (f [])))
+      behind-args n (subst (λ k. FirstFault k (line_param_types rs) next n) count (subst (λ ts. FirstFault (length ps + 1) ts next n) (append-nil (line_param_types rs)) (f [])))
 
-  module _ (rest : List ℕ) (us : List Value) (b : AreLines (param_types rs) next us rest) where
-    pub too-many : (n : ℕ) → rest ≢ [] → n ≡ length ps + length us + 1 → FirstFault 1 (types_of (function_of (func_tree func))) text n
+  module _ (rest : List ℕ) (us : List Value) (b : AreLines (line_param_types rs) next us rest) where
+    pub too-many : (n : ℕ) → rest ≢ [] → n ≡ length ps + length us + 1 → FirstFault 1 (line_types (function_of (func_tree func))) text n
     too-many n some e =
-        let count : n ≡ 1 + length ps + length (param_types rs) = omega (arith, e, lines-count (param_types rs) us b.values) in
-        let end : FirstFault (1 + length ps + length (param_types rs)) [] rest n = (count, some) in
-        behind-args n (subst (λ ts. FirstFault (1 + length ps) ts next n) (append-nil (param_types rs)) (fault-behind (param_types rs) [] us next rest (1 + length ps) n b end))
+        let count : n ≡ 1 + length ps + length (line_param_types rs) = omega (arith, e, lines-count (line_param_types rs) us b.values) in
+        let end : FirstFault (1 + length ps + length (line_param_types rs)) [] rest n = (count, some) in
+        behind-args n (subst (λ ts. FirstFault (1 + length ps) ts next n) (append-nil (line_param_types rs)) (fault-behind (line_param_types rs) [] us next rest (1 + length ps) n b end))
 
 -- the value of a result, if there is one
 reply-is : (ts : List Tree) (replies news : List program.Value) (o : Option program.Value) → length ts ≤ 1 → IsTrue (are_arguments ts (map seen replies)) → replies ≡ news ++ option_to_list o → (IsSome o ↔ (0 < length replies))
@@ -266,15 +266,15 @@ given-append vs None = append-nil vs
 given-append vs (Some v) = refl
 
 pub values-given : (func : InterfaceFunc) (ps rs : List InterfaceFuncParam) → ps ≡ func.params → rs ≡ func.results → (text next rest : List ℕ) (args replies news : List program.Value) (o : Option program.Value)
-    → AreLines (param_types ps) text (map seen args) next → AreLines (param_types rs) next (map seen replies) rest → length rest ≤ 0 → length func.results ≤ 1 → replies ≡ news ++ option_to_list o → (IsSome o ↔ (0 < length replies))
+    → AreLines (line_param_types ps) text (map seen args) next → AreLines (line_param_types rs) next (map seen replies) rest → length rest ≤ 0 → length func.results ≤ 1 → replies ≡ news ++ option_to_list o → (IsSome o ↔ (0 < length replies))
     → Gives (function_of (func_tree func)) text (map seen args) (option_map seen o)
 values-given func ps rs p r text next rest args replies news o a b none few e i =
-    let one : length (param_types rs) ≤ 1 = omega (arith, few, ap length r, param-count rs) in
-    let reply = reply-is (param_types rs) replies news o one b.values e i in
+    let one : length (line_param_types rs) ≤ 1 = omega (arith, few, ap length r, param-count rs) in
+    let reply = reply-is (line_param_types rs) replies news o one b.values e i in
     let all : text ≡ lines_text (map seen args) ++ lines_text (map seen replies) = a.spelled ∙ ap (λ s. lines_text (map seen args) ++ s) (b.spelled ∙ ap (λ s. lines_text (map seen replies) ++ s) (empty rest none) ∙ append-nil (lines_text (map seen replies))) in
     record {
-      accepted = subst (λ ps. IsTrue (are_arguments (param_types ps) (map seen args))) p a.values;
-      replied = subst (λ rs. IsTrue (is_reply (param_types rs) (option_map seen o))) r reply.0;
+      accepted = subst (λ ps. IsTrue (are_arguments (line_param_types ps) (map seen args))) p a.values;
+      replied = subst (λ rs. IsTrue (is_reply (line_param_types rs) (option_map seen o))) r reply.0;
       spelled = all ∙ sym (lines-append (map seen args) (map seen replies)) ∙ ap (λ us. lines_text (map seen args ++ us)) reply.1 ∙ ap lines_text (given-append (map seen args) (option_map seen o));
     }
   where

@@ -11,11 +11,11 @@ use Rattle.witx_machine.specs.Words.{Word, i32, is_u32, when}
 use Rattle.witx_machine.specs.Functions.{by_address}
 use Rattle.witx_machine.specs.Machine.{Domain}
 use Rattle.witx_machine.specs.Cells.{Taken, cells, is_i32}
-use Rattle.witx_bytes.specs.Bytes.{placed, is_free}
+use Rattle.witx_bytes.specs.Bytes.{with_zeros, is_free}
 use Rattle.witx_bytes.specs.Reading.{value_at}
 use Rattle.witx_bytes.specs.ByteMachine.{Store, bytes, has_room, range_size, range_given, value_written}
 use Rattle.witx_call.specs.Ranges.{AreStated, addresses}
-use Rattle.witx_call.specs.Room.{Room, is_place, next_address}
+use Rattle.witx_call.specs.Room.{Room, is_range_place, next_address}
 use Rattle.witx_invoke.specs.Placing.{is_writable, is_readable, is_address, value_put, placing}
 use Rattle.witx_machine.proofs.Simulation.{Follows, Makes, Simulates, Backwards}
 use Rattle.witx_machine.proofs.Following.{follows_at}
@@ -91,9 +91,9 @@ module _ (whole : Taken) (more : List ℕ) where
   Gives p q = (p.0 ≡ q.0) × Listed p.1 q.1
 
   abbrev room_with : Tree → Room → Room
-  room_with t m = record { bytes = placed (next_address m.taken) (range_size (plain t)) m.bytes; taken = m.taken ++ (next_address m.taken, t) ∷ [] }
+  room_with t m = record { bytes = with_zeros (next_address m.taken) (range_size (plain t)) m.bytes; taken = m.taken ++ (next_address m.taken, t) ∷ [] }
 
-  given : (t : Tree) (m : Room) (n : Store) → Listed m n → is_place (next_address m.taken) (range_size (plain t)) m.bytes ≡ true → Known (i32 (next_address m.taken), room_with t m) →
+  given : (t : Tree) (m : Room) (n : Store) → Listed m n → is_range_place (next_address m.taken) (range_size (plain t)) m.bytes ≡ true → Known (i32 (next_address m.taken), room_with t m) →
       (q : Word × Store) × (range_given t n.bytes n.fresh n.taken ≡ Some q) × Gives (i32 (next_address m.taken), room_with t m) q
   given t m n r p k =
       let at = next_address m.taken in
@@ -101,7 +101,7 @@ module _ (whole : Taken) (more : List ℕ) where
       let is : m.taken ++ (at, t) ∷ k.0 ≡ whole = sym (append_assoc m.taken ((at, t) ∷ []) k.0) ∙ k.1 in
       let list : n.fresh ≡ at ∷ (addresses k.0 ++ more) = r.fresh ((at, t) ∷ k.0) is in
       let free : is_free at size m.bytes ≡ true = place-free at size m.bytes (behind-positive 16 m.taken (omega arith)) p in
-      let new : Store = record { bytes = placed at size m.bytes; fresh = addresses k.0 ++ more; taken = m.taken ++ (at, t) ∷ [] } in
+      let new : Store = record { bytes = with_zeros at size m.bytes; fresh = addresses k.0 ++ more; taken = m.taken ++ (at, t) ∷ [] } in
       let limit = (decides-le (at + size) (2 ^ 20)).0 (both _ _ p).0 in (
         (i32 at, new),
         (λ i. range_given t (r.bytes i) (list i) (r.taken i)) ∙ when-true (is_free at size m.bytes) (Some (i32 at, new)) free,
@@ -117,9 +117,9 @@ module _ (whole : Taken) (more : List ℕ) where
       )
 
   give_listed : (t : Tree) (m : Room) (n : Store) → Listed m n → Makes Known Gives (placing.give t m) (listing.give t n)
-  give_listed t m n r = go (is_place (next_address m.taken) (range_size (plain t)) m.bytes) refl
+  give_listed t m n r = go (is_range_place (next_address m.taken) (range_size (plain t)) m.bytes) refl
     where
-      go : (b : Bool) → is_place (next_address m.taken) (range_size (plain t)) m.bytes ≡ b → Makes Known Gives (when b (Some (i32 (next_address m.taken), room_with t m))) (range_given t n.bytes n.fresh n.taken)
+      go : (b : Bool) → is_range_place (next_address m.taken) (range_size (plain t)) m.bytes ≡ b → Makes Known Gives (when b (Some (i32 (next_address m.taken), room_with t m))) (range_given t n.bytes n.fresh n.taken)
       go false e = tt
       go true e = makes-if Known Gives (i32 (next_address m.taken), room_with t m) (range_given t n.bytes n.fresh n.taken) (given t m n r e)
 
@@ -171,10 +171,10 @@ module _ (whole : Taken) (more : List ℕ) where
   one_less t m rest e = ((next_address m.taken, t) ∷ rest, sym (append_assoc m.taken ((next_address m.taken, t) ∷ []) rest) ∙ e)
 
   give_back : (t : Tree) (m : Room) (r : Word × Room) → placing.give t m ≡ Some r → Front r.1 → Front m
-  give_back t m r e g = front_of (is_place (next_address m.taken) (range_size (plain t)) m.bytes) r (i32 (next_address m.taken), room_with t m) m m (λ p. p.1) e (one_less t m) g
+  give_back t m r e g = front_of (is_range_place (next_address m.taken) (range_size (plain t)) m.bytes) r (i32 (next_address m.taken), room_with t m) m m (λ p. p.1) e (one_less t m) g
 
   put_back : (t : Tree) (v : Value) (m : Room) (r : Word × Room) → placing.put t v m ≡ Some r → Front r.1 → Front m
-  put_back t v m r e g = go (by_address (plain t) && is_writable (plain t) v) (is_place (next_address m.taken) (range_size (plain t)) m.bytes) e
+  put_back t v m r e g = go (by_address (plain t) && is_writable (plain t) v) (is_range_place (next_address m.taken) (range_size (plain t)) m.bytes) e
     where
       go : (b c : Bool) → when b (option_map (λ (r : Word × Room). (r.0, value_put (plain t) v r.0.bits r.1)) (when c (Some (i32 (next_address m.taken), room_with t m)))) ≡ Some r → Front m
       go false c e = absurd (some-none e)

@@ -6,7 +6,7 @@ use Rattle.std.specs.Fmt.{decimal}
 use Rattle.std.specs.Str.Parse.{AllDigits, digits_value, digits_value_after}
 use Rattle.std.proofs.lemmas.Bool.Decides.{nat_tests}
 use Rattle.std.proofs.lemmas.Fmt.{decimal_is_IsNumeral}
-use Rattle.witx_invoke.specs.Reading.{after, grown, digits_at, word_at, signed_behind, signed_at}
+use Rattle.witx_invoke.specs.Reading.{past, grown, digits_at, word_at, signed_behind, signed_at}
 
 -- no digit stands at the head
 abbrev pub Stops : List ℕ → Type 0
@@ -46,7 +46,7 @@ word-taken n rest l s =
     ap (λ p. (min p.0 (2 ^ 32 - 1), p.1)) (decimal-taken n rest low s) ∙ ap (λ m. (m, rest)) least
 
 -- a number begins with a digit, and so not with `-`
-no-minus : (ds rest : List ℕ) → 0 < length ds → AllDigits 10 ds → after 45 (ds ++ rest) ≡ None
+no-minus : (ds rest : List ℕ) → 0 < length ds → AllDigits 10 ds → past 45 (ds ++ rest) ≡ None
 no-minus [] rest some a = absurd (omega (arith, some))
 no-minus (d ∷ ds) rest some a = go (nat_eq d 45) refl
   where

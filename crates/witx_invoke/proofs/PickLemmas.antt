@@ -20,7 +20,7 @@ use Rattle.witx_bytes.specs.Seen.{seen, seen_in}
 use Rattle.witx_bytes.specs.declared.value.Value.{Value}
 use Rattle.witx_bytes.specs.declared.value.Value.TheVariants as value
 use Rattle.witx_bytes.proofs.Seen.{seen_rules, seen-Bare, seen-With}
-use Rattle.witx_invoke.specs.Picking.{case_picked}
+use Rattle.witx_invoke.specs.Picking.{value_case_picked}
 
 no-name : (t : Tree) → is_named t ≡ false → name_of t ≡ None
 no-name (Tree.named n t d) e = absurd (clash e)
@@ -39,16 +39,16 @@ pub name-value : (d : Rc Datatype Global) → name_of (tree_of (tref.Value d)) �
 name-value d = ap name_of (tree-Value d) ∙ no-name (datatype_tree d.value) (named-datatype d.value)
 
 -- a case of a result, with its payload or without
-pub case-picked : (ok err : Option Tree) (i : ℕ) (p : Option (Box Value Global)) → cells.case_picked ok err (seen (value.Case i p)) ≡ case_picked ok err i (option_map seen_in p)
+pub case-picked : (ok err : Option Tree) (i : ℕ) (p : Option (Box Value Global)) → cells.case_picked ok err (seen (value.Case i p)) ≡ value_case_picked ok err i (option_map seen_in p)
 case-picked ok err i None = ap (cells.case_picked ok err) (seen-Bare i) ∙ bare i
   where
-    bare : (i : ℕ) → cells.case_picked ok err (plain_value.bare_case i) ≡ case_picked ok err i None
+    bare : (i : ℕ) → cells.case_picked ok err (plain_value.bare_case i) ≡ value_case_picked ok err i None
     bare zero = refl
     bare (suc zero) = refl
     bare (suc (suc i)) = refl
 case-picked ok err i (Some v) = ap (cells.case_picked ok err) (seen-With i v) ∙ with i (seen v.value)
   where
-    with : (i : ℕ) (p : plain_value.Value) → cells.case_picked ok err (plain_value.case_with i p) ≡ case_picked ok err i (Some p)
+    with : (i : ℕ) (p : plain_value.Value) → cells.case_picked ok err (plain_value.case_with i p) ≡ value_case_picked ok err i (Some p)
     with zero p = refl
     with (suc zero) p = refl
     with (suc (suc i)) p = refl

@@ -9,7 +9,7 @@ use Rattle.witx_ast.specs.Tags.{AllFit, AllFieldsFit, AllArmsFit}
 use Rattle.witx_ast.specs.Values.{Value, Values, InRange, IsValue, AreValues, IsBareCase, IsCaseWith}
 use Rattle.witx_bytes.proofs.ReadBack.{bare-below, with-below, with-payload}
 use Rattle.witx_call.specs.ValueTexts.{value_text, values_text, flags_text, flag_text, space_before}
-use Rattle.witx_invoke.specs.Reading.{after, made, item_at, flag_at, flags_at, closed, list_behind, index_at, cases_at, type_at, members_at, payload_at, signed_at}
+use Rattle.witx_invoke.specs.Reading.{past, made, item_past, flag_at, flags_read, closed, list_behind, index_at, cases_at, type_at, members_at, payload_at, signed_at}
 use Rattle.witx_invoke.proofs.Numbers.{Stops, word-taken, signed-taken, negative-taken}
 
 -- numbers of a builtin's range
@@ -59,7 +59,7 @@ module _ (rest : List ℕ) (s : Stops rest) where
       ∙ ap (λ p. Some (made (Value.list_at a) p)) (word-taken l rest y s)
 
 -- one space between
-item-taken : (i : ℕ) (s : List ℕ) → item_at i (space_before i ++ s) ≡ Some s
+item-taken : (i : ℕ) (s : List ℕ) → item_past i (space_before i ++ s) ≡ Some s
 item-taken zero s = refl
 item-taken (suc i) s = refl
 
@@ -70,12 +70,12 @@ flag-taken false s = refl
 grouped : (a b c rest : List ℕ) → ((a ++ b) ++ c) ++ rest ≡ a ++ (b ++ (c ++ rest))
 grouped a b c rest = simp append_assoc
 
-pub flags-taken : (i : ℕ) (bits : List Bool) (rest : List ℕ) → flags_at i (length bits) (flags_text i bits ++ rest) ≡ Some (bits, rest)
+pub flags-taken : (i : ℕ) (bits : List Bool) (rest : List ℕ) → flags_read i (length bits) (flags_text i bits ++ rest) ≡ Some (bits, rest)
 flags-taken i [] rest = refl
 flags-taken i (b ∷ bits) rest =
-    ap (flags_at i (suc (length bits))) (grouped (space_before i) (flag_text b) (flags_text (suc i) bits) rest)
-    ∙ ap (λ o. option_and_then (λ p. option_map (made (λ bs. p.0 ∷ bs)) (flags_at (suc i) (length bits) p.1)) (option_and_then flag_at o)) (item-taken i (flag_text b ++ (flags_text (suc i) bits ++ rest)))
-    ∙ ap (option_and_then (λ p. option_map (made (λ bs. p.0 ∷ bs)) (flags_at (suc i) (length bits) p.1))) (flag-taken b (flags_text (suc i) bits ++ rest))
+    ap (flags_read i (suc (length bits))) (grouped (space_before i) (flag_text b) (flags_text (suc i) bits) rest)
+    ∙ ap (λ o. option_and_then (λ p. option_map (made (λ bs. p.0 ∷ bs)) (flags_read (suc i) (length bits) p.1)) (option_and_then flag_at o)) (item-taken i (flag_text b ++ (flags_text (suc i) bits ++ rest)))
+    ∙ ap (option_and_then (λ p. option_map (made (λ bs. p.0 ∷ bs)) (flags_read (suc i) (length bits) p.1))) (flag-taken b (flags_text (suc i) bits ++ rest))
     ∙ ap (option_map (made (λ bs. b ∷ bs))) (flags-taken (suc i) bits rest)
 
 -- what stands between an opening and a closing byte
@@ -85,7 +85,7 @@ enclosed first last inside rest = simp append_assoc
 pub bits-taken : (r : IntRepr) (ms : Fields) (bits : List Bool) (rest : List ℕ) → length bits ≡ field_count ms → type_at (Plain.record_of (RecordKind.Bitflags r) ms) (value_text (Value.flag_bits bits) ++ rest) ≡ Some (Value.flag_bits bits, rest)
 bits-taken r ms bits rest h =
     ap (type_at (Plain.record_of (RecordKind.Bitflags r) ms)) (enclosed 91 93 (flags_text 0 bits) rest)
-    ∙ ap (λ o. option_map (made Value.flag_bits) (option_and_then (closed 93) o)) (ap (λ n. flags_at 0 n (flags_text 0 bits ++ (93 ∷ rest))) (sym h) ∙ flags-taken 0 bits (93 ∷ rest))
+    ∙ ap (λ o. option_map (made Value.flag_bits) (option_and_then (closed 93) o)) (ap (λ n. flags_read 0 n (flags_text 0 bits ++ (93 ∷ rest))) (sym h) ∙ flags-taken 0 bits (93 ∷ rest))
 
 -- a number behind `#`
 index-taken : (i : ℕ) (rest : List ℕ) → i < 2 ^ 32 → Stops rest → index_at (35 ∷ (decimal i ++ rest)) ≡ Some (i, rest)
@@ -111,7 +111,7 @@ case-taken r cs i v rest h u p =
     let l = with-below cs i v h in
     ap (type_at (Plain.variant_of r cs)) (case-spelled i v rest)
     ∙ ap (λ b. cases_at b (payload_at cs) (40 ∷ 35 ∷ (decimal i ++ (32 ∷ (value_text v ++ (41 ∷ rest)))))) (with-payload cs i v h)
-    ∙ ap (option_and_then (λ p. option_and_then (closed 41) (option_map (made (Value.case_with p.0)) (option_and_then (payload_at cs p.0) (after 32 p.1))))) (index-taken i (32 ∷ (value_text v ++ (41 ∷ rest))) (omega (arith, l, u)) refl)
+    ∙ ap (option_and_then (λ p. option_and_then (closed 41) (option_map (made (Value.case_with p.0)) (option_and_then (payload_at cs p.0) (past 32 p.1))))) (index-taken i (32 ∷ (value_text v ++ (41 ∷ rest))) (omega (arith, l, u)) refl)
     ∙ ap (λ o. option_and_then (closed 41) (option_map (made (Value.case_with i)) o)) p
 
 values-stop : (i : ℕ) (vs : Values) (rest : List ℕ) → Stops rest → Stops (values_text (suc i) vs ++ rest)

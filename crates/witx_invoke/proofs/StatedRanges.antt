@@ -12,10 +12,10 @@ use Rattle.witx_machine.specs.Cells.{Taken}
 use Rattle.witx_machine.specs.Faithful.{AreOther, AreFree}
 use Rattle.witx_bytes.specs.Bytes.{Bytes, in_bounds, none_held, is_free}
 use Rattle.witx_bytes.specs.ByteMachine.{range_size}
-use Rattle.witx_bytes.specs.Follow.{ApartFrom, AreApart, AreUnused}
+use Rattle.witx_bytes.specs.Follow.{ApartFrom, AreRangesApart, AreUnused}
 use Rattle.witx_bytes.proofs.Agreement.{free-from}
 use Rattle.witx_call.specs.Ranges.{range_end, StandFrom, EndBelow, AreStated, addresses}
-use Rattle.witx_call.specs.Room.{no_bytes, behind, is_place}
+use Rattle.witx_call.specs.Room.{no_bytes, next_range, is_range_place}
 
 up : (n : ℕ) → n ≤ align_to n 8
 up n = omega arith
@@ -23,11 +23,11 @@ up n = omega arith
 grows : (x : ℕ × Tree) → x.0 < align_to (range_end x) 8
 grows x = let k = up (range_end x) in omega (arith, k)
 
-pub behind-positive : (at : ℕ) (xs : Taken) → 0 < at → 0 < behind at xs
+pub behind-positive : (at : ℕ) (xs : Taken) → 0 < at → 0 < next_range at xs
 behind-positive at [] h = h
 behind-positive at (x ∷ xs) h = let k = grows x in behind-positive (align_to (range_end x) 8) xs (omega (arith, k))
 
-pub stand-more : (at : ℕ) (xs : Taken) (t : Tree) → StandFrom at xs → StandFrom at (xs ++ (behind at xs, t) ∷ [])
+pub stand-more : (at : ℕ) (xs : Taken) (t : Tree) → StandFrom at xs → StandFrom at (xs ++ (next_range at xs, t) ∷ [])
 stand-more at [] t h = (refl, tt)
 stand-more at (x ∷ xs) t h = (h.0, stand-more (align_to (range_end x) 8) xs t h.1)
 
@@ -36,7 +36,7 @@ below-more limit [] x h k = (k, tt)
 below-more limit (y ∷ xs) x h k = (h.0, below-more limit xs x h.1 k)
 
 -- an entry stands behind those before it, and ends below the limit
-pub stand-at : (at : ℕ) (xs : Taken) (x : ℕ × Tree) (ys : Taken) → StandFrom at (xs ++ x ∷ ys) → x.0 ≡ behind at xs
+pub stand-at : (at : ℕ) (xs : Taken) (x : ℕ × Tree) (ys : Taken) → StandFrom at (xs ++ x ∷ ys) → x.0 ≡ next_range at xs
 stand-at at [] x ys h = h.0
 stand-at at (y ∷ xs) x ys h = stand-at (align_to (range_end y) 8) xs x ys h.1
 
@@ -51,7 +51,7 @@ apart-from x at (y ∷ ys) l h =
     (inl (omega (arith, l, e)), apart-from x (align_to (range_end y) 8) ys (omega (arith, l, e, k)) h.1)
 
 -- stated ranges don't overlap
-pub stated-apart : (at : ℕ) (xs : Taken) → StandFrom at xs → AreApart xs
+pub stated-apart : (at : ℕ) (xs : Taken) → StandFrom at xs → AreRangesApart xs
 stated-apart at [] h = tt
 stated-apart at (x ∷ xs) h = (apart-from x (align_to (range_end x) 8) xs (up (range_end x)) h.1, stated-apart (align_to (range_end x) 8) xs h.1)
 
@@ -66,13 +66,13 @@ stated-unused at (x ∷ xs) l h k =
     (free-of x.0 (range_size (plain x.1)) no_bytes (omega (arith, e, l)) (omega (arith, b)) (free-from x.0 (range_size (plain x.1)) no_bytes (λ y lo hi. refl)), stated-unused (align_to (range_end x) 8) xs (omega (arith, g)) h.1 k.1)
 
 -- what the program asks of a place is what the machine over bytes asks
-pub place-free : (at n : ℕ) (m : Bytes) → 0 < at → is_place at n m ≡ true → is_free at n m ≡ true
+pub place-free : (at n : ℕ) (m : Bytes) → 0 < at → is_range_place at n m ≡ true → is_free at n m ≡ true
 place-free at n m l h =
     let p = both (nat_le (at + n) (2 ^ 20)) (none_held at n m) h in
     let b = (decides-le (at + n) (2 ^ 20)).0 p.0 in
     free-of at n m l (omega (arith, b)) p.1
 
-pub free-place : (at n : ℕ) (m : Bytes) → at + n ≤ 2 ^ 20 → is_free at n m ≡ true → is_place at n m ≡ true
+pub free-place : (at n : ℕ) (m : Bytes) → at + n ≤ 2 ^ 20 → is_free at n m ≡ true → is_range_place at n m ≡ true
 free-place at n m l h = both-then (nat_le (at + n) (2 ^ 20)) (none_held at n m) ((decides-le (at + n) (2 ^ 20)).1 l) (both (in_bounds at n) (none_held at n m) h).1
 
 -- addresses that rise from one on, below 2^32

@@ -11,7 +11,7 @@ use Rattle.witx_ast.proofs.Trees.{tree-NamedType}
 use Rattle.std.proofs.lemmas.Bool.{eqb-true}
 use Rattle.witx_layout.specs.Numbers.{size_of}
 use Rattle.witx_machine.specs.Words.{Word, when}
-use Rattle.witx_bytes.specs.Bytes.{Bytes, all_held, written}
+use Rattle.witx_bytes.specs.Bytes.{Bytes, all_held, image_written}
 use Rattle.witx_bytes.specs.Images.{image}
 use Rattle.witx_bytes.specs.ByteMachine.{has_room}
 use Rattle.witx_call.specs.Room.{Room}
@@ -74,7 +74,7 @@ module _ (n : NamedType) (w : Word) (v : plain_value.Value) (m : Room) where
     pub unfit : has_room (plain (tree_of n.tref)) at m.bytes ≡ true → is_writable (plain (tree_of n.tref)) v ≡ false → None ≡ placing.set (named_tree n) w v m
     unfit h k = sym (tests true false h k)
 
-    pub stored : (k : Bytes) → has_room (plain (tree_of n.tref)) at m.bytes ≡ true → is_writable (plain (tree_of n.tref)) v ≡ true → ((x : ℕ) → k x ≡ written at (image (plain (tree_of n.tref)) v) m.bytes x) → Some (record { bytes = k; taken = m.taken }) ≡ placing.set (named_tree n) w v m
+    pub stored : (k : Bytes) → has_room (plain (tree_of n.tref)) at m.bytes ≡ true → is_writable (plain (tree_of n.tref)) v ≡ true → ((x : ℕ) → k x ≡ image_written at (image (plain (tree_of n.tref)) v) m.bytes x) → Some (record { bytes = k; taken = m.taken }) ≡ placing.set (named_tree n) w v m
     stored k h f z = ap (λ (b : Bytes). Some (record { bytes = b; taken = m.taken })) (λ i x. z x i) ∙ sym (tests true true h f)
 
 pub is-fit : (t : Plain) (v : plain_value.Value) → is_writable t v ≡ true → fits t ≡ true

@@ -29,7 +29,7 @@ HasNotEnded no_rule = Unit {0}
 HasNotEnded (stuck_at p) = Unit {0}
 
 -- there is no room where the run hasn't ended; want of memory alone is free
-abbrev pub IsStuck : Tried Spot (Outcome Value Word Room) → InvokeError → Type 0
-IsStuck t InvokeError.ZeroError = ⊥
-IsStuck t InvokeError.NoRoom = HasNotEnded t
-IsStuck t InvokeError.OutOfMemory = Unit {0}
+abbrev pub HasNoRoom : Tried Spot (Outcome Value Word Room) → InvokeError → Type 0
+HasNoRoom t InvokeError.ZeroError = ⊥
+HasNoRoom t InvokeError.NoRoom = HasNotEnded t
+HasNoRoom t InvokeError.OutOfMemory = Unit {0}

@@ -8,7 +8,7 @@ use Rattle.witx_ast.specs.ValueTests.{is_value}
 use Rattle.witx_machine.specs.Events.{Event}
 use Rattle.witx_machine.specs.Functions.{Function}
 use Rattle.witx_call.specs.CallSeen.{CallSeen}
-use Rattle.witx_call.specs.Lines.{IsLine}
+use Rattle.witx_call.specs.Lines.{IsValueLine}
 use Rattle.witx_call.specs.ValueTexts.{value_text}
 use Rattle.witx_invoke.specs.Invoking.{CanRun}
 use Rattle.witx_invoke.specs.Runs.{ComesTo}
@@ -22,7 +22,7 @@ AtMostOneValue =
 abbrev pub AtMostOneLine : Type 0
 AtMostOneLine =
     (t : Tree) (text : List ℕ) (v w : Value) (rest more : List ℕ) →
-    IsTrue (fits (plain t)) → IsLine t text v rest → IsLine t text w more → (v ≡ w) × (rest ≡ more)
+    IsTrue (fits (plain t)) → IsValueLine t text v rest → IsValueLine t text w more → (v ≡ w) × (rest ≡ more)
 
 -- the same is seen of a call
 pub record SameSeen (a b : CallSeen) : Type 0 where

@@ -11,11 +11,11 @@ use Rattle.witx_machine.specs.Words.{Word, is_u32, when}
 use Rattle.witx_machine.specs.Functions.{by_address}
 use Rattle.witx_machine.specs.Machine.{Domain}
 use Rattle.witx_machine.specs.Cells.{cells, is_i32}
-use Rattle.witx_bytes.specs.Bytes.{written}
+use Rattle.witx_bytes.specs.Bytes.{image_written}
 use Rattle.witx_bytes.specs.Images.{image}
 use Rattle.witx_bytes.specs.Reading.{value_at}
 use Rattle.witx_bytes.specs.ByteMachine.{has_room}
-use Rattle.witx_call.specs.Room.{Room, given}
+use Rattle.witx_call.specs.Room.{Room, room_given}
 
 abbrev pub is_writable : Plain → Value → Bool
 is_writable t v = is_value t v && fits t
@@ -27,7 +27,7 @@ abbrev pub is_address : Word → Bool
 is_address w = is_i32 w && is_u32 w.bits
 
 abbrev pub value_put : Plain → Value → ℕ → Room → Room
-value_put t v at m = record m { bytes = written at (image t v) m.bytes }
+value_put t v at m = record m { bytes = image_written at (image t v) m.bytes }
 
 abbrev pub placing : Domain Value Word Room
 placing = record {
@@ -37,8 +37,8 @@ placing = record {
   list_value = cells.list_value;
   tuple = cells.tuple;
   parts = cells.parts;
-  give = given;
-  put = λ t v m. when (by_address (plain t) && is_writable (plain t) v) (option_map (λ r. (r.0, value_put (plain t) v r.0.bits r.1)) (given t m));
+  give = room_given;
+  put = λ t v m. when (by_address (plain t) && is_writable (plain t) v) (option_map (λ r. (r.0, value_put (plain t) v r.0.bits r.1)) (room_given t m));
   get = λ t w m. when (is_address w && is_readable (plain t)) (value_at (plain t) m.bytes w.bits);
   set = λ t w v m. when (is_address w && (has_room (plain t) w.bits m.bytes && is_writable (plain t) v)) (Some (value_put (plain t) v w.bits m));
   picks = cells.picks;

@@ -4,8 +4,8 @@ ghost use Rattle.std.specs.Prelude.{IfErr, IfOk};
 ghost use Rattle.witx_bytes.specs.Seen.{seen};
 ghost use Rattle.witx_run.specs.OutcomeViews.{run_of};
 ghost use Rattle.witx_call.specs.PlacementViews.{room_of};
-ghost use Rattle.witx_call.specs.WordViews.{word_of};
-ghost use Rattle.witx_invoke.specs.Answering.{EndsSeen, IsStuck};
+ghost use Rattle.witx_call.specs.WordViews.{word_view};
+ghost use Rattle.witx_invoke.specs.Answering.{EndsSeen, HasNoRoom};
 
 use crate::error::InvokeError;
 use std::alloc::Global;
@@ -19,8 +19,8 @@ pub(crate) fn answer(
     alloc: Global,
     run: Run<Value, Word, Placement>,
 ) -> Result<Invoked, InvokeError>
-    ensures seen { IfOk result (EndsSeen (run_of seen word_of room_of run)) }
-    ensures refused { IfErr result (IsStuck (run_of seen word_of room_of run)) }
+    ensures seen { IfOk result (EndsSeen (run_of seen word_view room_of run)) }
+    ensures refused { IfErr result (HasNoRoom (run_of seen word_view room_of run)) }
 {
     match run {
         Run::Ended(outcome) => Ok(outcome_seen(alloc, outcome)?),

@@ -6,7 +6,7 @@ ghost use Rattle.witx_machine.specs.Words as machine;
 ghost use Rattle.witx_bytes.specs.Seen.{seen};
 ghost use Rattle.witx_call.specs.PlacementViews.{room_of};
 ghost use Rattle.witx_call.specs.Room.{Room};
-ghost use Rattle.witx_call.specs.WordViews.{word_of};
+ghost use Rattle.witx_call.specs.WordViews.{word_view};
 ghost use Rattle.witx_invoke.specs.Placing.{placing};
 
 use crate::copies::copy_value;
@@ -51,7 +51,7 @@ impl Domain for ByteDomain {
 
     ghost value_of = { seen };
 
-    ghost word_of = { word_of };
+    ghost word_of = { word_view };
 
     ghost memory_of = { room_of };
 

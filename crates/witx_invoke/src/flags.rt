@@ -1,8 +1,8 @@
 //! Flags at the head of a text.
 
 ghost use Rattle.std.specs.Prelude.{◌≡◌, option_map, option_and_then};
-ghost use Rattle.witx_bytes.specs.Readings.{Reads};
-ghost use Rattle.witx_invoke.specs.Reading.{after, closed, flag_at, flags_at, item_at, taken};
+ghost use Rattle.witx_bytes.specs.Readings.{ReadAs};
+ghost use Rattle.witx_invoke.specs.Reading.{past, closed, flag_at, flags_read, item_past, taken};
 
 use crate::heads::{after, item_start};
 use std::alloc::Global;
@@ -23,7 +23,7 @@ fn read_flag(text: &[u8]) -> Option<(bool, &[u8])>
 /// The flag of an item, behind the space before it.
 #[tactic(auto, using(crate::proofs::HeadLaws::head_rules))]
 fn read_item(item: usize, text: &[u8]) -> Option<(bool, &[u8])>
-    ensures { option_map (taken (λ b. b)) result ≡ option_and_then flag_at (item_at item text.now) }
+    ensures { option_map (taken (λ b. b)) result ≡ option_and_then flag_at (item_past item text.now) }
 {
     read_flag(item_start(item, text)?)
 }
@@ -35,7 +35,7 @@ fn read_each<'a>(
     count: usize,
     text: &'a [u8],
 ) -> Result<(Bools, &'a [u8]), ReadError>
-    ensures { Reads (taken (λ bs. bs)) (flags_at 0 count text.now) result }
+    ensures { ReadAs (taken (λ bs. bs)) (flags_read 0 count text.now) result }
 {
     let mut flags = Bools::new(alloc);
     let mut rest = text;
@@ -56,7 +56,7 @@ pub(crate) fn read_flags<'a>(
     count: usize,
     text: &'a [u8],
 ) -> Result<(Bools, &'a [u8]), ReadError>
-    ensures { Reads (taken (λ bs. bs)) (option_and_then (closed 93) (option_and_then (flags_at 0 count) (after 91 text.now))) result }
+    ensures { ReadAs (taken (λ bs. bs)) (option_and_then (closed 93) (option_and_then (flags_read 0 count) (past 91 text.now))) result }
 {
     let Some(inside) = after(b'[', text) else {
         return Err(ReadError::NoValue);

@@ -8,7 +8,7 @@ ghost use Rattle.witx_ast.specs.Tree.{Tree};
 ghost use Rattle.witx_ast.specs.Views.{tree_of};
 ghost use Rattle.witx_bytes.specs.Seen.{seen};
 ghost use Rattle.witx_machine.specs.Functions.{function_of};
-ghost use Rattle.witx_call.specs.Lines.{AreLines, FirstFault, Gives, IsLine, NoLine, param_types, types_of};
+ghost use Rattle.witx_call.specs.Lines.{AreLines, FirstFault, Gives, IsValueLine, NoLine, line_param_types, line_types};
 
 use crate::error::ValuesError;
 use crate::extents::check_types;
@@ -40,7 +40,7 @@ pub fn read_values(
     requires single { length func.now.results ≤ 1 }
     requires fits { function_fits (func_tree func.now) ≡ true }
     ensures given { IfOk result (λ given. Gives (function_of (func_tree func.now)) text.now (map seen given.args) (option_map seen given.reply)) }
-    ensures line { (n : ℕ) → result ≡ Err (ValuesError.Line n) → FirstFault 1 (types_of (function_of (func_tree func.now))) text.now n }
+    ensures line { (n : ℕ) → result ≡ Err (ValuesError.Line n) → FirstFault 1 (line_types (function_of (func_tree func.now))) text.now n }
 {
     check_types(alloc, func)?;
     let params = func.params.as_slice();
@@ -68,8 +68,8 @@ fn read_lines<'a>(
 ) -> Result<(Values, &'a [u8]), ValuesError>
     requires few { before + length params.now < 2 ^ 64 }
     requires fits { types_fit (map param_field params.now) ≡ true }
-    ensures read { IfOk result (λ p. AreLines (param_types params.now) text.now (map seen p.0) p.1.now) }
-    ensures line { (n : ℕ) → result ≡ Err (ValuesError.Line n) → (more : List Tree) → FirstFault (before + 1) (param_types params.now ++ more) text.now n }
+    ensures read { IfOk result (λ p. AreLines (line_param_types params.now) text.now (map seen p.0) p.1.now) }
+    ensures line { (n : ℕ) → result ≡ Err (ValuesError.Line n) → (more : List Tree) → FirstFault (before + 1) (line_param_types params.now ++ more) text.now n }
 {
     let mut values = Values::new(alloc);
     let mut rest = text;
@@ -90,7 +90,7 @@ fn read_numbered<'a>(
     text: &'a [u8],
 ) -> Result<(Value, &'a [u8]), ValuesError>
     requires { fits (plain (tree_of ty.now)) ≡ true }
-    ensures read { IfOk result (λ p. IsLine (tree_of ty.now) text.now (seen p.0) p.1.now) }
+    ensures read { IfOk result (λ p. IsValueLine (tree_of ty.now) text.now (seen p.0) p.1.now) }
     ensures line { (n : ℕ) → result ≡ Err (ValuesError.Line n) → (n ≡ line) × NoLine (tree_of ty.now) text.now }
 {
     match read_line(alloc, ty, text) {

@@ -1,12 +1,12 @@
 //! What stands at the head of a text, and what follows it.
 
 ghost use Rattle.std.specs.Prelude.{◌≡◌, ◌<◌, ℕ, MatchOption, option_map, option_copied, length};
-ghost use Rattle.witx_invoke.specs.Reading.{after, digits_at, grown, index_at, item_at, signed_at, taken, word_at};
+ghost use Rattle.witx_invoke.specs.Reading.{past, digits_at, grown, index_at, item_past, signed_at, taken, word_at};
 
 /// What follows a byte, if it stands at the head.
 #[tactic(auto, using(crate::proofs::HeadLaws::head_rules))]
 pub(crate) fn after(byte: u8, text: &[u8]) -> Option<&[u8]>
-    ensures { option_copied result ≡ after byte text.now }
+    ensures { option_copied result ≡ past byte text.now }
 {
     match text {
         [first, rest @ ..] if *first == byte => Some(rest),
@@ -17,7 +17,7 @@ pub(crate) fn after(byte: u8, text: &[u8]) -> Option<&[u8]>
 /// What follows the space before an item; nothing stands before the first one.
 #[tactic(auto, using(crate::proofs::HeadLaws::head_rules))]
 pub(crate) fn item_start(item: usize, text: &[u8]) -> Option<&[u8]>
-    ensures { option_copied result ≡ item_at item text.now }
+    ensures { option_copied result ≡ item_past item text.now }
 {
     if item == 0 {
         return Some(text);

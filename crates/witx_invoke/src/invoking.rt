@@ -8,7 +8,7 @@ ghost use Rattle.witx_invoke.specs.Invoking.{CanRun, IsAnswer, Refuses};
 ghost use Rattle.witx_run.specs.OutcomeViews.{run_of};
 ghost use Rattle.witx_run.specs.Views.{reply_of};
 ghost use Rattle.witx_call.specs.PlacementViews.{room_of};
-ghost use Rattle.witx_call.specs.WordViews.{word_of};
+ghost use Rattle.witx_call.specs.WordViews.{word_view};
 
 use crate::answering::answer;
 use crate::byte_domain::ByteDomain;
@@ -106,7 +106,7 @@ fn run_stated(
     args: &[Value],
     reply: Option<&Value>,
 ) -> Result<Run<Value, Word, Placement>, OutOfMemory>
-    ensures { IfOk result (λ run. run_of seen word_of room_of run
+    ensures { IfOk result (λ run. run_of seen word_view room_of run
         ≡ stated_run owner.now (called func.now) (map event_of caller.now) (map event_of callee.now) (map seen args.now) (reply_of seen reply.entry)) }
 {
     let domain = ByteDomain { alloc };

@@ -5,9 +5,9 @@ ghost use Rattle.std.specs.Prelude.{◌≡◌, IfOk, option_map};
 ghost use Rattle.witx_ast.specs.Plain.{plain};
 ghost use Rattle.witx_ast.specs.Views.{tree_of, named_tree};
 ghost use Rattle.witx_machine.specs.Cells.{cells};
-ghost use Rattle.witx_machine.specs.Words.{checked, const_pointer, enum_of, flags_in, flags_of as flags_by, handle_of, number_of as number_by, pointer};
+ghost use Rattle.witx_machine.specs.Words.{checked_value, const_pointer, enum_of, flags_in, flags_of as flags_by, handle_of, number_of as number_by, pointer};
 ghost use Rattle.witx_bytes.specs.Seen.{seen};
-ghost use Rattle.witx_call.specs.WordViews.{word_of};
+ghost use Rattle.witx_call.specs.WordViews.{word_view};
 
 use crate::kinds::{cut_to, flags_repr, repr_word_type, tag_repr};
 use crate::word_parts::i32_number;
@@ -22,7 +22,7 @@ use witx_run::{builtin_word_type, same_type};
 /// The number of a builtin whose word it is, cut to the builtin's width.
 #[tactic(auto, using(crate::proofs::LiftLemmas::lift_rules))]
 pub(crate) fn lift_number(builtin: BuiltinType, word: Word) -> Option<Value>
-    ensures { option_map seen result ≡ cells.lift (number_by builtin) (word_of word) }
+    ensures { option_map seen result ≡ cells.lift (number_by builtin) (word_view word) }
 {
     if !same_type(word.ty, builtin_word_type(builtin)) {
         return None;
@@ -38,7 +38,7 @@ pub(crate) fn lift_number(builtin: BuiltinType, word: Word) -> Option<Value>
 /// The pointer whose word it is.
 #[tactic(auto, using(crate::proofs::ShapeLemmas::shape_rules))]
 pub(crate) fn lift_pointer(word: Word) -> Option<Value>
-    ensures { option_map seen result ≡ cells.lift pointer (word_of word) }
+    ensures { option_map seen result ≡ cells.lift pointer (word_view word) }
 {
     match i32_number(word) {
         Some(address) => Some(Value::Pointer(address)),
@@ -49,7 +49,7 @@ pub(crate) fn lift_pointer(word: Word) -> Option<Value>
 /// The const pointer whose word it is.
 #[tactic(auto, using(crate::proofs::ShapeLemmas::shape_rules))]
 pub(crate) fn lift_const_pointer(word: Word) -> Option<Value>
-    ensures { option_map seen result ≡ cells.lift const_pointer (word_of word) }
+    ensures { option_map seen result ≡ cells.lift const_pointer (word_view word) }
 {
     match i32_number(word) {
         Some(address) => Some(Value::ConstPointer(address)),
@@ -60,7 +60,7 @@ pub(crate) fn lift_const_pointer(word: Word) -> Option<Value>
 /// The handle whose word it is, under its named type.
 #[tactic(auto, using(crate::proofs::LiftLemmas::handle_rules))]
 pub(crate) fn lift_handle(named: &NamedType, word: Word) -> Option<Value>
-    ensures { option_map seen result ≡ cells.lift (handle_of (named_tree named.now)) (word_of word) }
+    ensures { option_map seen result ≡ cells.lift (handle_of (named_tree named.now)) (word_view word) }
 {
     match i32_number(word) {
         Some(number) => value_if(&named.tref, Value::Handle(number)),
@@ -71,7 +71,7 @@ pub(crate) fn lift_handle(named: &NamedType, word: Word) -> Option<Value>
 /// The value, if it is one of the type.
 #[tactic(auto, using(crate::proofs::LiftLemmas::handle_rules))]
 fn value_if(ty: &TypeRef, value: Value) -> Option<Value>
-    ensures { option_map seen result ≡ checked (plain (tree_of ty.now)) (seen value) }
+    ensures { option_map seen result ≡ checked_value (plain (tree_of ty.now)) (seen value) }
 {
     if is_value(ty, &value) {
         Some(value)
@@ -89,7 +89,7 @@ pub(crate) fn lift_flags(
     named: &NamedType,
     word: Word,
 ) -> Result<Option<Value>, OutOfMemory>
-    ensures { IfOk result (λ value. option_map seen value ≡ cells.lift (flags_by ty (named_tree named.now)) (word_of word)) }
+    ensures { IfOk result (λ value. option_map seen value ≡ cells.lift (flags_by ty (named_tree named.now)) (word_view word)) }
 {
     let Some((repr, count)) = flags_repr(&named.tref) else {
         return Ok(None);
@@ -117,7 +117,7 @@ fn flags_value(alloc: Global, bits: u64, count: usize) -> Result<Option<Value>, 
 /// The case whose word it is, of a variant without payloads under its named type.
 #[tactic(auto, using(crate::proofs::FlagLemmas::flag_rules))]
 pub(crate) fn lift_enum(named: &NamedType, word: Word) -> Result<Option<Value>, OutOfMemory>
-    ensures { IfOk result (λ value. option_map seen value ≡ cells.lift (enum_of (named_tree named.now)) (word_of word)) }
+    ensures { IfOk result (λ value. option_map seen value ≡ cells.lift (enum_of (named_tree named.now)) (word_view word)) }
 {
     if !same_type(word.ty, WasmType::I32) {
         return Ok(None);

@@ -8,7 +8,7 @@ ghost use Rattle.witx_bytes.specs.Reading.{value_at};
 ghost use Rattle.witx_bytes.specs.Seen.{seen};
 ghost use Rattle.witx_invoke.specs.Placing.{is_readable as can_be_read, placing};
 ghost use Rattle.witx_call.specs.PlacementViews.{room_of};
-ghost use Rattle.witx_call.specs.WordViews.{word_of};
+ghost use Rattle.witx_call.specs.WordViews.{word_view};
 
 use crate::word_parts::i32_number;
 use std::alloc::Global;
@@ -26,7 +26,7 @@ pub(crate) fn load(
     ty: &NamedType,
     word: Word,
 ) -> Result<Option<Value>, OutOfMemory>
-    ensures { IfOk result (λ value. option_map seen value ≡ placing.get (named_tree ty.now) (word_of word) (room_of placement.now)) }
+    ensures { IfOk result (λ value. option_map seen value ≡ placing.get (named_tree ty.now) (word_view word) (room_of placement.now)) }
 {
     let Some(at) = i32_number(word) else {
         return Ok(None);

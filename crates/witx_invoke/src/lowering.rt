@@ -8,7 +8,7 @@ ghost use Rattle.witx_machine.specs.Cells.{cells};
 ghost use Rattle.witx_machine.specs.Words.{bits_of_flags, const_pointer, enum_of, flags_of, handle_of, i32 as word_i32, number_of, number_word, pointer, repr_word_type as type_of_word, when};
 ghost use Rattle.witx_bytes.specs.Seen.{seen};
 ghost use Rattle.witx_invoke.specs.Representing.{flags_in_word};
-ghost use Rattle.witx_call.specs.WordViews.{word_of};
+ghost use Rattle.witx_call.specs.WordViews.{word_view};
 
 use crate::builtins::word_bits;
 use crate::excepting::is_none_set;
@@ -24,7 +24,7 @@ use witx_run::{builtin_word_type, same_type};
 /// The word of a number of a builtin.
 #[tactic(auto, using(crate::proofs::ShapeLemmas::shape_rules))]
 pub(crate) fn lower_number(builtin: BuiltinType, value: &Value) -> Option<Word>
-    ensures { option_map word_of result ≡ cells.lower (number_of builtin) (seen value.now) }
+    ensures { option_map word_view result ≡ cells.lower (number_of builtin) (seen value.now) }
 {
     match value {
         Value::Num(kind, number) => {
@@ -48,7 +48,7 @@ pub(crate) fn lower_number(builtin: BuiltinType, value: &Value) -> Option<Word>
 }
 
 fn lower_builtin(builtin: BuiltinType, number: i128) -> Option<Word>
-    ensures { option_map word_of result ≡ when (is_in_range builtin number) (Some (number_word builtin number)) }
+    ensures { option_map word_view result ≡ when (is_in_range builtin number) (Some (number_word builtin number)) }
 {
     if in_range(builtin, number) {
         Some(Word {
@@ -63,7 +63,7 @@ fn lower_builtin(builtin: BuiltinType, number: i128) -> Option<Word>
 /// The word of a pointer.
 #[tactic(auto, using(crate::proofs::ShapeLemmas::shape_rules))]
 pub(crate) fn lower_pointer(value: &Value) -> Option<Word>
-    ensures { option_map word_of result ≡ cells.lower pointer (seen value.now) }
+    ensures { option_map word_view result ≡ cells.lower pointer (seen value.now) }
 {
     match value {
         Value::Pointer(address) => Some(i32_word(*address)),
@@ -83,7 +83,7 @@ pub(crate) fn lower_pointer(value: &Value) -> Option<Word>
 /// The word of a const pointer.
 #[tactic(auto, using(crate::proofs::ShapeLemmas::shape_rules))]
 pub(crate) fn lower_const_pointer(value: &Value) -> Option<Word>
-    ensures { option_map word_of result ≡ cells.lower const_pointer (seen value.now) }
+    ensures { option_map word_view result ≡ cells.lower const_pointer (seen value.now) }
 {
     match value {
         Value::ConstPointer(address) => Some(i32_word(*address)),
@@ -103,7 +103,7 @@ pub(crate) fn lower_const_pointer(value: &Value) -> Option<Word>
 /// The word of a handle, under its named type.
 #[tactic(auto, using(crate::proofs::LowerLemmas::kind_rules))]
 pub(crate) fn lower_handle(named: &NamedType, value: &Value) -> Option<Word>
-    ensures { option_map word_of result ≡ cells.lower (handle_of (named_tree named.now)) (seen value.now) }
+    ensures { option_map word_view result ≡ cells.lower (handle_of (named_tree named.now)) (seen value.now) }
 {
     match value {
         Value::Handle(number) => word_if(is_value(&named.tref, value), *number),
@@ -123,7 +123,7 @@ pub(crate) fn lower_handle(named: &NamedType, value: &Value) -> Option<Word>
 /// The word of a case of a variant without payloads, under its named type.
 #[tactic(auto, using(crate::proofs::LowerLemmas::kind_rules))]
 pub(crate) fn lower_enum(named: &NamedType, value: &Value) -> Option<Word>
-    ensures { option_map word_of result ≡ cells.lower (enum_of (named_tree named.now)) (seen value.now) }
+    ensures { option_map word_view result ≡ cells.lower (enum_of (named_tree named.now)) (seen value.now) }
 {
     match value {
         Value::Enum(case) => word_if(is_value(&named.tref, value), *case),
@@ -142,7 +142,7 @@ pub(crate) fn lower_enum(named: &NamedType, value: &Value) -> Option<Word>
 
 /// The word of a number of 32 bits, if it has one.
 fn word_if(has_one: bool, number: u32) -> Option<Word>
-    ensures { option_map word_of result ≡ when has_one (Some (word_i32 number)) }
+    ensures { option_map word_view result ≡ when has_one (Some (word_i32 number)) }
 {
     if has_one {
         Some(i32_word(number))
@@ -158,7 +158,7 @@ pub(crate) fn lower_flags(
     named: &NamedType,
     value: &Value,
 ) -> Result<Option<Word>, OutOfMemory>
-    ensures { IfOk result (λ word. option_map word_of word ≡ cells.lower (flags_of ty (named_tree named.now)) (seen value.now)) }
+    ensures { IfOk result (λ word. option_map word_view word ≡ cells.lower (flags_of ty (named_tree named.now)) (seen value.now)) }
 {
     let Some((repr, _count)) = flags_repr(&named.tref) else {
         return Ok(None);
@@ -175,7 +175,7 @@ pub(crate) fn lower_flags(
 /// The word that keeps flags.
 #[tactic(auto, using(crate::proofs::ShapeLemmas::shape_rules))]
 fn flags_word(repr: IntRepr, value: &Value) -> Result<Option<Word>, OutOfMemory>
-    ensures { IfOk result (λ word. option_map word_of word ≡ flags_in_word repr (seen value.now)) }
+    ensures { IfOk result (λ word. option_map word_view word ≡ flags_in_word repr (seen value.now)) }
 {
     match value {
         Value::Flags(flags) => flags_number(repr, flags.as_slice()),
@@ -193,7 +193,7 @@ fn flags_word(repr: IntRepr, value: &Value) -> Result<Option<Word>, OutOfMemory>
 }
 
 fn flags_number(repr: IntRepr, flags: &[bool]) -> Result<Option<Word>, OutOfMemory>
-    ensures { IfOk result (λ word. option_map word_of word ≡ Some (record { type = type_of_word repr; bits = bits_of_flags flags.now })) }
+    ensures { IfOk result (λ word. option_map word_view word ≡ Some (record { type = type_of_word repr; bits = bits_of_flags flags.now })) }
 {
     match bits_of(flags) {
         Some(bits) => Ok(Some(Word {

@@ -5,7 +5,7 @@ ghost use Rattle.witx_ast.specs.Views.{tree_of};
 ghost use Rattle.witx_machine.specs.Cells.{cells, picked as picked_case};
 ghost use Rattle.witx_bytes.specs.Seen.{seen, seen_in};
 ghost use Rattle.witx_run.specs.Views.{picked_of, type_tree};
-ghost use Rattle.witx_invoke.specs.Picking.{case_picked};
+ghost use Rattle.witx_invoke.specs.Picking.{value_case_picked};
 
 use std::boxed::Box;
 use witx_ast::TypeRef;
@@ -44,7 +44,7 @@ fn pick_case(
     payload: Option<Box<Value>>,
 ) -> Result<Option<Picked<Value>>, OutOfMemory>
     ensures { IfOk result (λ picked. option_map (picked_of seen) picked
-        ≡ case_picked (type_tree ok.entry) (type_tree err.entry) case (option_map seen_in payload)) }
+        ≡ value_case_picked (type_tree ok.entry) (type_tree err.entry) case (option_map seen_in payload)) }
 {
     match case {
         0 => pick(false, ok, payload),

@@ -8,9 +8,9 @@ ghost use Rattle.witx_ast.specs.Plain.{plain, builtin, handle, list_of, pointer_
 ghost use Rattle.witx_ast.specs.Views.{tree_of, datatype_tree, record_tree, variant_tree, members_plain, cases_plain};
 ghost use Rattle.witx_ast.specs.declared.types.IntRepr.{IntRepr};
 ghost use Rattle.witx_ast.specs.declared.types.RecordKind.{RecordKind};
-ghost use Rattle.witx_bytes.specs.Readings.{Reads};
+ghost use Rattle.witx_bytes.specs.Readings.{ReadAs};
 ghost use Rattle.witx_bytes.specs.Seen.{seen, values_seen};
-ghost use Rattle.witx_invoke.specs.Reading.{Payloads, after, case_behind, cases_at, closed, item_at, members_at, payload_at, taken, type_at};
+ghost use Rattle.witx_invoke.specs.Reading.{Payloads, past, case_behind, cases_at, closed, item_past, members_at, payload_at, taken, type_at};
 
 use crate::flags::read_flags;
 use crate::heads::{after, item_start, read_index, read_signed, read_word};
@@ -29,7 +29,7 @@ pub(crate) fn read_type<'a>(
     text: &'a [u8],
     deep: u32,
 ) -> Result<(Value, &'a [u8]), ReadError>
-    ensures { Reads (taken seen) (type_at (plain (tree_of ty.now)) text.now) result }
+    ensures { ReadAs (taken seen) (type_at (plain (tree_of ty.now)) text.now) result }
 {
     if deep == 0 {
         return Err(ReadError::OutOfMemory);
@@ -45,7 +45,7 @@ fn read_datatype<'a>(
     text: &'a [u8],
     deep: u32,
 ) -> Result<(Value, &'a [u8]), ReadError>
-    ensures { Reads (taken seen) (type_at (plain (datatype_tree datatype.now)) text.now) result }
+    ensures { ReadAs (taken seen) (type_at (plain (datatype_tree datatype.now)) text.now) result }
 {
     match datatype {
         Datatype::Record(record) => read_record(alloc, record, text, deep),
@@ -66,7 +66,7 @@ fn read_record<'a>(
     text: &'a [u8],
     deep: u32,
 ) -> Result<(Value, &'a [u8]), ReadError>
-    ensures { Reads (taken seen) (type_at (plain (record_tree record_type.now)) text.now) result }
+    ensures { ReadAs (taken seen) (type_at (plain (record_tree record_type.now)) text.now) result }
 {
     let members = record_type.members.as_slice();
     match record_type.kind {
@@ -81,7 +81,7 @@ fn read_bits<'a>(
     members: &[RecordMember],
     text: &'a [u8],
 ) -> Result<(Value, &'a [u8]), ReadError>
-    ensures { (r : IntRepr) → Reads (taken seen) (type_at (record_of (RecordKind.Bitflags r) (members_plain members.now)) text.now) result }
+    ensures { (r : IntRepr) → ReadAs (taken seen) (type_at (record_of (RecordKind.Bitflags r) (members_plain members.now)) text.now) result }
 {
     let (flags, rest) = read_flags(alloc, members.len(), text)?;
     Ok((Value::Flags(flags), rest))
@@ -95,7 +95,7 @@ fn read_tuple<'a>(
     text: &'a [u8],
     deep: u32,
 ) -> Result<(Value, &'a [u8]), ReadError>
-    ensures { Reads (taken seen) (type_at (record_of RecordKind.Tuple (members_plain members.now)) text.now) result }
+    ensures { ReadAs (taken seen) (type_at (record_of RecordKind.Tuple (members_plain members.now)) text.now) result }
 {
     let (values, rest) = read_enclosed(alloc, members, text, deep)?;
     Ok((Value::Tuple(values), rest))
@@ -109,7 +109,7 @@ fn read_other<'a>(
     text: &'a [u8],
     deep: u32,
 ) -> Result<(Value, &'a [u8]), ReadError>
-    ensures { Reads (taken seen) (type_at (record_of RecordKind.Other (members_plain members.now)) text.now) result }
+    ensures { ReadAs (taken seen) (type_at (record_of RecordKind.Other (members_plain members.now)) text.now) result }
 {
     let (values, rest) = read_enclosed(alloc, members, text, deep)?;
     Ok((Value::Rec(values), rest))
@@ -124,7 +124,7 @@ fn read_enclosed<'a>(
     text: &'a [u8],
     deep: u32,
 ) -> Result<(Values, &'a [u8]), ReadError>
-    ensures { Reads (taken values_seen) (option_and_then (closed 41) (option_and_then (members_at 0 (members_plain members.now)) (after 40 text.now))) result }
+    ensures { ReadAs (taken values_seen) (option_and_then (closed 41) (option_and_then (members_at 0 (members_plain members.now)) (past 40 text.now))) result }
 {
     let Some(inside) = after(b'(', text) else {
         return Err(ReadError::NoValue);
@@ -146,7 +146,7 @@ fn read_members<'a>(
     text: &'a [u8],
     deep: u32,
 ) -> Result<(Values, &'a [u8]), ReadError>
-    ensures { Reads (taken values_seen) (members_at 0 (members_plain members.now) text.now) result }
+    ensures { ReadAs (taken values_seen) (members_at 0 (members_plain members.now) text.now) result }
 {
     let mut values = Values::new(alloc);
     let mut rest = text;
@@ -168,7 +168,7 @@ fn read_member<'a>(
     text: &'a [u8],
     deep: u32,
 ) -> Result<(Value, &'a [u8]), ReadError>
-    ensures { Reads (taken seen) (option_and_then (type_at (plain (tree_of ty.now))) (item_at item text.now)) result }
+    ensures { ReadAs (taken seen) (option_and_then (type_at (plain (tree_of ty.now))) (item_past item text.now)) result }
 {
     let Some(start) = item_start(item, text) else {
         return Err(ReadError::NoValue);
@@ -184,7 +184,7 @@ fn read_variant<'a>(
     text: &'a [u8],
     deep: u32,
 ) -> Result<(Value, &'a [u8]), ReadError>
-    ensures { Reads (taken seen) (type_at (plain (variant_tree variant.now)) text.now) result }
+    ensures { ReadAs (taken seen) (type_at (plain (variant_tree variant.now)) text.now) result }
 {
     read_cases(alloc, variant.cases.as_slice(), text, deep)
 }
@@ -198,7 +198,7 @@ fn read_cases<'a>(
     text: &'a [u8],
     deep: u32,
 ) -> Result<(Value, &'a [u8]), ReadError>
-    ensures { Reads (taken seen) (cases_at (all_bare (cases_plain cases.now)) (payload_at (cases_plain cases.now)) text.now) result }
+    ensures { ReadAs (taken seen) (cases_at (all_bare (cases_plain cases.now)) (payload_at (cases_plain cases.now)) text.now) result }
 {
     if are_bare(cases) {
         return read_enum(text);
@@ -218,7 +218,7 @@ fn read_carrying<'a>(
     text: &'a [u8],
     deep: u32,
 ) -> Result<(Value, &'a [u8]), ReadError>
-    ensures { (s : List ℕ) → Reads (taken seen) (case_behind (Some text.now) (payload_at (cases_plain cases.now)) s) result }
+    ensures { (s : List ℕ) → ReadAs (taken seen) (case_behind (Some text.now) (payload_at (cases_plain cases.now)) s) result }
 {
     let Some((case, behind)) = read_index(text) else {
         return Err(ReadError::NoValue);
@@ -245,7 +245,7 @@ fn read_payload<'a>(
     text: &'a [u8],
     deep: u32,
 ) -> Result<(Value, &'a [u8]), ReadError>
-    ensures { Reads (taken seen) (payload_at (cases_plain cases.now) case text.now) result }
+    ensures { ReadAs (taken seen) (payload_at (cases_plain cases.now) case text.now) result }
 {
     if case as usize >= cases.len() {
         return Err(ReadError::NoValue);
@@ -258,7 +258,7 @@ fn read_payload<'a>(
 
 #[tactic(auto, using(crate::proofs::ReadParts::scalar_rules))]
 fn read_builtin(ty: BuiltinType, text: &[u8]) -> Result<(Value, &[u8]), ReadError>
-    ensures { Reads (taken seen) (type_at (builtin ty) text.now) result }
+    ensures { ReadAs (taken seen) (type_at (builtin ty) text.now) result }
 {
     let (number, rest) = read_signed(text);
     Ok((Value::Num(ty, number), rest))
@@ -266,7 +266,7 @@ fn read_builtin(ty: BuiltinType, text: &[u8]) -> Result<(Value, &[u8]), ReadErro
 
 #[tactic(auto, using(crate::proofs::ReadParts::scalar_rules))]
 fn read_handle(text: &[u8]) -> Result<(Value, &[u8]), ReadError>
-    ensures { Reads (taken seen) (type_at handle text.now) result }
+    ensures { ReadAs (taken seen) (type_at handle text.now) result }
 {
     let (number, rest) = read_word(text);
     Ok((Value::Handle(number), rest))
@@ -274,7 +274,7 @@ fn read_handle(text: &[u8]) -> Result<(Value, &[u8]), ReadError>
 
 #[tactic(auto, using(crate::proofs::ReadParts::scalar_rules))]
 fn read_pointer<'a>(target: &TypeRef, text: &'a [u8]) -> Result<(Value, &'a [u8]), ReadError>
-    ensures { Reads (taken seen) (type_at (pointer_to (plain (tree_of target.now))) text.now) result }
+    ensures { ReadAs (taken seen) (type_at (pointer_to (plain (tree_of target.now))) text.now) result }
 {
     let (address, rest) = read_word(text);
     Ok((Value::Pointer(address), rest))
@@ -282,7 +282,7 @@ fn read_pointer<'a>(target: &TypeRef, text: &'a [u8]) -> Result<(Value, &'a [u8]
 
 #[tactic(auto, using(crate::proofs::ReadParts::scalar_rules))]
 fn read_const_pointer<'a>(target: &TypeRef, text: &'a [u8]) -> Result<(Value, &'a [u8]), ReadError>
-    ensures { Reads (taken seen) (type_at (const_pointer_to (plain (tree_of target.now))) text.now) result }
+    ensures { ReadAs (taken seen) (type_at (const_pointer_to (plain (tree_of target.now))) text.now) result }
 {
     let (address, rest) = read_word(text);
     Ok((Value::ConstPointer(address), rest))
@@ -291,7 +291,7 @@ fn read_const_pointer<'a>(target: &TypeRef, text: &'a [u8]) -> Result<(Value, &'
 /// A list: `@`, its address, `+` and its length.
 #[tactic(auto, using(crate::proofs::ReadParts::scalar_rules))]
 fn read_list<'a>(target: &TypeRef, text: &'a [u8]) -> Result<(Value, &'a [u8]), ReadError>
-    ensures { Reads (taken seen) (type_at (list_of (plain (tree_of target.now))) text.now) result }
+    ensures { ReadAs (taken seen) (type_at (list_of (plain (tree_of target.now))) text.now) result }
 {
     let Some(start) = after(b'@', text) else {
         return Err(ReadError::NoValue);
@@ -307,7 +307,7 @@ fn read_list<'a>(target: &TypeRef, text: &'a [u8]) -> Result<(Value, &'a [u8]), 
 /// A case of a variant without payloads.
 #[tactic(auto, using(crate::proofs::ReadParts::scalar_rules))]
 fn read_enum(text: &[u8]) -> Result<(Value, &[u8]), ReadError>
-    ensures { (payload : Payloads) → Reads (taken seen) (cases_at true payload text.now) result }
+    ensures { (payload : Payloads) → ReadAs (taken seen) (cases_at true payload text.now) result }
 {
     let Some((case, rest)) = read_index(text) else {
         return Err(ReadError::NoValue);
@@ -318,7 +318,7 @@ fn read_enum(text: &[u8]) -> Result<(Value, &[u8]), ReadError>
 /// A case without a payload, of a variant that has payloads.
 #[tactic(auto, using(crate::proofs::ReadParts::scalar_rules))]
 fn read_bare(text: &[u8]) -> Result<(Value, &[u8]), ReadError>
-    ensures { (payload : Payloads) → Reads (taken seen) (case_behind None payload text.now) result }
+    ensures { (payload : Payloads) → ReadAs (taken seen) (case_behind None payload text.now) result }
 {
     let Some((case, rest)) = read_index(text) else {
         return Err(ReadError::NoValue);

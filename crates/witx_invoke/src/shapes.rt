@@ -4,7 +4,7 @@ ghost use Rattle.std.specs.Prelude.{◌≡◌, IfOk, Some, cond, length, map, na
 ghost use Rattle.witx_machine.specs.Cells.{cells};
 ghost use Rattle.witx_machine.specs.Words.{when};
 ghost use Rattle.witx_bytes.specs.Seen.{seen};
-ghost use Rattle.witx_call.specs.WordViews.{word_of};
+ghost use Rattle.witx_call.specs.WordViews.{word_view};
 
 use crate::word_parts::{i32_number, i32_word};
 use std::alloc::Global;
@@ -16,7 +16,7 @@ use witx_call::Word;
 /// The address and the length of a list.
 #[tactic(auto, using(crate::proofs::ShapeLemmas::shape_rules))]
 pub(crate) fn list_words(value: &Value) -> Option<(Word, Word)>
-    ensures { option_map (λ p. (word_of p.0, word_of p.1)) result ≡ cells.list_words (seen value.now) }
+    ensures { option_map (λ p. (word_view p.0, word_view p.1)) result ≡ cells.list_words (seen value.now) }
 {
     match value {
         Value::List { address, length } => Some((i32_word(*address), i32_word(*length))),
@@ -36,7 +36,7 @@ pub(crate) fn list_words(value: &Value) -> Option<(Word, Word)>
 /// The list of this address and this length.
 #[tactic(auto, using(crate::proofs::ShapeLemmas::shape_rules))]
 pub(crate) fn list_value(address: Word, length: Word) -> Option<Value>
-    ensures { option_map seen result ≡ cells.list_value (word_of address) (word_of length) }
+    ensures { option_map seen result ≡ cells.list_value (word_view address) (word_view length) }
 {
     match (i32_number(address), i32_number(length)) {
         (Some(address), Some(length)) => Some(Value::List { address, length }),

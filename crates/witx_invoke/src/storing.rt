@@ -10,7 +10,7 @@ ghost use Rattle.witx_bytes.specs.Laids.{IsLaid};
 ghost use Rattle.witx_bytes.specs.Seen.{seen};
 ghost use Rattle.witx_invoke.specs.Placing.{is_writable as fits_there, placing};
 ghost use Rattle.witx_call.specs.PlacementViews.{room_of};
-ghost use Rattle.witx_call.specs.WordViews.{word_of};
+ghost use Rattle.witx_call.specs.WordViews.{word_view};
 
 use crate::kinds::is_by_address;
 use crate::word_parts::i32_number;
@@ -32,7 +32,7 @@ pub(crate) fn store(
     value: &Value,
 ) -> Result<bool, OutOfMemory>
     ensures { IfOk result (λ stored. when stored (Some (room_of placement.new))
-        ≡ placing.set (named_tree ty.now) (word_of word) (seen value.now) (room_of placement.old)) }
+        ≡ placing.set (named_tree ty.now) (word_view word) (seen value.now) (room_of placement.old)) }
 {
     let Some(at) = i32_number(word) else {
         return Ok(false);

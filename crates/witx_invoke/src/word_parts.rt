@@ -3,7 +3,7 @@
 ghost use Rattle.std.specs.Prelude.{◌≡◌};
 ghost use Rattle.witx_machine.specs.Words.{i32 as word_i32};
 ghost use Rattle.witx_machine.specs.Cells.{cells};
-ghost use Rattle.witx_call.specs.WordViews.{u32_in, word_of};
+ghost use Rattle.witx_call.specs.WordViews.{u32_in, word_view};
 
 use witx_call::Word;
 use witx_machine::WasmType;
@@ -11,7 +11,7 @@ use witx_run::same_type;
 
 /// A number of 32 bits, an address among them.
 pub(crate) fn i32_word(number: u32) -> Word
-    ensures { word_of result ≡ word_i32 number }
+    ensures { word_view result ≡ word_i32 number }
 {
     Word {
         ty: WasmType::I32,
@@ -21,21 +21,21 @@ pub(crate) fn i32_word(number: u32) -> Word
 
 /// The word of a case that carries nothing.
 pub(crate) fn case_word(error: bool) -> Word
-    ensures { word_of result ≡ cells.case_word error }
+    ensures { word_view result ≡ cells.case_word error }
 {
     if error { i32_word(1) } else { i32_word(0) }
 }
 
 /// Whether the word is of a type.
 pub(crate) fn has_type(word: Word, ty: WasmType) -> bool
-    ensures { result ≡ cells.has_type ty (word_of word) }
+    ensures { result ≡ cells.has_type ty (word_view word) }
 {
     same_type(word.ty, ty)
 }
 
 /// Which case it stands for, true for the error; a word of 32 bits alone does.
 pub(crate) fn chooses(word: Word) -> Option<bool>
-    ensures { result ≡ cells.chooses (word_of word) }
+    ensures { result ≡ cells.chooses (word_view word) }
 {
     if same_type(word.ty, WasmType::I32) {
         Some(word.bits != 0)
@@ -46,7 +46,7 @@ pub(crate) fn chooses(word: Word) -> Option<bool>
 
 /// The number of 32 bits that it is.
 pub(crate) fn i32_number(word: Word) -> Option<u32>
-    ensures { result ≡ u32_in (word_of word) }
+    ensures { result ≡ u32_in (word_view word) }
 {
     if same_type(word.ty, WasmType::I32) && word.bits < 1 << 32 {
         Some(word.bits as u32)

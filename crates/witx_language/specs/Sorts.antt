@@ -2,7 +2,7 @@
 use Rattle.std.specs.Prelude.{ℕ, List, [], ◌∷◌, Option, Some, None}
 use Rattle.witx_values.specs.Parts.{Sorting}
 use Rattle.witx_syntax_tree.specs.declared.tree.BuiltinSyntax.{BuiltinSyntax}
-use Rattle.witx_syntax_tree.specs.Trees.{Name, QuotedText, Member, TypeTree, Maybe, Types, Fields, UnionFields, Cases, NotedDecl, ItemTree, NotedItem}
+use Rattle.witx_syntax_tree.specs.Trees.{Name, QuotedText, Member, TypeTree, Maybe, Types, Fields, UnionFields, Cases, NotedDecl, FormTree, NotedItem}
 use Rattle.witx_language.specs.declared.nonterminal.Nonterminal.{Nonterminal as FormName}
 use Rattle.witx_language.specs.declared.nonterminal.Nonterminal.TheVariants as n
 use Rattle.witx_language.specs.declared.sort.Sort.{Sort}
@@ -32,7 +32,7 @@ Of s.Entry = EntryTree
 Of s.Entries = EntriesTree
 Of s.Decl = NotedDecl
 Of s.Decls = List NotedDecl
-Of s.Item = ItemTree
+Of s.Item = FormTree
 Of s.Items = List NotedItem
 
 -- the sort of a value

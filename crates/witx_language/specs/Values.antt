@@ -4,7 +4,7 @@ use Rattle.witx_lex.specs.Tokens.{Token, id, int, quoted, Lexed}
 use Rattle.witx_syntax_tree.specs.declared.tree.BuiltinSyntax.{BuiltinSyntax}
 use Rattle.witx_language.specs.Integers.{is_small, int_value}
 use Rattle.witx_comments.specs.Comments.{Comments}
-use Rattle.witx_syntax_tree.specs.Trees.{Name, QuotedText, Member, TypeTree, Maybe, Types, Fields, UnionFields, Cases, NotedDecl, ItemTree, NotedItem}
+use Rattle.witx_syntax_tree.specs.Trees.{Name, QuotedText, Member, TypeTree, Maybe, Types, Fields, UnionFields, Cases, NotedDecl, FormTree, NotedItem}
 
 -- an entry of a function: a parameter, a result, that it doesn't return, or that its result is stored
 pub data EntryTree : Type 0 where
@@ -58,7 +58,7 @@ pub data Val : Type 0 where
   some_entries : Fields → Fields → Bool → Bool → Val
   a_decl : NotedDecl → Val
   some_decls : List NotedDecl → Val
-  an_item : ItemTree → Val
+  an_item : FormTree → Val
   some_items : List NotedItem → Val
 
 -- the comments before the first of the tokens

@@ -2,7 +2,7 @@
 
 ghost use Rattle.std.specs.Prelude.{◌≡◌, slice_index_or};
 ghost use Rattle.witx_language.specs.declared.token_kind.TokenKind.TheVariants.{End};
-ghost use Rattle.witx_language.specs.FaultPlaces.{fault_view, told_at};
+ghost use Rattle.witx_language.specs.FaultPlaces.{fault_view, fault_told_at};
 ghost use Rattle.witx_language.specs.Messages.{message_of as message_of_kinds};
 ghost use Rattle.witx_lex.specs.Views.{tokens_view};
 ghost use Rattle.witx_values.specs.Texts.{start_of};
@@ -15,7 +15,7 @@ use witx_values::start_of_token;
 
 /// The fault with a message at an offset.
 pub fn fault_at(text: &str, message: &'static str, offset: usize) -> ParseFault
-    ensures { fault_view result ≡ told_at text.now message.now offset }
+    ensures { fault_view result ≡ fault_told_at text.now message.now offset }
 {
     let (line, column) = line_column(text, offset);
     ParseFault {
@@ -34,7 +34,7 @@ pub fn token_fault(
     expected: &[TokenKind],
 ) -> ParseFault
     ensures { fault_view result
-        ≡ told_at text.now (message_of_kinds expected.now (slice_index_or kinds.now at End)) (start_of text.now (tokens_view tokens.now) at) }
+        ≡ fault_told_at text.now (message_of_kinds expected.now (slice_index_or kinds.now at End)) (start_of text.now (tokens_view tokens.now) at) }
 {
     let here = match kinds.get(at) {
         Some(kind) => *kind,

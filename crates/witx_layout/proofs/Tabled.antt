@@ -21,7 +21,7 @@ use Rattle.witx_ast.specs.declared.definition.Definition.{Definition}
 use Rattle.witx_layout.specs.declared.layout.SizeAlign.{SizeAlign}
 use Rattle.witx_layout.specs.declared.table.LayoutsError.{LayoutsError}
 use Rattle.witx_layout.specs.declared.table.LayoutsError.TheVariants as layouts_error
-use Rattle.witx_layout.specs.Nodes.{definition_nodes, typename_nodes, one_typename, typename_count}
+use Rattle.witx_layout.specs.Nodes.{definition_nodes, typename_node_count, one_typename, typename_count}
 use Rattle.witx_layout.specs.Layouts.{plain_layout, layouts_in, all_layouts, large_at, first_large_from, TooLargeAt}
 use Rattle.witx_layout.specs.LayoutsText.{part_lines}
 use Rattle.witx_layout.specs.Known.{Knows, KnowsFields, KnowsArms, KnowsDefinition, HasLines, DefinitionHasLines, IsKept, IsEntered, IsLined}
@@ -261,11 +261,11 @@ too-large xs i d all e l p h q =
 
 -- steps
 pub next-most : (xs : List Definition) (i : ℕ) (d : Definition) (s r n : ℕ) → i < length xs → d ≡ get_or xs i d
-    → s + typename_nodes (left xs i) ≤ n → r ≤ s + definition_nodes (definition_tree d) → r + typename_nodes (left xs (i + 1)) ≤ n
-next-most xs i d s r n l p h k = omega (arith, h, k, ap typename_nodes (left-drop xs i d l p))
+    → s + typename_node_count (left xs i) ≤ n → r ≤ s + definition_nodes (definition_tree d) → r + typename_node_count (left xs (i + 1)) ≤ n
+next-most xs i d s r n l p h k = omega (arith, h, k, ap typename_node_count (left-drop xs i d l p))
 
 pub within-most : (xs : List Definition) (i : ℕ) (d : Definition) (s r n : ℕ) → i < length xs → d ≡ get_or xs i d
-    → s + typename_nodes (left xs i) ≤ n → r ≤ s + definition_nodes (definition_tree d) → r ≤ n
+    → s + typename_node_count (left xs i) ≤ n → r ≤ s + definition_nodes (definition_tree d) → r ≤ n
 within-most xs i d s r n l p h k = omega (arith, next-most xs i d s r n l p h k)
 
 pub next-least : (xs : List Definition) (i : ℕ) (d : Definition) (s r n : ℕ) → i < length xs → d ≡ get_or xs i d

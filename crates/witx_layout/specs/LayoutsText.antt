@@ -11,14 +11,14 @@ use Rattle.witx_ast.specs.TypeNames.{builtin_text}
 use Rattle.witx_ast.specs.Definitions.{DefinitionTree, typename_of, module_of, constant_of}
 use Rattle.witx_layout.specs.Numbers.{size_of, align_of, offsets, payload_offset, repr_size}
 
-abbrev pub line_feed : List ℕ
-line_feed = 10 ∷ []
+abbrev pub line_end : List ℕ
+line_end = 10 ∷ []
 
 abbrev pub typename_line : List ℕ → (size align : ℕ) → List ℕ
-typename_line name size align = codes "typename " ++ name ++ codes " size " ++ decimal size ++ codes " align " ++ decimal align ++ line_feed
+typename_line name size align = codes "typename " ++ name ++ codes " size " ++ decimal size ++ codes " align " ++ decimal align ++ line_end
 
 abbrev pub field_line : List ℕ → ℕ → List ℕ
-field_line name offset = codes "  field " ++ name ++ codes " offset " ++ decimal offset ++ line_feed
+field_line name offset = codes "  field " ++ name ++ codes " offset " ++ decimal offset ++ line_end
 
 -- a line for each member, with its offset
 abbrev pub field_lines : Fields → List ℕ → List ℕ
@@ -26,11 +26,11 @@ field_lines (Fields.field name t rest) (offset ∷ begins) = field_line name off
 field_lines _ _ = []
 
 abbrev pub flags_line : IntRepr → List ℕ
-flags_line repr = codes "  flags " ++ builtin_text (repr_builtin repr) ++ line_feed
+flags_line repr = codes "  flags " ++ builtin_text (repr_builtin repr) ++ line_end
 
 -- the size of the tag, and where the payload begins
 abbrev pub tag_numbers_line : (tag payload : ℕ) → List ℕ
-tag_numbers_line tag payload = codes "  tag " ++ decimal tag ++ codes " payload " ++ decimal payload ++ line_feed
+tag_numbers_line tag payload = codes "  tag " ++ decimal tag ++ codes " payload " ++ decimal payload ++ line_end
 
 abbrev pub tag_line : IntRepr → Arms → List ℕ
 tag_line repr cases = tag_numbers_line (repr_size repr) (payload_offset repr cases)

@@ -32,9 +32,9 @@ definition_nodes (module_of m) = 0
 definition_nodes (constant_of c) = 0
 
 -- the nodes of all typenames' types
-abbrev pub typename_nodes : List DefinitionTree → ℕ
-typename_nodes [] = 0
-typename_nodes (d ∷ ds) = definition_nodes d + typename_nodes ds
+abbrev pub typename_node_count : List DefinitionTree → ℕ
+typename_node_count [] = 0
+typename_node_count (d ∷ ds) = definition_nodes d + typename_node_count ds
 
 abbrev pub one_typename : DefinitionTree → ℕ
 one_typename (typename_of name t docs) = 1

@@ -12,7 +12,7 @@ ghost use Rattle.witx_ast.specs.Entries.{by_name};
 ghost use Rattle.witx_ast.specs.Definitions.{definition_tree, introduced};
 ghost use Rattle.witx_ast.specs.Ordered.{IsOrdered};
 ghost use Rattle.witx_layout.specs.Numbers.{size_of, align_of, members_end, members_align, payloads_size, payloads_align};
-ghost use Rattle.witx_layout.specs.Nodes.{type_nodes, field_nodes, arm_nodes, definition_nodes, one_typename, typename_nodes, typename_count};
+ghost use Rattle.witx_layout.specs.Nodes.{type_nodes, field_nodes, arm_nodes, definition_nodes, one_typename, typename_node_count, typename_count};
 ghost use Rattle.witx_layout.specs.Known.{Knows, KnowsFields, KnowsArms, KnowsDefinition, IsEntered};
 ghost use Rattle.witx_layout.specs.Layouts.{TooLargeAt, all_layouts, first_large, large_at, layout_of, layouts_in};
 
@@ -67,7 +67,7 @@ pub fn layouts<L: Ledger>(
     ensures layouts { IfOk result (λ layouts. layouts ≡ all_layouts (map definition_tree document.now.definitions)) }
     ensures sizes { OnOk result (first_large (map definition_tree document.now.definitions) ≡ None) }
     ensures too_large { IfErr result (TooLargeAt (first_large (map definition_tree document.now.definitions))) }
-    ensures most { steps.new ≤ steps.old + typename_nodes (map definition_tree document.now.definitions) }
+    ensures most { steps.new ≤ steps.old + typename_node_count (map definition_tree document.now.definitions) }
     ensures least { OnOk result (steps.old + typename_count (map definition_tree document.now.definitions) ≤ steps.new) }
 {
     names_are_distinct(document);
@@ -114,7 +114,7 @@ fn typename_layouts<L: Ledger>(
     ensures layouts { IfOk result (λ layouts. layouts ≡ all_layouts (map definition_tree definitions.now)) }
     ensures sizes { OnOk result (first_large (map definition_tree definitions.now) ≡ None) }
     ensures too_large { IfErr result (TooLargeAt (first_large (map definition_tree definitions.now))) }
-    ensures most { steps.new ≤ steps.old + typename_nodes (map definition_tree definitions.now) }
+    ensures most { steps.new ≤ steps.old + typename_node_count (map definition_tree definitions.now) }
     ensures least { OnOk result (steps.old + typename_count (map definition_tree definitions.now) ≤ steps.new) }
 {
     let mut table = NameMap::new(alloc);

@@ -5,7 +5,7 @@ use Rattle.std.proofs.lemmas.Bool.Decides.{nat_tests}
 use Rattle.std.proofs.lemmas.List.{append_cancel_left, drop_more, drop-drop, length-append, length-drop, take-append-drop}
 use Rattle.std.specs.Option.{option_map}
 use Rattle.witx_lex.specs.BlockScan.{block_len}
-use Rattle.witx_lex.specs.Blocks.{Inside, empty, byte, nested, inside_spelling, begins_mark, is_inside, IsBlockText, HasNoEnd}
+use Rattle.witx_lex.specs.Blocks.{InsideComment, empty, byte, nested, inside_spelling, begins_mark, is_inside, IsBlockText, HasNoEnd}
 
 -- ---- steps of the scan
 
@@ -86,7 +86,7 @@ plain_here n b [] h = refl
 plain_here n b (c ∷ u) h = let p = or_false (b == 40 && c == 59) (b == 59 && c == 41) h in plain_step n b c u p.0 p.1
 
 -- whether a mark begins there, whatever stands behind the ;)
-same_front : (i : Inside) (b : ℕ) (rest : List ℕ) → begins_mark (b ∷ (inside_spelling i ++ 59 ∷ 41 ∷ rest)) ≡ begins_mark (b ∷ (inside_spelling i ++ 59 ∷ 41 ∷ []))
+same_front : (i : InsideComment) (b : ℕ) (rest : List ℕ) → begins_mark (b ∷ (inside_spelling i ++ 59 ∷ 41 ∷ rest)) ≡ begins_mark (b ∷ (inside_spelling i ++ 59 ∷ 41 ∷ []))
 same_front empty b rest = refl
 same_front (byte c more) b rest = refl
 same_front (nested inner more) b rest = refl
@@ -99,7 +99,7 @@ four_added : (o : Option ℕ) (a b : ℕ) → option_map (λ k. k + 2) (option_m
 four_added None a b = refl
 four_added (Some k) a b = ap (λ (x : ℕ). Some x) (omega arith)
 
-through : (i : Inside) (n : ℕ) (rest : List ℕ) → is_inside i ≡ true
+through : (i : InsideComment) (n : ℕ) (rest : List ℕ) → is_inside i ≡ true
     → block_len n (inside_spelling i ++ 59 ∷ 41 ∷ rest) ≡ option_map (λ k. k + length (inside_spelling i)) (block_len n (59 ∷ 41 ∷ rest))
 through empty n rest h = none_added (block_len n (59 ∷ 41 ∷ rest))
 through (byte b more) n rest h =
@@ -138,7 +138,7 @@ no_end u e t rest h shape = let f : None ≡ Some (length t) = sym e ∙ ap (blo
 
 -- the inside that ends first, and what stands behind its ;)
 record Peeled (u : List ℕ) : Type 0 where
-  inside : Inside
+  inside : InsideComment
   is : is_inside inside ≡ true
   rest : List ℕ
   spelled : u ≡ inside_spelling inside ++ 59 ∷ 41 ∷ rest
@@ -146,7 +146,7 @@ record Peeled (u : List ℕ) : Type 0 where
 both : (x y : Bool) → x ≡ true → y ≡ true → (x && y) ≡ true
 both x y e f = rw (e, f) refl
 
-shorter : (i : Inside) (u rest : List ℕ) (fuel : ℕ) → u ≡ inside_spelling i ++ 59 ∷ 41 ∷ rest → length u ≤ fuel → length rest ≤ fuel
+shorter : (i : InsideComment) (u rest : List ℕ) (fuel : ℕ) → u ≡ inside_spelling i ++ 59 ∷ 41 ∷ rest → length u ≤ fuel → length rest ≤ fuel
 shorter i u rest fuel e le = let long : length u ≡ length (inside_spelling i) + (2 + length rest) = ap (λ (t : List ℕ). length t) e ∙ length-append (inside_spelling i) (59 ∷ 41 ∷ rest) ∙ omega arith in omega arith
 
 peel_nested : (b c : ℕ) (r : List ℕ) → (b == 40 && c == 59) ≡ true → (one : Peeled r) → Peeled one.rest → Peeled (b ∷ c ∷ r)
@@ -203,7 +203,7 @@ pub record Scanned (k : ℕ) (u : List ℕ) : Type 0 where
   pub split : u ≡ take k u ++ 59 ∷ 41 ∷ drop (k + 2) u
   pub within : k + 2 ≤ length u
 
-scanned_at : (i : Inside) (u rest : List ℕ) (k : ℕ) → is_inside i ≡ true → u ≡ inside_spelling i ++ 59 ∷ 41 ∷ rest → k ≡ length (inside_spelling i) → Scanned k u
+scanned_at : (i : InsideComment) (u rest : List ℕ) (k : ℕ) → is_inside i ≡ true → u ≡ inside_spelling i ++ 59 ∷ 41 ∷ rest → k ≡ length (inside_spelling i) → Scanned k u
 scanned_at i u rest k is e k-is =
     let t = inside_spelling i in
     let front : take k u ≡ t = ap (take k) e ∙ take_at t (59 ∷ 41 ∷ rest) k (sym k-is) in

@@ -3,13 +3,13 @@ use Rattle.std.proofs.Common.{◌≡◌, ℕ, Bool, true, false, not, ◌||◌, 
 use Rattle.std.specs.Prelude.{nat_le, codes, if◌then◌else◌}
 use Rattle.std.specs.List.{list_all, flat_map, list_any}
 use Rattle.std.specs.Char.{encode_utf8}
-use Rattle.witx_lex.specs.Characters.{is_blank, is_name, is_scalar, scalar_value}
+use Rattle.witx_lex.specs.Characters.{is_blank, is_name_character, is_unicode_scalar, scalar_value}
 use Rattle.witx_lex.specs.Pieces.{raw, letter, two_digits, scalar, is_part, part_value, Piece, blank, line, block, opening, closing, run, spelling, most_open}
 use Rattle.witx_lex.specs.BlockScan.{block_len}
 use Rattle.witx_lex.specs.Blocks.{empty, byte, nested, IsBlockText, HasNoEnd}
 use Rattle.witx_lex.specs.Tokens.{left, right, id, word, annot, int}
 use Rattle.witx_lex.specs.Meaning.{run_token, tokens_of}
-use Rattle.witx_lex.specs.Places.{line_at, column_at}
+use Rattle.witx_lex.specs.Places.{line_number_at, column_at}
 use Rattle.witx_lex.proofs.Blocks.{no_end}
 use Rattle.witx_lex.proofs.Tables.{below}
 
@@ -21,7 +21,7 @@ signs = codes "!#$%&'*+-./:<=>?@\\^_`|~"
 abbrev is_letter_or_digit : ℕ → Bool
 is_letter_or_digit b = (nat_le 97 b && nat_le b 122) || (nat_le 65 b && nat_le b 90) || (nat_le 48 b && nat_le b 57)
 
-name_characters : list_all (λ b. if is_name b then is_letter_or_digit b || list_any (λ c. c == b) signs else not (is_letter_or_digit b || list_any (λ c. c == b) signs)) (below 256) ≡ true
+name_characters : list_all (λ b. if is_name_character b then is_letter_or_digit b || list_any (λ c. c == b) signs else not (is_letter_or_digit b || list_any (λ c. c == b) signs)) (below 256) ≡ true
 name_characters = refl
 
 blanks : list_all (λ b. if is_blank b then list_any (λ c. c == b) (codes " \t\n\r") else not (list_any (λ c. c == b) (codes " \t\n\r"))) (below 256) ≡ true
@@ -66,7 +66,7 @@ deepest = refl
 
 -- ---- escapes
 
-characters : (scalar_value (codes "1_F4_a9") ≡ 0x1F4A9) × (is_scalar 0xD7FF ≡ true) × (is_scalar 0xD800 ≡ false) × (is_scalar 0xDFFF ≡ false) × (is_scalar 0xE000 ≡ true) × (is_scalar 0x10_FFFF ≡ true) × (is_scalar 0x11_0000 ≡ false)
+characters : (scalar_value (codes "1_F4_a9") ≡ 0x1F4A9) × (is_unicode_scalar 0xD7FF ≡ true) × (is_unicode_scalar 0xD800 ≡ false) × (is_unicode_scalar 0xDFFF ≡ false) × (is_unicode_scalar 0xE000 ≡ true) × (is_unicode_scalar 0x10_FFFF ≡ true) × (is_unicode_scalar 0x11_0000 ≡ false)
 characters = (refl, refl, refl, refl, refl, refl, refl)
 
 no_digits : (is_part (scalar []) ≡ false) × (is_part (scalar (codes "_1")) ≡ false) × (is_part (scalar (codes "1__0")) ≡ false) × (is_part (two_digits 52 103) ≡ false)
@@ -96,5 +96,5 @@ their_tokens = refl
 
 -- ---- places
 
-places : (line_at (codes "a\nb") 2 ≡ 2) × (column_at (codes "a\nb") 2 ≡ 1) × (line_at (codes "a\nb") 1 ≡ 1) × (column_at (codes "a\nb") 1 ≡ 2) × (line_at (codes "ab") 9 ≡ 1) × (column_at (codes "ab") 9 ≡ 3)
+places : (line_number_at (codes "a\nb") 2 ≡ 2) × (column_at (codes "a\nb") 2 ≡ 1) × (line_number_at (codes "a\nb") 1 ≡ 1) × (column_at (codes "a\nb") 1 ≡ 2) × (line_number_at (codes "ab") 9 ≡ 1) × (column_at (codes "ab") 9 ≡ 3)
 places = (refl, refl, refl, refl, refl, refl)

@@ -7,10 +7,10 @@ use Rattle.std.specs.List.{list_all, flat_map}
 use Rattle.std.specs.Prelude.{IsTrue, if◌then◌else◌}
 use Rattle.witx_lex.specs.declared.error.LexKind.{LexKind}
 use Rattle.witx_lex.specs.declared.error.LexKind.TheVariants.{UnexpectedCharacter, UnterminatedComment, UnterminatedString, BadEscape, BadCharacter, NotUtf8, EmptyId, TooDeep}
-use Rattle.witx_lex.specs.Characters.{is_blank, is_name, is_raw, is_control, begins}
+use Rattle.witx_lex.specs.Characters.{is_blank, is_name_character, is_raw, is_control, begins}
 use Rattle.witx_lex.specs.Blocks.{HasNoEnd}
 use Rattle.witx_lex.specs.Pieces.{Part, part_spelling, part_value, Piece, blank, line, block, opening, closing, run, quoted, spelling, open_after, open_after_all, Stands, Stand}
-use Rattle.witx_lex.specs.Faults.{Parts, NoPart, behind, IsFaultAt}
+use Rattle.witx_lex.specs.Faults.{StringParts, NoPart, parts_length, IsFaultAt}
 use Rattle.witx_lex.proofs.Texts.{differs}
 use Rattle.witx_lex.proofs.Parts.{parts_stop, no_part_at_end, no_part_at_quote, no_part_before}
 use Rattle.witx_lex.proofs.Unique.{piece_unique, some_spelling}
@@ -24,12 +24,12 @@ end_kind (c ∷ rest) = if c == 92 then BadEscape else if c == 34 then NotUtf8 e
 
 abbrev end_place : List ℕ → List Part → ℕ
 end_place [] ps = 0
-end_place (c ∷ rest) ps = if c == 34 then 0 else behind ps
+end_place (c ∷ rest) ps = if c == 34 then 0 else parts_length ps
 
 record Stopped (bs : List ℕ) (kind : LexKind) (k : ℕ) : Type 0 where
   parts : List Part
   rest : List ℕ
-  read : Parts parts bs rest
+  read : StringParts parts bs rest
   none : NoPart rest
   kind_is : kind ≡ end_kind rest
   place_is : k ≡ end_place rest parts
@@ -38,10 +38,10 @@ record Stopped (bs : List ℕ) (kind : LexKind) (k : ℕ) : Type 0 where
 control_other : (c : ℕ) → is_control c ≡ true → ((c == 92) ≡ false) × ((c == 34) ≡ false) × (is_raw c ≡ false)
 control_other c h = (grind (arith, nat_tests), grind (arith, nat_tests), grind (arith, nat_tests))
 
-not_quote : (b : ℕ) → IsTrue (not (is_blank b || is_name b || b == 40 || b == 41 || b == 34)) → b ≢ 34
+not_quote : (b : ℕ) → IsTrue (not (is_blank b || is_name_character b || b == 40 || b == 41 || b == 34)) → b ≢ 34
 not_quote b h e = absurd (grind (arith, nat_tests))
 
-stopped_at_control : (bs : List ℕ) (k : ℕ) (ps : List Part) (c : ℕ) (rest : List ℕ) → Parts ps bs (c ∷ rest) → IsTrue (is_control c) → k ≡ behind ps → Stopped bs BadCharacter k
+stopped_at_control : (bs : List ℕ) (k : ℕ) (ps : List Part) (c : ℕ) (rest : List ℕ) → StringParts ps bs (c ∷ rest) → IsTrue (is_control c) → k ≡ parts_length ps → Stopped bs BadCharacter k
 stopped_at_control bs k ps c rest read control place =
     let h = control_other c control in
     record {
@@ -54,13 +54,13 @@ stopped_at_control bs k ps c rest read control place =
       utf8 = λ e. absurd cc;
     }
 
-stopped_at_end : (bs : List ℕ) (k : ℕ) (ps : List Part) → Parts ps bs [] → k ≡ 0 → Stopped bs UnterminatedString k
+stopped_at_end : (bs : List ℕ) (k : ℕ) (ps : List Part) → StringParts ps bs [] → k ≡ 0 → Stopped bs UnterminatedString k
 stopped_at_end bs k ps read place = record { parts = ps; rest = []; read = read; none = no_part_at_end; kind_is = refl; place_is = place; utf8 = λ e. absurd cc }
 
-stopped_at_backslash : (bs : List ℕ) (k : ℕ) (ps : List Part) (rest : List ℕ) → Parts ps bs (92 ∷ rest) → NoPart (92 ∷ rest) → k ≡ behind ps → Stopped bs BadEscape k
+stopped_at_backslash : (bs : List ℕ) (k : ℕ) (ps : List Part) (rest : List ℕ) → StringParts ps bs (92 ∷ rest) → NoPart (92 ∷ rest) → k ≡ parts_length ps → Stopped bs BadEscape k
 stopped_at_backslash bs k ps rest read none place = record { parts = ps; rest = 92 ∷ rest; read = read; none = none; kind_is = refl; place_is = place; utf8 = λ e. absurd cc }
 
-stopped_at_quote : (bs : List ℕ) (k : ℕ) (ps : List Part) (rest : List ℕ) → Parts ps bs (34 ∷ rest) → (IsUtf8 (flat_map part_value ps) → ⊥) → k ≡ 0 → Stopped bs NotUtf8 k
+stopped_at_quote : (bs : List ℕ) (k : ℕ) (ps : List Part) (rest : List ℕ) → StringParts ps bs (34 ∷ rest) → (IsUtf8 (flat_map part_value ps) → ⊥) → k ≡ 0 → Stopped bs NotUtf8 k
 stopped_at_quote bs k ps rest read wrong place = record { parts = ps; rest = 34 ∷ rest; read = read; none = no_part_at_quote rest; kind_is = refl; place_is = place; utf8 = λ e. wrong }
 
 other_byte : (b c : ℕ) → b ≡ 34 → b ≡ c → (34 == c) ≡ false → ⊥
@@ -81,13 +81,13 @@ string_fault n b k bs NotUtf8 q f = stopped_at_quote bs k f.2 f.3 f.4 f.5 f.0
 -- a piece whose first byte is a quote is a string
 record QuotedAt (p : Piece) (bs rest : List ℕ) : Type 0 where
   parts : List Part
-  read : Parts parts bs (34 ∷ rest)
+  read : StringParts parts bs (34 ∷ rest)
   utf8 : IsUtf8 (flat_map part_value parts)
 
 quote_no_blank : is_blank 34 ≡ true → ⊥
 quote_no_blank e = cc
 
-name_no_quote : (b : ℕ) → is_name b ≡ true → b ≢ 34
+name_no_quote : (b : ℕ) → is_name_character b ≡ true → b ≢ 34
 name_no_quote b h e = absurd (grind (arith, nat_tests))
 
 first_is : (b c : ℕ) (bs cs : List ℕ) → b ∷ bs ≡ c ∷ cs → b ≡ c
@@ -107,7 +107,7 @@ quoted_at n opening bs rest h = quote_only 40 opening bs rest (first_is 34 40 bs
 quoted_at n closing bs rest h = quote_only 41 closing bs rest (first_is 34 41 bs rest h.spelled) refl
 quoted_at n (run []) bs rest h = absurd (h.piece.0 refl)
 quoted_at n (run (b ∷ r)) bs rest h =
-    absurd (name_no_quote b (and_parts (is_name b) (list_all is_name r) h.piece.1).0 (sym (first_is 34 b bs (r ++ rest) h.spelled)))
+    absurd (name_no_quote b (and_parts (is_name_character b) (list_all is_name_character r) h.piece.1).0 (sym (first_is 34 b bs (r ++ rest) h.spelled)))
 quoted_at n (quoted ps) bs rest h =
     record { parts = ps; read = (h.piece.0, ap (drop 1) h.spelled ∙ append_assoc (flat_map part_spelling ps) (34 ∷ []) rest); utf8 = h.piece.1 }
 
@@ -122,16 +122,16 @@ no_string n k kind p bs rest s h =
 
 -- of the plain bytes
 
-unexpected_blank : (b : ℕ) → IsTrue (not (is_blank b || is_name b || b == 40 || b == 41 || b == 34)) → is_blank b ≡ true → ⊥
+unexpected_blank : (b : ℕ) → IsTrue (not (is_blank b || is_name_character b || b == 40 || b == 41 || b == 34)) → is_blank b ≡ true → ⊥
 unexpected_blank b h e = absurd (grind (arith, nat_tests))
 
-unexpected_name : (b : ℕ) → IsTrue (not (is_blank b || is_name b || b == 40 || b == 41 || b == 34)) → is_name b ≡ true → ⊥
+unexpected_name : (b : ℕ) → IsTrue (not (is_blank b || is_name_character b || b == 40 || b == 41 || b == 34)) → is_name_character b ≡ true → ⊥
 unexpected_name b h e = absurd (grind (arith, nat_tests))
 
-unexpected_paren : (b : ℕ) → IsTrue (not (is_blank b || is_name b || b == 40 || b == 41 || b == 34)) → (b ≢ 40) × (b ≢ 41)
+unexpected_paren : (b : ℕ) → IsTrue (not (is_blank b || is_name_character b || b == 40 || b == 41 || b == 34)) → (b ≢ 40) × (b ≢ 41)
 unexpected_paren b h = (λ e. absurd (grind (arith, nat_tests)), λ e. absurd (grind (arith, nat_tests)))
 
-no_unexpected : (n b : ℕ) (p : Piece) (bs rest : List ℕ) → IsTrue (not (is_blank b || is_name b || b == 40 || b == 41 || b == 34))
+no_unexpected : (n b : ℕ) (p : Piece) (bs rest : List ℕ) → IsTrue (not (is_blank b || is_name_character b || b == 40 || b == 41 || b == 34))
     → (b ≡ 59 → begins (λ c. c == 59) bs ≡ false) → Stands n p (b ∷ bs) rest → ⊥
 no_unexpected n b (blank c) bs rest none second h = unexpected_blank b none (ap is_blank (first_is b c bs rest h.spelled) ∙ h.piece)
 no_unexpected n b (line t) bs rest none second h =
@@ -143,12 +143,12 @@ no_unexpected n b opening bs rest none second h = (unexpected_paren b none).0 (f
 no_unexpected n b closing bs rest none second h = (unexpected_paren b none).1 (first_is b 41 bs rest h.spelled)
 no_unexpected n b (run []) bs rest none second h = h.piece.0 refl
 no_unexpected n b (run (c ∷ r)) bs rest none second h =
-    unexpected_name b none (ap is_name (first_is b c bs (r ++ rest) h.spelled) ∙ (and_parts (is_name c) (list_all is_name r) h.piece.1).0)
+    unexpected_name b none (ap is_name_character (first_is b c bs (r ++ rest) h.spelled) ∙ (and_parts (is_name_character c) (list_all is_name_character r) h.piece.1).0)
 no_unexpected n b (quoted ps) bs rest none second h = not_quote b none (first_is b 34 bs _ h.spelled)
 
 -- of a lone $
 
-no_empty_id : (n : ℕ) (p : Piece) (bs rest : List ℕ) → begins is_name bs ≡ false → Stands n p (36 ∷ bs) rest → ⊥
+no_empty_id : (n : ℕ) (p : Piece) (bs rest : List ℕ) → begins is_name_character bs ≡ false → Stands n p (36 ∷ bs) rest → ⊥
 no_empty_id n (blank c) bs rest none h = let q : is_blank 36 ≡ true = ap is_blank (first_is 36 c bs rest h.spelled) ∙ h.piece in cc
 no_empty_id n (line t) bs rest none h = differs 36 59 refl (first_is 36 59 bs _ h.spelled)
 no_empty_id n (block t) bs rest none h = differs 36 40 refl (first_is 36 40 bs _ h.spelled)
@@ -157,14 +157,14 @@ no_empty_id n closing bs rest none h = differs 36 41 refl (first_is 36 41 bs res
 no_empty_id n (run []) bs rest none h = h.piece.0 refl
 no_empty_id n (run (c ∷ [])) bs rest none h = h.piece.2 (ap (λ (x : ℕ). x ∷ []) (sym (first_is 36 c bs rest h.spelled)))
 no_empty_id n (run (c ∷ d ∷ r)) bs rest none h =
-    let all = (and_parts (is_name c) (list_all is_name (d ∷ r)) h.piece.1).1 in
-    let g : true ≡ false = sym (and_parts (is_name d) (list_all is_name r) all).0 ∙ ap (begins is_name) (sym (rest_is 36 c bs (d ∷ (r ++ rest)) h.spelled)) ∙ none in
+    let all = (and_parts (is_name_character c) (list_all is_name_character (d ∷ r)) h.piece.1).1 in
+    let g : true ≡ false = sym (and_parts (is_name_character d) (list_all is_name_character r) all).0 ∙ ap (begins is_name_character) (sym (rest_is 36 c bs (d ∷ (r ++ rest)) h.spelled)) ∙ none in
     cc
 no_empty_id n (quoted ps) bs rest none h = differs 36 34 refl (first_is 36 34 bs _ h.spelled)
 
 -- of a ( that is one too many
 
-paren_no_name : is_name 40 ≡ true → ⊥
+paren_no_name : is_name_character 40 ≡ true → ⊥
 paren_no_name e = cc
 
 no_deeper : (n : ℕ) (p : Piece) (bs rest : List ℕ) → begins (λ c. c == 59) bs ≡ false → 100 ≤ n → Stands n p (40 ∷ bs) rest → ⊥
@@ -176,7 +176,7 @@ no_deeper n (block t) bs rest none deep h =
 no_deeper n opening bs rest none deep h = absurd (let d = h.depth in omega arith)
 no_deeper n closing bs rest none deep h = differs 40 41 refl (first_is 40 41 bs rest h.spelled)
 no_deeper n (run []) bs rest none deep h = h.piece.0 refl
-no_deeper n (run (c ∷ r)) bs rest none deep h = paren_no_name (ap is_name (first_is 40 c bs (r ++ rest) h.spelled) ∙ (and_parts (is_name c) (list_all is_name r) h.piece.1).0)
+no_deeper n (run (c ∷ r)) bs rest none deep h = paren_no_name (ap is_name_character (first_is 40 c bs (r ++ rest) h.spelled) ∙ (and_parts (is_name_character c) (list_all is_name_character r) h.piece.1).0)
 no_deeper n (quoted ps) bs rest none deep h = differs 40 34 refl (first_is 40 34 bs _ h.spelled)
 
 -- of a comment without its end
@@ -192,7 +192,7 @@ no_comment n opening bs rest second none h =
     cc
 no_comment n closing bs rest second none h = differs 40 41 refl (first_is 40 41 bs rest h.spelled)
 no_comment n (run []) bs rest second none h = h.piece.0 refl
-no_comment n (run (c ∷ r)) bs rest second none h = paren_no_name (ap is_name (first_is 40 c bs (r ++ rest) h.spelled) ∙ (and_parts (is_name c) (list_all is_name r) h.piece.1).0)
+no_comment n (run (c ∷ r)) bs rest second none h = paren_no_name (ap is_name_character (first_is 40 c bs (r ++ rest) h.spelled) ∙ (and_parts (is_name_character c) (list_all is_name_character r) h.piece.1).0)
 no_comment n (quoted ps) bs rest second none h = differs 40 34 refl (first_is 40 34 bs _ h.spelled)
 
 -- the piece stands at a text that begins with this byte
@@ -215,7 +215,7 @@ no_piece n (b ∷ bs) NotUtf8 k p rest f h = no_string n k NotUtf8 p bs rest (st
 abbrev plain_kind : ℕ → List ℕ → LexKind
 plain_kind b bs = if b == 36 then EmptyId else if b == 40 then (if begins (λ c. c == 59) bs then UnterminatedComment else TooDeep) else UnexpectedCharacter
 
-unexpected_tests : (b : ℕ) → IsTrue (not (is_blank b || is_name b || b == 40 || b == 41 || b == 34)) → ((b == 36) ≡ false) × ((b == 40) ≡ false)
+unexpected_tests : (b : ℕ) → IsTrue (not (is_blank b || is_name_character b || b == 40 || b == 41 || b == 34)) → ((b == 36) ≡ false) × ((b == 40) ≡ false)
 unexpected_tests b h = (grind (arith, nat_tests), grind (arith, nat_tests))
 
 plain_fault : (n b k : ℕ) (bs : List ℕ) (kind : LexKind) → (b == 34) ≡ false → IsFaultAt n (b ∷ bs) kind k → (kind ≡ plain_kind b bs) × (k ≡ 0)

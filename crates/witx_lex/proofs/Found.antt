@@ -10,7 +10,7 @@ use Rattle.std.proofs.lemmas.Slice.{between_from_start}
 use Rattle.std.specs.Str.{IsCharBoundary}
 use Rattle.std.proofs.lemmas.Str.{IsCharBoundary-before_ascii}
 use Rattle.std.specs.Prelude.{IsTrue, ◌⊎◌, slice_range}
-use Rattle.witx_lex.specs.Characters.{is_blank, is_name, is_line_byte, begins}
+use Rattle.witx_lex.specs.Characters.{is_blank, is_name_character, is_line_byte, begins}
 use Rattle.witx_lex.specs.declared.error.LexKind.TheVariants.{UnterminatedComment}
 use Rattle.witx_lex.specs.BlockScan.{block_len}
 use Rattle.witx_lex.specs.Faults.{IsFaultAt}
@@ -68,23 +68,23 @@ found_line n text inside bytes t len first second le inside-is bytes-is len-is t
       rw (len-k, t-take) (omega (arith, length-take-le k (drop 2 text) (prefix_len-le-length is_line_byte (drop 2 text)))),
     )
 
-run_some : (text : List ℕ) → IsTrue (is_name (get_or text 0 0)) → 0 < prefix_len is_name text
+run_some : (text : List ℕ) → IsTrue (is_name_character (get_or text 0 0)) → 0 < prefix_len is_name_character text
 run_some [] h = absurd (grind (arith, nat_tests))
 run_some (b ∷ bs) h = rw h (omega arith)
 
-pub found_run : (n : ℕ) (text bytes name : List ℕ) (len : ℕ) → IsTrue (is_name (get_or text 0 0)) → n ≤ 100
-    → bytes ≡ text → len ≡ prefix_len is_name bytes → name ≡ slice_range text 0 len → (name ≢ 36 ∷ [])
+pub found_run : (n : ℕ) (text bytes name : List ℕ) (len : ℕ) → IsTrue (is_name_character (get_or text 0 0)) → n ≤ 100
+    → bytes ≡ text → len ≡ prefix_len is_name_character bytes → name ≡ slice_range text 0 len → (name ≢ 36 ∷ [])
     → Stands n (run name) text (drop len text) × (len ≡ length (spelling (run name)))
 found_run n text bytes name len first le bytes-is len-is name-is more =
-    let k = prefix_len is_name text in
-    let len-k : len ≡ k = len-is ∙ ap (prefix_len is_name) bytes-is in
+    let k = prefix_len is_name_character text in
+    let len-k : len ≡ k = len-is ∙ ap (prefix_len is_name_character) bytes-is in
     let name-take : name ≡ take k text = name-is ∙ between_from_start text len ∙ ap (λ (j : ℕ). take j text) len-k in
-    let long : length (take k text) ≡ k = length-take-le k text (prefix_len-le-length is_name text) in
+    let long : length (take k text) ≡ k = length-take-le k text (prefix_len-le-length is_name_character text) in
     let some : 0 < k = run_some text first in (
       record {
-        piece = (λ e. let z : length name ≡ 0 = ap (λ (t : List ℕ). length t) e in let q : length name ≡ k = ap (λ (t : List ℕ). length t) name-take ∙ long in omega arith, rw name-take (all_of_run is_name text), more);
+        piece = (λ e. let z : length name ≡ 0 = ap (λ (t : List ℕ). length t) e in let q : length name ≡ k = ap (λ (t : List ℕ). length t) name-take ∙ long in omega arith, rw name-take (all_of_run is_name_character text), more);
         spelled = rw (len-k, name-take) (sym (take-append-drop k text));
-        ended = rw len-k (run_stops is_name text);
+        ended = rw len-k (run_stops is_name_character text);
         depth = le;
       },
       len-k ∙ sym (ap (λ (t : List ℕ). length t) name-take ∙ long),

@@ -8,9 +8,9 @@ use Rattle.std.specs.Prelude.{IsTrue, ◌⊎◌, slice_index, is_some, unwrap_or
 use Rattle.std.specs.Char.{is_digit}
 use Rattle.std.specs.Str.Parse.{digits_value}
 use Rattle.witx_lex.specs.declared.escape.Escaped.TheVariants.{Byte, Scalar}
-use Rattle.witx_lex.specs.Characters.{is_raw, letter_value, is_digit_or_underscore, are_digits, is_scalar, scalar_value}
+use Rattle.witx_lex.specs.Characters.{is_raw, letter_value, is_digit_or_underscore, are_digits, is_unicode_scalar, scalar_value}
 use Rattle.witx_lex.specs.Pieces.{Part, raw, letter, two_digits, scalar, part_spelling, is_part}
-use Rattle.witx_lex.specs.Faults.{NoPart, Parts}
+use Rattle.witx_lex.specs.Faults.{NoPart, StringParts}
 use Rattle.witx_lex.specs.Escapes.{IsEscape}
 use Rattle.witx_lex.proofs.Digits.{digits_follow, digits_same}
 use Rattle.witx_lex.proofs.Texts.{front_two, within_from_byte, prefix_run, take_run}
@@ -67,7 +67,7 @@ part_complete (two_digits h l) more e =
     let parts = and_parts (is_digit h 16) (is_digit l 16) e in
     rw (hex_no_letter h parts.0, parts.0) refl
 part_complete (scalar ds) more e =
-    let parts = and_parts (are_digits 16 ds) (is_scalar (scalar_value ds)) e in
+    let parts = and_parts (are_digits 16 ds) (is_unicode_scalar (scalar_value ds)) e in
     let split : (ds ++ 125 ∷ []) ++ more ≡ ds ++ 125 ∷ more = append_assoc ds (125 ∷ []) more in
     ap (λ (t : List ℕ). Some (scalar (take (prefix_len is_digit_or_underscore t) t))) split ∙ ap (λ (t : List ℕ). Some (scalar t)) (take_run is_digit_or_underscore ds (125 ∷ more) (all_of_digits ds parts.0) refl)
 
@@ -98,7 +98,7 @@ pub no_part_at_quote : (text : List ℕ) → NoPart (34 ∷ text)
 no_part_at_quote text = no_part_before 34 text refl (λ e. cc)
 
 -- what the parts of a string are is settled by where no further part stands
-pub parts_stop : (ps qs : List Part) (text rest more : List ℕ) → Parts ps text rest → Parts qs text more → NoPart rest → NoPart more → (ps ≡ qs) × (rest ≡ more)
+pub parts_stop : (ps qs : List Part) (text rest more : List ℕ) → StringParts ps text rest → StringParts qs text more → NoPart rest → NoPart more → (ps ≡ qs) × (rest ≡ more)
 parts_stop [] [] text rest more a b stop end = (refl, sym a.1 ∙ b.1)
 parts_stop [] (q ∷ qs) text rest more a b stop end =
     let parts = and_parts (is_part q) (list_all is_part qs) b.0 in
@@ -146,7 +146,7 @@ escape_digits (b ∷ c ∷ bs) v e =
 
 pub escape_scalar : (bytes inside digits : List ℕ) (len c : ℕ) → get_or bytes 0 0 ≡ 117 → get_or bytes 1 0 ≡ 123 → inside ≡ drop 2 bytes
     → len ≡ prefix_len is_digit_or_underscore inside → digits ≡ take len inside → get_or inside len 0 ≡ 125
-    → are_digits 16 digits ≡ true → is_scalar (scalar_value digits) ≡ true → c ≡ scalar_value digits
+    → are_digits 16 digits ≡ true → is_unicode_scalar (scalar_value digits) ≡ true → c ≡ scalar_value digits
     → IsEscape bytes (record { value = Scalar c; len = len + 3 })
 escape_scalar bytes inside digits len c u brace inside-is len-is digits-is last all valid c-is =
     let two : bytes ≡ 117 ∷ 123 ∷ drop 2 bytes = front_two bytes 117 123 (omega arith) (omega arith) u brace in
@@ -167,7 +167,7 @@ escape_scalar bytes inside digits len c u brace inside-is len-is digits-is last 
 
 pub no_scalar : (bytes inside digits : List ℕ) (len : ℕ) → get_or bytes 0 0 ≡ 117 → inside ≡ drop 2 bytes
     → len ≡ prefix_len is_digit_or_underscore inside → digits ≡ take len inside
-    → (get_or inside len 0 ≡ 125 → are_digits 16 digits ≡ true → is_scalar (scalar_value digits) ≡ true → ⊥) → NoPart (92 ∷ bytes)
+    → (get_or inside len 0 ≡ 125 → are_digits 16 digits ≡ true → is_unicode_scalar (scalar_value digits) ≡ true → ⊥) → NoPart (92 ∷ bytes)
 no_scalar bytes inside digits len u inside-is len-is digits-is none (raw b) rest h e =
     let same : 92 ≡ b = cc in
     absurd (let q : true ≡ is_raw 92 = sym h ∙ ap is_raw (sym same) in cc)
@@ -180,11 +180,11 @@ no_scalar bytes inside digits len u inside-is len-is digits-is none (two_digits 
     let same : high ≡ 117 = ap (λ (t : List ℕ). get_or t 0 0) (sym tail) ∙ u in
     absurd (let q : true ≡ is_digit 117 16 = sym (and_parts (is_digit high 16) (is_digit low 16) h).0 ∙ ap (λ (x : ℕ). is_digit x 16) same in cc)
 no_scalar bytes inside digits len u inside-is len-is digits-is none (scalar ds) rest h e =
-    let parts = and_parts (are_digits 16 ds) (is_scalar (scalar_value ds)) h in
+    let parts = and_parts (are_digits 16 ds) (is_unicode_scalar (scalar_value ds)) h in
     let tail : inside ≡ ds ++ 125 ∷ rest = inside-is ∙ ap (drop 3) e ∙ append_assoc ds (125 ∷ []) rest in
     let all = all_of_digits ds parts.0 in
     let long : len ≡ length ds = len-is ∙ ap (prefix_len is_digit_or_underscore) tail ∙ prefix_run is_digit_or_underscore ds (125 ∷ rest) all refl in
     let front : digits ≡ ds = digits-is ∙ ap (λ (j : ℕ). take j inside) len-is ∙ ap (λ (t : List ℕ). take (prefix_len is_digit_or_underscore t) t) tail ∙ take_run is_digit_or_underscore ds (125 ∷ rest) all refl in
     none (ap (λ (t : List ℕ). get_or t len 0) tail ∙ get_or_at ds 125 rest 0 len (sym long))
     (ap (are_digits 16) front ∙ parts.0)
-    (ap (λ (t : List ℕ). is_scalar (scalar_value t)) front ∙ parts.1)
+    (ap (λ (t : List ℕ). is_unicode_scalar (scalar_value t)) front ∙ parts.1)

@@ -8,9 +8,9 @@ use Rattle.std.specs.List.{list_all, flat_map}
 use Rattle.std.specs.Prelude.{IsTrue, ◌⊎◌}
 use Rattle.std.specs.Str.{IsCharBoundary}
 use Rattle.witx_lex.specs.Tokens.{Token, Lexed}
-use Rattle.witx_lex.specs.Characters.{begins, is_blank, is_name}
+use Rattle.witx_lex.specs.Characters.{begins, is_blank, is_name_character}
 use Rattle.witx_lex.specs.Pieces.{Piece, blank, line, block, opening, closing, run, quoted, spelling, part_spelling, open_after, open_after_all, Stands, Stand, ArePieces}
-use Rattle.witx_lex.specs.Meaning.{nothing, comment, token, seen, tokens_from, tokens_of}
+use Rattle.witx_lex.specs.Meaning.{nothing, comment, token, piece_seen, tokens_from, tokens_of}
 use Rattle.witx_lex.proofs.Found.{stands_blank}
 
 pub record Sofar (text : List ℕ) (at depth : ℕ) (comments : List (List ℕ)) (tokens : List Lexed) : Type 0 where
@@ -38,11 +38,11 @@ spelling_more (q ∷ ps) p = ap (λ (t : List ℕ). spelling q ++ t) (spelling_m
 
 -- ---- where a piece ends
 
-last_name : (r : List ℕ) → IsTrue (list_all is_name r) → (r ≢ []) → (k : ℕ) × (length r ≡ k + 1) × (get_or r k 0 < 128)
+last_name : (r : List ℕ) → IsTrue (list_all is_name_character r) → (r ≢ []) → (k : ℕ) × (length r ≡ k + 1) × (get_or r k 0 < 128)
 last_name [] all some = absurd (some refl)
-last_name (b ∷ []) all some = (0, refl, (let h = (and_parts (is_name b) true all).0 in grind (arith, nat_tests)))
+last_name (b ∷ []) all some = (0, refl, (let h = (and_parts (is_name_character b) true all).0 in grind (arith, nat_tests)))
 last_name (b ∷ c ∷ r) all some =
-    let more = last_name (c ∷ r) (and_parts (is_name b) (list_all is_name (c ∷ r)) all).1 (λ e. absurd cc) in
+    let more = last_name (c ∷ r) (and_parts (is_name_character b) (list_all is_name_character (c ∷ r)) all).1 (λ e. absurd cc) in
     (suc more.0, omega (arith, more.1), more.2)
 
 after_last : (text front rest : List ℕ) (b : ℕ) → IsUtf8 text → text ≡ (front ++ b ∷ []) ++ rest → b < 128 → IsCharBoundary text (length (front ++ b ∷ []))
@@ -107,7 +107,7 @@ Sofar_done text at depth comments tokens le s =
 
 -- ---- what was seen
 
-open_nothing : (n : ℕ) (p : Piece) → seen p ≡ nothing → open_after n p ≡ n
+open_nothing : (n : ℕ) (p : Piece) → piece_seen p ≡ nothing → open_after n p ≡ n
 open_nothing n (blank b) e = refl
 open_nothing n (line t) e = refl
 open_nothing n (block t) e = refl
@@ -116,7 +116,7 @@ open_nothing n closing e = absurd cc
 open_nothing n (run r) e = refl
 open_nothing n (quoted ps) e = refl
 
-open_comment : (n : ℕ) (p : Piece) (t : List ℕ) → seen p ≡ comment t → open_after n p ≡ n
+open_comment : (n : ℕ) (p : Piece) (t : List ℕ) → piece_seen p ≡ comment t → open_after n p ≡ n
 open_comment n (blank b) u e = refl
 open_comment n (line t) u e = refl
 open_comment n (block t) u e = refl
@@ -126,7 +126,7 @@ open_comment n (run r) u e = refl
 open_comment n (quoted ps) u e = refl
 
 Sofar_nothing : (text : List ℕ) (at depth len new_at : ℕ) (comments : List (List ℕ)) (tokens : List Lexed) (p : Piece) → IsUtf8 text
-    → Sofar text at depth comments tokens → Stands depth p (drop at text) (drop len (drop at text)) → len ≡ length (spelling p) → new_at ≡ at + len → seen p ≡ nothing
+    → Sofar text at depth comments tokens → Stands depth p (drop at text) (drop len (drop at text)) → len ≡ length (spelling p) → new_at ≡ at + len → piece_seen p ≡ nothing
     → Sofar text new_at depth comments tokens
 Sofar_nothing text at depth len new_at comments tokens p utf8 s h len-is new_at-is e =
     subst (λ (d : ℕ). Sofar text new_at d comments tokens) (open_nothing depth p e)
@@ -140,14 +140,14 @@ Sofar_blank text at depth comments tokens utf8 within h s =
     Sofar_nothing text at depth 1 (at + 1) comments tokens (blank (get_or (drop at text) 0 0)) utf8 s stands refl refl refl
 
 pub Sofar_comment : (text : List ℕ) (at depth len new_at : ℕ) (comments new_comments : List (List ℕ)) (tokens : List Lexed) (p : Piece) (t : List ℕ) → IsUtf8 text
-    → Sofar text at depth comments tokens → Stands depth p (drop at text) (drop len (drop at text)) → len ≡ length (spelling p) → new_at ≡ at + len → seen p ≡ comment t
+    → Sofar text at depth comments tokens → Stands depth p (drop at text) (drop len (drop at text)) → len ≡ length (spelling p) → new_at ≡ at + len → piece_seen p ≡ comment t
     → new_comments ≡ comments ++ t ∷ [] → Sofar text new_at depth new_comments tokens
 Sofar_comment text at depth len new_at comments new_comments tokens p t utf8 s h len-is new_at-is e f =
     subst (λ (d : ℕ). Sofar text new_at d new_comments tokens) (open_comment depth p t e)
     (Sofar_more text at depth len new_at comments new_comments tokens tokens p utf8 s h len-is new_at-is (λ qs. rw (e, f) refl))
 
 pub Sofar_token : (text : List ℕ) (at depth len new_at : ℕ) (comments new_comments : List (List ℕ)) (tokens new_tokens : List Lexed) (p : Piece) (t : Token) → IsUtf8 text
-    → Sofar text at depth comments tokens → Stands depth p (drop at text) (drop len (drop at text)) → len ≡ length (spelling p) → new_at ≡ at + len → seen p ≡ token t
+    → Sofar text at depth comments tokens → Stands depth p (drop at text) (drop len (drop at text)) → len ≡ length (spelling p) → new_at ≡ at + len → piece_seen p ≡ token t
     → new_comments ≡ [] → new_tokens ≡ tokens ++ record { token = t; start = at; end = new_at; comments = comments } ∷ [] → Sofar text new_at (open_after depth p) new_comments new_tokens
 Sofar_token text at depth len new_at comments new_comments tokens new_tokens p t utf8 s h len-is new_at-is e f g =
     let end : new_at ≡ at + length (spelling p) = new_at-is ∙ ap (λ (k : ℕ). at + k) len-is in

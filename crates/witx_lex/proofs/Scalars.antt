@@ -5,7 +5,7 @@ use Rattle.std.proofs.lemmas.List.{drop_more}
 use Rattle.std.specs.Prelude.{filter, IsTrue}
 use Rattle.std.specs.Char.{is_digit, digit_value}
 use Rattle.std.specs.Str.Parse.{digits_value_after}
-use Rattle.witx_lex.specs.Characters.{is_scalar}
+use Rattle.witx_lex.specs.Characters.{is_unicode_scalar}
 
 -- the number that the hexadecimal digits from here on write behind those of a number
 abbrev pub value_from : ℕ → List ℕ → ℕ
@@ -36,12 +36,12 @@ pub value-le : (n : ℕ) (ds : List ℕ) → n ≤ digits_value_after 16 n ds
 value-le n [] = omega arith
 value-le n (d ∷ ds) = omega (arith, value-le (n * 16 + digit_value d) ds)
 
-not_scalar : (v : ℕ) → 0x10_FFFF < v → IsTrue (is_scalar v) → ⊥
+not_scalar : (v : ℕ) → 0x10_FFFF < v → IsTrue (is_unicode_scalar v) → ⊥
 not_scalar v lt is = grind (arith, nat_tests)
 
 -- a number that the digits so far write already is too large
 pub too_large : (bytes : List ℕ) (i n v : ℕ) → i < length bytes → digit_value (get_or bytes i 0) < 16 → value_from n (drop i bytes) ≡ v
-    → 0x10_FFFF < n * 16 + digit_value (get_or bytes i 0) → IsTrue (is_scalar v) → ⊥
+    → 0x10_FFFF < n * 16 + digit_value (get_or bytes i 0) → IsTrue (is_unicode_scalar v) → ⊥
 too_large bytes i n v lt digit e large is =
     let more = n * 16 + digit_value (get_or bytes i 0) in
     let v-is : value_from more (drop (i + 1) bytes) ≡ v = sym (value_digit bytes i n lt digit) ∙ e in

@@ -6,13 +6,13 @@ use Rattle.std.specs.List.{list_all, flat_map}
 use Rattle.std.specs.Prelude.{IsTrue}
 use Rattle.witx_lex.specs.Characters.{is_raw}
 use Rattle.witx_lex.specs.Pieces.{Part, raw, is_part, part_spelling, part_value, spelling, quoted, Stands}
-use Rattle.witx_lex.specs.Faults.{Parts, IsFaultAt}
+use Rattle.witx_lex.specs.Faults.{StringParts, IsFaultAt}
 use Rattle.witx_lex.specs.declared.error.LexKind.TheVariants.{NotUtf8}
 use Rattle.witx_lex.proofs.Texts.{front}
 
 -- what was read of a string up to this offset
 abbrev pub StringSofar : List ℕ → ℕ → List ℕ → Type 0
-StringSofar text at out = (ps : List Part) × Parts ps (drop 1 text) (drop at text) × (out ≡ flat_map part_value ps) × (at ≡ 1 + length (flat_map part_spelling ps))
+StringSofar text at out = (ps : List Part) × StringParts ps (drop 1 text) (drop at text) × (out ≡ flat_map part_value ps) × (at ≡ 1 + length (flat_map part_spelling ps))
 
 all_more : (ps : List Part) (p : Part) → IsTrue (list_all is_part ps) → IsTrue (is_part p) → IsTrue (list_all is_part (ps ++ p ∷ []))
 all_more [] p all h = rw h refl

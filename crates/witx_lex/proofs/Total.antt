@@ -14,9 +14,9 @@ use Rattle.witx_lex.specs.declared.error.LexKind.{LexKind}
 use Rattle.witx_lex.specs.declared.error.LexKind.TheVariants.{UnexpectedCharacter, UnterminatedComment, UnterminatedString, BadEscape, BadCharacter, NotUtf8, EmptyId, TooDeep}
 use Rattle.witx_lex.specs.declared.escape.Escape.{Escape}
 use Rattle.witx_lex.specs.BlockScan.{block_len}
-use Rattle.witx_lex.specs.Characters.{is_blank, is_name, is_raw, is_control, is_digit_or_underscore, letter_value, are_digits, is_scalar, scalar_value, begins}
+use Rattle.witx_lex.specs.Characters.{is_blank, is_name_character, is_raw, is_control, is_digit_or_underscore, letter_value, are_digits, is_unicode_scalar, scalar_value, begins}
 use Rattle.witx_lex.specs.Pieces.{Part, raw, letter, two_digits, scalar, is_part, part_spelling, part_value, Piece, blank, line, block, opening, closing, run, quoted, spelling, open_after, open_after_all, Stands, Stand}
-use Rattle.witx_lex.specs.Faults.{Parts, NoPart, behind, IsFaultAt}
+use Rattle.witx_lex.specs.Faults.{StringParts, NoPart, parts_length, IsFaultAt}
 use Rattle.witx_lex.specs.Escapes.{IsEscape}
 use Rattle.witx_lex.proofs.Blocks.{no_end}
 use Rattle.witx_lex.proofs.Texts.{differs, run_stops}
@@ -74,19 +74,19 @@ true_eq a b e = grind (arith, nat_tests)
 
 scalar_case : (t : Bool) (bytes : List ℕ) → slice_index bytes 0 ≡ 117 → slice_index bytes 1 ≡ 123
     → let inside = drop 2 bytes in let len = prefix_len is_digit_or_underscore inside in let digits = take len inside in
-    ((get_or inside len 0 == 125) && (are_digits 16 digits && is_scalar (scalar_value digits))) ≡ t → PartAt (92 ∷ bytes) ⊎ NoPart (92 ∷ bytes)
+    ((get_or inside len 0 == 125) && (are_digits 16 digits && is_unicode_scalar (scalar_value digits))) ≡ t → PartAt (92 ∷ bytes) ⊎ NoPart (92 ∷ bytes)
 scalar_case true bytes u brace e =
     let inside = drop 2 bytes in
     let len = prefix_len is_digit_or_underscore inside in
     let digits = take len inside in
-    let h = three_true (get_or inside len 0 == 125) (are_digits 16 digits) (is_scalar (scalar_value digits)) e in
+    let h = three_true (get_or inside len 0 == 125) (are_digits 16 digits) (is_unicode_scalar (scalar_value digits)) e in
     inl (from_escape bytes _ (escape_scalar bytes inside digits len (scalar_value digits) u brace refl refl refl (eqb-true _ 125 h.0) h.1 h.2 refl))
 scalar_case false bytes u brace e =
     let inside = drop 2 bytes in
     let len = prefix_len is_digit_or_underscore inside in
     let digits = take len inside in
     inr (no_scalar bytes inside digits len u refl refl refl
-    (λ last all valid. three_false (get_or inside len 0 == 125) (are_digits 16 digits) (is_scalar (scalar_value digits)) e (true_eq _ 125 last) all valid))
+    (λ last all valid. three_false (get_or inside len 0 == 125) (are_digits 16 digits) (is_unicode_scalar (scalar_value digits)) e (true_eq _ 125 last) all valid))
 
 escape_case : (l b d : Bool) (bytes : List ℕ) → is_some (letter_value (slice_index bytes 0)) ≡ l → (slice_index bytes 0 == 117 && slice_index bytes 1 == 123) ≡ b
     → (is_digit (slice_index bytes 0) 16 && is_digit (slice_index bytes 1) 16) ≡ d → PartAt (92 ∷ bytes) ⊎ NoPart (92 ∷ bytes)
@@ -112,7 +112,7 @@ part_or_none (b ∷ bs) = part_case _ _ b bs refl refl
 record AllParts (text : List ℕ) : Type 0 where
   parts : List Part
   rest : List ℕ
-  read : Parts parts text rest
+  read : StringParts parts text rest
   none : NoPart rest
 
 some_part : (p : Part) → 1 ≤ length (part_spelling p)
@@ -161,7 +161,7 @@ record FaultAt (n : ℕ) (text : List ℕ) : Type 0 where
 control_or_raw : (c : ℕ) → (c == 34) ≡ false → (c == 92) ≡ false → is_control c ≡ false → is_raw c ≡ true
 control_or_raw c q b k = grind (arith, nat_tests)
 
-string_end : (u : Bool) (n : ℕ) (bs : List ℕ) (ps : List Part) (rest : List ℕ) → n ≤ 100 → Parts ps bs (34 ∷ rest) → is_utf8 (flat_map part_value ps) ≡ u
+string_end : (u : Bool) (n : ℕ) (bs : List ℕ) (ps : List Part) (rest : List ℕ) → n ≤ 100 → StringParts ps bs (34 ∷ rest) → is_utf8 (flat_map part_value ps) ≡ u
     → PieceAt n (34 ∷ bs) ⊎ FaultAt n (34 ∷ bs)
 string_end true n bs ps rest le read u-is = inl (record {
   piece = quoted ps;
@@ -176,22 +176,22 @@ string_end true n bs ps rest le read u-is = inl (record {
 string_end false n bs ps rest le read u-is =
     inr (record { kind = NotUtf8; place = 0; is = (refl, refl, ps, rest, read, λ u. absurd (let q : true ≡ false = sym (is_utf8-from_IsUtf8 (flat_map part_value ps) u) ∙ u-is in cc)) })
 
-string_case : (q b k : Bool) (n : ℕ) (bs : List ℕ) (ps : List Part) (c : ℕ) (rest : List ℕ) → n ≤ 100 → Parts ps bs (c ∷ rest) → NoPart (c ∷ rest)
+string_case : (q b k : Bool) (n : ℕ) (bs : List ℕ) (ps : List Part) (c : ℕ) (rest : List ℕ) → n ≤ 100 → StringParts ps bs (c ∷ rest) → NoPart (c ∷ rest)
     → (c == 34) ≡ q → (c == 92) ≡ b → is_control c ≡ k → PieceAt n (34 ∷ bs) ⊎ FaultAt n (34 ∷ bs)
 string_case true b k n bs ps c rest le read none q-is b-is k-is =
-    string_end _ n bs ps rest le (subst (λ (x : ℕ). Parts ps bs (x ∷ rest)) (eqb-true c 34 q-is) read) refl
+    string_end _ n bs ps rest le (subst (λ (x : ℕ). StringParts ps bs (x ∷ rest)) (eqb-true c 34 q-is) read) refl
 string_case false true k n bs ps c rest le read none q-is b-is k-is =
     let same = eqb-true c 92 b-is in
     inr (record {
       kind = BadEscape;
-      place = behind ps;
-      is = (refl, ps, rest, subst (λ (x : ℕ). Parts ps bs (x ∷ rest)) same read, subst (λ (x : ℕ). NoPart (x ∷ rest)) same none, refl);
+      place = parts_length ps;
+      is = (refl, ps, rest, subst (λ (x : ℕ). StringParts ps bs (x ∷ rest)) same read, subst (λ (x : ℕ). NoPart (x ∷ rest)) same none, refl);
     })
 string_case false false true n bs ps c rest le read none q-is b-is k-is =
-    inr (record { kind = BadCharacter; place = behind ps; is = (refl, ps, c, rest, read, k-is, refl) })
+    inr (record { kind = BadCharacter; place = parts_length ps; is = (refl, ps, c, rest, read, k-is, refl) })
 string_case false false false n bs ps c rest le read none q-is b-is k-is = absurd (none (raw c) rest (control_or_raw c q-is b-is k-is) refl)
 
-string_ends : (n : ℕ) (bs : List ℕ) (ps : List Part) (rest : List ℕ) → n ≤ 100 → Parts ps bs rest → NoPart rest → PieceAt n (34 ∷ bs) ⊎ FaultAt n (34 ∷ bs)
+string_ends : (n : ℕ) (bs : List ℕ) (ps : List Part) (rest : List ℕ) → n ≤ 100 → StringParts ps bs rest → NoPart rest → PieceAt n (34 ∷ bs) ⊎ FaultAt n (34 ∷ bs)
 string_ends n bs ps [] le read none = inr (record { kind = UnterminatedString; place = 0; is = (refl, refl, ps, read) })
 string_ends n bs ps (c ∷ rest) le read none = string_case _ _ _ n bs ps c rest le read none refl refl refl
 
@@ -224,12 +224,12 @@ paren_case false n bs le s-is =
     ]
 
 -- a run that is a lone $ is followed by no name character
-lone : (b : ℕ) (bs : List ℕ) → take (prefix_len is_name (b ∷ bs)) (b ∷ bs) ≡ 36 ∷ [] → (b ≡ 36) × (begins is_name bs ≡ false)
+lone : (b : ℕ) (bs : List ℕ) → take (prefix_len is_name_character (b ∷ bs)) (b ∷ bs) ≡ 36 ∷ [] → (b ≡ 36) × (begins is_name_character bs ≡ false)
 lone b bs e =
-    let one : prefix_len is_name (b ∷ bs) ≡ 1 =
-    sym (length-take-le (prefix_len is_name (b ∷ bs)) (b ∷ bs) (prefix_len-le-length is_name (b ∷ bs))) ∙ ap (λ (t : List ℕ). length t) e in (
+    let one : prefix_len is_name_character (b ∷ bs) ≡ 1 =
+    sym (length-take-le (prefix_len is_name_character (b ∷ bs)) (b ∷ bs) (prefix_len-le-length is_name_character (b ∷ bs))) ∙ ap (λ (t : List ℕ). length t) e in (
       ap (λ (t : List ℕ). get_or t 0 0) (sym (ap (λ (k : ℕ). take k (b ∷ bs)) one) ∙ e),
-      sym (ap (λ (k : ℕ). begins is_name (drop k (b ∷ bs))) one) ∙ run_stops is_name (b ∷ bs),
+      sym (ap (λ (k : ℕ). begins is_name_character (drop k (b ∷ bs))) one) ∙ run_stops is_name_character (b ∷ bs),
     )
 
 not_true : (x : Bool) → not x ≡ true → x ≡ false
@@ -240,25 +240,25 @@ not_lone : (b : ℕ) (x : Bool) → ((b == 36) && not x) ≡ false → b ≡ 36 
 not_lone b true e same none = cc
 not_lone b false e same none = absurd (grind (arith, nat_tests))
 
-run_case : (e : Bool) (n b : ℕ) (bs : List ℕ) → n ≤ 100 → is_name b ≡ true → ((b == 36) && not (begins is_name bs)) ≡ e → PieceAt n (b ∷ bs) ⊎ FaultAt n (b ∷ bs)
+run_case : (e : Bool) (n b : ℕ) (bs : List ℕ) → n ≤ 100 → is_name_character b ≡ true → ((b == 36) && not (begins is_name_character bs)) ≡ e → PieceAt n (b ∷ bs) ⊎ FaultAt n (b ∷ bs)
 run_case true n b bs le name e-is =
-    let h = and_parts (b == 36) (not (begins is_name bs)) e-is in
-    inr (record { kind = EmptyId; place = 0; is = (refl, eqb-true b 36 h.0, not_true (begins is_name bs) h.1) })
+    let h = and_parts (b == 36) (not (begins is_name_character bs)) e-is in
+    inr (record { kind = EmptyId; place = 0; is = (refl, eqb-true b 36 h.0, not_true (begins is_name_character bs) h.1) })
 run_case false n b bs le name e-is =
     inl (record {
       piece = _;
       rest = _;
-      stands = (found_run n (b ∷ bs) (b ∷ bs) (slice_range (b ∷ bs) 0 (prefix_len is_name (b ∷ bs))) (prefix_len is_name (b ∷ bs)) name le refl refl refl
-          (λ e. let h = lone b bs (sym (between_from_start (b ∷ bs) (prefix_len is_name (b ∷ bs))) ∙ e) in not_lone b (begins is_name bs) e-is h.0 h.1)).0;
+      stands = (found_run n (b ∷ bs) (b ∷ bs) (slice_range (b ∷ bs) 0 (prefix_len is_name_character (b ∷ bs))) (prefix_len is_name_character (b ∷ bs)) name le refl refl refl
+          (λ e. let h = lone b bs (sym (between_from_start (b ∷ bs) (prefix_len is_name_character (b ∷ bs))) ∙ e) in not_lone b (begins is_name_character bs) e-is h.0 h.1)).0;
     })
 
 abbrev unexpected : ℕ → Bool
-unexpected b = not (is_blank b || is_name b || b == 40 || b == 41 || b == 34)
+unexpected b = not (is_blank b || is_name_character b || b == 40 || b == 41 || b == 34)
 
-all_false : (b : ℕ) → is_blank b ≡ false → is_name b ≡ false → (b == 40) ≡ false → (b == 41) ≡ false → (b == 34) ≡ false → unexpected b ≡ true
+all_false : (b : ℕ) → is_blank b ≡ false → is_name_character b ≡ false → (b == 40) ≡ false → (b == 41) ≡ false → (b == 34) ≡ false → unexpected b ≡ true
 all_false b bl nm o c q = rw (bl, nm, o, c, q) refl
 
-byte_case : (bl sc o c q nm : Bool) (n b : ℕ) (bs : List ℕ) → n ≤ 100 → is_blank b ≡ bl → (b == 59) ≡ sc → (b == 40) ≡ o → (b == 41) ≡ c → (b == 34) ≡ q → is_name b ≡ nm
+byte_case : (bl sc o c q nm : Bool) (n b : ℕ) (bs : List ℕ) → n ≤ 100 → is_blank b ≡ bl → (b == 59) ≡ sc → (b == 40) ≡ o → (b == 41) ≡ c → (b == 34) ≡ q → is_name_character b ≡ nm
     → PieceAt n (b ∷ bs) ⊎ FaultAt n (b ∷ bs)
 byte_case true sc o c q nm n b bs le bl-is sc-is o-is c-is q-is nm-is = inl (record { piece = _; rest = _; stands = stands_blank n (b ∷ bs) (omega arith) bl-is le })
 byte_case false true o c q nm n b bs le bl-is sc-is o-is c-is q-is nm-is =

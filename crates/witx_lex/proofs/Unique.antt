@@ -7,7 +7,7 @@ use Rattle.std.specs.List.{prefix_len, list_all, flat_map}
 use Rattle.std.specs.Prelude.{IsTrue, ◌⊎◌, slice_index}
 use Rattle.std.specs.Option.{option_map}
 use Rattle.witx_lex.specs.BlockScan.{block_len}
-use Rattle.witx_lex.specs.Characters.{is_blank, is_name, is_line_byte, begins}
+use Rattle.witx_lex.specs.Characters.{is_blank, is_name_character, is_line_byte, begins}
 use Rattle.witx_lex.specs.Pieces.{Part, Piece, blank, line, block, opening, closing, run, quoted, spelling, part_spelling, IsPiece, IsEnded, open_after, Stands, Stand}
 use Rattle.witx_lex.proofs.Texts.{take_run}
 use Rattle.witx_lex.proofs.Parts.{parts_stop, no_part_at_quote}
@@ -22,7 +22,7 @@ piece_at text =
     (cond (slice_index text 0 == 40) (cond (slice_index text 1 == 59) (option_map (λ k. block (take k (drop 2 text))) (block_len 0 (drop 2 text))) (Some opening))
     (cond (slice_index text 0 == 41) (Some closing)
     (cond (slice_index text 0 == 34) None
-    (Some (run (take (prefix_len is_name text) text)))))))
+    (Some (run (take (prefix_len is_name_character text) text)))))))
 
 abbrev IsQuoted : Piece → Type 0
 IsQuoted p = (ps : List Part) × (p ≡ quoted ps)
@@ -36,7 +36,7 @@ second_of : (rest : List ℕ) → begins (λ b. b == 59) rest ≡ false → (sli
 second_of [] h = refl
 second_of (b ∷ rest) h = h
 
-name_only : (b : ℕ) → is_name b ≡ true → (is_blank b ≡ false) × ((b == 59) ≡ false) × ((b == 40) ≡ false) × ((b == 41) ≡ false) × ((b == 34) ≡ false)
+name_only : (b : ℕ) → is_name_character b ≡ true → (is_blank b ≡ false) × ((b == 59) ≡ false) × ((b == 40) ≡ false) × ((b == 41) ≡ false) × ((b == 34) ≡ false)
 name_only b h = (grind (arith, nat_tests), grind (arith, nat_tests), grind (arith, nat_tests), grind (arith, nat_tests), grind (arith, nat_tests))
 
 blank_line : (t rest : List ℕ) → IsTrue (list_all is_line_byte t) → begins is_line_byte rest ≡ false → piece_at (59 ∷ 59 ∷ (t ++ rest)) ≡ Some (line t)
@@ -45,10 +45,10 @@ blank_line t rest all stop = ap (λ (u : List ℕ). Some (line u)) (take_run is_
 none_of : (a b c d e : Bool) (v w x y z u : Option Piece) → a ≡ false → b ≡ false → c ≡ false → d ≡ false → e ≡ false → cond a v (cond b w (cond c x (cond d y (cond e z u)))) ≡ u
 none_of a b c d e v w x y z u ea eb ec ed ee = rw (ea, eb, ec, ed, ee) refl
 
-run_at : (b : ℕ) (r rest : List ℕ) → IsTrue (list_all is_name (b ∷ r)) → begins is_name rest ≡ false → piece_at ((b ∷ r) ++ rest) ≡ Some (run (b ∷ r))
+run_at : (b : ℕ) (r rest : List ℕ) → IsTrue (list_all is_name_character (b ∷ r)) → begins is_name_character rest ≡ false → piece_at ((b ∷ r) ++ rest) ≡ Some (run (b ∷ r))
 run_at b r rest all stop =
-    let h = name_only b (and_parts (is_name b) (list_all is_name r) all).0 in
-    let whole : take (prefix_len is_name ((b ∷ r) ++ rest)) ((b ∷ r) ++ rest) ≡ b ∷ r = take_run is_name (b ∷ r) rest all stop in
+    let h = name_only b (and_parts (is_name_character b) (list_all is_name_character r) all).0 in
+    let whole : take (prefix_len is_name_character ((b ∷ r) ++ rest)) ((b ∷ r) ++ rest) ≡ b ∷ r = take_run is_name_character (b ∷ r) rest all stop in
     none_of _ _ _ _ _ _ _ _ _ _ _ h.0 h.1 h.2 h.3 h.4 ∙ ap (λ (u : List ℕ). Some (run u)) whole
 
 pub piece_complete : (p : Piece) (rest : List ℕ) → IsPiece p → IsEnded p rest → (piece_at (spelling p ++ rest) ≡ Some p) ⊎ (IsQuoted p × (piece_at (spelling p ++ rest) ≡ None))

@@ -5,12 +5,12 @@ use Rattle.std.specs.Prelude.{◌≡◌, ℕ, Bool, true, false, not, ◌&&◌, 
 use Rattle.witx_lex.specs.Characters.{left_paren, right_paren, semicolon, begins}
 
 -- what stands inside a block comment
-pub data Inside : Type 0 where
-  empty : Inside
-  byte : ℕ → Inside → Inside  -- a byte, and what follows it
-  nested : Inside → Inside → Inside  -- a whole comment with this inside, and what follows it
+pub data InsideComment : Type 0 where
+  empty : InsideComment
+  byte : ℕ → InsideComment → InsideComment  -- a byte, and what follows it
+  nested : InsideComment → InsideComment → InsideComment  -- a whole comment with this inside, and what follows it
 
-abbrev pub inside_spelling : Inside → List ℕ
+abbrev pub inside_spelling : InsideComment → List ℕ
 inside_spelling empty = []
 inside_spelling (byte b more) = b ∷ inside_spelling more
 inside_spelling (nested inner more) = left_paren ∷ semicolon ∷ (inside_spelling inner ++ semicolon ∷ right_paren ∷ inside_spelling more)
@@ -21,14 +21,14 @@ begins_mark [] = false
 begins_mark (b ∷ text) = (b == left_paren && begins (λ c. c == semicolon) text) || (b == semicolon && begins (λ c. c == right_paren) text)
 
 -- at none of its bytes outside inner comments begins a mark, with the ;) of the comment behind
-abbrev pub is_inside : Inside → Bool
+abbrev pub is_inside : InsideComment → Bool
 is_inside empty = true
 is_inside (byte b more) = not (begins_mark (b ∷ (inside_spelling more ++ semicolon ∷ right_paren ∷ []))) && is_inside more
 is_inside (nested inner more) = is_inside inner && is_inside more
 
 -- the text stands inside a block comment
 abbrev pub IsBlockText : List ℕ → Type 0
-IsBlockText text = (inside : Inside) × IsTrue (is_inside inside) × (text ≡ inside_spelling inside)
+IsBlockText text = (inside : InsideComment) × IsTrue (is_inside inside) × (text ≡ inside_spelling inside)
 
 -- no front of the text is the inside of a block comment with its ;) behind
 abbrev pub HasNoEnd : List ℕ → Type 0

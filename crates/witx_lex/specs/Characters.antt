@@ -40,8 +40,8 @@ is_blank b = b == 32 || b == 9 || b == line_feed || b == 13
 
 -- A name character: an ASCII letter, a digit, or one of ! # $ % & ' * + - . / : < = > ? @ \ ^ _ ` | ~
 -- These are all from ! to ~ but the quote, the parentheses, the comma, the semicolon, brackets and braces.
-abbrev pub is_name : ℕ → Bool
-is_name b = (nat_lt 32 b && nat_lt b 127)
+abbrev pub is_name_character : ℕ → Bool
+is_name_character b = (nat_lt 32 b && nat_lt b 127)
     && not (b == quote || b == left_paren || b == right_paren || b == 44 || b == semicolon || b == 91 || b == 93 || b == 123 || b == 125)
 
 -- what a comment may hold that ends with its line
@@ -66,8 +66,8 @@ letter_value c =
     else None
 
 -- a Unicode scalar value: any code but the surrogates
-abbrev pub is_scalar : ℕ → Bool
-is_scalar c = nat_lt c 0xD800 || (nat_le 0xE000 c && nat_le c 0x10_FFFF)
+abbrev pub is_unicode_scalar : ℕ → Bool
+is_unicode_scalar c = nat_lt c 0xD800 || (nat_le 0xE000 c && nat_le c 0x10_FFFF)
 
 -- what may stand between the braces of an escape: hexadecimal digits and _
 abbrev pub is_digit_or_underscore : ℕ → Bool

@@ -9,44 +9,44 @@ use Rattle.witx_lex.specs.declared.error.LexError.{LexError}
 use Rattle.witx_lex.specs.declared.error.LexError.TheVariants.{Bad, OutOfMemory}
 use Rattle.witx_lex.specs.declared.error.LexFault.{LexFault}
 use Rattle.witx_lex.specs.Blocks.{HasNoEnd}
-use Rattle.witx_lex.specs.Characters.{quote, dollar, left_paren, right_paren, semicolon, backslash, is_blank, is_name, is_control, begins}
+use Rattle.witx_lex.specs.Characters.{quote, dollar, left_paren, right_paren, semicolon, backslash, is_blank, is_name_character, is_control, begins}
 use Rattle.witx_lex.specs.Pieces.{Piece, spelling, Part, is_part, part_spelling, part_value, most_open, open_after_all, Stand}
 
 -- these parts of a string stand at the front of the text, of which the rest follows
-abbrev pub Parts : List Part → List ℕ → List ℕ → Type 0
-Parts ps text rest = IsTrue (list_all is_part ps) × (text ≡ flat_map part_spelling ps ++ rest)
+abbrev pub StringParts : List Part → List ℕ → List ℕ → Type 0
+StringParts ps text rest = IsTrue (list_all is_part ps) × (text ≡ flat_map part_spelling ps ++ rest)
 
 -- no part of a string stands at the front of the text
 abbrev pub NoPart : List ℕ → Type 0
 NoPart text = (p : Part) (rest : List ℕ) → IsTrue (is_part p) → text ≡ part_spelling p ++ rest → ⊥
 
 -- how far behind the start of a string the place is to which these parts lead
-abbrev pub behind : List Part → ℕ
-behind ps = 1 + length (flat_map part_spelling ps)
+abbrev pub parts_length : List Part → ℕ
+parts_length ps = 1 + length (flat_map part_spelling ps)
 
 -- The fault of a text at whose front no piece can stand, and how far in it is, with n parentheses open before it.
 abbrev pub IsFaultAt : ℕ → List ℕ → LexKind → ℕ → Type 0
 IsFaultAt n [] kind k = ⊥
 -- a character that begins no piece, or a single ;
 IsFaultAt n (b ∷ bs) UnexpectedCharacter k = (k ≡ 0)
-    × IsTrue (not (is_blank b || is_name b || b == left_paren || b == right_paren || b == quote))
+    × IsTrue (not (is_blank b || is_name_character b || b == left_paren || b == right_paren || b == quote))
     × (b ≡ semicolon → begins (λ c. c == semicolon) bs ≡ false)
 -- a lone $
-IsFaultAt n (b ∷ bs) EmptyId k = (k ≡ 0) × (b ≡ dollar) × (begins is_name bs ≡ false)
+IsFaultAt n (b ∷ bs) EmptyId k = (k ≡ 0) × (b ≡ dollar) × (begins is_name_character bs ≡ false)
 -- a ( that begins no comment, with as many open as may be
 IsFaultAt n (b ∷ bs) TooDeep k = (k ≡ 0) × (b ≡ left_paren) × (begins (λ c. c == semicolon) bs ≡ false) × (most_open ≤ n)
 -- (; without its ;)
 IsFaultAt n (b ∷ bs) UnterminatedComment k = (k ≡ 0) × (b ≡ left_paren) × IsTrue (begins (λ c. c == semicolon) bs) × HasNoEnd (drop 1 bs)
 -- parts up to the end of the text
-IsFaultAt n (b ∷ bs) UnterminatedString k = (k ≡ 0) × (b ≡ quote) × (ps : List Part) × Parts ps bs []
+IsFaultAt n (b ∷ bs) UnterminatedString k = (k ≡ 0) × (b ≡ quote) × (ps : List Part) × StringParts ps bs []
 -- parts, and then a backslash that begins no part; the place is the backslash
-IsFaultAt n (b ∷ bs) BadEscape k = (b ≡ quote) × (ps : List Part) × (rest : List ℕ) × Parts ps bs (backslash ∷ rest)
-    × NoPart (backslash ∷ rest) × (k ≡ behind ps)
+IsFaultAt n (b ∷ bs) BadEscape k = (b ≡ quote) × (ps : List Part) × (rest : List ℕ) × StringParts ps bs (backslash ∷ rest)
+    × NoPart (backslash ∷ rest) × (k ≡ parts_length ps)
 -- parts, and then a control character; the place is that character
-IsFaultAt n (b ∷ bs) BadCharacter k = (b ≡ quote) × (ps : List Part) × (c : ℕ) × (rest : List ℕ) × Parts ps bs (c ∷ rest)
-    × IsTrue (is_control c) × (k ≡ behind ps)
+IsFaultAt n (b ∷ bs) BadCharacter k = (b ≡ quote) × (ps : List Part) × (c : ℕ) × (rest : List ℕ) × StringParts ps bs (c ∷ rest)
+    × IsTrue (is_control c) × (k ≡ parts_length ps)
 -- parts up to the closing quote, whose bytes together are not UTF-8
-IsFaultAt n (b ∷ bs) NotUtf8 k = (k ≡ 0) × (b ≡ quote) × (ps : List Part) × (rest : List ℕ) × Parts ps bs (quote ∷ rest)
+IsFaultAt n (b ∷ bs) NotUtf8 k = (k ≡ 0) × (b ≡ quote) × (ps : List Part) × (rest : List ℕ) × StringParts ps bs (quote ∷ rest)
     × (IsUtf8 (flat_map part_value ps) → ⊥)
 
 -- the fault of the text: pieces stand up to a place at which no piece can

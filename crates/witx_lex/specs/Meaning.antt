@@ -32,14 +32,14 @@ pub data Seen : Type 0 where
   comment : List ℕ → Seen
   token : Token → Seen
 
-abbrev pub seen : Piece → Seen
-seen (blank b) = nothing
-seen (line t) = comment t
-seen (block t) = comment t
-seen opening = token left
-seen closing = token right
-seen (run r) = token (run_token r)
-seen (quoted ps) = token (quoted_token (flat_map part_value ps))
+abbrev pub piece_seen : Piece → Seen
+piece_seen (blank b) = nothing
+piece_seen (line t) = comment t
+piece_seen (block t) = comment t
+piece_seen opening = token left
+piece_seen closing = token right
+piece_seen (run r) = token (run_token r)
+piece_seen (quoted ps) = token (quoted_token (flat_map part_value ps))
 
 -- What was seen from the offset at up to the offset end, with these comments before it, goes to the tokens:
 -- a comment to the comments before the next token, and a token, with the comments before it, to the front.
@@ -52,7 +52,7 @@ with_seen (token t) at end comments more = record { token = t; start = at; end =
 abbrev pub tokens_from : ℕ → List (List ℕ) → List Piece → List Lexed
 tokens_from at comments [] = []
 tokens_from at comments (p ∷ ps) =
-    with_seen (seen p) at (at + length (spelling p)) comments (λ cs. tokens_from (at + length (spelling p)) cs ps)
+    with_seen (piece_seen p) at (at + length (spelling p)) comments (λ cs. tokens_from (at + length (spelling p)) cs ps)
 
 abbrev pub tokens_of : List Piece → List Lexed
 tokens_of ps = tokens_from 0 [] ps

@@ -7,7 +7,7 @@ use Rattle.std.specs.Str.{IsUtf8}
 use Rattle.std.specs.Str.Parse.{digits_value}
 use Rattle.witx_lex.specs.declared.piece.TheConstants.{MOST_OPEN}
 use Rattle.witx_lex.specs.Blocks.{IsBlockText}
-use Rattle.witx_lex.specs.Characters.{line_feed, quote, dollar, left_paren, right_paren, semicolon, backslash, is_blank, is_name, is_line_byte, is_raw, letter_value, is_scalar, are_digits, scalar_value, begins}
+use Rattle.witx_lex.specs.Characters.{line_feed, quote, dollar, left_paren, right_paren, semicolon, backslash, is_blank, is_name_character, is_line_byte, is_raw, letter_value, is_unicode_scalar, are_digits, scalar_value, begins}
 
 -- ---- spellings
 
@@ -48,7 +48,7 @@ abbrev pub is_part : Part → Bool
 is_part (raw b) = is_raw b
 is_part (letter c) = is_some (letter_value c)
 is_part (two_digits high low) = is_digit high 16 && is_digit low 16
-is_part (scalar ds) = are_digits 16 ds && is_scalar (scalar_value ds)
+is_part (scalar ds) = are_digits 16 ds && is_unicode_scalar (scalar_value ds)
 
 -- the bytes that a part stands for
 abbrev pub part_value : Part → List ℕ
@@ -63,7 +63,7 @@ IsPiece (line t) = IsTrue (list_all is_line_byte t)
 IsPiece (block t) = IsBlockText t
 IsPiece opening = Unit {0}
 IsPiece closing = Unit {0}
-IsPiece (run r) = (r ≢ []) × IsTrue (list_all is_name r) × (r ≢ dollar ∷ [])
+IsPiece (run r) = (r ≢ []) × IsTrue (list_all is_name_character r) × (r ≢ dollar ∷ [])
 IsPiece (quoted ps) = IsTrue (list_all is_part ps) × IsUtf8 (flat_map part_value ps)
 
 -- ---- what may follow each
@@ -75,7 +75,7 @@ IsEnded (line t) rest = (rest ≡ []) ⊎ IsTrue (begins (λ b. b == line_feed) 
 IsEnded (block t) rest = Unit {0}
 IsEnded opening rest = begins (λ b. b == semicolon) rest ≡ false
 IsEnded closing rest = Unit {0}
-IsEnded (run r) rest = begins is_name rest ≡ false
+IsEnded (run r) rest = begins is_name_character rest ≡ false
 IsEnded (quoted ps) rest = Unit {0}
 
 -- ---- how deep they nest

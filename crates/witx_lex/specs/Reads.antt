@@ -8,7 +8,7 @@ use Rattle.witx_lex.specs.declared.piece.Seen.TheVariants as variant
 use Rattle.witx_lex.specs.declared.piece.Read as code_read
 use Rattle.witx_lex.specs.Pieces.{Piece, spelling, Stands}
 use Rattle.witx_lex.specs.Faults.{IsFaultAt, IfBad}
-use Rattle.witx_lex.specs.Meaning.{Seen, comment, token, seen}
+use Rattle.witx_lex.specs.Meaning.{Seen, comment, token, piece_seen}
 use Rattle.witx_lex.specs.Views.{token_view}
 
 abbrev pub seen_view : code.Seen → Seen
@@ -24,7 +24,7 @@ pub record FoundPiece (n : ℕ) (text : List ℕ) (r : code_read.Read) : Type 0 
   pub piece : Piece
   pub stands : Stands n piece text (drop r.len text)
   pub len : r.len ≡ length (spelling piece)
-  pub sees : seen_view r.seen ≡ seen piece
+  pub sees : seen_view r.seen ≡ piece_seen piece
 
 -- a piece was read, or none stands there
 abbrev pub ReadsPiece : ℕ → List ℕ → Result code_read.Read LexError → Type 0

@@ -39,7 +39,7 @@ static NAME_CHARACTERS: [u8; 256] = *b"\
 /// Whether the byte is a letter, a digit or one of the signs that names may hold.
 #[inline]
 pub fn is_name(byte: u8) -> bool
-    ensures { result ≡ spec.is_name byte }
+    ensures { result ≡ spec.is_name_character byte }
 {
     NAME_CHARACTERS[byte as usize] != b','
 }

@@ -105,7 +105,7 @@ fn digits_len(bytes: &[u8]) -> usize
 
 /// The character whose code the hexadecimal digits among the bytes write, if it is one.
 fn scalar(digits: &[u8]) -> Option<char>
-    ensures { SomeIff result (IsTrue (spec.is_scalar (spec.scalar_value digits.now)))
+    ensures { SomeIff result (IsTrue (spec.is_unicode_scalar (spec.scalar_value digits.now)))
         (spec.scalar_value digits.now) }
 {
     let mut code = 0u32;

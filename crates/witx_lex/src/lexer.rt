@@ -62,7 +62,7 @@ pub fn lex<'a>(alloc: Global, text: &'a str) -> Result<Tokens<'a>, LexError>
 /// How many parentheses are open after a piece that is this token, of `depth` before it.
 fn open_after(depth: usize, token: &Token) -> usize
     requires { depth ≤ most_open }
-    ensures { (p : Piece) → meaning.seen p ≡ meaning.token (token_view token.now) → result ≡ open_after depth p }
+    ensures { (p : Piece) → meaning.piece_seen p ≡ meaning.token (token_view token.now) → result ≡ open_after depth p }
 {
     match token {
         Token::LParen => depth + 1,

@@ -1,7 +1,7 @@
 //! A place in a text that moves on, so that lines and columns are counted once.
 
 ghost use Rattle.std.specs.Prelude.{◌≡◌, ◌+◌, ◌-◌, ◌≤◌, length};
-ghost use Rattle.witx_lex.specs.Places.{line_at, column_at};
+ghost use Rattle.witx_lex.specs.Places.{line_number_at, column_at};
 
 /// A text and a place in it, from which the lines and the columns of later places are counted. So
 /// places that are asked for in order cost one pass over the text.
@@ -13,7 +13,7 @@ pub struct LineCursor<'a> {
     line: usize,
     column: usize,
     ghost within: { at ≤ length text.now },
-    ghost line_here: { line ≡ line_at text.now at },
+    ghost line_here: { line ≡ line_number_at text.now at },
     ghost column_here: { column ≡ column_at text.now at },
 }
 
@@ -34,7 +34,7 @@ impl<'a> LineCursor<'a> {
     /// bytes behind the last line feed before `at`; an `at` past the end is the end. The cursor moves
     /// to `at`, unless that stands before the cursor: then the line is counted from the start.
     pub fn line_column(&mut self, at: usize) -> (usize, usize)
-        ensures line { result.0 ≡ line_at self.old.text.now at }
+        ensures line { result.0 ≡ line_number_at self.old.text.now at }
         ensures column { result.1 ≡ column_at self.old.text.now at }
         ensures text { self.new.text.now ≡ self.old.text.now }
     {
@@ -55,9 +55,9 @@ impl<'a> LineCursor<'a> {
 fn onward(bytes: &[u8], at: usize, end: usize, line: usize, column: usize) -> (usize, usize)
     requires before { at ≤ end }
     requires within { end ≤ length bytes.now }
-    requires line { line ≡ line_at bytes.now at }
+    requires line { line ≡ line_number_at bytes.now at }
     requires column { column ≡ column_at bytes.now at }
-    ensures line { result.0 ≡ line_at bytes.now end }
+    ensures line { result.0 ≡ line_number_at bytes.now end }
     ensures column { result.1 ≡ column_at bytes.now end }
 {
     let feeds = feeds_between(bytes, at, end);
@@ -74,7 +74,7 @@ fn onward(bytes: &[u8], at: usize, end: usize, line: usize, column: usize) -> (u
 fn feeds_between(bytes: &[u8], at: usize, end: usize) -> usize
     requires before { at ≤ end }
     requires within { end ≤ length bytes.now }
-    ensures lines { line_at bytes.now end ≡ line_at bytes.now at + result }
+    ensures lines { line_number_at bytes.now end ≡ line_number_at bytes.now at + result }
     ensures column { result ≡ 0 → column_at bytes.now end ≡ column_at bytes.now at + (end - at) }
 {
     let mut feeds = 0;

@@ -14,7 +14,7 @@ use crate::token::Token;
 
 /// The longest run of name characters that begins the text.
 pub fn read_run<'a>(text: &'a str) -> Result<Read<'a>, LexError>
-    requires { IsTrue (spec.is_name (slice_index text.now 0)) }
+    requires { IsTrue (spec.is_name_character (slice_index text.now 0)) }
     ensures { (n : ℕ) → n ≤ most_open → ReadsPiece n text.now result }
 {
     let len = name_len(text.as_bytes());
@@ -48,7 +48,7 @@ pub fn read_run<'a>(text: &'a str) -> Result<Read<'a>, LexError>
 }
 
 fn name_len(bytes: &[u8]) -> usize
-    ensures len { result ≡ prefix_len spec.is_name bytes.now }
+    ensures len { result ≡ prefix_len spec.is_name_character bytes.now }
     ensures within { result ≤ length bytes.now }
 {
     bytes.iter().take_while(|b| is_name(**b)).count()

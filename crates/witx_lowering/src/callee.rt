@@ -159,7 +159,7 @@ fn lower_ok_block<'a>(
     pointers: &Pointers<'a>,
 ) -> Result<(), OutOfMemory>
     requires { pointer_types pointers.now ≡ ok_pointers (payload_tree ok) }
-    ensures { IfOk result (λ _. planned_events plan.new ≡ planned_events plan.old ++ traces.block_of (traces.ok_lowered first (payload_tree ok.entry)) false) }
+    ensures { IfOk result (λ _. planned_events plan.new ≡ planned_events plan.old ++ traces.block_events (traces.ok_lowered first (payload_tree ok.entry)) false) }
 {
     add(plan, Planned::Push)?;
     lower_ok(plan, ok, first, pointers)?;
@@ -223,7 +223,7 @@ fn store_all<'a>(
 fn lower_err_block<'a>(plan: &mut Plan<'a>, err: Option<&'a TypeRef>) -> Result<(), OutOfMemory>
     requires { can_be_err (payload_tree err) ≡ true }
     ensures { IfOk result (λ _. planned_events plan.new ≡ planned_events plan.old
-        ++ traces.block_of (traces.err_lowered (payload_tree err.entry)) (is_some (payload_tree err.entry))) }
+        ++ traces.block_events (traces.err_lowered (payload_tree err.entry)) (is_some (payload_tree err.entry))) }
 {
     add(plan, Planned::Push)?;
     lower_err(plan, err)?;

@@ -132,7 +132,7 @@ fn lift_cases<'a>(
 fn lift_err_block<'a>(plan: &mut Plan<'a>, err: Option<&'a TypeRef>) -> Result<(), OutOfMemory>
     requires { can_be_err (payload_tree err) ≡ true }
     ensures { IfOk result (λ _. planned_events plan.new ≡ planned_events plan.old
-        ++ traces.block_of (traces.err_lifted (payload_tree err.entry)) (is_some (payload_tree err.entry))) }
+        ++ traces.block_events (traces.err_lifted (payload_tree err.entry)) (is_some (payload_tree err.entry))) }
 {
     add(plan, Planned::Push)?;
     lift_err(plan, err)?;

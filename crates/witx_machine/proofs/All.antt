@@ -17,10 +17,10 @@ use Rattle.witx_machine.specs.Words.{Scalar, number_of, pointer, const_pointer, 
 use Rattle.witx_machine.specs.Rows.{lowering, lifting}
 use Rattle.witx_machine.specs.Functions.{Function, has_payload, tuple_types, is_tuple, name_of, member_types, ok_of, err_of, result_cases}
 use Rattle.witx_machine.specs.Signature.{param_words, words_of_params, result_word, before_rest, words_back, or_alone, pointers_at, pointers_by, ok_pointers, return_pointers, signature_params}
-use Rattle.witx_machine.specs.Lowerable.{can_be_param, can_be_result, can_return, can_be_ok, can_be_err, is_narrow, unlowerable_result, first_place, lowerable}
+use Rattle.witx_machine.specs.Lowerable.{can_be_param, can_be_result, can_return, can_be_ok, can_be_err, is_narrow, unlowerable_result, earlier_place, lowerable}
 use Rattle.witx_machine.specs.Traces.{lower_step, lift_step, lower_by, lift_by, lower_under, lift_under, caller_events, callee_events}
 use Rattle.witx_machine.specs.Shims.{Alike}
-use Rattle.witx_machine.specs.Machine.{Domain, went, outside, word_item, value_item, plain_item, found}
+use Rattle.witx_machine.specs.Machine.{Domain, went, outside, word_item, value_item, plain_item, if_found}
 use Rattle.witx_machine.specs.Run.{Receiver, itself, numbers, Call, typed, cases_are, result_has_cases, same_presence}
 use Rattle.witx_machine.specs.Passage.{Meaning, ReturnsBy, HoldAll, last_words}
 use Rattle.witx_machine.proofs.Scalars.{left_true, right_true, both_true, same_types_is}
@@ -158,10 +158,10 @@ no_first i (t ∷ ts) e = go (can_be_param t) refl e (no_first (i + 1) ts)
     go true is e rest = rest e
     go false is e rest = absurd (some_none e)
 
-pub params_lower : (ps : List Tree) (result : Option Place) → T (is_none (first_place (position (λ t. not (can_be_param t)) ps) result)) → T (can_be_params ps) × T (is_none result)
+pub params_lower : (ps : List Tree) (result : Option Place) → T (is_none (earlier_place (position (λ t. not (can_be_param t)) ps) result)) → T (can_be_params ps) × T (is_none result)
 params_lower ps result h = go (position (λ t. not (can_be_param t)) ps) refl h
   where
-    go : (o : Option ℕ) → position (λ t. not (can_be_param t)) ps ≡ o → T (is_none (first_place o result)) → T (can_be_params ps) × T (is_none result)
+    go : (o : Option ℕ) → position (λ t. not (can_be_param t)) ps ≡ o → T (is_none (earlier_place o result)) → T (can_be_params ps) × T (is_none result)
     go None is h = (no_first 0 ps (sym (position_from-zero (λ t. not (can_be_param t)) ps) ∙ is), h)
     go (Some i) is h = absurd h
 
@@ -264,8 +264,8 @@ module _ {V W M : Type 0} {D : Domain V W M} {J : Meaning V W M} (L : Laws D J) 
         let w = length (words_of_params own_params) in
         let late = Callee.late L n g (Some v) words noted in
         let back = λ (call : Call V W M). Caller.late L m f to (callee_events n g) vs (Some v) slots (d.0 ∷ []) call in
-        let low = row_goes L (Callee.side L n g (Some v) words) (Callee.deep L n g (Some v) words depth) outside [] [] None (Some noted) (lower_step u) (lowering y) (value_item v (name_of u) ∷ []) (word_item d.0 ∷ []) memory memory o'.lower (ap (λ r. found r (λ w. went (late (word_item w ∷ []) memory))) d.1) in
-        let lifts = λ (call : Call V W M). row_goes L (Caller.side L m f to (callee_events n g) vs (Some v)) (Caller.deep L m f to (callee_events n g) vs (Some v) k) outside slots [] (Some d.0) (Some call) (lift_step t) (lifting x) (word_item d.0 ∷ []) (plain_item v ∷ []) memory memory o.lift (ap (λ r. found r (λ u. went (back call (plain_item u ∷ []) memory))) back_is) in
+        let low = row_goes L (Callee.side L n g (Some v) words) (Callee.deep L n g (Some v) words depth) outside [] [] None (Some noted) (lower_step u) (lowering y) (value_item v (name_of u) ∷ []) (word_item d.0 ∷ []) memory memory o'.lower (ap (λ r. if_found r (λ w. went (late (word_item w ∷ []) memory))) d.1) in
+        let lifts = λ (call : Call V W M). row_goes L (Caller.side L m f to (callee_events n g) vs (Some v)) (Caller.deep L m f to (callee_events n g) vs (Some v) k) outside slots [] (Some d.0) (Some call) (lift_step t) (lifting x) (word_item d.0 ∷ []) (plain_item v ∷ []) memory memory o.lift (ap (λ r. if_found r (λ u. went (back call (plain_item u ∷ []) memory))) back_is) in
         record {
           lowered = record { items = value_item v (name_of u) ∷ []; given = refl; results = d.0 ∷ []; after = memory; types = subst (λ r. T (typed D (before_rest r []) (d.0 ∷ []))) (sym narrow) (both_true _ _ d.3 tt); goes = subst (λ c. Runs (Callee.rule L n g (Some v) words depth) (lower_by c w u) (late (value_item v (name_of u) ∷ []) memory) (late (word_item d.0 ∷ []) memory)) (sym e') low };
           lifted = λ call. record { items = value_item v None ∷ []; values = (refl, tt); many = refl; goes = subst (λ c. Runs (Caller.rule L m f to (callee_events n g) vs (Some v) k) (lift_by c t) (back call (word_item d.0 ∷ []) memory) (back call (value_item v None ∷ []) memory)) (sym e) (lifts call) };

@@ -7,7 +7,7 @@ use Rattle.witx_machine.specs.Events.{Step, Event, emit}
 use Rattle.witx_machine.specs.Functions.{Function}
 use Rattle.witx_machine.specs.Signature.{signature_results}
 use Rattle.witx_machine.specs.Traces.{lift_params, lower_results, callee_events}
-use Rattle.witx_machine.specs.Machine.{Domain, went, State, Side, Inside, outside, Item, word_item, Flow, found, next, only, flowing, after, pushed, runs_within, run_trace, ended, is_nil}
+use Rattle.witx_machine.specs.Machine.{Domain, went, State, Side, Inside, outside, Item, word_item, Flow, if_found, goes_on, only, flowing, after, pushed, runs_within, run_trace, ended, is_nil}
 use Rattle.witx_machine.specs.Run.{callee_side, start, reply_items, typed, same_trees}
 use Rattle.witx_machine.specs.Passage.{Meaning}
 use Rattle.witx_machine.proofs.Scalars.{both_true, truth}
@@ -81,8 +81,8 @@ module _ {V W M : Type 0} {D : Domain V W M} {J : Meaning V W M} (L : Laws D J) 
         let ok = both_true _ _ (same_name_refl m) (both_true _ _ (same_name_refl f.name) (both_true _ _ (same_trees_refl f.params) (same_trees_refl f.results))) in
         let off = all_values_off xs vs (length f.params) e h in
         runs_act D side (deep n) outside _ (early (pushed xs []) memory) (late vs items memory) (only_true _ _ ok
-        ∙ ap (λ o. found o (λ r. found (reply_items f.results reply) (λ xs. went (late r.0 (xs ++ r.1) memory)))) off
-        ∙ ap (λ o. found o (λ xs. went (late vs (xs ++ []) memory))) given
+        ∙ ap (λ o. if_found o (λ r. if_found (reply_items f.results reply) (λ xs. went (late r.0 (xs ++ r.1) memory)))) off
+        ∙ ap (λ o. if_found o (λ xs. went (late vs (xs ++ []) memory))) given
         ∙ ap (λ xs. went (late vs xs memory)) (append-nil items)) refl
 
     pub callee_runs : (ways : Ways f.params) (vs : List V) (ws : List W) (memory : M) → AreArguments L f.params vs → PassedAll L memory f.params ways vs ws → StandAt (as_items V words) 0 (map word_item ws) → (r : ResultLowered vs (length (callee_events m f)) memory) → run_trace (λ e. e) (λ e. tt) D side tt (callee_events m f) (start memory) ≡ went (vs, map word_item r.results, record (late vs [] r.after) { answer = Some (map word_item r.results) })
@@ -95,6 +95,6 @@ module _ {V W M : Type 0} {D : Domain V W M} {J : Meaning V W M} (L : Laws D J) 
         let done : State Event V W M (List V) = record (late vs [] r.after) { answer = Some (map word_item r.results) } in
         let k = length (signature_results f) in
         let long : k ≡ length (as_items V r.results) = typed_length D (signature_results f) r.results r.types ∙ sym (length_of_items V r.results) in
-        let last : rule n (emit (Step.Return k) ∷ []) flowing end ≡ went done = ap (λ o. after tt true (found o (λ r'. only (is_nil r'.1) (went (record (late vs r'.1 r.after) { answer = Some r'.0 })))) (rule n [] flowing)) (all_items_off (map word_item r.results) k long) in
+        let last : rule n (emit (Step.Return k) ∷ []) flowing end ≡ went done = ap (λ o. after tt true (if_found o (λ r'. only (is_nil r'.1) (went (record (late vs r'.1 r.after) { answer = Some r'.0 })))) (rule n [] flowing)) (all_items_off (map word_item r.results) k long) in
         let whole : rule n (callee_events m f) flowing (early [] memory) ≡ went done = ap (λ es. rule n es flowing (early [] memory)) (sym (append_assoc (lift_params 0 f.params) (emit (Step.CallInterface m f.name f.params f.results) ∷ lower_results f) (emit (Step.Return k) ∷ []))) ∙ body.by (emit (Step.Return k) ∷ []) ∙ last in
-        ap (λ t. next t (λ s. ended tt s.called s.answer s)) whole
+        ap (λ t. goes_on t (λ s. ended tt s.called s.answer s)) whole

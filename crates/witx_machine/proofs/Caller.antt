@@ -4,8 +4,8 @@ use Rattle.witx_machine.specs.Events.{Step, Event, emit}
 use Rattle.witx_machine.specs.Functions.{Function}
 use Rattle.witx_machine.specs.Signature.{signature_params, signature_results, return_pointers}
 use Rattle.witx_machine.specs.Traces.{lower_params, make_spaces, lift_results, caller_events}
-use Rattle.witx_machine.specs.Machine.{Domain, went, State, Side, Inside, outside, Item, word_item, value_item, Flow, found, next, only, flowing, after, pushed, runs_within, run_trace, ended, is_nil}
-use Rattle.witx_machine.specs.Run.{callee_side, caller_side, handed_on, called_with, Receiver, numbers, in_order, start, typed, words_in, values_in, one_word, Call, run_to}
+use Rattle.witx_machine.specs.Machine.{Domain, went, State, Side, Inside, outside, Item, word_item, value_item, Flow, if_found, goes_on, only, flowing, after, pushed, runs_within, run_trace, ended, is_nil}
+use Rattle.witx_machine.specs.Run.{callee_side, caller_side, handed_on, called_with, Receiver, numbers, picked_in_order, start, typed, words_in, values_in, one_word, Call, run_to}
 use Rattle.witx_machine.specs.Passage.{Meaning}
 use Rattle.witx_machine.proofs.Scalars.{both_true, same_types_self}
 use Rattle.witx_machine.proofs.Laws.{Laws}
@@ -18,14 +18,14 @@ words_in_items V [] = refl
 words_in_items V (w ∷ ws) = ap (option_and_then (λ ws. Some (w ∷ ws))) (words_in_items V ws)
 
 -- all words, as they are
-pub words_from : {W : Type 0} (all : List W) (k : ℕ) (ws : List W) → StandAt all k ws → in_order (numbers k (length ws)) all ≡ Some ws
+pub words_from : {W : Type 0} (all : List W) (k : ℕ) (ws : List W) → StandAt all k ws → picked_in_order (numbers k (length ws)) all ≡ Some ws
 words_from all k [] h = refl
 words_from all k (w ∷ ws) h =
-    ap (option_and_then (λ w. option_and_then (λ more. Some (w ∷ more)) (in_order (numbers (k + 1) (length ws)) all))) h.0
+    ap (option_and_then (λ w. option_and_then (λ more. Some (w ∷ more)) (picked_in_order (numbers (k + 1) (length ws)) all))) h.0
     ∙ ap (option_and_then (λ more. Some (w ∷ more))) (words_from all (k + 1) ws h.1)
 
-pub all_in_order : {W : Type 0} (ws : List W) (n : ℕ) → n ≡ length ws → in_order (numbers 0 n) ws ≡ Some ws
-all_in_order ws n e = ap (λ n. in_order (numbers 0 n) ws) e ∙ words_from ws 0 ws (stand_all ws)
+pub all_in_order : {W : Type 0} (ws : List W) (n : ℕ) → n ≡ length ws → picked_in_order (numbers 0 n) ws ≡ Some ws
+all_in_order ws n e = ap (λ n. picked_in_order (numbers 0 n) ws) e ∙ words_from ws 0 ws (stand_all ws)
 
 module _ {V W : Type 0} where
   pub values_in_items : (xs : List (Item V W)) (vs : List V) → AreItemsOf xs vs → values_in xs ≡ Some vs
@@ -40,7 +40,7 @@ module _ {V W M : Type 0} {D : Domain V W M} {J : Meaning V W M} (L : Laws D J) 
   -- what the callee did
   pub record CalleeRan (m : List ℕ) (f : Function) (to : Receiver) (callee : List Event) (reply : Option V) (words : List W) (before : M) : Type 0 where
     pub own : List W
-    pub handed : in_order to.order words ≡ Some own
+    pub handed : picked_in_order to.order words ≡ Some own
     pub noted : List V
     pub results : List W
     pub end : State Event V W M (List V)
@@ -74,12 +74,12 @@ module _ {V W M : Type 0} {D : Domain V W M} {J : Meaning V W M} (L : Laws D J) 
         let s = early slots [] before in
         let after : List W → List V × List (Item V W) × State Event V W M (List V) → Try (State Event V W M (Call V W M)) = λ ws r'. went (record s { stack = pushed (map word_item ws) []; memory = r'.2.memory; returned = one_word ws; called = Some (record { words = words; at_call = before; noted = r'.0; callee_words = ws; at_return = r'.2.memory }) }) in
         let ran : called_with (λ e. e) (λ e. tt) D m f to tt callee reply words s ≡ went (late slots r.results (call_of r) (pushed (map word_item r.results) []) r.end.memory) =
-        ap (λ o. found o (handed_on (λ e. e) (λ e. tt) D m f to tt callee reply words s)) r.handed
-        ∙ ap (λ t. next t (λ r'. found (words_in r'.1) (λ ws. only (typed D (signature_results f) ws) (after ws r')))) r.ran
-        ∙ ap (λ o. found o (λ ws. only (typed D (signature_results f) ws) (after ws (r.noted, map word_item r.results, r.end)))) (words_in_items V r.results)
+        ap (λ o. if_found o (handed_on (λ e. e) (λ e. tt) D m f to tt callee reply words s)) r.handed
+        ∙ ap (λ t. goes_on t (λ r'. if_found (words_in r'.1) (λ ws. only (typed D (signature_results f) ws) (after ws r')))) r.ran
+        ∙ ap (λ o. if_found o (λ ws. only (typed D (signature_results f) ws) (after ws (r.noted, map word_item r.results, r.end)))) (words_in_items V r.results)
         ∙ only_true _ _ r.types in
         runs_act D side (deep n) outside _ (early slots (pushed (map word_item words) []) before) (late slots r.results (call_of r) (pushed (map word_item r.results) []) r.end.memory) (only_true _ _ ok
-        ∙ ap (λ o. found o (λ r. only (typed D ps r.0) (called_with (λ e. e) (λ e. tt) D m f to tt callee reply r.0 (early slots r.1 before)))) (all_words_off words (length ps) long)
+        ∙ ap (λ o. if_found o (λ r. only (typed D ps r.0) (called_with (λ e. e) (λ e. tt) D m f to tt callee reply r.0 (early slots r.1 before)))) (all_words_off words (length ps) long)
         ∙ only_true _ _ types
         ∙ ran) refl
 
@@ -107,11 +107,11 @@ module _ {V W M : Type 0} {D : Domain V W M} {J : Meaning V W M} (L : Laws D J) 
         let body = runs_then {s' = s1} p.goes (runs_then {s' = s2} (call_goes n p.slots p.words p.after p.types r) l.goes) in
         let end = late p.slots r.results (call_of r) [] r.end.memory in
         let done : State Event V W M (Call V W M) = record end { answer = Some l.items } in
-        let returns : rule n (last ∷ []) flowing (late p.slots r.results (call_of r) (pushed l.items []) r.end.memory) ≡ went done = ap (λ o. after tt true (found o (λ r'. only (is_nil r'.1) (went (record (late p.slots r.results (call_of r) r'.1 r.end.memory) { answer = Some r'.0 })))) (rule n [] flowing)) (all_items_off l.items (length f.results) l.many) in
+        let returns : rule n (last ∷ []) flowing (late p.slots r.results (call_of r) (pushed l.items []) r.end.memory) ≡ went done = ap (λ o. after tt true (if_found o (λ r'. only (is_nil r'.1) (went (record (late p.slots r.results (call_of r) r'.1 r.end.memory) { answer = Some r'.0 })))) (rule n [] flowing)) (all_items_off l.items (length f.results) l.many) in
         let lp = lower_params 0 f.params in
         let ms = make_spaces 0 (return_pointers f) in
         let lr = lift_results f in
         let split : lp ++ (ms ++ (call ∷ (lr ++ last ∷ []))) ≡ ((lp ++ ms) ++ (call ∷ lr)) ++ last ∷ [] = sym (append_assoc (lp ++ ms) (call ∷ lr) (last ∷ []) ∙ append_assoc lp ms (call ∷ (lr ++ last ∷ []))) in
         let whole : rule n (caller_events m f) flowing (early [] [] before) ≡ went done = ap (λ es. rule n es flowing (early [] [] before)) split ∙ body.by (last ∷ []) ∙ returns in
-        let traced : run_trace {P = Unit {0}} (λ e. e) (λ e. tt) D side tt (caller_events m f) (start before) ≡ went (call_of r, l.items, done) = ap (λ t. next t (λ s. ended tt s.called s.answer s)) whole in
-        ap (λ t. next t (λ r. went (record { call = r.0; back = r.1; memory = r.2.memory }))) traced
+        let traced : run_trace {P = Unit {0}} (λ e. e) (λ e. tt) D side tt (caller_events m f) (start before) ≡ went (call_of r, l.items, done) = ap (λ t. goes_on t (λ s. ended tt s.called s.answer s)) whole in
+        ap (λ t. goes_on t (λ r. went (record { call = r.0; back = r.1; memory = r.2.memory }))) traced

@@ -9,7 +9,7 @@ use Rattle.witx_machine.specs.Functions.{Function, is_tuple, by_address, name_of
 use Rattle.witx_machine.specs.Signature.{words_of_params, signature_results, pointers_at, ok_pointers, param_words}
 use Rattle.witx_machine.specs.Traces.{lower_cases, lift_cases, ok_lowered, ok_lifted, err_lowered, err_lifted, callee_events, caller_events, store_all, load_all, lift_params, lower_results, lower_step}
 use Rattle.witx_machine.specs.Shims.{Alike}
-use Rattle.witx_machine.specs.Machine.{Domain, went, State, Side, Inside, outside, in_lower, in_lift, Item, word_item, value_item, plain_item, Block, found, pushed, payload_item, block_word, left_over, lifted_payload}
+use Rattle.witx_machine.specs.Machine.{Domain, went, State, Side, Inside, outside, in_lower, in_lift, Item, word_item, value_item, plain_item, Block, if_found, pushed, payload_item, block_word, left_over, lifted_payload}
 use Rattle.witx_machine.specs.Run.{Receiver, Call, Outcome, typed, result_has_cases}
 use Rattle.witx_machine.specs.Passage.{Meaning, ReturnsPicked, HoldAll, HoldParts, ok_values, last_words, ParamWords}
 use Rattle.witx_machine.proofs.Scalars.{left_true, right_true}
@@ -136,7 +136,7 @@ module _ {V W M : Type 0} {D : Domain V W M} {J : Meaning V W M} (L : Laws D J) 
     unpacked t p c vs m (one e is) = subst (λ b. Unpacked b (length (pointers_at t)) p c vs m) (sym e) (subst (λ vs. Unpacked false (length (pointers_at t)) p c vs m) (sym is) (record { items = value_item p c ∷ []; values = (refl, tt); goes = runs_none _ }))
     unpacked t p c vs m (many e is back) =
         let n = length (pointers_at t) in
-        let step = row_goes L side runs inside slots blocks returned called (Step.TupleLower n) (tuple_lower n) (value_item p c ∷ []) (pushed (map plain_item vs) []) m m refl (ap (λ o. found o (λ vs. went (here (pushed (map plain_item vs) []) m))) is) in
+        let step = row_goes L side runs inside slots blocks returned called (Step.TupleLower n) (tuple_lower n) (value_item p c ∷ []) (pushed (map plain_item vs) []) m m refl (ap (λ o. if_found o (λ vs. went (here (pushed (map plain_item vs) []) m))) is) in
         subst (λ b. Unpacked b n p c vs m) (sym e) (record { items = map plain_item vs; values = plain_are W vs; goes = step })
 
     record Packed (b : Bool) (n : ℕ) (p : V) (items : List (Item V W)) (m : M) : Type 0 where
@@ -154,7 +154,7 @@ module _ {V W M : Type 0} {D : Domain V W M} {J : Meaning V W M} (L : Laws D J) 
     packed t p vs items m (one e is) are values = subst (λ b. Packed b (length (pointers_at t)) p items m) (sym e) (packed_one _ p items m (subst (λ vs. AreItemsOf items vs) is values))
     packed t p vs items m (many e is back) are values =
         let n = length (pointers_at t) in
-        let step = row_goes L side runs inside slots blocks returned called (Step.TupleLift n) (tuple_lift n) (pushed items []) (plain_item p ∷ []) m m refl (ap (λ o. found o (λ r. went (here (plain_item (D.tuple r.0) ∷ r.1) m))) (all_values_off items vs n (as_many _ _ are) values) ∙ ap (λ p. went (here (plain_item p ∷ []) m)) back) in
+        let step = row_goes L side runs inside slots blocks returned called (Step.TupleLift n) (tuple_lift n) (pushed items []) (plain_item p ∷ []) m m refl (ap (λ o. if_found o (λ r. went (here (plain_item (D.tuple r.0) ∷ r.1) m))) (all_values_off items vs n (as_many _ _ are) values) ∙ ap (λ p. went (here (plain_item p ∷ []) m)) back) in
         subst (λ b. Packed b n p items m) (sym e) (record { name = None; goes = step })
 
   -- an ok payload of a type is one of an alike type

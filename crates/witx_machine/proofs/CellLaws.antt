@@ -15,15 +15,15 @@ use Rattle.witx_ast.specs.Functions.{FunctionTree}
 use Rattle.witx_ast.specs.Tags.{fits, repr_bits, types_fit, function_fits}
 use Rattle.witx_ast.proofs.AlikeLaws.{alike-self, builtins-decide}
 use Rattle.witx_machine.specs.declared.surface.WasmType.{WasmType}
-use Rattle.witx_machine.specs.Words.{Word, i32, same_type, Scalar, number_of, pointer, const_pointer, handle_of, flags_of, enum_of, word_of, value_of, word_type, is_for, word_in, value_in, builtin_word_type, number_word, when, bits_of_flags, flags_from, repr_modulus, repr_word_type, checked}
+use Rattle.witx_machine.specs.Words.{Word, i32, same_type, Scalar, number_of, pointer, const_pointer, handle_of, flags_of, enum_of, word_of, value_of, word_type, is_for, word_in, value_in, builtin_word_type, number_word, when, bits_of_flags, flags_from, repr_modulus, repr_word_type, checked_value}
 use Rattle.witx_machine.specs.Functions.{Function, function_of, has_payload, by_address, ok_of, err_of}
 use Rattle.witx_ast.specs.Words.{is_expected}
 use Rattle.witx_machine.specs.Lowerable.{lowerable}
 use Rattle.witx_machine.specs.Traces.{caller_events, callee_events}
-use Rattle.witx_machine.specs.Cells.{Cell, Cells, Memory, Taken, get, insert, given, loaded, stored, is_i32, list_words, list_at, list_of_values, values_of, tuple_parts, case_picked, result_value, cells, outcome}
+use Rattle.witx_machine.specs.Cells.{Cell, Cells, Memory, Taken, get, insert, cell_given, loaded, stored, is_i32, list_words, list_at, list_of_values, values_of, tuple_parts, case_picked, result_value, cells, outcome}
 use Rattle.witx_machine.specs.Faithful.{cell_meaning, At, IsTaken, AreFree, AreOther, direct_words, is_zero, zero_of, zero_by, zero_in, zero_under, are_arguments, is_reply, FaithfulTo, Faithful}
 use Rattle.witx_machine.specs.Events.{Event}
-use Rattle.witx_machine.specs.Run.{Receiver, itself, in_order}
+use Rattle.witx_machine.specs.Run.{Receiver, itself, picked_in_order}
 use Rattle.witx_machine.specs.Shims.{StandsIn, pass, FaithfulThrough}
 use Rattle.witx_machine.proofs.Scalars.{cut_back, truth, true_of, same_type_self, same_type_is, when_true, both_true, left_true, right_true}
 use Rattle.witx_machine.proofs.Alikes.{AlikeOption}
@@ -38,7 +38,7 @@ abbrev lowered : Scalar → Value → Plain → Option Word
 lowered x v p = when (is_for x p && is_value p v) (word_in p v)
 
 abbrev lifted : Scalar → Word → Plain → Option Value
-lifted x w p = when (is_for x p && same_type w.type (word_type x)) (option_and_then (checked p) (value_in p w.bits))
+lifted x w p = when (is_for x p && same_type w.type (word_type x)) (option_and_then (checked_value p) (value_in p w.bits))
 
 -- scalars
 abbrev pub Converts : Scalar → Plain → Value → Type 0
@@ -108,7 +108,7 @@ flags_words t r ms e f (Value.flag_bits bs) h =
     let w : Word = record { type = ty; bits = x } in (
       w,
       ap (lowered (flags_of ty t) (Value.flag_bits bs)) e ∙ when_true _ _ (both_true _ _ (same_type_self ty) h),
-      ap (lifted (flags_of ty t) w) e ∙ when_true _ _ (both_true _ _ (same_type_self ty) (same_type_self ty)) ∙ ap (option_and_then (checked (Plain.record_of (RecordKind.Bitflags r) ms))) (when_true _ _ (lt→ltb _ _ lt) ∙ ap (λ bs. Some (Value.flag_bits bs)) back) ∙ when_true _ _ h,
+      ap (lifted (flags_of ty t) w) e ∙ when_true _ _ (both_true _ _ (same_type_self ty) (same_type_self ty)) ∙ ap (option_and_then (checked_value (Plain.record_of (RecordKind.Bitflags r) ms))) (when_true _ _ (lt→ltb _ _ lt) ∙ ap (λ bs. Some (Value.flag_bits bs)) back) ∙ when_true _ _ h,
       same_type_self ty,
       refl,
     )
@@ -140,7 +140,7 @@ enum_words n r cs e none f (Value.enum_index i) h =
     let below : i % repr_modulus r ≡ i = mod-eq_of_lt (lt_of_lt_of_le lt (subst (λ n. arm_count cs ≤ n) (modulus_is r) (leb→le _ _ f))) in (
       i32 i,
       ap (lowered (enum_of n) (Value.enum_index i)) e ∙ when_true _ _ (both_true _ _ bare h),
-      ap (lifted (enum_of n) (i32 i)) e ∙ when_true _ _ (both_true _ _ bare tt) ∙ ap (λ j. checked (Plain.variant_of r cs) (Value.enum_index j)) below ∙ when_true _ _ h,
+      ap (lifted (enum_of n) (i32 i)) e ∙ when_true _ _ (both_true _ _ bare tt) ∙ ap (λ j. checked_value (Plain.variant_of r cs) (Value.enum_index j)) below ∙ when_true _ _ h,
       tt,
       refl,
     )
@@ -355,7 +355,7 @@ keeps_got m m' t w v g e = go (is_i32 w) (get m.cells w.bits) refl e
     go true (Some c) is e = ap (loaded t) (g.kept w.bits c is) ∙ e
 
 abbrev Given : (t : Tree) (v : Option Value) (n : ℕ) (m : Memory) → Type 0
-Given t v n m = (a : ℕ) × (m' : Memory) × (given t v m.cells m.fresh m.taken ≡ Some (i32 a, m')) × IsTaken m'.taken a × (get m'.cells a ≡ Some (record { made_for = t; content = v })) × Keeps m m' × Room n m' × (get m.cells a ≡ None) × (0 < a)
+Given t v n m = (a : ℕ) × (m' : Memory) × (cell_given t v m.cells m.fresh m.taken ≡ Some (i32 a, m')) × IsTaken m'.taken a × (get m'.cells a ≡ Some (record { made_for = t; content = v })) × Keeps m m' × Room n m' × (get m.cells a ≡ None) × (0 < a)
 
 gives : (t : Tree) (v : Option Value) (n : ℕ) (cells : Cells) (fresh : List ℕ) (taken : Taken) → suc n ≤ length fresh → AreFree cells fresh → Given t v n (record { cells = cells; fresh = fresh; taken = taken })
 gives t v n cells [] taken room free = absurd (omega arith)
@@ -545,4 +545,4 @@ pub shims_are_faithful : (m n : List ℕ) (old new : FunctionTree) (order words 
     StandsIn order (function_of old) (function_of new) → pass order (function_of old) ≡ Some words →
     FaithfulThrough m n (function_of old) (function_of new) order words (caller_events m (function_of old)) (callee_events n (function_of new))
 shims_are_faithful m n old new order words h h' k k' in_place passes =
-    faithful_by m (function_of old) (record { module_name = n; function = function_of new; order = words }) (in_order order) (caller_events m (function_of old)) (callee_events n (function_of new)) (shim_runs_well cell_laws m n (function_of old) (function_of new) order words (truth h) (truth h') (params_fit old k) (results_fit old k) (params_fit new k') (results_fit new k') in_place passes)
+    faithful_by m (function_of old) (record { module_name = n; function = function_of new; order = words }) (picked_in_order order) (caller_events m (function_of old)) (callee_events n (function_of new)) (shim_runs_well cell_laws m n (function_of old) (function_of new) order words (truth h) (truth h') (params_fit old k) (results_fit old k) (params_fit new k') (results_fit new k') in_place passes)

@@ -21,7 +21,7 @@ use Rattle.witx_machine.specs.Machine.{Tried, went, no_rule, stuck_at, word_item
 use Rattle.witx_machine.specs.Run.{Outcome, values_in, numbers, start, callee_side}
 use Rattle.witx_machine.specs.Cells.{run_cells_to, run_cells, Memory, Cell, Cells, cells, get, list_words, outcome}
 use Rattle.witx_machine.specs.Passage.{Passes, Returns}
-use Rattle.witx_machine.specs.Faithful.{cell_meaning, At, Holds, IsMadeFor, zero_error, are_arguments, is_reply, AreOther, AreFree, EndsWell, Faithful}
+use Rattle.witx_machine.specs.Faithful.{cell_meaning, At, CellHolds, IsMadeFor, zero_error, are_arguments, is_reply, AreOther, AreFree, EndsWell, Faithful}
 use Rattle.witx_machine.specs.Shims.{order_by_name, pass}
 use Rattle.witx_machine.specs.Positions.{Spot, in_caller, in_callee, spotted_run}
 
@@ -432,7 +432,7 @@ unfolding ℕ_discrete
 payload_back = refl
 
 -- what is held at an address is what its cell has
-held_is : (cs : Cells) (a : ℕ) (c : Cell) (v u : Value) → get cs a ≡ Some c → c.content ≡ Some u → At (λ a. Holds cs a v) (i32 a) → u ≡ v
+held_is : (cs : Cells) (a : ℕ) (c : Cell) (v u : Value) → get cs a ≡ Some c → c.content ≡ Some u → At (λ a. CellHolds cs a v) (i32 a) → u ≡ v
 held_is cs a c v u is has h =
     let same : a ≡ h.0 = ap (λ w. w.bits) h.1 in
     let cell : Some c ≡ Some h.2.0 = sym is ∙ subst (λ b. get cs b ≡ Some h.2.0) (sym same) h.2.1 in

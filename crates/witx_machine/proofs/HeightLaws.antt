@@ -14,7 +14,7 @@ use Rattle.witx_machine.specs.Rows.{operands_count, results_count}
 use Rattle.witx_machine.specs.Functions.{Function, has_payload, tuple_types, is_tuple, ok_of, err_of, result_cases}
 use Rattle.witx_machine.specs.Signature.{param_words, words_of_params, words_of_results, words_back, or_alone, pointers_at, return_pointers, signature_params, signature_results}
 use Rattle.witx_machine.specs.Lowerable.{can_return, can_be_ok, can_be_err, is_narrow, unlowerable_result, lowerable}
-use Rattle.witx_machine.specs.Traces.{lower_builtin, lift_builtin, lower_at, lift_at, lower_step, lift_step, lower_params, get_args, lift_params, make_spaces, load_all, store_all, ok_lifted, err_lifted, lift_cases, lift_by, lift_under, ok_lowered, err_lowered, lower_cases, lower_by, lower_under, lower_results, lift_results, caller_events, callee_events, block_of}
+use Rattle.witx_machine.specs.Traces.{lower_builtin, lift_builtin, lower_at, lift_at, lower_step, lift_step, lower_params, get_args, lift_params, make_spaces, load_all, store_all, ok_lifted, err_lifted, lift_cases, lift_by, lift_under, ok_lowered, err_lowered, lower_cases, lower_by, lower_under, lower_results, lift_results, caller_events, callee_events, block_events}
 use Rattle.witx_machine.proofs.Scalars.{right_true, same_types_is}
 use Rattle.witx_machine.proofs.All.{params_lower, result_lowers}
 use Rattle.witx_machine.specs.Heights.{moved, height_after, heights}
@@ -211,7 +211,7 @@ pack-level t n = go (is_tuple t) refl
     go true e = step-level (Step.TupleLift (length (pointers_at t))) (length (pointers_at t)) 1 n refl refl
     go false e = ap (λ k. Some (n + k)) (one-pointer t t e)
 
-block-level : (es : List Event) (v : Bool) (n : ℕ) → heights es n ≡ Some (n + cond v 1 0) → heights (block_of es v) n ≡ Some n
+block-level : (es : List Event) (v : Bool) (n : ℕ) → heights es n ≡ Some (n + cond v 1 0) → heights (block_events es v) n ≡ Some n
 block-level es v n h = level-then es (finish v ∷ []) n (n + cond v 1 0) n h (finish-level v n)
 
 payload-level : (n : ℕ) → heights (emit Step.VariantPayload ∷ []) n ≡ Some (n + 1)
@@ -233,8 +233,8 @@ err-lowered-level n (Some t) h = level-then (emit Step.VariantPayload ∷ []) (e
 
 lower-cases-level : (ok err : Option Tree) (w : ℕ) → T (can_be_err err) → heights (lower_cases ok err w) 1 ≡ Some 1
 lower-cases-level ok err w h =
-    level-then (block_of (ok_lowered w ok) false) (block_of (err_lowered err) (is_some err) ++ emit (Step.ResultLower ok err) ∷ []) 1 1 1 (block-level (ok_lowered w ok) false 1 (ok-lowered-level w 1 ok))
-    (level-then (block_of (err_lowered err) (is_some err)) (emit (Step.ResultLower ok err) ∷ []) 1 1 1 (block-level (err_lowered err) (is_some err) 1 (err-lowered-level 1 err h)) (step-level (Step.ResultLower ok err) 1 1 0 refl refl))
+    level-then (block_events (ok_lowered w ok) false) (block_events (err_lowered err) (is_some err) ++ emit (Step.ResultLower ok err) ∷ []) 1 1 1 (block-level (ok_lowered w ok) false 1 (ok-lowered-level w 1 ok))
+    (level-then (block_events (err_lowered err) (is_some err)) (emit (Step.ResultLower ok err) ∷ []) 1 1 1 (block-level (err_lowered err) (is_some err) 1 (err-lowered-level 1 err h)) (step-level (Step.ResultLower ok err) 1 1 0 refl refl))
 
 ok-lifted-level : (n : ℕ) (ok : Option Tree) → heights (ok_lifted ok) n ≡ Some (n + cond (is_some ok) 1 0)
 ok-lifted-level n None = let e : n ≡ n + 0 = omega arith in ap Some e
@@ -249,8 +249,8 @@ err-lifted-level n (Some t) h = level-then (emit Step.ReuseReturn ∷ []) (emit 
 
 lift-cases-level : (ok err : Option Tree) → T (can_be_err err) → heights (lift_cases ok err) 1 ≡ Some 1
 lift-cases-level ok err h =
-    level-then (block_of (ok_lifted ok) (is_some ok)) (block_of (err_lifted err) (is_some err) ++ emit Step.ResultLift ∷ []) 1 1 1 (block-level (ok_lifted ok) (is_some ok) 1 (ok-lifted-level 1 ok))
-    (level-then (block_of (err_lifted err) (is_some err)) (emit Step.ResultLift ∷ []) 1 1 1 (block-level (err_lifted err) (is_some err) 1 (err-lifted-level 1 err h)) (step-level Step.ResultLift 1 1 0 refl refl))
+    level-then (block_events (ok_lifted ok) (is_some ok)) (block_events (err_lifted err) (is_some err) ++ emit Step.ResultLift ∷ []) 1 1 1 (block-level (ok_lifted ok) (is_some ok) 1 (ok-lifted-level 1 ok))
+    (level-then (block_events (err_lifted err) (is_some err)) (emit Step.ResultLift ∷ []) 1 1 1 (block-level (err_lifted err) (is_some err) 1 (err-lifted-level 1 err h)) (step-level Step.ResultLift 1 1 0 refl refl))
 
 -- a result that can be lowered: by one word, or by its cases
 data Sort (t : Tree) : Type 0 where

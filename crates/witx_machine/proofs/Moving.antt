@@ -10,8 +10,8 @@ use Rattle.witx_machine.specs.Events.{Step, Event}
 use Rattle.witx_machine.specs.Rows.{Row, row, operands_count, results_count, get_arg, addr_of, lowering, lifting, list_pointer_length, list_from_pointer_length, return_pointer_get, load, store, tuple_lift, tuple_lower, variant_payload, reuse_return, result_lower, result_lift}
 use Rattle.witx_machine.specs.Functions.{Function}
 use Rattle.witx_machine.specs.Signature.{signature_params, signature_results}
-use Rattle.witx_machine.specs.Machine.{Domain, went, no_rule, stuck_at, found, next, only, Item, word_item, value_item, plain_item, Block, State, Side, Inside, outside, in_lower, in_lift, is_nil, slot_word, pushed, words_off, values_off, items_off, payload_item, payload_in, block_word, lifted_payload, top_word, top_value, two_blocks, return_items, run_block, run_trace}
-use Rattle.witx_machine.specs.Run.{Receiver, in_order, same_trees, words_in, typed, reply_items, Call, start, caller_side, callee_side, called_with}
+use Rattle.witx_machine.specs.Machine.{Domain, went, no_rule, stuck_at, if_found, goes_on, only, Item, word_item, value_item, plain_item, Block, State, Side, Inside, outside, in_lower, in_lift, is_nil, slot_word, pushed, words_off, values_off, items_off, payload_item, payload_in, block_word, lifted_payload, top_word, top_value, two_blocks, return_items, run_block, run_trace}
+use Rattle.witx_machine.specs.Run.{Receiver, picked_in_order, same_trees, words_in, typed, reply_items, Call, start, caller_side, callee_side, called_with}
 use Rattle.witx_machine.specs.Cells.{Memory, cells, tuple_parts, list_of_values}
 use Rattle.witx_machine.specs.Moves.{Moves, KeepsToTable, RowsKeepToTable}
 use Rattle.witx_machine.proofs.Runs.{Try, acts}
@@ -36,11 +36,11 @@ then_is : {A : Type 0} (Q : A → Type 0) (t : Try A) (x : A) → Then Q t → t
 unfolding Then
 then_is Q t x h e = let P : Try _ → Type 0 = Then Q in subst P e h
 
-then_found : {A B : Type 0} (Q : B → Type 0) (o : Option A) (f : A → Try B) → ((x : A) → o ≡ Some x → Then Q (f x)) → Then Q (found o f)
+then_found : {A B : Type 0} (Q : B → Type 0) (o : Option A) (f : A → Try B) → ((x : A) → o ≡ Some x → Then Q (f x)) → Then Q (if_found o f)
 then_found Q None f h = then_none Q
 then_found Q (Some x) f h = h x refl
 
-then_next : {A B : Type 0} (Q : B → Type 0) (t : Try A) (f : A → Try B) → ((x : A) → Then Q (f x)) → Then Q (next t f)
+then_next : {A B : Type 0} (Q : B → Type 0) (t : Try A) (f : A → Try B) → ((x : A) → Then Q (f x)) → Then Q (goes_on t f)
 unfolding Then
 then_next Q (went x) f h = h x
 then_next Q no_rule f h = tt
@@ -317,7 +317,7 @@ module _ (m : List ℕ) (f : Function) where
 
   called_moves : (to : Receiver) (callee : List Event) (reply : Option Value) (words : List Word) (s : State Event Value Word Memory (Call Value Word Memory)) (Q : State Event Value Word Memory (Call Value Word Memory) → Type 0) → ((ws : List Word) (s' : State Event Value Word Memory (Call Value Word Memory)) → s'.stack ≡ pushed (map word_item ws) s.stack → T (typed cells (signature_results f) ws) → Q s') → Then Q (called_with (λ e. e) (λ e. tt) cells m f to tt callee reply words s)
   called_moves to callee reply words s Q h =
-      then_found Q (in_order to.order words) _ (λ own d.
+      then_found Q (picked_in_order to.order words) _ (λ own d.
       then_next Q (run_trace (λ e. e) (λ e. tt) cells (callee_side (λ e. e) (λ e. tt) cells to.module_name to.function reply own) tt callee (start s.memory)) _ (λ q. then_found Q (words_in q.1) _ (λ ws g. then_only Q (typed cells (signature_results f) ws) _ (λ y. then_went Q _ (h ws _ refl y)))))
 
   caller_call : (to : Receiver) (callee : List Event) (arguments : List Value) (reply : Option Value) → WasmCallMoves cells (caller_side (λ e. e) (λ e. tt) cells m f to tt callee arguments reply)

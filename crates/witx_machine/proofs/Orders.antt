@@ -8,7 +8,7 @@ use Rattle.witx_machine.specs.Signature.{param_words, words_of_params, return_po
 use Rattle.witx_machine.specs.Lowerable.{unlowerable_result, lowerable}
 use Rattle.witx_machine.specs.Traces.{caller_events, callee_events}
 use Rattle.witx_machine.specs.Machine.{Domain}
-use Rattle.witx_machine.specs.Run.{numbers, in_order}
+use Rattle.witx_machine.specs.Run.{numbers, picked_in_order}
 use Rattle.witx_machine.specs.Passage.{Meaning}
 use Rattle.witx_machine.specs.Shims.{Alike, StandsIn, word_numbers, pass}
 use Rattle.witx_machine.proofs.Laws.{Laws}
@@ -42,25 +42,25 @@ module _ {A : Type 0} where
     pub item : A
     pub more : List A
     pub first : slice_get all i ≡ Some item
-    pub rest : in_order is all ≡ Some more
+    pub rest : picked_in_order is all ≡ Some more
     pub both : item ∷ more ≡ xs
 
-  picked : (i : ℕ) (is : List ℕ) (all xs : List A) → in_order (i ∷ is) all ≡ Some xs → Picked i is all xs
-  picked i is all xs e = go (slice_get all i) refl (in_order is all) refl e
+  picked : (i : ℕ) (is : List ℕ) (all xs : List A) → picked_in_order (i ∷ is) all ≡ Some xs → Picked i is all xs
+  picked i is all xs e = go (slice_get all i) refl (picked_in_order is all) refl e
     where
       none : None ≡ Some xs → ⊥
       none e = cc
 
-      go : (o : Option A) → slice_get all i ≡ o → (p : Option (List A)) → in_order is all ≡ p → option_and_then (λ x. option_and_then (λ more. Some (x ∷ more)) p) o ≡ Some xs → Picked i is all xs
+      go : (o : Option A) → slice_get all i ≡ o → (p : Option (List A)) → picked_in_order is all ≡ p → option_and_then (λ x. option_and_then (λ more. Some (x ∷ more)) p) o ≡ Some xs → Picked i is all xs
       go None g p h e = absurd (none e)
       go (Some x) g None h e = absurd (none e)
       go (Some x) g (Some more) h e = record { item = x; more = more; first = g; rest = h; both = some_same e }
 
-  both_picked : (i : ℕ) (is : List ℕ) (all : List A) (x : A) (more : List A) → slice_get all i ≡ Some x → in_order is all ≡ Some more → in_order (i ∷ is) all ≡ Some (x ∷ more)
+  both_picked : (i : ℕ) (is : List ℕ) (all : List A) (x : A) (more : List A) → slice_get all i ≡ Some x → picked_in_order is all ≡ Some more → picked_in_order (i ∷ is) all ≡ Some (x ∷ more)
   both_picked i is all x more g h =
-      ap (option_and_then (λ x. option_and_then (λ more. Some (x ∷ more)) (in_order is all))) g ∙ ap (option_and_then (λ more. Some (x ∷ more))) h
+      ap (option_and_then (λ x. option_and_then (λ more. Some (x ∷ more)) (picked_in_order is all))) g ∙ ap (option_and_then (λ more. Some (x ∷ more))) h
 
-  in_order_append : (a b : List ℕ) (all xs ys : List A) → in_order a all ≡ Some xs → in_order b all ≡ Some ys → in_order (a ++ b) all ≡ Some (xs ++ ys)
+  in_order_append : (a b : List ℕ) (all xs ys : List A) → picked_in_order a all ≡ Some xs → picked_in_order b all ≡ Some ys → picked_in_order (a ++ b) all ≡ Some (xs ++ ys)
   in_order_append [] b all xs ys e k = k ∙ ap (λ xs. Some (xs ++ ys)) (some_same e)
   in_order_append (i ∷ a) b all xs ys e k =
       let p = picked i a all xs e in
@@ -75,7 +75,7 @@ module _ {V W M : Type 0} {D : Domain V W M} {J : Meaning V W M} (L : Laws D J) 
     pub words : List W
     pub value_is : slice_get vs i ≡ Some value
     pub numbers_are : slice_get (word_numbers w ts) i ≡ Some own_numbers
-    pub words_are : in_order own_numbers all ≡ Some words
+    pub words_are : picked_in_order own_numbers all ≡ Some words
     pub is : L.Is (plain t) value
     pub passed : Passed L m t way value words
 
@@ -95,7 +95,7 @@ module _ {V W M : Type 0} {D : Domain V W M} {J : Meaning V W M} (L : Laws D J) 
         words = p.0;
         value_is = refl;
         numbers_are = refl;
-        words_are = ap (λ n. in_order (numbers w n) all) (sym long) ∙ words_from all w p.0 st;
+        words_are = ap (λ n. picked_in_order (numbers w n) all) (sym long) ∙ words_from all w p.0 st;
         is = are.0;
         passed = p.3;
       })
@@ -109,14 +109,14 @@ module _ {V W M : Type 0} {D : Domain V W M} {J : Meaning V W M} (L : Laws D J) 
     pub noted : List V
     pub all_numbers : List (List ℕ)
     pub own : List W
-    pub noted_are : in_order order vs ≡ Some noted
-    pub numbers_are : in_order order (word_numbers w ts) ≡ Some all_numbers
-    pub own_are : in_order (concat all_numbers) all ≡ Some own
+    pub noted_are : picked_in_order order vs ≡ Some noted
+    pub numbers_are : picked_in_order order (word_numbers w ts) ≡ Some all_numbers
+    pub own_are : picked_in_order (concat all_numbers) all ≡ Some own
     pub are : AreArguments L us noted
     pub passed : PassedAll L m us own_ways noted own
 
   module _ (ts : List Tree) (ways : Ways ts) (vs : List V) (ws : List W) (w : ℕ) (are : AreArguments L ts vs) (p : PassedAll L m ts ways vs ws) (stands : StandAt all w ws) where
-    in_new_order : (order : List ℕ) (ordered us : List Tree) (own_ways : Ways us) → in_order order ts ≡ Some ordered → Alike ordered us → Ordered order w ts vs us own_ways
+    in_new_order : (order : List ℕ) (ordered us : List Tree) (own_ways : Ways us) → picked_in_order order ts ≡ Some ordered → Alike ordered us → Ordered order w ts vs us own_ways
     in_new_order [] ordered us own_ways e a = none us own_ways (subst (λ ts. Alike ts us) (sym (some_same e)) a)
       where
         none : (us : List Tree) (own_ways : Ways us) → Alike [] us → Ordered [] w ts vs us own_ways
@@ -126,7 +126,7 @@ module _ {V W M : Type 0} {D : Domain V W M} {J : Meaning V W M} (L : Laws D J) 
         let k = picked i order ts ordered e in
         next (λ more us own_ways h a. in_new_order order more us own_ways h a) k.item k.more us own_ways k.first k.rest (subst (λ ts. Alike ts us) (sym k.both) a)
       where
-        next : ((more us : List Tree) (own_ways : Ways us) → in_order order ts ≡ Some more → Alike more us → Ordered order w ts vs us own_ways) → (t : Tree) (more us : List Tree) (own_ways : Ways us) → slice_get ts i ≡ Some t → in_order order ts ≡ Some more → Alike (t ∷ more) us → Ordered (i ∷ order) w ts vs us own_ways
+        next : ((more us : List Tree) (own_ways : Ways us) → picked_in_order order ts ≡ Some more → Alike more us → Ordered order w ts vs us own_ways) → (t : Tree) (more us : List Tree) (own_ways : Ways us) → slice_get ts i ≡ Some t → picked_in_order order ts ≡ Some more → Alike (t ∷ more) us → Ordered (i ∷ order) w ts vs us own_ways
         next others t more [] own_ways g h a = absurd a
         next others t more (u ∷ us) own_ways g h a =
             let one = piece ts ways vs ws w i t are p stands g in
@@ -145,18 +145,18 @@ module _ {V W M : Type 0} {D : Domain V W M} {J : Meaning V W M} (L : Laws D J) 
 module _ {V W M : Type 0} {D : Domain V W M} {J : Meaning V W M} (L : Laws D J) where
   -- an old caller against a new callee that gets the words by their numbers
   pub shim_runs_well : (m n : List ℕ) (f g : Function) (order words : List ℕ) → T (lowerable f) → T (lowerable g) → T (all_fit f.params) → T (all_fit f.results) → T (all_fit g.params) → T (all_fit g.results) → StandsIn order f g → pass order f ≡ Some words →
-      RunWell L m f (record { module_name = n; function = g; order = words }) (in_order order) (caller_events m f) (callee_events n g)
+      RunWell L m f (record { module_name = n; function = g; order = words }) (picked_in_order order) (caller_events m f) (callee_events n g)
   shim_runs_well m n f g order words h h' fp fr gp gr in_place passes =
       let can = params_lower f.params (unlowerable_result f.abi f.results) h in
       let own_can = params_lower g.params (unlowerable_result g.abi g.results) h' in
       let ways = param_ways f.params can.0 fp in
       let own_ways = param_ways g.params own_can.0 gp in
-      subst (λ abi. let g' : Function = record { abi = abi; name = g.name; params = g.params; results = g.results } in RunWell L m f (record { module_name = n; function = g'; order = words }) (in_order order) (caller_events m f) (callee_events n g')) in_place.abi
-      (runs_well_to L m n f.name g.name f.params g.params words ways own_ways (in_order order) f.abi f.results g.results can.1 (subst (λ abi. T (is_none (unlowerable_result abi g.results))) (sym in_place.abi) own_can.1) fr gr in_place.results
+      subst (λ abi. let g' : Function = record { abi = abi; name = g.name; params = g.params; results = g.results } in RunWell L m f (record { module_name = n; function = g'; order = words }) (picked_in_order order) (caller_events m f) (callee_events n g')) in_place.abi
+      (runs_well_to L m n f.name g.name f.params g.params words ways own_ways (picked_in_order order) f.abi f.results g.results can.1 (subst (λ abi. T (is_none (unlowerable_result abi g.results))) (sym in_place.abi) own_can.1) fr gr in_place.results
       (λ base vs ws addresses are passed count. hand base vs ws addresses ways own_ways are passed count))
     where
       hand : (base : M) (vs : List V) (ws addresses : List W) (ways : Ways f.params) (own_ways : Ways g.params) → AreArguments L f.params vs → PassedAll L base f.params ways vs ws → length (return_pointers f) ≡ length addresses →
-          Handed L (record { module_name = n; function = record { abi = f.abi; name = g.name; params = g.params; results = g.results }; order = words }) own_ways (in_order order vs) base ws addresses
+          Handed L (record { module_name = n; function = record { abi = f.abi; name = g.name; params = g.params; results = g.results }; order = words }) own_ways (picked_in_order order vs) base ws addresses
       hand base vs ws addresses ways own_ways are passed count =
           let all = ws ++ addresses in
           let stands = stand_all all in
@@ -164,13 +164,13 @@ module _ {V W M : Type 0} {D : Domain V W M} {J : Meaning V W M} (L : Laws D J) 
           let k = length (words_of_params f.params) in
           let at : 0 + length ws ≡ k = let e = typed_length D (words_of_params f.params) ws (passed_types L base f.params ways vs ws passed) in omega arith in
           let behind = words_from all k addresses (subst (λ w. StandAt all w addresses) at (stands_back all 0 ws addresses stands)) in
-          let pointers : in_order (numbers k (length (return_pointers f))) all ≡ Some addresses = ap (λ n. in_order (numbers k n) all) count ∙ behind in
+          let pointers : picked_in_order (numbers k (length (return_pointers f))) all ≡ Some addresses = ap (λ n. picked_in_order (numbers k n) all) count ∙ behind in
           let whole : concat d.all_numbers ++ numbers k (length (return_pointers f)) ≡ words = some_same (sym (ap (option_map (λ params. concat params ++ numbers k (length (return_pointers f)))) d.numbers_are) ∙ passes) in
           record {
             noted = d.noted;
             own = d.own;
             arguments = d.noted_are;
-            handed = subst (λ is. in_order is all ≡ Some (d.own ++ addresses)) whole (in_order_append (concat d.all_numbers) (numbers k (length (return_pointers f))) all d.own addresses d.own_are pointers);
+            handed = subst (λ is. picked_in_order is all ≡ Some (d.own ++ addresses)) whole (in_order_append (concat d.all_numbers) (numbers k (length (return_pointers f))) all d.own addresses d.own_are pointers);
             are = d.are;
             passed = d.passed;
           }

@@ -8,7 +8,7 @@ use Rattle.witx_machine.specs.Rows.{Row, row, addr_of, lowering, lifting, list_p
 use Rattle.witx_machine.specs.Functions.{by_address, name_of}
 use Rattle.witx_machine.specs.Signature.{param_words}
 use Rattle.witx_machine.specs.Traces.{lower_at, lift_at, lift_step, lower_params, lift_params, get_args}
-use Rattle.witx_machine.specs.Machine.{Domain, went, State, Side, Inside, Item, word_item, value_item, plain_item, Block, found, pushed}
+use Rattle.witx_machine.specs.Machine.{Domain, went, State, Side, Inside, Item, word_item, value_item, plain_item, Block, if_found, pushed}
 use Rattle.witx_machine.specs.Run.{typed, argument_items}
 use Rattle.witx_machine.specs.Passage.{Meaning, ParamWords}
 use Rattle.witx_machine.proofs.Scalars.{both_true, left_true, right_true}
@@ -156,7 +156,7 @@ module _ {V W M : Type 0} {D : Domain V W M} {J : Meaning V W M} (L : Laws D J) 
     row_goes x r stack stack' m m' e a = runs_act D side runs inside x (at stack m) (at stack' m') (ap (λ r. acts D side runs inside r (at stack m)) e ∙ a) refl
 
     pub get_goes : (i : ℕ) (x : Item V W) (stack : List (Item V W)) (m : M) → slice_get side.arguments i ≡ Some x → Goes (emit (Step.GetArg i) ∷ []) (at stack m) (at (x ∷ stack) m)
-    get_goes i x stack m e = row_goes (Step.GetArg i) _ stack (x ∷ stack) m m refl (ap (λ o. found o (λ x. went (at (x ∷ stack) m))) e)
+    get_goes i x stack m e = row_goes (Step.GetArg i) _ stack (x ∷ stack) m m refl (ap (λ o. if_found o (λ x. went (at (x ∷ stack) m))) e)
 
     -- a parameter that was lowered
     pub record Lowered (carried : Option Tree) (whole : Tree) (t : Tree) (way : Way carried whole t) (v : V) (n : ℕ) (stack : List (Item V W)) (m : M) : Type 0 where
@@ -176,7 +176,7 @@ module _ {V W M : Type 0} {D : Domain V W M} {J : Meaning V W M} (L : Laws D J) 
         record {
           words = d.0 ∷ [];
           memory = m;
-          lowers = row_goes (lower_at whole t) (lowering x) (value_item v carried ∷ stack) (word_item d.0 ∷ stack) m m o.lower (ap (λ r. found r (λ w. went (at (word_item w ∷ stack) m))) d.1);
+          lowers = row_goes (lower_at whole t) (lowering x) (value_item v carried ∷ stack) (word_item d.0 ∷ stack) m m o.lower (ap (λ r. if_found r (λ w. went (at (word_item w ∷ stack) m))) d.1);
           types = subst (λ ts. T (typed D ts (d.0 ∷ []))) (sym o.types) (both_true _ _ d.3 tt);
           carries = (d.0, refl, d.2);
           passes = passes_directly m (plain t) v (d.0 ∷ []) o.direct d.4;
@@ -192,7 +192,7 @@ module _ {V W M : Type 0} {D : Domain V W M} {J : Meaning V W M} (L : Laws D J) 
         record {
           words = d.0 ∷ d.1 ∷ [];
           memory = m;
-          lowers = row_goes (lower_at whole t) list_pointer_length (value_item v carried ∷ stack) (word_item d.1 ∷ word_item d.0 ∷ stack) m m o.lower (ap (λ r. found r (λ ws. went (at (word_item ws.1 ∷ word_item ws.0 ∷ stack) m))) d.2);
+          lowers = row_goes (lower_at whole t) list_pointer_length (value_item v carried ∷ stack) (word_item d.1 ∷ word_item d.0 ∷ stack) m m o.lower (ap (λ r. if_found r (λ ws. went (at (word_item ws.1 ∷ word_item ws.0 ∷ stack) m))) d.2);
           types = subst (λ q. T (typed D (param_words q) (d.0 ∷ d.1 ∷ []))) (sym o.is_list) (both_true _ _ d.4 (both_true _ _ d.5 tt));
           carries = (d.0, d.1, refl, d.3);
           passes = subst (λ q. ParamWords D J m q v (d.0 ∷ d.1 ∷ [])) (sym o.is_list) d.6;
@@ -209,7 +209,7 @@ module _ {V W M : Type 0} {D : Domain V W M} {J : Meaning V W M} (L : Laws D J) 
           words = d.0 ∷ [];
           memory = d.1;
           lowers = row_goes (lower_at whole t) addr_of (value_item v carried ∷ stack) (word_item d.0 ∷ stack) m d.1 o.lower
-              (ap (λ c. found c (λ t. found (D.put t v m) (λ r. went (at (word_item r.0 ∷ stack) r.1)))) o.carries ∙ ap (λ r. found r (λ r. went (at (word_item r.0 ∷ stack) r.1))) d.2);
+              (ap (λ c. if_found c (λ t. if_found (D.put t v m) (λ r. went (at (word_item r.0 ∷ stack) r.1)))) o.carries ∙ ap (λ r. if_found r (λ r. went (at (word_item r.0 ∷ stack) r.1))) d.2);
           types = subst (λ ts. T (typed D ts (d.0 ∷ []))) (sym o.types) (both_true _ _ d.6 tt);
           carries = (d.0, refl, d.5);
           passes = passes_by_address d.1 (plain t) v (d.0 ∷ []) o.address (d.0, refl, d.3, d.4);
@@ -226,29 +226,29 @@ module _ {V W M : Type 0} {D : Domain V W M} {J : Meaning V W M} (L : Laws D J) 
     pub lift_one : (carried : Option Tree) (whole : Tree) (t : Tree) (way : Way carried whole t) (v : V) (words : List W) (w : ℕ) (stack : List (Item V W)) (m : M) → StandAt side.arguments w (map word_item words) → Carries m carried whole t way v words → Lifted whole t v w stack m
     lift_one carried whole t (one_word x o) v words w stack m stands c =
         let st = subst (λ ws. StandAt side.arguments w (map word_item ws)) c.1 stands in
-        let lifts = row_goes (lift_at whole t) (lifting x) (word_item c.0 ∷ stack) (plain_item v ∷ stack) m m o.lift (ap (λ r. found r (λ v. went (at (plain_item v ∷ stack) m))) c.2) in
+        let lifts = row_goes (lift_at whole t) (lifting x) (word_item c.0 ∷ stack) (plain_item v ∷ stack) m m o.lift (ap (λ r. if_found r (λ v. went (at (plain_item v ∷ stack) m))) c.2) in
         record { name = None; goes = subst (λ ps. Goes (get_args w ps ++ emit (lift_at whole t) ∷ []) (at stack m) (at (value_item v None ∷ stack) m)) (sym o.types) (runs_then (get_goes w (word_item c.0) stack m st.0) lifts) }
     lift_one carried whole t (two_words o) v words w stack m stands c =
         let st = subst (λ ws. StandAt side.arguments w (map word_item ws)) c.2 stands in
-        let lifts = row_goes (lift_at whole t) list_from_pointer_length (word_item c.1 ∷ word_item c.0 ∷ stack) (plain_item v ∷ stack) m m o.lift (ap (λ r. found r (λ v. went (at (plain_item v ∷ stack) m))) c.3) in
+        let lifts = row_goes (lift_at whole t) list_from_pointer_length (word_item c.1 ∷ word_item c.0 ∷ stack) (plain_item v ∷ stack) m m o.lift (ap (λ r. if_found r (λ v. went (at (plain_item v ∷ stack) m))) c.3) in
         record { name = None; goes = subst (λ q. Goes (get_args w (param_words q) ++ emit (lift_at whole t) ∷ []) (at stack m) (at (value_item v None ∷ stack) m)) (sym o.is_list) (runs_then (get_goes w (word_item c.0) stack m st.0) (runs_then (get_goes (w + 1) (word_item c.1) (word_item c.0 ∷ stack) m st.1.0) lifts)) }
     lift_one carried whole t (by_cell o) v words w stack m stands c =
         let st = subst (λ ws. StandAt side.arguments w (map word_item ws)) c.1 stands in
-        let lifts = row_goes (lift_at whole t) (load whole) (word_item c.0 ∷ stack) (value_item v (Some whole) ∷ stack) m m o.lift (ap (λ r. found r (λ v. went (at (value_item v (Some whole) ∷ stack) m))) c.2) in
+        let lifts = row_goes (lift_at whole t) (load whole) (word_item c.0 ∷ stack) (value_item v (Some whole) ∷ stack) m m o.lift (ap (λ r. if_found r (λ v. went (at (value_item v (Some whole) ∷ stack) m))) c.2) in
         record { name = Some whole; goes = subst (λ ps. Goes (get_args w ps ++ emit (lift_at whole t) ∷ []) (at stack m) (at (value_item v (Some whole) ∷ stack) m)) (sym o.types) (runs_then (get_goes w (word_item c.0) stack m st.0) lifts) }
 
     -- from one word that is on the stack
     pub lift_word : (carried : Option Tree) (whole : Tree) (t : Tree) (way : Way carried whole t) (v : V) (words : List W) (w : W) (stack : List (Item V W)) (m : M) → words ≡ w ∷ [] → Carries m carried whole t way v words → (name : Option Tree) × Goes (emit (lift_at whole t) ∷ []) (at (word_item w ∷ stack) m) (at (value_item v name ∷ stack) m)
     lift_word carried whole t (one_word x o) v words w stack m is c =
         let same : w ≡ c.0 = head_same (sym is ∙ c.1) in
-        (None, row_goes (lift_at whole t) (lifting x) (word_item w ∷ stack) (plain_item v ∷ stack) m m o.lift (ap (λ r. found r (λ v. went (at (plain_item v ∷ stack) m))) (ap (λ w. D.lift x w) same ∙ c.2)))
+        (None, row_goes (lift_at whole t) (lifting x) (word_item w ∷ stack) (plain_item v ∷ stack) m m o.lift (ap (λ r. if_found r (λ v. went (at (plain_item v ∷ stack) m))) (ap (λ w. D.lift x w) same ∙ c.2)))
     lift_word carried whole t (two_words o) v words w stack m is c = absurd (too_many (sym is ∙ c.2))
       where
         too_many : w ∷ [] ≡ c.0 ∷ c.1 ∷ [] → ⊥
         too_many e = cc
     lift_word carried whole t (by_cell o) v words w stack m is c =
         let same : w ≡ c.0 = head_same (sym is ∙ c.1) in
-        (Some whole, row_goes (lift_at whole t) (load whole) (word_item w ∷ stack) (value_item v (Some whole) ∷ stack) m m o.lift (ap (λ r. found r (λ v. went (at (value_item v (Some whole) ∷ stack) m))) (ap (λ w. D.get whole w m) same ∙ c.2)))
+        (Some whole, row_goes (lift_at whole t) (load whole) (word_item w ∷ stack) (value_item v (Some whole) ∷ stack) m m o.lift (ap (λ r. if_found r (λ v. went (at (value_item v (Some whole) ∷ stack) m))) (ap (λ w. D.get whole w m) same ∙ c.2)))
 
     -- several parameters
     pub record LoweredParams (ts : List Tree) (ways : Ways ts) (vs : List V) (i n : ℕ) (stack : List (Item V W)) (m : M) : Type 0 where

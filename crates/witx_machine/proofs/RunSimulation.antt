@@ -7,8 +7,8 @@ use Rattle.witx_machine.specs.Events.{Event}
 use Rattle.witx_machine.specs.Functions.{Function}
 use Rattle.witx_machine.specs.Words.{same_types}
 use Rattle.witx_machine.specs.Signature.{signature_params, signature_results}
-use Rattle.witx_machine.specs.Machine.{Domain, Tried, went, found, only, Item, word_item, value_item, State, Inside, Side, Flow, words_off, values_off, play, runs_within, run_trace}
-use Rattle.witx_machine.specs.Run.{same_trees, words_in, typed, argument_items, reply_items, one_word, Call, Outcome, start, Receiver, in_order, callee_side, answered, handed_on, called_with, caller_side, run_to}
+use Rattle.witx_machine.specs.Machine.{Domain, Tried, went, if_found, only, Item, word_item, value_item, State, Inside, Side, Flow, words_off, values_off, play, runs_within, run_trace}
+use Rattle.witx_machine.specs.Run.{same_trees, words_in, typed, argument_items, reply_items, one_word, Call, Outcome, start, Receiver, picked_in_order, callee_side, answered, handed_on, called_with, caller_side, run_to}
 use Rattle.witx_machine.proofs.Scalars.{both_true, left_true, right_true}
 use Rattle.witx_machine.proofs.Simulation.{Follows, Both, Each, Goes, Back, only_if, found_goes, next_goes, only_goes, not_went, not_stuck, went_same, both_follows, both_none, each_at, each_append, each_pushed, Simulates}
 use Rattle.witx_machine.proofs.Simulation as sim
@@ -57,9 +57,9 @@ module _ {V W M V' W' M' : Type 0} (D : Domain V W M) (D' : Domain V' W' M') (RV
   one_both (w ∷ x ∷ ws) (w' ∷ []) h = absurd h.1
   one_both (w ∷ x ∷ ws) (w' ∷ x' ∷ ws') h = tt
 
-  ordered : (is : List ℕ) (ws : List W) (ws' : List W') → Each RW ws ws' → Follows (Each RW) (in_order is ws) (in_order is ws')
+  ordered : (is : List ℕ) (ws : List W) (ws' : List W') → Each RW ws ws' → Follows (Each RW) (picked_in_order is ws) (picked_in_order is ws')
   ordered [] ws ws' h = tt
-  ordered (i ∷ is) ws ws' h = go (slice_get ws i) (slice_get ws' i) (in_order is ws) (in_order is ws') (each_at RW ws ws' i h) (ordered is ws ws' h)
+  ordered (i ∷ is) ws ws' h = go (slice_get ws i) (slice_get ws' i) (picked_in_order is ws) (picked_in_order is ws') (each_at RW ws ws' i h) (ordered is ws ws' h)
     where
       go : (o : Option W) (o' : Option W') (p : Option (List W)) (p' : Option (List W')) → Follows RW o o' → Follows (Each RW) p p' → Follows (Each RW) (option_and_then (λ x. option_and_then (λ more. Some (x ∷ more)) p) o) (option_and_then (λ x. option_and_then (λ more. Some (x ∷ more)) p') o')
       go None o' p p' h k = tt
@@ -153,13 +153,13 @@ module _ {V W M V' W' M' : Type 0} (D : Domain V W M) (D' : Domain V' W' M') (RV
               only_back false x a z h e g = absurd (not_went e)
               only_back true x a z h e g = subst G (ap (λ s. s.memory) (sym (went_same e)) ∙ h) g
 
-              back : (x : List V × List (Item V W) × State E V W M (List V)) (o : Option (List W)) (z : State E V W M (Call V W M)) → sim.Gone {P = P} (found o (λ ws. only (typed D (signature_results f) ws) (went (answered event place D m f to words x.0 ws x.2.memory s)))) z → G z.memory → G x.2.memory
+              back : (x : List V × List (Item V W) × State E V W M (List V)) (o : Option (List W)) (z : State E V W M (Call V W M)) → sim.Gone {P = P} (if_found o (λ ws. only (typed D (signature_results f) ws) (went (answered event place D m f to words x.0 ws x.2.memory s)))) z → G z.memory → G x.2.memory
               back x None z e g = absurd (not_went e)
               back x (Some ws) z e g = only_back (typed D (signature_results f) ws) _ x.2.memory z refl e g
 
           called_goes : (last : P) (last' : P') (callee : List E) (callee' : List E') (reply : Option V) (reply' : Option V') (words : List W) (words' : List W') (s : State E V W M (Call V W M)) (s' : State E' V' W' M' (Call V' W' M')) → Events callee callee' → Answers reply reply' → Each RW words words' → CallerStates RC s s' → CallerRules RC (called_with event place D m f to last callee reply words s) (called_with event' place' D' m f to last' callee' reply' words' s')
           called_goes last last' callee callee' reply reply' words words' s s' k h u r =
-              found_goes (Each RW) _ _ _ _ (in_order to.order words) (in_order to.order words') (ordered to.order words words' u) (λ own own' o. handed_goes last last' callee callee' reply reply' words own words' own' s s' k h u o r)
+              found_goes (Each RW) _ _ _ _ (picked_in_order to.order words) (picked_in_order to.order words') (ordered to.order words words' u) (λ own own' o. handed_goes last last' callee callee' reply reply' words own words' own' s s' k h u o r)
 
           pub caller_wasm : (last : P) (last' : P') (callee : List E) (callee' : List E') (arguments : List V) (arguments' : List V') (reply : Option V) (reply' : Option V') → Events callee callee' → Answers reply reply' → (m' n : List ℕ) (ps rs : List WasmType) (s : State E V W M (Call V W M)) (s' : State E' V' W' M' (Call V' W' M')) → CallerStates RC s s' → CallerRules RC ((caller_side event place D m f to last callee arguments reply).on_wasm m' n ps rs s) ((caller_side event' place' D' m f to last' callee' arguments' reply').on_wasm m' n ps rs s')
           caller_wasm last last' callee callee' arguments arguments' reply reply' k h m' n ps rs s s' r =

@@ -6,7 +6,7 @@ use Rattle.witx_machine.specs.declared.surface.WasmType.{WasmType}
 use Rattle.witx_machine.specs.Words.{Scalar}
 use Rattle.witx_machine.specs.Events.{Event, emit, space, push, finish}
 use Rattle.witx_machine.specs.Rows.{Row, row, get_arg, addr_of, lowering, lifting, list_pointer_length, list_from_pointer_length, return_pointer_get, load, store, tuple_lift, tuple_lower, variant_payload, reuse_return, result_lower, result_lift, call_wasm, call_interface, returns}
-use Rattle.witx_machine.specs.Machine.{Domain, Tried, went, no_rule, stuck_at, found, next, only, Item, word_item, value_item, plain_item, Block, State, Inside, outside, in_lower, in_lift, Side, is_nil, slot_word, pushed, values_off, items_off, top_word, top_value, two_blocks, payload_item, payload_in, with_stack, left_over, return_items, run_block, block_word, lifted_payload, act, give_slot, Flow, flowing, gathering, after, set_aside, flows, gathers, play, runs_within, ended, run_trace}
+use Rattle.witx_machine.specs.Machine.{Domain, Tried, went, no_rule, stuck_at, if_found, goes_on, only, Item, word_item, value_item, plain_item, Block, State, Inside, outside, in_lower, in_lift, Side, is_nil, slot_word, pushed, values_off, items_off, top_word, top_value, two_blocks, payload_item, payload_in, with_stack, left_over, return_items, run_block, block_word, lifted_payload, act, give_slot, Flow, flowing, gathering, after, set_aside, flows, gathers, play, runs_within, ended, run_trace}
 
 -- where the first has an answer, the second has a related one
 abbrev pub Follows : {A B : Type 0} → (A → B → Type 0) → Option A → Option B → Type 0
@@ -52,17 +52,17 @@ only_if G R (went x) (stuck_at p) h = λ g. h x refl g g
 only_if G R no_rule t' h = tt
 only_if G R (stuck_at p) t' h = tt
 
-pub found_goes : {P P' A B C D : Type 0} (R : A → B → Type 0) (G : C → Type 0) (S : C → D → Type 0) (f : A → Tried P C) (g : B → Tried P' D) (o : Option A) (p : Option B) → Follows R o p → ((x : A) (y : B) → R x y → Goes G S (f x) (g y)) → Goes G S (found o f) (found p g)
+pub found_goes : {P P' A B C D : Type 0} (R : A → B → Type 0) (G : C → Type 0) (S : C → D → Type 0) (f : A → Tried P C) (g : B → Tried P' D) (o : Option A) (p : Option B) → Follows R o p → ((x : A) (y : B) → R x y → Goes G S (f x) (g y)) → Goes G S (if_found o f) (if_found p g)
 found_goes R G S f g None p h k = tt
 found_goes R G S f g (Some x) None h k = absurd h
 found_goes R G S f g (Some x) (Some y) h k = k x y h
 
-pub makes_goes : {P P' A B C D : Type 0} (K : A → Type 0) (R : A → B → Type 0) (G : C → Type 0) (S : C → D → Type 0) (f : A → Tried P C) (g : B → Tried P' D) (o : Option A) (p : Option B) → Makes K R o p → Back K G f → ((x : A) (y : B) → R x y → Goes G S (f x) (g y)) → Goes G S (found o f) (found p g)
+pub makes_goes : {P P' A B C D : Type 0} (K : A → Type 0) (R : A → B → Type 0) (G : C → Type 0) (S : C → D → Type 0) (f : A → Tried P C) (g : B → Tried P' D) (o : Option A) (p : Option B) → Makes K R o p → Back K G f → ((x : A) (y : B) → R x y → Goes G S (f x) (g y)) → Goes G S (if_found o f) (if_found p g)
 makes_goes K R G S f g None p h b k = tt
 makes_goes K R G S f g (Some x) None h b k = only_if G S (f x) no_rule (λ z e gz. absurd (h (b x z e gz)))
 makes_goes K R G S f g (Some x) (Some y) h b k = only_if G S (f x) (g y) (λ z e gz. k x y (h (b x z e gz)))
 
-pub next_goes : {P P' A B C D : Type 0} (K : A → Type 0) (R : A → B → Type 0) (G : C → Type 0) (S : C → D → Type 0) (f : A → Tried P C) (g : B → Tried P' D) (t : Tried P A) (t' : Tried P' B) → Goes K R t t' → Back K G f → ((x : A) (y : B) → R x y → Goes G S (f x) (g y)) → Goes G S (next t f) (next t' g)
+pub next_goes : {P P' A B C D : Type 0} (K : A → Type 0) (R : A → B → Type 0) (G : C → Type 0) (S : C → D → Type 0) (f : A → Tried P C) (g : B → Tried P' D) (t : Tried P A) (t' : Tried P' B) → Goes K R t t' → Back K G f → ((x : A) (y : B) → R x y → Goes G S (f x) (g y)) → Goes G S (goes_on t f) (goes_on t' g)
 next_goes K R G S f g (went x) (went y) h b k = only_if G S (f x) (g y) (λ z e gz. k x y (h (b x z e gz)))
 next_goes K R G S f g (went x) no_rule h b k = only_if G S (f x) no_rule (λ z e gz. absurd (h (b x z e gz)))
 next_goes K R G S f g (went x) (stuck_at p) h b k = only_if G S (f x) (stuck_at p) (λ z e gz. absurd (h (b x z e gz)))
@@ -339,7 +339,7 @@ module _ {V W M V' W' M' : Type 0} (D : Domain V W M) (D' : Domain V' W' M') (RV
       left_back p false (x ∷ xs) s z e g = absurd (not_stuck e)
 
       -- where the memory stays
-      found_back : {A : Type 0} (o : Option A) (k : A → State E V W M C) (m : M) → ((x : A) → (k x).memory ≡ m) → (z : State E V W M C) → Gone {P = P} (found o (λ x. went (k x))) z → G z.memory → G m
+      found_back : {A : Type 0} (o : Option A) (k : A → State E V W M C) (m : M) → ((x : A) → (k x).memory ≡ m) → (z : State E V W M C) → Gone {P = P} (if_found o (λ x. went (k x))) z → G z.memory → G m
       found_back None k m h z e g = absurd (not_went e)
       found_back (Some x) k m h z e g = subst G (ap (λ s. s.memory) (sym (went_same e)) ∙ h x) g
 
@@ -371,10 +371,10 @@ module _ {V W M V' W' M' : Type 0} (D : Domain V W M) (D' : Domain V' W' M') (RV
           return_goes n outside in_lift s s' h r = absurd h
 
           abbrev ends : State E V W M C → (a b : Block E) (m : List (Block E)) (rest : List (Item V W)) (e : Bool) → Tried P (State E V W M C)
-          ends s a b m rest e = next (run_block event place D side runs in_lift (cond e b a) (record s { blocks = m })) (λ r. found (lifted_payload r.0) (λ p. went (with_stack (plain_item (D.result e p) ∷ rest) r.1)))
+          ends s a b m rest e = goes_on (run_block event place D side runs in_lift (cond e b a) (record s { blocks = m })) (λ r. if_found (lifted_payload r.0) (λ p. went (with_stack (plain_item (D.result e p) ∷ rest) r.1)))
 
           abbrev ends' : State E' V' W' M' C' → (a b : Block E') (m : List (Block E')) (rest : List (Item V' W')) (e : Bool) → Tried P' (State E' V' W' M' C')
-          ends' s' a b m rest e = next (run_block event' place' D' side' runs' in_lift (cond e b a) (record s' { blocks = m })) (λ r. found (lifted_payload r.0) (λ p. went (with_stack (plain_item (D'.result e p) ∷ rest) r.1)))
+          ends' s' a b m rest e = goes_on (run_block event' place' D' side' runs' in_lift (cond e b a) (record s' { blocks = m })) (λ r. if_found (lifted_payload r.0) (λ p. went (with_stack (plain_item (D'.result e p) ∷ rest) r.1)))
 
           lifted : (s : State E V W M C) (s' : State E' V' W' M' C') → States s s' → (a b : Block E) (m : List (Block E)) (rest : List (Item V W)) (a' b' : Block E') (m' : List (Block E')) (rest' : List (Item V' W')) (e : Bool) → Each Items rest rest' → Blocks a a' → Blocks b b' → Each Blocks m m' → Rules (ends s a b m rest e) (ends' s' a' b' m' rest' e)
           lifted s s' r a b m rest a' b' m' rest' e k ha hb hm =
@@ -388,7 +388,7 @@ module _ {V W M V' W' M' : Type 0} (D : Domain V W M) (D' : Domain V' W' M') (RV
           act_goes addr_of s s' r =
               top_values KnownOf States _ _ s.stack s'.stack r.stack (λ v v' t rest rest' h k. given v v' t rest rest' h k)
             where
-              given : (v : V) (v' : V') (t : Option Tree) (rest : List (Item V W)) (rest' : List (Item V' W')) → RI t v v' → Each Items rest rest' → Rules (found t (λ t. found (D.put t v s.memory) (λ r. went (record s { stack = word_item r.0 ∷ rest; memory = r.1 })))) (found t (λ t. found (D'.put t v' s'.memory) (λ r. went (record s' { stack = word_item r.0 ∷ rest'; memory = r.1 }))))
+              given : (v : V) (v' : V') (t : Option Tree) (rest : List (Item V W)) (rest' : List (Item V' W')) → RI t v v' → Each Items rest rest' → Rules (if_found t (λ t. if_found (D.put t v s.memory) (λ r. went (record s { stack = word_item r.0 ∷ rest; memory = r.1 })))) (if_found t (λ t. if_found (D'.put t v' s'.memory) (λ r. went (record s' { stack = word_item r.0 ∷ rest'; memory = r.1 }))))
               given v v' None rest rest' h k = tt
               given v v' (Some t) rest rest' h k =
                   makes_goes Known Gives KnownOf States _ _ (D.put t v s.memory) (D'.put t v' s'.memory) (H.put t v v' s.memory s'.memory h r.memory) (went_back (λ r. record s { stack = word_item r.0 ∷ rest; memory = r.1 }) Known (λ x g. g)) (λ p q u g. record { stack = (u.0, k); slots = r.slots; memory = u.1; blocks = r.blocks; returned = r.returned; called = r.called; answer = r.answer })
@@ -407,7 +407,7 @@ module _ {V W M V' W' M' : Type 0} (D : Domain V W M) (D' : Domain V' W' M') (RV
               only_goes KnownOf States _ _ _ _ (cases ok err) (top_values KnownOf States _ _ s.stack s'.stack r.stack (λ v v' t rest rest' h k. blocks_go KnownOf States _ _ s.blocks s'.blocks r.blocks (λ a b m a' b' m' ha hb hm. picked v v' rest rest' k a b m a' b' m' ha hb hm (D.picks ok err v) (D'.picks ok err v') refl (H.picks ok err v v' (H.forget t v v' h)))))
             where
               lowered : (c : Bool × Option (V × Option Tree)) (d : Bool × Option (V' × Option Tree)) (rest : List (Item V W)) (rest' : List (Item V' W')) (a b : Block E) (m : List (Block E)) (a' b' : Block E') (m' : List (Block E')) → Each Items rest rest' → Blocks a a' → Blocks b b' → Each Blocks m m' → RW (D.case_word c.0) (D'.case_word c.0) → Both Pays c.1 d.1 →
-                  Rules (next (run_block event place D side runs (in_lower (payload_item c.1)) (cond c.0 b a) (record s { blocks = m })) (λ r. found (block_word D c.0 r.0) (λ w. went (with_stack (word_item w ∷ rest) r.1)))) (next (run_block event' place' D' side' runs' (in_lower (payload_item d.1)) (cond c.0 b' a') (record s' { blocks = m' })) (λ r. found (block_word D' c.0 r.0) (λ w. went (with_stack (word_item w ∷ rest') r.1))))
+                  Rules (goes_on (run_block event place D side runs (in_lower (payload_item c.1)) (cond c.0 b a) (record s { blocks = m })) (λ r. if_found (block_word D c.0 r.0) (λ w. went (with_stack (word_item w ∷ rest) r.1)))) (goes_on (run_block event' place' D' side' runs' (in_lower (payload_item d.1)) (cond c.0 b' a') (record s' { blocks = m' })) (λ r. if_found (block_word D' c.0 r.0) (λ w. went (with_stack (word_item w ∷ rest') r.1))))
               lowered c d rest rest' a b m a' b' m' k ha hb hm w hp =
                   next_goes KnownLeft Left KnownOf States _ _ _ _
                   (block_goes (in_lower (payload_item c.1)) (in_lower (payload_item d.1)) (cond c.0 b a) (cond c.0 b' a') (record s { blocks = m }) (record s' { blocks = m' }) (payload_both c.1 d.1 hp) (chosen c.0 a b a' b' ha hb) (record { stack = r.stack; slots = r.slots; memory = r.memory; blocks = hm; returned = r.returned; called = r.called; answer = r.answer }))
@@ -415,11 +415,11 @@ module _ {V W M V' W' M' : Type 0} (D : Domain V W M) (D' : Domain V' W' M') (RV
                   (λ x y l. found_goes RW KnownOf States _ _ (block_word D c.0 x.0) (block_word D' c.0 y.0) (picked_word c.0 x.0 y.0 w l.0) (λ w w' u. onto x.1 y.1 _ _ l.1 (u, k)))
 
               picked : (v : V) (v' : V') (rest : List (Item V W)) (rest' : List (Item V' W')) → Each Items rest rest' → (a b : Block E) (m : List (Block E)) (a' b' : Block E') (m' : List (Block E')) → Blocks a a' → Blocks b b' → Each Blocks m m' → (o : Option (Bool × Option (V × Option Tree))) (p : Option (Bool × Option (V' × Option Tree))) → D.picks ok err v ≡ o → Follows Picks o p →
-                  Rules (found o (λ c. next (run_block event place D side runs (in_lower (payload_item c.1)) (cond c.0 b a) (record s { blocks = m })) (λ r. found (block_word D c.0 r.0) (λ w. went (with_stack (word_item w ∷ rest) r.1))))) (found p (λ c. next (run_block event' place' D' side' runs' (in_lower (payload_item c.1)) (cond c.0 b' a') (record s' { blocks = m' })) (λ r. found (block_word D' c.0 r.0) (λ w. went (with_stack (word_item w ∷ rest') r.1)))))
+                  Rules (if_found o (λ c. goes_on (run_block event place D side runs (in_lower (payload_item c.1)) (cond c.0 b a) (record s { blocks = m })) (λ r. if_found (block_word D c.0 r.0) (λ w. went (with_stack (word_item w ∷ rest) r.1))))) (if_found p (λ c. goes_on (run_block event' place' D' side' runs' (in_lower (payload_item c.1)) (cond c.0 b' a') (record s' { blocks = m' })) (λ r. if_found (block_word D' c.0 r.0) (λ w. went (with_stack (word_item w ∷ rest') r.1)))))
               picked v v' rest rest' k a b m a' b' m' ha hb hm None p is h = tt
               picked v v' rest rest' k a b m a' b' m' ha hb hm (Some c) None is h = absurd h
               picked v v' rest rest' k a b m a' b' m' ha hb hm (Some c) (Some d) is h =
-                  subst (λ e. Rules (next (run_block event place D side runs (in_lower (payload_item c.1)) (cond c.0 b a) (record s { blocks = m })) (λ r. found (block_word D c.0 r.0) (λ w. went (with_stack (word_item w ∷ rest) r.1)))) (next (run_block event' place' D' side' runs' (in_lower (payload_item d.1)) (cond e b' a') (record s' { blocks = m' })) (λ r. found (block_word D' e r.0) (λ w. went (with_stack (word_item w ∷ rest') r.1))))) h.0
+                  subst (λ e. Rules (goes_on (run_block event place D side runs (in_lower (payload_item c.1)) (cond c.0 b a) (record s { blocks = m })) (λ r. if_found (block_word D c.0 r.0) (λ w. went (with_stack (word_item w ∷ rest) r.1)))) (goes_on (run_block event' place' D' side' runs' (in_lower (payload_item d.1)) (cond e b' a') (record s' { blocks = m' })) (λ r. if_found (block_word D' e r.0) (λ w. went (with_stack (word_item w ∷ rest') r.1))))) h.0
                   (lowered c d rest rest' a b m a' b' m' k ha hb hm (H.case_word ok err v c is) h.1)
           act_goes result_lift s s' r =
               top_words KnownOf States _ _ s.stack s'.stack r.stack (λ w w' rest rest' h k. blocks_go KnownOf States _ _ s.blocks s'.blocks r.blocks (λ a b m a' b' m' ha hb hm. found_goes ◌≡◌ KnownOf States _ _ (D.chooses w) (D'.chooses w') (H.chooses w w' h) (λ e e' is. subst (λ e'. Rules (ends s a b m rest e) (ends' s' a' b' m' rest' e')) is (lifted s s' r a b m rest a' b' m' rest' e k ha hb hm))))

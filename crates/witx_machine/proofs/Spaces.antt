@@ -6,7 +6,7 @@ use Rattle.witx_machine.specs.declared.surface.WasmType.{WasmType}
 use Rattle.witx_machine.specs.Events.{Step, Event, emit, space}
 use Rattle.witx_machine.specs.Rows.{return_pointer_get}
 use Rattle.witx_machine.specs.Traces.{make_spaces}
-use Rattle.witx_machine.specs.Machine.{Domain, went, State, Side, Inside, Item, word_item, Block, found, pushed, slot_word, give_slot}
+use Rattle.witx_machine.specs.Machine.{Domain, went, State, Side, Inside, Item, word_item, Block, if_found, pushed, slot_word, give_slot}
 use Rattle.witx_machine.specs.Run.{typed}
 use Rattle.witx_machine.specs.Passage.{Meaning, PointerWords}
 use Rattle.witx_machine.proofs.Scalars.{both_true}
@@ -101,8 +101,8 @@ module _ {V W M : Type 0} {D : Domain V W M} {J : Meaning V W M} (L : Laws D J) 
     space_goes k t slots stack m m' a gives none =
         let s = with_slots slots stack m in
         runs_then {b = emit (Step.ReturnPointerGet k) ∷ []} {s' = with_slots ((k, a) ∷ slots) stack m'}
-        (runs_space D side runs inside k t s (with_slots ((k, a) ∷ slots) stack m') (ap (λ o. give_slot (λ e. e) (λ e. tt) D side runs inside k t o s) none ∙ ap (λ o. found o (λ r. went (with_slots ((k, r.0) ∷ slots) stack r.1))) gives) refl)
-        (row_goes L side runs inside ((k, a) ∷ slots) blocks returned called (Step.ReturnPointerGet k) (return_pointer_get k) stack (word_item a ∷ stack) m' m' refl (ap (λ o. found o (λ w. went (with_slots ((k, a) ∷ slots) (word_item w ∷ stack) m'))) (own_slot k a slots)))
+        (runs_space D side runs inside k t s (with_slots ((k, a) ∷ slots) stack m') (ap (λ o. give_slot (λ e. e) (λ e. tt) D side runs inside k t o s) none ∙ ap (λ o. if_found o (λ r. went (with_slots ((k, r.0) ∷ slots) stack r.1))) gives) refl)
+        (row_goes L side runs inside ((k, a) ∷ slots) blocks returned called (Step.ReturnPointerGet k) (return_pointer_get k) stack (word_item a ∷ stack) m' m' refl (ap (λ o. if_found o (λ w. went (with_slots ((k, a) ∷ slots) (word_item w ∷ stack) m'))) (own_slot k a slots)))
 
     made : (ts : List Tree) (k n : ℕ) (slots : List (ℕ × W)) (stack : List (Item V W)) (m : M) → ((j : ℕ) → k ≤ j → slot_word j slots ≡ None) → L.Room (n + length ts) m → SpacesMade ts k n slots stack m
     made [] k n slots stack m unused room =

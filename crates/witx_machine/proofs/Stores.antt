@@ -5,7 +5,7 @@ use Rattle.witx_ast.specs.Plain.{plain}
 use Rattle.witx_machine.specs.Events.{Step, Event}
 use Rattle.witx_machine.specs.Rows.{load, store, return_pointer_get}
 use Rattle.witx_machine.specs.Traces.{store_all, load_all}
-use Rattle.witx_machine.specs.Machine.{Domain, went, State, Side, Inside, Item, word_item, value_item, Block, found, pushed}
+use Rattle.witx_machine.specs.Machine.{Domain, went, State, Side, Inside, Item, word_item, value_item, Block, if_found, pushed}
 use Rattle.witx_machine.specs.Passage.{Meaning, HoldAll}
 use Rattle.witx_machine.proofs.Laws.{Laws}
 use Rattle.witx_machine.specs.Shims.{Alike}
@@ -97,7 +97,7 @@ module _ {V W M : Type 0} {D : Domain V W M} {J : Meaning V W M} (L : Laws D J) 
         let more = stores base (w + 1) qs ts alike.1 rest vs xs (value_item u c ∷ stack) m keeps p.2 are.1 items.1 stand.1 in
         let m1 = more.memory in
         let d = L.set base m1 q t a v alike.0 more.keeps p.0.new (more.made a q p.1 p.0.made) are.0 in
-        let puts = row_goes L side runs inside slots blocks returned called (Step.Store t) (store t) (word_item a ∷ value_item u c ∷ stack) stack m1 d.0 refl (ap (λ o. found o (λ m. went (st stack m))) (ap (λ u. D.set t a u m1) items.0 ∙ d.1)) in
+        let puts = row_goes L side runs inside slots blocks returned called (Step.Store t) (store t) (word_item a ∷ value_item u c ∷ stack) stack m1 d.0 refl (ap (λ o. if_found o (λ m. went (st stack m))) (ap (λ u. D.set t a u m1) items.0 ∙ d.1)) in
         record {
           memory = d.0;
           goes = runs_then {s' = st (value_item u c ∷ stack) m1} more.goes (runs_then {s' = st (word_item a ∷ value_item u c ∷ stack) m1} (get_goes L side runs inside slots blocks returned called w (word_item a) (value_item u c ∷ stack) m1 stand.0) puts);
@@ -124,8 +124,8 @@ module _ {V W M : Type 0} {D : Domain V W M} {J : Meaning V W M} (L : Laws D J) 
     pub loads : (k : ℕ) (ts : List Tree) (rest : List W) (vs : List V) (stack : List (Item V W)) (m : M) → SlotsAt slots k rest → LoadsAll m ts rest vs → LoadedAll k ts vs stack m
     loads k [] [] [] stack m s h = record { items = []; goes = runs_none (st stack m); values = tt }
     loads k (t ∷ ts) (a ∷ rest) (v ∷ vs) stack m s h =
-        let one = row_goes L side runs inside slots blocks returned called (Step.ReturnPointerGet k) (return_pointer_get k) stack (word_item a ∷ stack) m m refl (ap (λ o. found o (λ w. went (st (word_item w ∷ stack) m))) s.0) in
-        let two = row_goes L side runs inside slots blocks returned called (Step.Load t) (load t) (word_item a ∷ stack) (value_item v (Some t) ∷ stack) m m refl (ap (λ o. found o (λ v. went (st (value_item v (Some t) ∷ stack) m))) h.0) in
+        let one = row_goes L side runs inside slots blocks returned called (Step.ReturnPointerGet k) (return_pointer_get k) stack (word_item a ∷ stack) m m refl (ap (λ o. if_found o (λ w. went (st (word_item w ∷ stack) m))) s.0) in
+        let two = row_goes L side runs inside slots blocks returned called (Step.Load t) (load t) (word_item a ∷ stack) (value_item v (Some t) ∷ stack) m m refl (ap (λ o. if_found o (λ v. went (st (value_item v (Some t) ∷ stack) m))) h.0) in
         let more = loads (k + 1) ts rest vs (value_item v (Some t) ∷ stack) m s.1 h.2 in
         record { items = value_item v (Some t) ∷ more.items; goes = runs_then one (runs_then two more.goes); values = (refl, more.values) }
     loads k [] [] (v ∷ vs) stack m s h = absurd h

@@ -9,7 +9,7 @@ use Rattle.witx_machine.specs.Functions.{Function}
 use Rattle.witx_machine.specs.Signature.{words_of_params, signature_params, signature_results, return_pointers, param_words}
 use Rattle.witx_machine.specs.Traces.{lower_params, make_spaces, lift_results, caller_events, callee_events}
 use Rattle.witx_machine.specs.Machine.{Domain, went, outside, word_item, pushed}
-use Rattle.witx_machine.specs.Run.{typed, argument_items, Receiver, in_order, Call, Outcome, run_to}
+use Rattle.witx_machine.specs.Run.{typed, argument_items, Receiver, picked_in_order, Call, Outcome, run_to}
 use Rattle.witx_machine.specs.Passage.{Meaning, PassesWords, PointerWords, Returns}
 use Rattle.witx_machine.specs.Faithful.{EndsWell}
 use Rattle.witx_machine.proofs.Laws.{Laws}
@@ -78,7 +78,7 @@ module _ {V W M : Type 0} {D : Domain V W M} {J : Meaning V W M} (L : Laws D J) 
     pub noted : List V
     pub own : List W
     pub arguments : arranged ≡ Some noted
-    pub handed : in_order to.order (ws ++ addresses) ≡ Some (own ++ addresses)
+    pub handed : picked_in_order to.order (ws ++ addresses) ≡ Some (own ++ addresses)
     pub are : AreArguments L to.function.params noted
     pub passed : PassedAll L m to.function.params ways noted own
 

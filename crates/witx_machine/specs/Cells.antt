@@ -50,9 +50,9 @@ abbrev pub is_i32 : Word → Bool
 is_i32 w = same_type w.type WasmType.I32
 
 -- the next address, with a cell made for t
-abbrev pub given : Tree → Option Value → Cells → List ℕ → Taken → Option (Word × Memory)
-given t v cells [] taken = None
-given t v cells (a ∷ more) taken =
+abbrev pub cell_given : Tree → Option Value → Cells → List ℕ → Taken → Option (Word × Memory)
+cell_given t v cells [] taken = None
+cell_given t v cells (a ∷ more) taken =
     Some (i32 a, record { cells = insert cells a (record { made_for = t; content = v }); fresh = more; taken = taken ++ (a, t) ∷ [] })
 
 -- what is in a cell that was made for a type alike to t
@@ -104,8 +104,8 @@ cells = record {
   list_value = λ a l. when (is_i32 a && is_i32 l) (list_at a.bits l.bits);
   tuple = λ vs. Value.tuple_values (values_of vs);
   parts = tuple_parts;
-  give = λ t m. given t None m.cells m.fresh m.taken;
-  put = λ t v m. when (by_address (plain t)) (given t (Some v) m.cells m.fresh m.taken);
+  give = λ t m. cell_given t None m.cells m.fresh m.taken;
+  put = λ t v m. when (by_address (plain t)) (cell_given t (Some v) m.cells m.fresh m.taken);
   get = λ t w m. when (is_i32 w) (loaded t (get m.cells w.bits));
   set = λ t w v m. when (is_i32 w)
       (option_map (λ c. record { cells = insert m.cells w.bits c; fresh = m.fresh; taken = m.taken }) (stored t v (get m.cells w.bits)));

@@ -41,14 +41,14 @@ At P w = (a : ℕ) × (w ≡ i32 a) × P a
 abbrev pub IsMadeFor : Cells → ℕ → Tree → Type 0
 IsMadeFor cells a t = (c : Cell) × (get cells a ≡ Some c) × (c.made_for ≡ t)
 
-abbrev pub Holds : Cells → ℕ → Value → Type 0
-Holds cells a v = (c : Cell) × (get cells a ≡ Some c) × (c.content ≡ Some v)
+abbrev pub CellHolds : Cells → ℕ → Value → Type 0
+CellHolds cells a v = (c : Cell) × (get cells a ≡ Some c) × (c.content ≡ Some v)
 
 abbrev pub cell_meaning : Meaning Value Word Memory
 cell_meaning = record {
   direct = λ t v ws. direct_words t v ≡ Some ws;
   given = λ m. At (IsTaken m.taken);
-  holds = λ m w v. At (λ a. Holds m.cells a v) w;
+  holds = λ m w v. At (λ a. CellHolds m.cells a v) w;
   made_for = λ m w t. At (λ a. IsMadeFor m.cells a t) w;
 }
 

@@ -76,13 +76,13 @@ unlowerable_result abi [] = None
 unlowerable_result abi (t ∷ []) = cond (can_be_result abi t) None (Some (Place.Result 0))
 unlowerable_result abi (t ∷ u ∷ ts) = Some (Place.Result 1)
 
-abbrev pub first_place : Option ℕ → Option Place → Option Place
-first_place (Some i) result = Some (Place.Param i)
-first_place None result = result
+abbrev pub earlier_place : Option ℕ → Option Place → Option Place
+earlier_place (Some i) result = Some (Place.Param i)
+earlier_place None result = result
 
 -- the first parameter that can't be lowered, else the result
 abbrev pub unlowerable : Function → Option Place
-unlowerable f = first_place (position (λ t. not (can_be_param t)) f.params) (unlowerable_result f.abi f.results)
+unlowerable f = earlier_place (position (λ t. not (can_be_param t)) f.params) (unlowerable_result f.abi f.results)
 
 abbrev pub lowerable : Function → Bool
 lowerable f = is_none (unlowerable f)

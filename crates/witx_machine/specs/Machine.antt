@@ -38,14 +38,14 @@ pub data Tried (P A : Type 0) : Type 0 where
   no_rule : Tried P A
   stuck_at : P → Tried P A
 
-abbrev pub found : {P A B : Type 0} → Option A → (A → Tried P B) → Tried P B
-found None f = no_rule
-found (Some x) f = f x
+abbrev pub if_found : {P A B : Type 0} → Option A → (A → Tried P B) → Tried P B
+if_found None f = no_rule
+if_found (Some x) f = f x
 
-abbrev pub next : {P A B : Type 0} → Tried P A → (A → Tried P B) → Tried P B
-next (went x) f = f x
-next no_rule f = no_rule
-next (stuck_at p) f = stuck_at p
+abbrev pub goes_on : {P A B : Type 0} → Tried P A → (A → Tried P B) → Tried P B
+goes_on (went x) f = f x
+goes_on no_rule f = no_rule
+goes_on (stuck_at p) f = stuck_at p
 
 abbrev pub only : {P A : Type 0} → Bool → Tried P A → Tried P A
 only true t = t
@@ -165,7 +165,7 @@ module _ {P E V W M C : Type 0} where
   -- the call was made, the stack has exactly these items, and no block is left
   abbrev pub return_items : ℕ → Inside V W → State E V W M C → Tried P (State E V W M C)
   return_items n outside s =
-      found (items_off n [] s.stack) (λ r. only (is_some s.called && (is_nil s.blocks && is_nil r.1)) (went (record s { stack = r.1; answer = Some r.0 })))
+      if_found (items_off n [] s.stack) (λ r. only (is_some s.called && (is_nil s.blocks && is_nil r.1)) (went (record s { stack = r.1; answer = Some r.0 })))
   return_items n (in_lower x) s = no_rule
   return_items n in_lift s = no_rule
 
@@ -202,35 +202,35 @@ module _ {P E V W M C : Type 0} (event : E → Event) (place : E → P) (D : Dom
   module _ (runs : Inside V W → List E → State E V W M C → Tried P (State E V W M C)) where
     -- a block, on an empty stack of its own
     abbrev pub run_block : Inside V W → Block E → State E V W M C → Tried P (Option (Item V W) × State E V W M C)
-    run_block inside b s = next (runs inside b.events (with_stack [] s)) (λ s. left_over (place b.end) b.has_value s.stack s)
+    run_block inside b s = goes_on (runs inside b.events (with_stack [] s)) (λ s. left_over (place b.end) b.has_value s.stack s)
 
     module _ (inside : Inside V W) where
       -- the table: what each step takes from the stack, under which condition, and what it leaves
       abbrev pub act : Row → State E V W M C → Tried P (State E V W M C)
-      act (get_arg i) s = found (slice_get side.arguments i) (λ x. went (with_stack (x ∷ s.stack) s))
+      act (get_arg i) s = if_found (slice_get side.arguments i) (λ x. went (with_stack (x ∷ s.stack) s))
       act addr_of s =
-          top_value s.stack (λ v t rest. found t (λ t. found (D.put t v s.memory) (λ r. went (record s { stack = word_item r.0 ∷ rest; memory = r.1 }))))
-      act (lowering x) s = top_value s.stack (λ v t rest. found (D.lower x v) (λ w. went (with_stack (word_item w ∷ rest) s)))
-      act (lifting x) s = top_word s.stack (λ w rest. found (D.lift x w) (λ v. went (with_stack (plain_item v ∷ rest) s)))
-      act list_pointer_length s = top_value s.stack (λ v t rest. found (D.list_words v) (λ ws. went (with_stack (word_item ws.1 ∷ word_item ws.0 ∷ rest) s)))
+          top_value s.stack (λ v t rest. if_found t (λ t. if_found (D.put t v s.memory) (λ r. went (record s { stack = word_item r.0 ∷ rest; memory = r.1 }))))
+      act (lowering x) s = top_value s.stack (λ v t rest. if_found (D.lower x v) (λ w. went (with_stack (word_item w ∷ rest) s)))
+      act (lifting x) s = top_word s.stack (λ w rest. if_found (D.lift x w) (λ v. went (with_stack (plain_item v ∷ rest) s)))
+      act list_pointer_length s = top_value s.stack (λ v t rest. if_found (D.list_words v) (λ ws. went (with_stack (word_item ws.1 ∷ word_item ws.0 ∷ rest) s)))
       act list_from_pointer_length s =
-          top_word s.stack (λ l rest. top_word rest (λ a rest. found (D.list_value a l) (λ v. went (with_stack (plain_item v ∷ rest) s))))
-      act (return_pointer_get k) s = found (slot_word k s.slots) (λ w. went (with_stack (word_item w ∷ s.stack) s))
-      act (load t) s = top_word s.stack (λ a rest. found (D.get t a s.memory) (λ v. went (with_stack (value_item v (Some t) ∷ rest) s)))
+          top_word s.stack (λ l rest. top_word rest (λ a rest. if_found (D.list_value a l) (λ v. went (with_stack (plain_item v ∷ rest) s))))
+      act (return_pointer_get k) s = if_found (slot_word k s.slots) (λ w. went (with_stack (word_item w ∷ s.stack) s))
+      act (load t) s = top_word s.stack (λ a rest. if_found (D.get t a s.memory) (λ v. went (with_stack (value_item v (Some t) ∷ rest) s)))
       act (store t) s =
-          top_word s.stack (λ a rest. top_value rest (λ v n rest. found (D.set t a v s.memory) (λ m. went (record s { stack = rest; memory = m }))))
-      act (tuple_lift n) s = found (values_off n [] s.stack) (λ r. went (with_stack (plain_item (D.tuple r.0) ∷ r.1) s))
-      act (tuple_lower n) s = top_value s.stack (λ v t rest. found (D.parts n v) (λ vs. went (with_stack (pushed (map plain_item vs) rest) s)))
-      act variant_payload s = found (payload_in inside) (λ x. went (with_stack (x ∷ s.stack) s))
-      act reuse_return s = found s.returned (λ w. went (with_stack (word_item w ∷ s.stack) s))
+          top_word s.stack (λ a rest. top_value rest (λ v n rest. if_found (D.set t a v s.memory) (λ m. went (record s { stack = rest; memory = m }))))
+      act (tuple_lift n) s = if_found (values_off n [] s.stack) (λ r. went (with_stack (plain_item (D.tuple r.0) ∷ r.1) s))
+      act (tuple_lower n) s = top_value s.stack (λ v t rest. if_found (D.parts n v) (λ vs. went (with_stack (pushed (map plain_item vs) rest) s)))
+      act variant_payload s = if_found (payload_in inside) (λ x. went (with_stack (x ∷ s.stack) s))
+      act reuse_return s = if_found s.returned (λ w. went (with_stack (word_item w ∷ s.stack) s))
       act (result_lower ok err) s =
-          only (side.has_cases ok err) (top_value s.stack (λ v t rest. two_blocks s.blocks (λ a b more. found (D.picks ok err v) (λ c.
-          next (run_block (in_lower (payload_item c.1)) (cond c.0 b a) (record s { blocks = more })) (λ r.
-          found (block_word D c.0 r.0) (λ w. went (with_stack (word_item w ∷ rest) r.1)))))))
+          only (side.has_cases ok err) (top_value s.stack (λ v t rest. two_blocks s.blocks (λ a b more. if_found (D.picks ok err v) (λ c.
+          goes_on (run_block (in_lower (payload_item c.1)) (cond c.0 b a) (record s { blocks = more })) (λ r.
+          if_found (block_word D c.0 r.0) (λ w. went (with_stack (word_item w ∷ rest) r.1)))))))
       act result_lift s =
-          top_word s.stack (λ w rest. two_blocks s.blocks (λ a b more. found (D.chooses w) (λ e.
-          next (run_block in_lift (cond e b a) (record s { blocks = more })) (λ r.
-          found (lifted_payload r.0) (λ p. went (with_stack (plain_item (D.result e p) ∷ rest) r.1))))))
+          top_word s.stack (λ w rest. two_blocks s.blocks (λ a b more. if_found (D.chooses w) (λ e.
+          goes_on (run_block in_lift (cond e b a) (record s { blocks = more })) (λ r.
+          if_found (lifted_payload r.0) (λ p. went (with_stack (plain_item (D.result e p) ∷ rest) r.1))))))
       act (call_wasm m n ps rs) s = side.on_wasm m n ps rs s
       act (call_interface m n ps rs) s = side.on_interface m n ps rs s
       act (returns n) s = return_items n inside s
@@ -238,7 +238,7 @@ module _ {P E V W M C : Type 0} (event : E → Event) (place : E → P) (D : Dom
       -- a slot gets the next address, unless it has one
       abbrev pub give_slot : ℕ → Tree → Option W → State E V W M C → Tried P (State E V W M C)
       give_slot k t (Some w) s = no_rule
-      give_slot k t None s = found (D.give t s.memory) (λ r. went (record s { slots = (k, r.0) ∷ s.slots; memory = r.1 }))
+      give_slot k t None s = if_found (D.give t s.memory) (λ r. went (record s { slots = (k, r.0) ∷ s.slots; memory = r.1 }))
 
       -- an event while no block is being set aside; go: the rest of the trace
       abbrev pub flows : Event → E → Bool → (Flow E → State E V W M C → Tried P (State E V W M C)) → State E V W M C → Tried P (State E V W M C)
@@ -269,4 +269,4 @@ module _ {P E V W M C : Type 0} (event : E → Event) (place : E → P) (D : Dom
 
   -- A whole trace. No block is run twice, so they are nested at most as deep as there are events
   abbrev pub run_trace : P → List E → State E V W M C → Tried P (C × List (Item V W) × State E V W M C)
-  run_trace p es s = next (runs_within (suc (length es)) outside es s) (λ s. ended p s.called s.answer s)
+  run_trace p es s = goes_on (runs_within (suc (length es)) outside es s) (λ s. ended p s.called s.answer s)

@@ -13,7 +13,7 @@ use Rattle.witx_machine.specs.Words.{same_types}
 use Rattle.witx_machine.specs.Events.{Event}
 use Rattle.witx_machine.specs.Functions.{Function, name_of, ok_of, err_of, result_cases}
 use Rattle.witx_machine.specs.Signature.{signature_params, signature_results}
-use Rattle.witx_machine.specs.Machine.{Domain, Tried, went, no_rule, found, next, only, Item, word_item, value_item, State, Side, words_off, values_off, pushed, run_trace}
+use Rattle.witx_machine.specs.Machine.{Domain, Tried, went, no_rule, if_found, goes_on, only, Item, word_item, value_item, State, Side, words_off, values_off, pushed, run_trace}
 
 -- types are the function's own, documentation included
 abbrev pub same_trees : List Tree → List Tree → Bool
@@ -105,9 +105,9 @@ abbrev pub itself : List ℕ → Function → Receiver
 itself m f = record { module_name = m; function = f; order = numbers 0 (length (signature_params f)) }
 
 -- the items of these numbers, in this order
-abbrev pub in_order : {A : Type 0} → List ℕ → List A → Option (List A)
-in_order [] xs = Some []
-in_order (i ∷ is) xs = option_and_then (λ x. option_and_then (λ more. Some (x ∷ more)) (in_order is xs)) (slice_get xs i)
+abbrev pub picked_in_order : {A : Type 0} → List ℕ → List A → Option (List A)
+picked_in_order [] xs = Some []
+picked_in_order (i ∷ is) xs = option_and_then (λ x. option_and_then (λ more. Some (x ∷ more)) (picked_in_order is xs)) (slice_get xs i)
 
 module _ {P E V W M : Type 0} (event : E → Event) (place : E → P) (D : Domain V W M) where
   -- the callee, a function f of the module m
@@ -118,14 +118,14 @@ module _ {P E V W M : Type 0} (event : E → Event) (place : E → P) (D : Domai
 
     -- the values that the call took off are noted, and the reply is pushed
     abbrev pub replied : Option V → List V → List (Item V W) → State E V W M (List V) → Tried P (State E V W M (List V))
-    replied reply noted rest s = found (reply_items f.results reply) (λ xs. went (record s { stack = xs ++ rest; called = Some noted }))
+    replied reply noted rest s = if_found (reply_items f.results reply) (λ xs. went (record s { stack = xs ++ rest; called = Some noted }))
 
     abbrev pub callee_side : Option V → List W → Side P E V W M (List V)
     callee_side reply words = record {
       arguments = map word_item words;
       has_cases = result_has_cases f.results;
       on_wasm = λ m' n ps rs s. no_rule;
-      on_interface = λ m' n ps rs s. only (calls_interface s m' n ps rs) (found (values_off (length f.params) [] s.stack) (λ r. replied reply r.0 r.1 s));
+      on_interface = λ m' n ps rs s. only (calls_interface s m' n ps rs) (if_found (values_off (length f.params) [] s.stack) (λ r. replied reply r.0 r.1 s));
     }
 
   -- the caller, of a function f of the module m, and who gets its words
@@ -142,15 +142,15 @@ module _ {P E V W M : Type 0} (event : E → Event) (place : E → P) (D : Domai
 
     -- what the callee gave back is words of the result types
     abbrev pub taken_back : List W → State E V W M (Call V W M) → List V × List (Item V W) × State E V W M (List V) → Tried P (State E V W M (Call V W M))
-    taken_back words s r = found (words_in r.1) (λ ws. only (typed D (signature_results f) ws) (went (answered words r.0 ws r.2.memory s)))
+    taken_back words s r = if_found (words_in r.1) (λ ws. only (typed D (signature_results f) ws) (went (answered words r.0 ws r.2.memory s)))
 
     -- the callee's run on its words, as the caller has it; last: the place after the callee's last event
     abbrev pub handed_on : P → List E → Option V → List W → State E V W M (Call V W M) → List W → Tried P (State E V W M (Call V W M))
     handed_on last callee reply words s own =
-        next (run_trace event place D (callee_side to.module_name to.function reply own) last callee (start s.memory)) (taken_back words s)
+        goes_on (run_trace event place D (callee_side to.module_name to.function reply own) last callee (start s.memory)) (taken_back words s)
 
     abbrev pub called_with : P → List E → Option V → List W → State E V W M (Call V W M) → Tried P (State E V W M (Call V W M))
-    called_with last callee reply words s = found (in_order to.order words) (handed_on last callee reply words s)
+    called_with last callee reply words s = if_found (picked_in_order to.order words) (handed_on last callee reply words s)
 
     -- its first call, by its names and types of words
     abbrev pub calls_wasm : State E V W M (Call V W M) → List ℕ → List ℕ → List WasmType → List WasmType → Bool
@@ -161,7 +161,7 @@ module _ {P E V W M : Type 0} (event : E → Event) (place : E → P) (D : Domai
     caller_side last callee arguments reply = record {
       arguments = argument_items f.params arguments;
       has_cases = result_has_cases f.results;
-      on_wasm = λ m' n ps rs s. only (calls_wasm s m' n ps rs) (found (words_off (length ps) [] s.stack)
+      on_wasm = λ m' n ps rs s. only (calls_wasm s m' n ps rs) (if_found (words_off (length ps) [] s.stack)
           (λ r. only (typed D ps r.0) (called_with last callee reply r.0 (record s { stack = r.1 }))));
       on_interface = λ m' n ps rs s. no_rule;
     }
@@ -169,7 +169,7 @@ module _ {P E V W M : Type 0} (event : E → Event) (place : E → P) (D : Domai
     -- A RUN of a caller against a callee; the places after the last events name a trace that doesn't return
     abbrev pub run_to : P → P → (caller callee : List E) → List V → Option V → M → Tried P (Outcome V W M)
     run_to caller_end callee_end caller callee arguments reply memory =
-        next (run_trace event place D (caller_side callee_end callee arguments reply) caller_end caller (start memory))
+        goes_on (run_trace event place D (caller_side callee_end callee arguments reply) caller_end caller (start memory))
         (λ r. went (record { call = r.0; back = r.1; memory = r.2.memory }))
 
   -- A PLAIN RUN: both traces are of the one function

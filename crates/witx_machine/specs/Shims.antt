@@ -8,7 +8,7 @@ use Rattle.witx_ast.specs.Plain.{plain}
 use Rattle.witx_machine.specs.Events.{Event}
 use Rattle.witx_machine.specs.Functions.{Function}
 use Rattle.witx_machine.specs.Signature.{param_words, words_of_params, return_pointers}
-use Rattle.witx_machine.specs.Run.{numbers, in_order}
+use Rattle.witx_machine.specs.Run.{numbers, picked_in_order}
 use Rattle.witx_machine.specs.Faithful.{FaithfulTo}
 
 -- alike types, pair by pair
@@ -22,7 +22,7 @@ Alike (t ∷ ts) [] = ⊥
 pub record StandsIn (order : List ℕ) (old new : Function) : Type 0 where
   pub abi : old.abi ≡ new.abi
   pub ordered : List Tree
-  pub params : in_order order old.params ≡ Some ordered
+  pub params : picked_in_order order old.params ≡ Some ordered
   pub alike : Alike ordered new.params
   pub results : Alike old.results new.results
 
@@ -41,8 +41,8 @@ word_numbers w (t ∷ ts) = numbers w (length (param_words (plain t))) ∷ word_
 abbrev pub pass : List ℕ → Function → Option (List ℕ)
 pass order old =
     option_map (λ params. concat params ++ numbers (length (words_of_params old.params)) (length (return_pointers old)))
-    (in_order order (word_numbers 0 old.params))
+    (picked_in_order order (word_numbers 0 old.params))
 
 -- FAITHFUL THROUGH A SHIM that hands on the words of these numbers, for an old function of the module m and a new one of the module n
 abbrev pub FaithfulThrough : (m n : List ℕ) → (old new : Function) → (order words : List ℕ) → (caller callee : List Event) → Type 0
-FaithfulThrough m n old new order words = FaithfulTo m old (record { module_name = n; function = new; order = words }) (in_order order)
+FaithfulThrough m n old new order words = FaithfulTo m old (record { module_name = n; function = new; order = words }) (picked_in_order order)

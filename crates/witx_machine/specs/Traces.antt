@@ -98,8 +98,8 @@ abbrev pub make_spaces : ℕ → List Tree → List Event
 make_spaces k [] = []
 make_spaces k (t ∷ ts) = space k t ∷ emit (Step.ReturnPointerGet k) ∷ make_spaces (k + 1) ts
 
-abbrev pub block_of : List Event → Bool → List Event
-block_of es v = push ∷ (es ++ finish v ∷ [])
+abbrev pub block_events : List Event → Bool → List Event
+block_events es v = push ∷ (es ++ finish v ∷ [])
 
 -- lifting a result: the caller's side
 abbrev pub load_all : ℕ → List Tree → List Event
@@ -117,7 +117,7 @@ err_lifted (Some t) = emit Step.ReuseReturn ∷ emit (lift_step t) ∷ []
 
 abbrev pub lift_cases : Option Tree → Option Tree → List Event
 lift_cases ok err =
-    block_of (ok_lifted ok) (is_some ok) ++ (block_of (err_lifted err) (is_some err) ++ emit Step.ResultLift ∷ [])
+    block_events (ok_lifted ok) (is_some ok) ++ (block_events (err_lifted err) (is_some err) ++ emit Step.ResultLift ∷ [])
 
 abbrev pub lift_by : Option Arms → Tree → List Event
 lift_by None t = emit (lift_step t) ∷ []
@@ -152,7 +152,7 @@ err_lowered (Some t) = emit Step.VariantPayload ∷ emit (lower_step t) ∷ []
 
 abbrev pub lower_cases : Option Tree → Option Tree → ℕ → List Event
 lower_cases ok err w =
-    block_of (ok_lowered w ok) false ++ (block_of (err_lowered err) (is_some err) ++ emit (Step.ResultLower ok err) ∷ [])
+    block_events (ok_lowered w ok) false ++ (block_events (err_lowered err) (is_some err) ++ emit (Step.ResultLower ok err) ∷ [])
 
 abbrev pub lower_by : Option Arms → ℕ → Tree → List Event
 lower_by None w t = emit (lower_step t) ∷ []

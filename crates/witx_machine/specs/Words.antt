@@ -173,8 +173,8 @@ value_in (Plain.variant_of r cs) x = Some (Value.enum_index (x % repr_modulus r)
 value_in _ x = None
 
 -- the value itself, where it is one of the type
-abbrev pub checked : Plain → Value → Option Value
-checked t v = when (is_value t v) (Some v)
+abbrev pub checked_value : Plain → Value → Option Value
+checked_value t v = when (is_value t v) (Some v)
 
 -- lowering: only a value of that kind, and under a name only a value of its type
 abbrev pub word_of : Scalar → Value → Option Word
@@ -182,4 +182,4 @@ word_of x v = when (is_for x (type_for x) && is_value (type_for x) v) (word_in (
 
 -- lifting: from a word of that type alone, and only to a value of the kind, under a name of its type
 abbrev pub value_of : Scalar → Word → Option Value
-value_of x w = when (is_for x (type_for x) && same_type w.type (word_type x)) (option_and_then (checked (type_for x)) (value_in (type_for x) w.bits))
+value_of x w = when (is_for x (type_for x) && same_type w.type (word_type x)) (option_and_then (checked_value (type_for x)) (value_in (type_for x) w.bits))

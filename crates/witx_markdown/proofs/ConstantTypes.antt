@@ -6,7 +6,7 @@ use Rattle.witx_ast.specs.declared.definition.Constant.{Constant}
 use Rattle.witx_ast.specs.declared.definition.Definition.{Definition}
 use Rattle.witx_ast.specs.declared.definition.Definition.TheVariants as definition
 use Rattle.witx_ast.specs.Definitions.{DefinitionTree, definition_tree}
-use Rattle.witx_markdown.specs.Constants.{as_constant, constants_in, is_typename}
+use Rattle.witx_markdown.specs.Constants.{as_constant, constants_in, names_typename}
 
 -- no constant
 pub no-constant : (d : Definition) → ((c : Constant) → d ≡ definition.Constant c → ⊥) → as_constant (definition_tree d) ≡ None
@@ -16,15 +16,15 @@ no-constant (definition.Constant c) h = absurd (h c refl)
 
 -- a constant's type that is no typename
 abbrev pub unknown_in : List DefinitionTree → List DefinitionTree → Option (List ℕ)
-unknown_in all ds = find (λ name. not (is_typename all name)) (map (λ c. c.ty) (constants_in ds))
+unknown_in all ds = find (λ name. not (names_typename all name)) (map (λ c. c.ty) (constants_in ds))
 
 pub known-type : (all : List DefinitionTree) (ds : List Definition) (i : ℕ) (d : Definition) (c : Constant) (found : Option (List ℕ)) → i < length ds → d ≡ get_or ds i d
-    → d ≡ definition.Constant c → is_typename all c.ty ≡ true → unknown_in all (map definition_tree (drop i ds)) ≡ found
+    → d ≡ definition.Constant c → names_typename all c.ty ≡ true → unknown_in all (map definition_tree (drop i ds)) ≡ found
     → unknown_in all (map definition_tree (drop (i + 1) ds)) ≡ found
 known-type all ds i d c found l p e k h = rw (drop_more ds i d l, ← p, e, k) at h
 
 pub unknown-here : (all : List DefinitionTree) (ds : List Definition) (i : ℕ) (d : Definition) (c : Constant) (found : Option (List ℕ)) → i < length ds → d ≡ get_or ds i d
-    → d ≡ definition.Constant c → is_typename all c.ty ≡ false → unknown_in all (map definition_tree (drop i ds)) ≡ found → Some c.ty ≡ found
+    → d ≡ definition.Constant c → names_typename all c.ty ≡ false → unknown_in all (map definition_tree (drop i ds)) ≡ found → Some c.ty ≡ found
 unknown-here all ds i d c found l p e k h = rw (drop_more ds i d l, ← p, e, k) at h
 
 pub other-type : (all : List DefinitionTree) (ds : List Definition) (i : ℕ) (d : Definition) (found : Option (List ℕ)) → i < length ds → d ≡ get_or ds i d

@@ -14,9 +14,9 @@ abbrev pub constants_in : List DefinitionTree → List Constant
 constants_in = filter_map as_constant
 
 -- the type of a constant is a typename
-abbrev pub is_typename : List DefinitionTree → List ℕ → Bool
-is_typename ds name = is_some (typename_called ds name)
+abbrev pub names_typename : List DefinitionTree → List ℕ → Bool
+names_typename ds name = is_some (typename_called ds name)
 
 -- the first constant's type that is no typename
 abbrev pub unknown_type : List DefinitionTree → Option (List ℕ)
-unknown_type ds = find (λ name. not (is_typename ds name)) (map (λ c. c.ty) (constants_in ds))
+unknown_type ds = find (λ name. not (names_typename ds name)) (map (λ c. c.ty) (constants_in ds))

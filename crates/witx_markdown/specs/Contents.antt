@@ -16,12 +16,12 @@ use Rattle.witx_markdown.specs.declared.content.MdContent.TheVariants as content
 abbrev pub drawn : ℕ → ℕ
 drawn level = min level 65535
 
-abbrev pub header : ℕ → MdHeading
-header level = Header (drawn level)
+abbrev pub header_marks : ℕ → MdHeading
+header_marks level = Header (drawn level)
 
 -- one level deeper; a bullet stays one
 abbrev pub level_down : MdHeading → MdHeading
-level_down (Header level) = header (level + 1)
+level_down (Header level) = header_marks (level + 1)
 level_down Bullet = Bullet
 
 abbrev pub heading_text : MdHeading → List ℕ
@@ -99,11 +99,11 @@ content_docs (content.Named n) = Some n.docs
 content_docs (content.Func f) = Some f.docs
 
 -- the content with other documentation; a root and a section have none
-abbrev pub with_docs : MdContent → List ℕ → MdContent
-with_docs content.Root docs = content.Root
-with_docs (content.Section s) docs = content.Section s
-with_docs (content.Named n) docs = content.Named (record n { docs = docs })
-with_docs (content.Func f) docs = content.Func (record f { docs = docs })
+abbrev pub content_with_docs : MdContent → List ℕ → MdContent
+content_with_docs content.Root docs = content.Root
+content_with_docs (content.Section s) docs = content.Section s
+content_with_docs (content.Named n) docs = content.Named (record n { docs = docs })
+content_with_docs (content.Func f) docs = content.Func (record f { docs = docs })
 
 -- the content with another type, title, or inputs and outputs, where it has such a thing
 abbrev pub with_type : MdContent → List ℕ → MdContent

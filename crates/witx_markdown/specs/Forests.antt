@@ -9,8 +9,8 @@ pub data Forest : Type 0 where
   node : MdContent → Forest → Forest → Forest
 
 -- one node with nothing below it
-abbrev pub leaf : MdContent → Forest
-leaf c = node c no_nodes no_nodes
+abbrev pub lone_node : MdContent → Forest
+lone_node c = node c no_nodes no_nodes
 
 -- the nodes of one, and then those of the other
 abbrev pub followed_by : Forest → Forest → Forest

@@ -5,7 +5,7 @@ use Rattle.std.specs.Prelude.{ℕ, List, [], ◌∷◌, ◌++◌, Bool, true, fa
 use Rattle.std.specs.List.{slice_split, list_any, filter_map}
 use Rattle.witx_base.specs.Texts.{same_text}
 use Rattle.witx_markdown.specs.declared.content.MdContent.{MdContent}
-use Rattle.witx_markdown.specs.Contents.{content_id, content_docs, with_docs}
+use Rattle.witx_markdown.specs.Contents.{content_id, content_docs, content_with_docs}
 
 -- a text's pieces before, between and behind its backquotes
 abbrev pub pieces : List ℕ → List (List ℕ)
@@ -25,15 +25,15 @@ ids = filter_map content_id
 abbrev pub is_there : List (List ℕ) → List ℕ → Bool
 is_there known x = list_any (same_text (dotted x)) known
 
-abbrev pub quoted : List ℕ → List ℕ
-quoted x = codes "`" ++ x ++ codes "`"
+abbrev pub quoted_link : List ℕ → List ℕ
+quoted_link x = codes "`" ++ x ++ codes "`"
 
 -- a link to an id
 abbrev pub link_to : List ℕ → List ℕ → List ℕ
 link_to x id = codes "[`" ++ x ++ codes "`](#" ++ id ++ codes ")"
 
 abbrev pub link : List (List ℕ) → List ℕ → List ℕ
-link known x = (if is_there known x then link_to x (dotted x) else quoted x)
+link known x = (if is_there known x then link_to x (dotted x) else quoted_link x)
 
 -- the pieces of a text again, each second one, where one follows it, as a link
 abbrev pub linked_pieces : List (List ℕ) → List (List ℕ) → List ℕ
@@ -61,7 +61,7 @@ missing known docs = missing_pieces known (pieces docs)
 -- a content with the links of its documentation, and those that are missing
 abbrev pub docs_linked : List (List ℕ) → MdContent → Option (List ℕ) → MdContent
 docs_linked known c None = c
-docs_linked known c (Some docs) = with_docs c (linked known docs)
+docs_linked known c (Some docs) = content_with_docs c (linked known docs)
 
 abbrev pub with_links : List (List ℕ) → MdContent → MdContent
 with_links known c = docs_linked known c (content_docs c)

@@ -6,7 +6,7 @@ use Rattle.std.specs.List.{flat_map, slice_index_or, slice_set}
 use Rattle.witx_markdown.specs.declared.heading.MdHeading.{MdHeading}
 use Rattle.witx_markdown.specs.declared.content.MdContent.{MdContent}
 use Rattle.witx_markdown.specs.declared.content.MdContent.TheVariants as content
-use Rattle.witx_markdown.specs.Contents.{header, content_text}
+use Rattle.witx_markdown.specs.Contents.{header_marks, content_text}
 use Rattle.witx_markdown.specs.Forests.{Forest, contents_of, parents_from}
 
 pub record PageTree : Type 0 where
@@ -90,7 +90,7 @@ root_alone = record { parents = None ∷ []; contents = content.Root ∷ [] }
 
 -- the header of what stands right below a node
 abbrev pub heading_below : PageTree → ℕ → MdHeading
-heading_below t n = header (length (ancestors_of t.parents n) + 1)
+heading_below t n = header_marks (length (ancestors_of t.parents n) + 1)
 
 -- a tree after generation at a node: the node has this content, and below it there are further nodes, which come last
 abbrev pub generated : PageTree → ℕ → MdContent → Forest → PageTree

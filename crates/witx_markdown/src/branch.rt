@@ -1,7 +1,7 @@
 //! Nodes that are still to be added to a page's tree.
 
 ghost use Rattle.std.specs.Prelude.{◌≡◌, [], IfOk, OnOk};
-ghost use Rattle.witx_markdown.specs.Forests.{leaf, next_number, sprouted};
+ghost use Rattle.witx_markdown.specs.Forests.{lone_node, next_number, sprouted};
 
 use crate::content::MdContent;
 use std::alloc::Global;
@@ -38,7 +38,7 @@ impl Branch {
     #[tactic(auto, unfolding(crate::specs::Forests::sprouted))]
     pub fn push(&mut self, parent: usize, content: MdContent) -> Result<usize, OutOfMemory>
         ensures number { IfOk result (λ number. number ≡ next_number self.old) }
-        ensures node { OnOk result (self.new ≡ sprouted self.old parent (leaf content)) }
+        ensures node { OnOk result (self.new ≡ sprouted self.old parent (lone_node content)) }
     {
         let length = self.contents.len();
         self.contents.push(content)?;

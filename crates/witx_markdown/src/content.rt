@@ -1,7 +1,7 @@
 //! What a node of a page holds.
 
 ghost use Rattle.std.specs.Prelude.{◌≡◌, [], IfOk, None, option_map};
-ghost use Rattle.witx_markdown.specs.Contents.{content_id, content_docs, with_docs};
+ghost use Rattle.witx_markdown.specs.Contents.{content_id, content_docs, content_with_docs};
 
 use crate::heading::MdHeading;
 use std::alloc::Global;
@@ -148,7 +148,7 @@ impl MdContent {
 
     /// Sets the documentation; a root and a section stay as they are.
     pub fn set_docs(&mut self, docs: Text)
-        ensures { self.new ≡ with_docs self.old docs }
+        ensures { self.new ≡ content_with_docs self.old docs }
     {
         match self {
             MdContent::Named(named) => named.docs = docs,

@@ -2,7 +2,7 @@
 
 ghost use Rattle.std.specs.Prelude.{◌≡◌, ◌++◌, OnOk, codes, string_bytes};
 ghost use Rattle.std.specs.List.{repeat};
-ghost use Rattle.witx_markdown.specs.Contents.{drawn, header, level_down, heading_text};
+ghost use Rattle.witx_markdown.specs.Contents.{drawn, header_marks, level_down, heading_text};
 
 use witx_base::OutOfMemory;
 
@@ -21,7 +21,7 @@ pub enum MdHeading {
 impl MdHeading {
     /// The header of that level, or of the deepest.
     pub fn new_header(level: usize) -> Self
-        ensures { result ≡ header level }
+        ensures { result ≡ header_marks level }
     {
         MdHeading::Header {
             level: drawn_level(level),

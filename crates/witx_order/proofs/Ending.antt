@@ -3,7 +3,7 @@ use Rattle.std.proofs.Common.{◌≡◌, ℕ, ◌+◌, ◌<◌, ◌≤◌, List,
 use Rattle.std.proofs.lemmas.Bool.{ltb-true}
 use Rattle.std.proofs.lemmas.Bool.Decides.{nat_tests}
 use Rattle.witx_base.specs.Paths.{Path, join, path_of, all_but_last, file_name}
-use Rattle.witx_order.specs.Items.{Item, declaration, use_of, Declared, SyntaxFault}
+use Rattle.witx_order.specs.Items.{TextItem, declaration, use_of, Declared, SyntaxFault}
 use Rattle.witx_order.specs.Walks.{World, OpenFile, open_file, declared_in, Place, place, wish, reach, handed_wish, is_taken, folder_of}
 use Rattle.witx_order.specs.Verdicts.{Verdict, fine, Leads, Ends, IsVerdict}
 use Rattle.witx_order.proofs.Steps.{leads-trans, ends-after, stopped, skipped, too_many-ends, missing-ends, starts, unread-ends, closes, declares, faulty-ends}
@@ -32,7 +32,7 @@ module _ {F : Type 0} (w : World F) where
       → wish a ≡ reach (place outer handed taken ds) j d → 1024 ≤ length taken + n → Goes a outer handed taken
 
   abbrev ItemsGo : ℕ → Type 0
-  ItemsGo n = (xs : List Item) (p : Path) (text : List ℕ) (folder : Path) (outer : List OpenFile) (handed taken : List Path) (ds : List Declared)
+  ItemsGo n = (xs : List TextItem) (p : Path) (text : List ℕ) (folder : Path) (outer : List OpenFile) (handed taken : List Path) (ds : List Declared)
       → 1024 ≤ length taken + n → Goes (place (open_file p text folder (Ok xs) ∷ outer) handed taken ds) outer handed taken
 
   goes-after : (a b : Place) (outer : List OpenFile) (handed taken taken' : List Path) → length taken ≤ length taken' → Leads w a b → Goes b outer handed taken' → Goes a outer handed taken
@@ -49,7 +49,7 @@ module _ {F : Type 0} (w : World F) where
   led a outer handed taken ds f = inr (taken, (ds, (omega arith, f)))
 
   -- a file that starts, where its items go
-  file-goes : (n : ℕ) → ItemsGo n → (a : Place) (outer : List OpenFile) (handed taken : List Path) (ds : List Declared) (p : Path) (text : List ℕ) (folder : Path) (left : Result (List Item) SyntaxFault)
+  file-goes : (n : ℕ) → ItemsGo n → (a : Place) (outer : List OpenFile) (handed taken : List Path) (ds : List Declared) (p : Path) (text : List ℕ) (folder : Path) (left : Result (List TextItem) SyntaxFault)
       → Leads w a (place (open_file p text folder left ∷ outer) handed (taken ++ p ∷ []) ds) → 1024 ≤ length taken + (n + 1) → Goes a outer handed taken
   file-goes n go_on a outer handed taken ds p text folder (Err f) g l = ended a outer handed taken _ (ends-after w g (unread-ends w p text folder outer handed (taken ++ p ∷ []) ds (Err f) f refl))
   file-goes n go_on a outer handed taken ds p text folder (Ok xs) g l =
@@ -81,7 +81,7 @@ module _ {F : Type 0} (w : World F) where
   reach-more n go_on a outer handed taken ds j d e l =
       reach-goes a outer handed taken ds j d e (λ text m g. file-goes n go_on a outer handed taken ds (w.canonical j) text _ (w.reading text) g (omega arith))
 
-  used-goes : (n : ℕ) (p : Path) (text : List ℕ) (folder : Path) (outer : List OpenFile) (handed taken : List Path) (ds : List Declared) (u : List ℕ) (xs : List Item)
+  used-goes : (n : ℕ) (p : Path) (text : List ℕ) (folder : Path) (outer : List OpenFile) (handed taken : List Path) (ds : List Declared) (u : List ℕ) (xs : List TextItem)
       → ((taken' : List Path) (ds' : List Declared) → 1024 ≤ length taken' + n → Goes (place (open_file p text folder (Ok xs) ∷ outer) handed taken' ds') outer handed taken')
       → Goes (place (open_file p text folder (Ok (use_of u ∷ xs)) ∷ outer) handed taken ds) (open_file p text folder (Ok xs) ∷ outer) handed taken
       → 1024 ≤ length taken + n → Goes (place (open_file p text folder (Ok (use_of u ∷ xs)) ∷ outer) handed taken ds) outer handed taken

@@ -4,7 +4,7 @@ use Rattle.witx_base.specs.Paths.{Path, root, path_of, join}
 use Rattle.witx_base.specs.Texts.{same_text}
 use Rattle.witx_files.specs.Files.{same_path}
 use Rattle.witx_syntax_tree.specs.Trees.{NotedItem, typename, handle}
-use Rattle.witx_order.specs.Items.{Item, declaration, use_of, SyntaxFault, Declared}
+use Rattle.witx_order.specs.Items.{TextItem, declaration, use_of, SyntaxFault, Declared}
 use Rattle.witx_order.specs.Walks.{World, Mark, start, decl, skip, end, Place, Next, go, stuck, over, missing, next, beginning, declared_in}
 
 -- the file of a name in the topmost folder
@@ -25,7 +25,7 @@ text_of _ = None
 
 -- `all` uses `left` and `right`, each of which uses `base`; `middle` uses `base` between two declarations; `one` and
 -- `two` use each other; `broken` uses what is lost
-abbrev items_in : List ℕ → List Item
+abbrev items_in : List ℕ → List TextItem
 items_in text =
     if same_text text (codes "all") then use_of (codes "left") ∷ use_of (codes "right") ∷ declaration (named (codes "t")) ∷ []
     else if same_text text (codes "left") then use_of (codes "base") ∷ []

@@ -1,8 +1,8 @@
 -- There is exactly one final front, and its verdict is the verdict.
 use Rattle.std.proofs.Common.{◌≡◌, ℕ, List, [], ◌∷◌, ◌++◌, Bool, true, false, refl, sym, ap, ◌∙◌, subst, length, Option, Some, None, Result, Ok, Err, cond, nat_lt, append_assoc, append-nil}
 use Rattle.witx_base.specs.Paths.{Path, file_name}
-use Rattle.witx_order.specs.Items.{Item, declaration, use_of, Declared, SyntaxFault}
-use Rattle.witx_order.specs.Walks.{World, Mark, start, decl, skip, end, OpenFile, Place, place, Wish, wish, reach, declare, close, unread, nameless, done, handed_wish, inner_wish, outer_wish, Next, go, stuck, over, next, met, started, is_taken, beginning, Marks, none, more, IsWalk, Refusal, faulty}
+use Rattle.witx_order.specs.Items.{TextItem, declaration, use_of, Declared, SyntaxFault}
+use Rattle.witx_order.specs.Walks.{World, Mark, start, decl, skip, end, OpenFile, Place, place, Wish, wish, reach, declare, close, unread, nameless, done, handed_wish, inner_wish, outer_wish, Next, go, stuck, over, next, met, started, is_taken, beginning, Marks, none, more, IsWalk, WalkRefusal, faulty}
 use Rattle.witx_order.specs.Verdicts.{Verdict, fine, refused, Turn, on, ends, turn, turned, passed, checked, Leads, here, along, IsVerdict}
 use Rattle.witx_order.specs.Fronts.{declarations, AreSound, Comes, IsFinal, at_end, at_fault}
 
@@ -27,7 +27,7 @@ outer-keeps : (hs taken : List Path) (ds : List Declared) → Keeps ds (outer_wi
 outer-keeps [] taken ds = tt
 outer-keeps (p ∷ ps) taken ds = handed-keeps (file_name p) p ps taken ds
 
-inner-keeps : (p : Path) (text : List ℕ) (folder : Path) (left : Result (List Item) SyntaxFault) (outer : List OpenFile) (hs taken : List Path) (ds : List Declared) → Keeps ds (inner_wish p text folder left outer hs taken ds)
+inner-keeps : (p : Path) (text : List ℕ) (folder : Path) (left : Result (List TextItem) SyntaxFault) (outer : List OpenFile) (hs taken : List Path) (ds : List Declared) → Keeps ds (inner_wish p text folder left outer hs taken ds)
 inner-keeps p text folder (Err f) outer hs taken ds = tt
 inner-keeps p text folder (Ok []) outer hs taken ds = refl
 inner-keeps p text folder (Ok (declaration x ∷ xs)) outer hs taken ds = refl
@@ -63,7 +63,7 @@ module _ {F : Type 0} where
   fine-same : {a b : List Declared} {v : Verdict F} → v ≡ fine a → v ≡ fine b → a ≡ b
   fine-same p q = cc
 
-  not-fine : {r : Refusal F} {a : List Declared} {v : Verdict F} → v ≡ refused r → v ≡ fine a → ⊥
+  not-fine : {r : WalkRefusal F} {a : List Declared} {v : Verdict F} → v ≡ refused r → v ≡ fine a → ⊥
   not-fine p q = cc
 
 module _ {F : Type 0} (w : World F) where

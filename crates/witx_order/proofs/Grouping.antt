@@ -2,7 +2,7 @@
 use Rattle.std.proofs.Common.{◌≡◌, ℕ, ◌<◌, List, [], ◌∷◌, ◌++◌, Bool, true, false, refl, sym, ap, ◌∙◌, subst, length, Option, Some, None, Result, Ok, Err, cond, nat_lt, ◌⊎◌, inl, inr, append_assoc}
 use Rattle.std.proofs.lemmas.Bool.{ltb-true, lt-ltb}
 use Rattle.witx_base.specs.Paths.{Path, file_name, join, path_of, all_but_last}
-use Rattle.witx_order.specs.Items.{Item, declaration, use_of, Declared, SyntaxFault}
+use Rattle.witx_order.specs.Items.{TextItem, declaration, use_of, Declared, SyntaxFault}
 use Rattle.witx_order.specs.Walks.{World, Mark, start, decl, skip, end, OpenFile, open_file, declared_in, Place, place, wish, reach, handed_wish, inner_wish, Next, go, stuck, over, next, met, reached, started, is_taken, folder_of, Marks, none, more, IsWalk, too_many}
 use Rattle.witx_order.specs.Groups.{Contents, no_items, declared, used, Reached, skipped, opened, Handed, no_paths, handed, StartsOnce}
 
@@ -13,10 +13,10 @@ module _ {F : Type 0} where
   pub same-place : {m n : Mark} {a b : Place} {x : Next F} → x ≡ go m a → x ≡ go n b → a ≡ b
   same-place p q = cc
 
-abbrev pub reads : List Item → Result (List Item) SyntaxFault
+abbrev pub reads : List TextItem → Result (List TextItem) SyntaxFault
 reads xs = Ok xs
 
-pub same-ok : {xs ys : List Item} → reads xs ≡ reads ys → xs ≡ ys
+pub same-ok : {xs ys : List TextItem} → reads xs ≡ reads ys → xs ≡ ys
 same-ok q = cc
 
 module _ {F : Type 0} (w : World F) where
@@ -63,7 +63,7 @@ module _ {F : Type 0} (w : World F) where
 
   -- the marks that are left close a file, and go on behind it
   pub record Closes (f : OpenFile) (ms : List Mark) (Outer : List Mark → Type 0) : Type 0 where
-    pub xs : List Item
+    pub xs : List TextItem
     pub inner : List Mark
     pub outer : List Mark
     pub left_is : f.left ≡ Ok xs
@@ -106,10 +106,10 @@ module _ {F : Type 0} (w : World F) where
       let P : List Mark → Type 0 = λ x. Handed w (p ∷ ps) x in
       subst P (sym g.splits) (handed p n ps g.group g.behind q g.reaches g.rest)
 
-  abbrev inner-goal : Path → List ℕ → Path → Result (List Item) SyntaxFault → List OpenFile → List Path → List Mark → Type 0
+  abbrev inner-goal : Path → List ℕ → Path → Result (List TextItem) SyntaxFault → List OpenFile → List Path → List Mark → Type 0
   inner-goal p text folder left o hs ms = Closes (open_file p text folder left) ms (λ ns. Rest o hs ns)
 
-  inner-step : (p : Path) (text : List ℕ) (folder : Path) (left : Result (List Item) SyntaxFault) (o : List OpenFile) (hs taken : List Path) (ds : List Declared) (m : Mark) (b : Place) (ms : List Mark)
+  inner-step : (p : Path) (text : List ℕ) (folder : Path) (left : Result (List TextItem) SyntaxFault) (o : List OpenFile) (hs taken : List Path) (ds : List Declared) (m : Mark) (b : Place) (ms : List Mark)
       → met w (inner_wish p text folder left o hs taken ds) ≡ go m b → Rest b.open_files b.handed ms → inner-goal p text folder left o hs (m ∷ ms)
   inner-step p text folder (Err f) o hs taken ds m b ms e h = absurd (cc)
   inner-step p text folder (Ok []) o hs taken ds m b ms e h =
@@ -118,7 +118,7 @@ module _ {F : Type 0} (w : World F) where
   inner-step p text folder (Ok (declaration x ∷ xs)) o hs taken ds m b ms e h =
       let P : Place → Type 0 = λ x. Rest x.open_files x.handed ms in
       let k = subst P (sym (same-place refl e)) h in
-      let Q : List Item → Type 0 = λ ys. Contents w p text folder ys k.inner in
+      let Q : List TextItem → Type 0 = λ ys. Contents w p text folder ys k.inner in
       record {
         xs = declaration x ∷ xs;
         inner = decl (declared_in p text x) ∷ k.inner;
@@ -131,7 +131,7 @@ module _ {F : Type 0} (w : World F) where
   inner-step p text folder (Ok (use_of u ∷ xs)) o hs taken ds m b ms e h =
       let g = group-of (place (open_file p text folder (Ok xs) ∷ o) hs taken ds) (join folder (path_of u)) folder m b ms e h in
       let k = g.rest in
-      let Q : List Item → Type 0 = λ ys. Contents w p text folder ys k.inner in
+      let Q : List TextItem → Type 0 = λ ys. Contents w p text folder ys k.inner in
       record {
         xs = use_of u ∷ xs;
         inner = g.group ++ k.inner;
@@ -151,7 +151,7 @@ module _ {F : Type 0} (w : World F) where
   outer-over None p pl e = cc
   outer-over (Some n) p pl e = reach-not pl _ _ _ _ e
 
-  inner-over : (p : Path) (text : List ℕ) (folder : Path) (left : Result (List Item) SyntaxFault) (o : List OpenFile) (hs taken : List Path) (ds : List Declared) → met w (inner_wish p text folder left o hs taken ds) ≡ over → ⊥
+  inner-over : (p : Path) (text : List ℕ) (folder : Path) (left : Result (List TextItem) SyntaxFault) (o : List OpenFile) (hs taken : List Path) (ds : List Declared) → met w (inner_wish p text folder left o hs taken ds) ≡ over → ⊥
   inner-over p text folder (Err f) o hs taken ds e = cc
   inner-over p text folder (Ok []) o hs taken ds e = cc
   inner-over p text folder (Ok (declaration x ∷ xs)) o hs taken ds e = cc
@@ -184,7 +184,7 @@ module _ {F : Type 0} (w : World F) where
   outer-once None p ps taken ds m b ms e h = absurd (cc)
   outer-once (Some n) p ps taken ds m b ms e h = reach-once (place [] ps taken ds) _ _ m b ms e h
 
-  inner-once : (p : Path) (text : List ℕ) (folder : Path) (left : Result (List Item) SyntaxFault) (o : List OpenFile) (hs taken : List Path) (ds : List Declared) (m : Mark) (b : Place) (ms : List Mark)
+  inner-once : (p : Path) (text : List ℕ) (folder : Path) (left : Result (List TextItem) SyntaxFault) (o : List OpenFile) (hs taken : List Path) (ds : List Declared) (m : Mark) (b : Place) (ms : List Mark)
       → met w (inner_wish p text folder left o hs taken ds) ≡ go m b → StartsOnce b.taken ms → StartsOnce taken (m ∷ ms)
   inner-once p text folder (Err f) o hs taken ds m b ms e h = absurd (cc)
   inner-once p text folder (Ok []) o hs taken ds m b ms e h =
@@ -241,14 +241,14 @@ module _ {F : Type 0} (w : World F) where
       ∙ (ap (λ x. cond x (started w (place o hs taken ds) (w.canonical j) d (w.text_at (w.canonical j))) (stuck (too_many (w.canonical j)))) (lt-ltb (length taken) 1024 l)
       ∙ ap (λ x. started w (place o hs taken ds) (w.canonical j) d x) f))
 
-  pub start-next : (a : Place) (o : List OpenFile) (hs taken : List Path) (ds : List Declared) (j d : Path) (text : List ℕ) (xs : List Item) → wish a ≡ reach (place o hs taken ds) j d
+  pub start-next : (a : Place) (o : List OpenFile) (hs taken : List Path) (ds : List Declared) (j d : Path) (text : List ℕ) (xs : List TextItem) → wish a ≡ reach (place o hs taken ds) j d
       → w.text_at (w.canonical j) ≡ Some text → w.reading text ≡ Ok xs → is_taken taken (w.canonical j) ≡ false → length taken < 1024
       → next w a ≡ go (start (w.canonical j) d) (place (open_file (w.canonical j) text (folder_of (w.canonical j) d) (Ok xs) ∷ o) hs (taken ++ w.canonical j ∷ []) ds)
   start-next a o hs taken ds j d text xs e f g t l =
       start-any a o hs taken ds j d text e f t l
       ∙ ap (λ x. go (start (w.canonical j) d) (place (open_file (w.canonical j) text (folder_of (w.canonical j) d) x ∷ o) hs (taken ++ w.canonical j ∷ []) ds)) g
 
-  group-gone : (a : Place) (o : List OpenFile) (hs taken : List Path) (ds : List Declared) (p : Path) (text : List ℕ) (d folder : Path) (xs : List Item) (ms rest : List Mark)
+  group-gone : (a : Place) (o : List OpenFile) (hs taken : List Path) (ds : List Declared) (p : Path) (text : List ℕ) (d folder : Path) (xs : List TextItem) (ms rest : List Mark)
       → next w a ≡ go (start p d) (place (open_file p text folder (Ok xs) ∷ o) hs taken ds)
       → Gone (place (open_file p text folder (Ok xs) ∷ o) hs taken ds) ms (end p ∷ rest) (open_file p text folder (Ok []) ∷ o) hs
       → Gone a (start p d ∷ (ms ++ end p ∷ [])) rest o hs
@@ -260,7 +260,7 @@ module _ {F : Type 0} (w : World F) where
   }
 
   mutual
-    contents-gone : (p : Path) (text : List ℕ) (folder : Path) (xs : List Item) (ms : List Mark) → Contents w p text folder xs ms → (o : List OpenFile) (hs taken : List Path) (ds : List Declared) (rest : List Mark)
+    contents-gone : (p : Path) (text : List ℕ) (folder : Path) (xs : List TextItem) (ms : List Mark) → Contents w p text folder xs ms → (o : List OpenFile) (hs taken : List Path) (ds : List Declared) (rest : List Mark)
         → StartsOnce taken (ms ++ rest) → Gone (place (open_file p text folder (Ok xs) ∷ o) hs taken ds) ms rest (open_file p text folder (Ok []) ∷ o) hs
     contents-gone _ _ _ _ _ (no_items p text folder) o hs taken ds rest h = record { taken = taken; declared = ds; marks = none _; once = h }
     contents-gone _ _ _ _ _ (declared p text folder x xs ms r) o hs taken ds rest h =

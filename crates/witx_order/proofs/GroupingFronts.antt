@@ -2,7 +2,7 @@
 use Rattle.std.proofs.Common.{◌≡◌, ℕ, List, [], ◌∷◌, ◌++◌, refl, sym, ap, ◌∙◌, subst, Option, Some, None, Result, Ok, Err, ◌⊎◌, inl, inr, append_assoc}
 use Rattle.witx_base.specs.Paths.{Path, file_name, join, path_of, all_but_last}
 use Rattle.witx_syntax_tree.specs.Trees.{NotedItem}
-use Rattle.witx_order.specs.Items.{Item, declaration, use_of, Declared, SyntaxFault}
+use Rattle.witx_order.specs.Items.{TextItem, declaration, use_of, Declared, SyntaxFault}
 use Rattle.witx_order.specs.Walks.{World, Mark, start, decl, skip, end, OpenFile, open_file, declared_in, Place, place, wish, reach, handed_wish, inner_wish, go, next, met, reached, is_taken, folder_of, Marks, none, more, IsFront}
 use Rattle.witx_order.specs.Groups.{Contents, no_items, declared, used, Reached, skipped, opened, StartsOnce}
 use Rattle.witx_order.specs.GroupFronts.{ContentsFront, stops, declares, uses, stops_inside, OpenGroup, begun, read, HandedFront, stops_there, hands, stops_in_it, IsGroupedFront}
@@ -11,7 +11,7 @@ use Rattle.witx_order.proofs.Grouping.{same-mark, same-place, same-ok, reach-cas
 module _ {F : Type 0} (w : World F) where
   -- the marks that are left are a front of those of the file's items that are left, and the file stays open
   record Goes (f : OpenFile) (ms : List Mark) : Type 0 where
-    xs : List Item
+    xs : List TextItem
     left_is : f.left ≡ Ok xs
     contents : ContentsFront w f.path f.text f.folder xs ms
 
@@ -68,19 +68,19 @@ module _ {F : Type 0} (w : World F) where
   outer-step (Some n) p ps taken ds m b ms q e h =
       outer-group p n ps taken ds (m ∷ ms) q (group-of (place [] ps taken ds) (join (all_but_last p) (n ∷ [])) (all_but_last p) m b ms e h)
 
-  abbrev Inner : Path → List ℕ → Path → List Item → List OpenFile → List Path → List Mark → Type 0
+  abbrev Inner : Path → List ℕ → Path → List TextItem → List OpenFile → List Path → List Mark → Type 0
   Inner p text folder xs o hs ms = Rest (open_file p text folder (Ok xs) ∷ o) hs ms
 
   -- behind a declaration
-  declared-step : (p : Path) (text : List ℕ) (folder : Path) (xs : List Item) (o : List OpenFile) (hs : List Path) (x : NotedItem) (ms : List Mark)
+  declared-step : (p : Path) (text : List ℕ) (folder : Path) (xs : List TextItem) (o : List OpenFile) (hs : List Path) (x : NotedItem) (ms : List Mark)
       → Inner p text folder xs o hs ms → Inner p text folder (declaration x ∷ xs) o hs (decl (declared_in p text x) ∷ ms)
   declared-step p text folder xs o hs x ms (inl (inl none_left)) =
       inl (inr (record { xs = declaration x ∷ xs; left_is = refl; contents = declares p text folder x xs ms (subst (λ y. ContentsFront w p text folder xs y) (sym none_left) (stops p text folder xs)) }))
   declared-step p text folder xs o hs x ms (inl (inr k)) =
-      let Q : List Item → Type 0 = λ ys. ContentsFront w p text folder ys ms in
+      let Q : List TextItem → Type 0 = λ ys. ContentsFront w p text folder ys ms in
       inl (inr (record { xs = declaration x ∷ xs; left_is = refl; contents = declares p text folder x xs ms (subst Q (sym (same-ok k.left_is)) k.contents) }))
   declared-step p text folder xs o hs x ms (inr k) =
-      let Q : List Item → Type 0 = λ ys. Contents w p text folder ys k.inner in
+      let Q : List TextItem → Type 0 = λ ys. Contents w p text folder ys k.inner in
       inr (record {
         xs = declaration x ∷ xs;
         inner = decl (declared_in p text x) ∷ k.inner;
@@ -92,15 +92,15 @@ module _ {F : Type 0} (w : World F) where
       })
 
   -- behind a whole group
-  used-step : (p : Path) (text : List ℕ) (folder : Path) (xs : List Item) (o : List OpenFile) (hs : List Path) (u : List ℕ) (group ms : List Mark)
+  used-step : (p : Path) (text : List ℕ) (folder : Path) (xs : List TextItem) (o : List OpenFile) (hs : List Path) (u : List ℕ) (group ms : List Mark)
       → Reached w (join folder (path_of u)) folder group → Inner p text folder xs o hs ms → Inner p text folder (use_of u ∷ xs) o hs (group ++ ms)
   used-step p text folder xs o hs u group ms g (inl (inl none_left)) =
       inl (inr (record { xs = use_of u ∷ xs; left_is = refl; contents = uses p text folder u xs group ms g (subst (λ y. ContentsFront w p text folder xs y) (sym none_left) (stops p text folder xs)) }))
   used-step p text folder xs o hs u group ms g (inl (inr k)) =
-      let Q : List Item → Type 0 = λ ys. ContentsFront w p text folder ys ms in
+      let Q : List TextItem → Type 0 = λ ys. ContentsFront w p text folder ys ms in
       inl (inr (record { xs = use_of u ∷ xs; left_is = refl; contents = uses p text folder u xs group ms g (subst Q (sym (same-ok k.left_is)) k.contents) }))
   used-step p text folder xs o hs u group ms g (inr k) =
-      let Q : List Item → Type 0 = λ ys. Contents w p text folder ys k.inner in
+      let Q : List TextItem → Type 0 = λ ys. Contents w p text folder ys k.inner in
       inr (record {
         xs = use_of u ∷ xs;
         inner = group ++ k.inner;
@@ -111,7 +111,7 @@ module _ {F : Type 0} (w : World F) where
         rest = k.rest;
       })
 
-  inner-group : (p : Path) (text : List ℕ) (folder : Path) (xs : List Item) (o : List OpenFile) (hs taken : List Path) (ds : List Declared) (u : List ℕ) (ms : List Mark)
+  inner-group : (p : Path) (text : List ℕ) (folder : Path) (xs : List TextItem) (o : List OpenFile) (hs taken : List Path) (ds : List Declared) (u : List ℕ) (ms : List Mark)
       → Group (place (open_file p text folder (Ok xs) ∷ o) hs taken ds) (join folder (path_of u)) folder ms ⊎ OpenGroup w (join folder (path_of u)) folder ms
       → Inner p text folder (use_of u ∷ xs) o hs ms
   inner-group p text folder xs o hs taken ds u ms (inl g) =
@@ -119,7 +119,7 @@ module _ {F : Type 0} (w : World F) where
       subst P (sym g.splits) (used-step p text folder xs o hs u g.group g.behind g.reaches g.rest)
   inner-group p text folder xs o hs taken ds u ms (inr g) = inl (inr (record { xs = use_of u ∷ xs; left_is = refl; contents = stops_inside p text folder u xs ms g }))
 
-  inner-step : (p : Path) (text : List ℕ) (folder : Path) (left : Result (List Item) SyntaxFault) (o : List OpenFile) (hs taken : List Path) (ds : List Declared) (m : Mark) (b : Place) (ms : List Mark)
+  inner-step : (p : Path) (text : List ℕ) (folder : Path) (left : Result (List TextItem) SyntaxFault) (o : List OpenFile) (hs taken : List Path) (ds : List Declared) (m : Mark) (b : Place) (ms : List Mark)
       → met w (inner_wish p text folder left o hs taken ds) ≡ go m b → Rest b.open_files b.handed ms → Rest (open_file p text folder left ∷ o) hs (m ∷ ms)
   inner-step p text folder (Err f) o hs taken ds m b ms e h = absurd (cc)
   inner-step p text folder (Ok []) o hs taken ds m b ms e h =
@@ -153,7 +153,7 @@ module _ {F : Type 0} (w : World F) where
   Led a ms = (b : Place) × Marks w a ms b
 
   mutual
-    contents-led : (p : Path) (text : List ℕ) (folder : Path) (xs : List Item) (ms : List Mark) → ContentsFront w p text folder xs ms
+    contents-led : (p : Path) (text : List ℕ) (folder : Path) (xs : List TextItem) (ms : List Mark) → ContentsFront w p text folder xs ms
         → (o : List OpenFile) (hs taken : List Path) (ds : List Declared) → StartsOnce taken ms → Led (place (open_file p text folder (Ok xs) ∷ o) hs taken ds) ms
     contents-led _ _ _ _ _ (stops p text folder xs) o hs taken ds h = (_, none _)
     contents-led _ _ _ _ _ (declares p text folder x xs ms r) o hs taken ds h =

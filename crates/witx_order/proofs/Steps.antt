@@ -4,7 +4,7 @@ use Rattle.std.proofs.lemmas.Bool.{lt-ltb}
 use Rattle.std.proofs.lemmas.Bool.Decides.{nat_tests}
 use Rattle.witx_base.specs.Paths.{Path}
 use Rattle.witx_syntax_tree.specs.Trees.{NotedItem}
-use Rattle.witx_order.specs.Items.{Item, declaration, Declared, SyntaxFault}
+use Rattle.witx_order.specs.Items.{TextItem, declaration, Declared, SyntaxFault}
 use Rattle.witx_order.specs.Walks.{World, Mark, start, decl, skip, end, OpenFile, open_file, declared_in, Place, place, reach, wish, met, reached, started, go, stuck, is_taken, folder_of, too_many, missing, unreadable, faulty}
 use Rattle.witx_order.specs.Verdicts.{Verdict, refused, on, ends, turn, turned, checked, Leads, here, along, Ends}
 
@@ -53,19 +53,19 @@ module _ {F : Type 0} (w : World F) where
     starts text t l n = one pl (start p d) _ (room-turn t l ∙ ap (λ x. turned w pl.declared (started w (place outer handed taken ds) p d x)) n)
 
   module _ (p : Path) (text : List ℕ) (folder : Path) (outer : List OpenFile) (handed taken : List Path) (ds : List Declared) where
-    pub unread-ends : (left : Result (List Item) SyntaxFault) (f : SyntaxFault) → left ≡ Err f
+    pub unread-ends : (left : Result (List TextItem) SyntaxFault) (f : SyntaxFault) → left ≡ Err f
         → Ends w (place (open_file p text folder left ∷ outer) handed taken ds) (refused (unreadable p f))
     unread-ends left f e = stopped _ _ (ap (λ x. turn w (place (open_file p text folder x ∷ outer) handed taken ds)) e)
 
     pub closes : Leads w (place (open_file p text folder (Ok []) ∷ outer) handed taken ds) (place outer handed taken ds)
     closes = one _ (end p) _ refl
 
-    pub declares : (x : NotedItem) (xs : List Item) → w.fault_of ds (declared_in p text x) ≡ None
+    pub declares : (x : NotedItem) (xs : List TextItem) → w.fault_of ds (declared_in p text x) ≡ None
         → Leads w (place (open_file p text folder (Ok (declaration x ∷ xs)) ∷ outer) handed taken ds) (place (open_file p text folder (Ok xs) ∷ outer) handed taken (ds ++ declared_in p text x ∷ []))
     declares x xs e = one _ (decl (declared_in p text x)) _
         (ap (λ o. checked o (decl (declared_in p text x)) (place (open_file p text folder (Ok xs) ∷ outer) handed taken (ds ++ declared_in p text x ∷ []))) e)
 
-    pub faulty-ends : (x : NotedItem) (xs : List Item) (f : F) → w.fault_of ds (declared_in p text x) ≡ Some f
+    pub faulty-ends : (x : NotedItem) (xs : List TextItem) (f : F) → w.fault_of ds (declared_in p text x) ≡ Some f
         → Ends w (place (open_file p text folder (Ok (declaration x ∷ xs)) ∷ outer) handed taken ds) (refused (faulty f))
     faulty-ends x xs f e = stopped _ _
         (ap (λ o. checked o (decl (declared_in p text x)) (place (open_file p text folder (Ok xs) ∷ outer) handed taken (ds ++ declared_in p text x ∷ []))) e)

@@ -2,7 +2,7 @@
 use Rattle.std.proofs.Common.{◌≡◌, ℕ, ◌≤◌, List, [], ◌∷◌, ◌++◌, Bool, true, false, refl, subst, length, Option, Some, None, Result, Ok, Err, cond, nat_lt, arith, inl, inr, ◌⊎◌}
 use Rattle.std.proofs.lemmas.Bool.Decides.{nat_tests}
 use Rattle.witx_base.specs.Paths.{Path, file_name}
-use Rattle.witx_order.specs.Items.{Item, declaration, use_of, Declared, SyntaxFault}
+use Rattle.witx_order.specs.Items.{TextItem, declaration, use_of, Declared, SyntaxFault}
 use Rattle.witx_order.specs.Walks.{World, skip, OpenFile, Place, place, Wish, wish, reach, declare, close, unread, nameless, done, handed_wish, inner_wish, outer_wish, Next, go, stuck, over, next, met, reached, started, is_taken, bad_path, too_many, missing, unreadable, faulty}
 
 no-less : (m n : ℕ) → nat_lt m n ≡ false → n ≤ m
@@ -25,7 +25,7 @@ outer-leaves : (hs taken : List Path) (ds : List Declared) → LeavesTaken taken
 outer-leaves [] taken ds = tt
 outer-leaves (p ∷ ps) taken ds = handed-leaves (file_name p) p ps taken ds
 
-inner-leaves : (p : Path) (text : List ℕ) (folder : Path) (left : Result (List Item) SyntaxFault) (outer : List OpenFile) (hs taken : List Path) (ds : List Declared) → LeavesTaken taken (inner_wish p text folder left outer hs taken ds)
+inner-leaves : (p : Path) (text : List ℕ) (folder : Path) (left : Result (List TextItem) SyntaxFault) (outer : List OpenFile) (hs taken : List Path) (ds : List Declared) → LeavesTaken taken (inner_wish p text folder left outer hs taken ds)
 inner-leaves p text folder (Err f) outer hs taken ds = tt
 inner-leaves p text folder (Ok []) outer hs taken ds = refl
 inner-leaves p text folder (Ok (declaration x ∷ xs)) outer hs taken ds = refl

@@ -3,27 +3,27 @@
 use Rattle.std.specs.Prelude.{◌≡◌, ℕ, List, [], ◌∷◌, ◌++◌, Some, Ok}
 use Rattle.witx_base.specs.Paths.{Path, join, path_of, all_but_last, file_name}
 use Rattle.witx_syntax_tree.specs.Trees.{NotedItem}
-use Rattle.witx_order.specs.Items.{Item, declaration, use_of}
+use Rattle.witx_order.specs.Items.{TextItem, declaration, use_of}
 use Rattle.witx_order.specs.Walks.{World, Mark, start, decl, declared_in, folder_of}
 use Rattle.witx_order.specs.Groups.{Reached, StartsOnce}
 
 mutual
   -- a front of the marks of these items: it stops before any of them, or inside the group of one that is a use
-  pub data ContentsFront {F : Type 0} (w : World F) : Path → List ℕ → Path → List Item → List Mark → Type 0 where
-    stops : (path : Path) (text : List ℕ) (folder : Path) (items : List Item) → ContentsFront w path text folder items []
-    declares : (path : Path) (text : List ℕ) (folder : Path) (item : NotedItem) (items : List Item) (marks : List Mark)
+  pub data ContentsFront {F : Type 0} (w : World F) : Path → List ℕ → Path → List TextItem → List Mark → Type 0 where
+    stops : (path : Path) (text : List ℕ) (folder : Path) (items : List TextItem) → ContentsFront w path text folder items []
+    declares : (path : Path) (text : List ℕ) (folder : Path) (item : NotedItem) (items : List TextItem) (marks : List Mark)
         → ContentsFront w path text folder items marks → ContentsFront w path text folder (declaration item ∷ items) (decl (declared_in path text item) ∷ marks)
-    uses : (path : Path) (text : List ℕ) (folder : Path) (named : List ℕ) (items : List Item) (group marks : List Mark)
+    uses : (path : Path) (text : List ℕ) (folder : Path) (named : List ℕ) (items : List TextItem) (group marks : List Mark)
         → Reached w (join folder (path_of named)) folder group → ContentsFront w path text folder items marks
         → ContentsFront w path text folder (use_of named ∷ items) (group ++ marks)
-    stops_inside : (path : Path) (text : List ℕ) (folder : Path) (named : List ℕ) (items : List Item) (group : List Mark)
+    stops_inside : (path : Path) (text : List ℕ) (folder : Path) (named : List ℕ) (items : List TextItem) (group : List Mark)
         → OpenGroup w (join folder (path_of named)) folder group → ContentsFront w path text folder (use_of named ∷ items) group
 
   -- a group that has started and is still open: its start alone, whatever the text is, or behind it a front of its items' marks
   pub data OpenGroup {F : Type 0} (w : World F) : Path → Path → List Mark → Type 0 where
     begun : (joined directory : Path) (text : List ℕ) → w.text_at (w.canonical joined) ≡ Some text
         → OpenGroup w joined directory (start (w.canonical joined) directory ∷ [])
-    read : (joined directory : Path) (text : List ℕ) (items : List Item) (marks : List Mark)
+    read : (joined directory : Path) (text : List ℕ) (items : List TextItem) (marks : List Mark)
         → w.text_at (w.canonical joined) ≡ Some text → w.reading text ≡ Ok items
         → ContentsFront w (w.canonical joined) text (folder_of (w.canonical joined) directory) items marks
         → OpenGroup w joined directory (start (w.canonical joined) directory ∷ marks)

@@ -2,23 +2,23 @@
 -- A declaration of the reading order keeps the path and the text in which it stands, since its locations depend on them.
 use Rattle.std.specs.Prelude.{ℕ, List, map}
 use Rattle.witx_base.specs.Paths.{Path}
-use Rattle.witx_syntax_tree.specs.Trees.{Document, NotedItem, ItemTree, uses, typename, module_of, constant}
+use Rattle.witx_syntax_tree.specs.Trees.{Document, NotedItem, FormTree, uses, typename, module_of, constant}
 
 -- a top-level form: a declaration with its comments, or the path of a file that is used
-pub data Item : Type 0 where
-  declaration : NotedItem → Item
-  use_of : List ℕ → Item
+pub data TextItem : Type 0 where
+  declaration : NotedItem → TextItem
+  use_of : List ℕ → TextItem
 
-abbrev pub item_at : NotedItem → ItemTree → Item
+abbrev pub item_at : NotedItem → FormTree → TextItem
 item_at noted (uses path) = use_of path
 item_at noted (typename name type_) = declaration noted
 item_at noted (module_of name items) = declaration noted
 item_at noted (constant comments type_name name value) = declaration noted
 
-abbrev pub item_of : NotedItem → Item
+abbrev pub item_of : NotedItem → TextItem
 item_of noted = item_at noted noted.item
 
-abbrev pub items_of : Document → List Item
+abbrev pub items_of : Document → List TextItem
 items_of document = map item_of document
 
 -- a declaration, with the path and the text of its file

@@ -3,7 +3,7 @@ use Rattle.std.specs.Prelude.{◌≡◌, List, [], ◌∷◌, ◌++◌}
 use Rattle.std.specs.List.{AllByRecursion}
 use Rattle.witx_base.specs.Paths.{Path}
 use Rattle.witx_order.specs.Items.{Declared}
-use Rattle.witx_order.specs.Walks.{World, Mark, Place, go, next, beginning, Marks, IsFront, IsRead, IsWalk}
+use Rattle.witx_order.specs.Walks.{World, Mark, Place, go, next, beginning, Marks, IsFront, IsReadDeclaration, IsWalk}
 use Rattle.witx_order.specs.Groups.{IsGrouped}
 use Rattle.witx_order.specs.GroupFronts.{IsGroupedFront}
 use Rattle.witx_order.specs.Verdicts.{Verdict, fine, IsVerdict}
@@ -52,4 +52,4 @@ NextMark F = (w : World F) (handed : List Path) (marks : List Mark) (last : Plac
 -- each declaration of a walk is an item of the text that its path has
 abbrev pub DeclaredWhereRead : Type 0 → Type 0
 DeclaredWhereRead F = (w : World F) (handed : List Path) (marks : List Mark) (declared : List Declared)
-    → IsWalk w handed marks declared → AllByRecursion (IsRead w) declared
+    → IsWalk w handed marks declared → AllByRecursion (IsReadDeclaration w) declared

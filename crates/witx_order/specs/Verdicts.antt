@@ -3,12 +3,12 @@
 use Rattle.std.specs.Prelude.{◌≡◌, List, Option, None, Some}
 use Rattle.witx_base.specs.Paths.{Path}
 use Rattle.witx_order.specs.Items.{Declared}
-use Rattle.witx_order.specs.Walks.{World, Mark, start, decl, skip, end, Place, Next, go, stuck, over, Refusal, faulty, next, beginning}
+use Rattle.witx_order.specs.Walks.{World, Mark, start, decl, skip, end, Place, Next, go, stuck, over, WalkRefusal, faulty, next, beginning}
 
 -- the declarations in reading order, none of which has a fault; or the refusal with its place
 pub data Verdict (F : Type 0) : Type 0 where
   fine : List Declared → Verdict F
-  refused : Refusal F → Verdict F
+  refused : WalkRefusal F → Verdict F
 
 pub data Turn (F : Type 0) : Type 0 where
   on : Mark → Place → Turn F

@@ -6,14 +6,14 @@ use Rattle.std.specs.Prelude.{◌≡◌, ℕ, List, [], ◌∷◌, ◌++◌, len
 use Rattle.witx_base.specs.Paths.{Path, join, path_of, parent, all_but_last, file_name}
 use Rattle.witx_files.specs.Files.{same_path}
 use Rattle.witx_syntax_tree.specs.Trees.{NotedItem}
-use Rattle.witx_order.specs.Items.{Item, declaration, use_of, Declared, SyntaxFault}
+use Rattle.witx_order.specs.Items.{TextItem, declaration, use_of, Declared, SyntaxFault}
 
 -- the text of each path that has a file, the path that each path stands for, what a text consists of or why it is no
 -- document, and the fault of a declaration behind those before it, if it has one
 pub record World (F : Type 0) : Type 0 where
   pub text_at : Path → Option (List ℕ)
   pub canonical : Path → Path
-  pub reading : List ℕ → Result (List Item) SyntaxFault
+  pub reading : List ℕ → Result (List TextItem) SyntaxFault
   pub fault_of : List Declared → Declared → Option F
 
 -- the path of a file that starts and the directory that led to it; a declaration; the path of a file that stands earlier;
@@ -29,7 +29,7 @@ pub record OpenFile : Type 0 where
   pub path : Path
   pub text : List ℕ
   pub folder : Path
-  pub left : Result (List Item) SyntaxFault
+  pub left : Result (List TextItem) SyntaxFault
 
 -- where a list of marks has come to: the open files, the innermost first; the handed paths to come; the paths that have
 -- started; and the declarations so far
@@ -42,7 +42,7 @@ pub record Place : Type 0 where
 abbrev pub place : List OpenFile → List Path → List Path → List Declared → Place
 place open_files handed taken declared = record { open_files = open_files; handed = handed; taken = taken; declared = declared }
 
-abbrev pub open_file : Path → List ℕ → Path → Result (List Item) SyntaxFault → OpenFile
+abbrev pub open_file : Path → List ℕ → Path → Result (List TextItem) SyntaxFault → OpenFile
 open_file path text folder left = record { path = path; text = text; folder = folder; left = left }
 
 abbrev pub declared_in : Path → List ℕ → NotedItem → Declared
@@ -72,7 +72,7 @@ abbrev pub handed_wish : Option (List ℕ) → Path → Place → Wish
 handed_wish None path behind = nameless path
 handed_wish (Some name) path behind = reach behind (join (all_but_last path) (name ∷ [])) (all_but_last path)
 
-abbrev pub item_wish : Path → List ℕ → Path → Item → Place → Wish
+abbrev pub item_wish : Path → List ℕ → Path → TextItem → Place → Wish
 item_wish path text folder (declaration item) behind =
     declare (declared_in path text item) (record behind { declared = behind.declared ++ declared_in path text item ∷ [] })
 item_wish path text folder (use_of used) behind = reach behind (join folder (path_of used)) folder
@@ -81,7 +81,7 @@ abbrev pub outer_wish : List Path → List Path → List Declared → Wish
 outer_wish [] taken declared = done
 outer_wish (path ∷ handed) taken declared = handed_wish (file_name path) path (place [] handed taken declared)
 
-abbrev pub inner_wish : Path → List ℕ → Path → Result (List Item) SyntaxFault → List OpenFile → List Path → List Path → List Declared → Wish
+abbrev pub inner_wish : Path → List ℕ → Path → Result (List TextItem) SyntaxFault → List OpenFile → List Path → List Path → List Declared → Wish
 inner_wish path text folder (Err fault) outer handed taken declared = unread path fault
 inner_wish path text folder (Ok []) outer handed taken declared = close path (place outer handed taken declared)
 inner_wish path text folder (Ok (item ∷ left)) outer handed taken declared =
@@ -97,16 +97,16 @@ wish at = wish_at at.open_files at.handed at.taken at.declared
 -- ---- what comes of a wish
 
 -- why there is no next mark before the end
-pub data Refusal (F : Type 0) : Type 0 where
-  bad_path : Path → Refusal F
-  too_many : Path → Refusal F
-  missing : Path → Refusal F
-  unreadable : Path → SyntaxFault → Refusal F
-  faulty : F → Refusal F
+pub data WalkRefusal (F : Type 0) : Type 0 where
+  bad_path : Path → WalkRefusal F
+  too_many : Path → WalkRefusal F
+  missing : Path → WalkRefusal F
+  unreadable : Path → SyntaxFault → WalkRefusal F
+  faulty : F → WalkRefusal F
 
 pub data Next (F : Type 0) : Type 0 where
   go : Mark → Place → Next F
-  stuck : Refusal F → Next F
+  stuck : WalkRefusal F → Next F
   over : Next F
 
 -- so many files may start
@@ -155,8 +155,8 @@ abbrev pub IsFront : {F : Type 0} → World F → List Path → List Mark → Ty
 IsFront w handed marks = (last : Place) × Marks w (beginning handed) marks last
 
 -- the declaration is an item of its text, which its path has
-abbrev pub IsRead : {F : Type 0} → World F → Declared → Type 0
-IsRead w δ = (w.text_at δ.path ≡ Some δ.text) × ((before after : List Item) × (w.reading δ.text ≡ Ok (before ++ declaration δ.item ∷ after)))
+abbrev pub IsReadDeclaration : {F : Type 0} → World F → Declared → Type 0
+IsReadDeclaration w δ = (w.text_at δ.path ≡ Some δ.text) × ((before after : List TextItem) × (w.reading δ.text ≡ Ok (before ++ declaration δ.item ∷ after)))
 
 -- a walk, with its declarations: the reading order
 pub record IsWalk {F : Type 0} (w : World F) (handed : List Path) (marks : List Mark) (declared : List Declared) : Type 0 where

@@ -2,7 +2,7 @@
 use Rattle.std.proofs.Common.{◌≡◌, ◌≢◌, ℕ, ◌+◌, ◌≤◌, Bool, true, false, not, cond, List, [], ◌∷◌, ◌++◌, map, filter, refl, subst}
 use Rattle.std.specs.Prelude.{codes, IsTrue}
 use Rattle.std.specs.List.{list_all}
-use Rattle.witx_lex.specs.Characters.{is_name, dollar}
+use Rattle.witx_lex.specs.Characters.{is_name_character, dollar}
 use Rattle.witx_lex.specs.Tokens.{annot as annot_token}
 use Rattle.witx_lex.specs.Meaning.{run_token}
 use Rattle.witx_ast.specs.declared.function.Abi.{Abi}
@@ -16,9 +16,9 @@ use Rattle.witx_ast.specs.Functions.{FunctionTree}
 use Rattle.witx_ast.specs.Items.{ItemTree, import_of, func_of}
 use Rattle.witx_ast.specs.Definitions.{DefinitionTree, ModuleTree, typename_of, module_of, constant_of}
 use Rattle.witx_render.specs.Expressions.{SExpr, vec, word, ident, quote, annot, docs, SExprs, nil, cons, ◌▹◌, exprs_of, with_docs}
-use Rattle.witx_render.specs.TypeExpressions.{builtin_expr, repr_expr, width_expr, are_bare, variant_expr, record_expr, type_expr, member_exprs, case_exprs}
-use Rattle.witx_render.specs.ModuleExpressions.{param_exprs, noreturn_mark, stored_mark, marks, func_parts, item_expr, item_exprs, is_import, is_func, items_in_order}
-use Rattle.witx_render.specs.DocumentTexts.{typename_expr, definition_expr, is_typename, is_module, in_order, document_exprs}
+use Rattle.witx_render.specs.TypeExpressions.{builtin_expr, repr_expr, width_expr, have_no_payload, variant_expr, record_expr, type_expr, member_exprs, case_exprs}
+use Rattle.witx_render.specs.ModuleExpressions.{param_exprs, noreturn_mark, stored_expressions, marks, func_parts, item_expr, item_exprs, is_import, is_func, items_in_order}
+use Rattle.witx_render.specs.DocumentTexts.{typename_expr, definition_expr, is_typename, is_module, typenames_first, document_exprs}
 use Rattle.witx_read_back.specs.DocumentTexts.{FlagTexts, RecordTexts, TypeTexts, TupleTexts, FieldTexts, CaseTexts, ParamTexts, ItemTexts, ItemsTexts, DefinitionTexts, DocumentTexts}
 use Rattle.witx_read_back.proofs.Readable.{IsRun, IsIdentifier, IsQuotable, IsComment, readable}
 use Rattle.witx_read_back.specs.Plain.{Nests, AllNest, LinesNest}
@@ -59,7 +59,7 @@ not_one : (b c d : ℕ) (s : List ℕ) → b ∷ c ∷ s ≡ d ∷ [] → ⊥
 not_one b c d s e = cc
 
 -- each word of the print is a run
-run_of : (b c : ℕ) (s : List ℕ) → list_all is_name (b ∷ c ∷ s) ≡ true → IsRun (b ∷ c ∷ s)
+run_of : (b c : ℕ) (s : List ℕ) → list_all is_name_character (b ∷ c ∷ s) ≡ true → IsRun (b ∷ c ∷ s)
 run_of b c s e = (two_or_more b c s, e, not_one b c dollar s)
 
 at_witx : Tidy (annot (codes "witx"))
@@ -123,7 +123,7 @@ mutual
   type_tidy (Tree.pointer_to t) w = (at_witx, (run_of _ _ _ refl, (type_tidy t w, tt)))
   type_tidy (Tree.const_pointer_to t) w = (at_witx, (run_of _ _ _ refl, (type_tidy t w, tt)))
   type_tidy (Tree.record_of kind ms) w = record_tidy kind ms (TupleTexts readable ms) (FieldTexts readable ms) w (λ x. types_tidy ms x) (λ x. fields_tidy ms x)
-  type_tidy (Tree.variant_of r cs) w = variant_tidy (is_bool_arms (arm_list cs)) (are_bare cs) r cs w (cases_tidy cs w)
+  type_tidy (Tree.variant_of r cs) w = variant_tidy (is_bool_arms (arm_list cs)) (have_no_payload cs) r cs w (cases_tidy cs w)
 
   types_tidy : (ms : ast.Fields) → TupleTexts readable ms → AllTidy (member_exprs RecordKind.Tuple ms)
   types_tidy ast.no_fields w = tt
@@ -140,16 +140,16 @@ mutual
 
 -- ---- functions, modules, documents
 
-params_tidy : (b c : ℕ) (s : List ℕ) (ps : List Field) (more : SExprs) → list_all is_name (b ∷ c ∷ s) ≡ true → ParamTexts readable ps → AllTidy more → AllTidy (param_exprs (b ∷ c ∷ s) ps more)
+params_tidy : (b c : ℕ) (s : List ℕ) (ps : List Field) (more : SExprs) → list_all is_name_character (b ∷ c ∷ s) ≡ true → ParamTexts readable ps → AllTidy more → AllTidy (param_exprs (b ∷ c ∷ s) ps more)
 params_tidy b c s [] more e w h = h
 params_tidy b c s (p ∷ ps) more e w h =
     (under_docs p.comment (vec (word (b ∷ c ∷ s) ▹ ident p.called ▹ type_expr p.tree ▹ nil)) w.1 (run_of b c s e, (w.0, (type_tidy p.tree w.2, tt))), params_tidy b c s ps more e w.3 h)
 
-stored_tidy : (abi : Abi) → AllTidy (exprs_of (stored_mark abi))
+stored_tidy : (abi : Abi) → AllTidy (exprs_of (stored_expressions abi))
 stored_tidy Abi.Preview1 = tt
 stored_tidy Abi.Stored = ((at_witx, (run_of _ _ _ refl, tt)), tt)
 
-marks_tidy : (b : Bool) (abi : Abi) → AllTidy (exprs_of (noreturn_mark b ++ stored_mark abi))
+marks_tidy : (b : Bool) (abi : Abi) → AllTidy (exprs_of (noreturn_mark b ++ stored_expressions abi))
 marks_tidy true abi = ((at_witx, (run_of _ _ _ refl, tt)), stored_tidy abi)
 marks_tidy false abi = stored_tidy abi
 
@@ -214,4 +214,4 @@ lines_lexable (x ∷ ds) w d = (lexable 0 (definition_expr x) d.0 (definition_ti
 
 -- a clean document whose expressions open few parentheses can be read
 pub clean_lexable : (ds : List DefinitionTree) → DocumentTexts readable ds → LinesNest (document_exprs ds) → LinesLexable (document_exprs ds)
-clean_lexable ds w d = lines_lexable (in_order ds) (clean_both (filter is_typename ds) (filter is_module ds) (clean_filter is_typename ds w) (clean_filter is_module ds w)) d
+clean_lexable ds w d = lines_lexable (typenames_first ds) (clean_both (filter is_typename ds) (filter is_module ds) (clean_filter is_typename ds w) (clean_filter is_module ds w)) d

@@ -18,7 +18,7 @@ use Rattle.witx_scope.specs.Names.{Here, Sense, a_type}
 use Rattle.witx_scope.specs.Trees.{tree_meant}
 use Rattle.witx_scope.specs.Checks.{type_checks}
 use Rattle.witx_scope.specs.Modules.{items_checks, item_meant, item_called}
-use Rattle.witx_scope.specs.Positions.{Outcome, made_type, made_module, Taken, is_name, introducer, sense_from, sense_after, after, first_place, declared_name}
+use Rattle.witx_scope.specs.Positions.{DeclarationOutcome, made_type, made_module, TakenName, is_same_name, introducer, sense_from, sense_after, after, first_place, declared_name}
 use Rattle.witx_scope.specs.DeclarationForms.{DeclForm, typename_form, module_form}
 use Rattle.witx_scope.specs.Declarations.{Past, decl_checks, decl_tree, accepted}
 use Rattle.witx_order.specs.Items.{Declared}
@@ -36,7 +36,7 @@ use Rattle.witx_read_back.proofs.ItemsFine.{items_pass, items_mean}
 
 -- ---- what stands before a declaration, and what is known
 
-abbrev TracksAt : Option Taken → Option (Option Tree) → Type 0
+abbrev TracksAt : Option TakenName → Option (Option Tree) → Type 0
 TracksAt None None = Unit {0}
 TracksAt None (Some x) = ⊥
 TracksAt (Some t) None = ⊥
@@ -46,7 +46,7 @@ TracksAt (Some t) (Some (Some u)) = (v : Tree) × (t.outcome ≡ made_type v) ×
 abbrev pub Tracks : Past → Known → Type 0
 Tracks past known = (n : List ℕ) → TracksAt (introducer past.taken n) (found known n)
 
-introducer_cond : (b : Bool) (t : Taken) (o p q : Option Taken) → o ≡ or_else p q → cond b (Some t) o ≡ or_else (cond b (Some t) p) q
+introducer_cond : (b : Bool) (t : TakenName) (o p q : Option TakenName) → o ≡ or_else p q → cond b (Some t) o ≡ or_else (cond b (Some t) p) q
 introducer_cond true t o p q e = refl
 introducer_cond false t o p q e = e
 
@@ -54,48 +54,48 @@ found_cond : (b : Bool) (t : Option Tree) (o p q : Option (Option Tree)) → o �
 found_cond true t o p q e = refl
 found_cond false t o p q e = e
 
-pub introducer_append : (ts : List Taken) (x : Taken) (n : List ℕ) → introducer (ts ++ x ∷ []) n ≡ or_else (introducer ts n) (cond (is_name n x.name) (Some x) None)
+pub introducer_append : (ts : List TakenName) (x : TakenName) (n : List ℕ) → introducer (ts ++ x ∷ []) n ≡ or_else (introducer ts n) (cond (is_same_name n x.name) (Some x) None)
 introducer_append [] x n = refl
-introducer_append (t ∷ ts) x n = introducer_cond (is_name n t.name) t (introducer (ts ++ x ∷ []) n) (introducer ts n) (cond (is_name n x.name) (Some x) None) (introducer_append ts x n)
+introducer_append (t ∷ ts) x n = introducer_cond (is_same_name n t.name) t (introducer (ts ++ x ∷ []) n) (introducer ts n) (cond (is_same_name n x.name) (Some x) None) (introducer_append ts x n)
 
-pub found_append : (es : Known) (m : List ℕ) (x : Option Tree) (n : List ℕ) → found (es ++ (m, x) ∷ []) n ≡ or_else (found es n) (cond (is_name n m) (Some x) None)
+pub found_append : (es : Known) (m : List ℕ) (x : Option Tree) (n : List ℕ) → found (es ++ (m, x) ∷ []) n ≡ or_else (found es n) (cond (is_same_name n m) (Some x) None)
 found_append [] m x n = refl
-found_append (e ∷ es) m x n = found_cond (is_name n e.0) e.1 (found (es ++ (m, x) ∷ []) n) (found es n) (cond (is_name n m) (Some x) None) (found_append es m x n)
+found_append (e ∷ es) m x n = found_cond (is_same_name n e.0) e.1 (found (es ++ (m, x) ∷ []) n) (found es n) (cond (is_same_name n m) (Some x) None) (found_append es m x n)
 
-tracks_else : (a c : Option Taken) (b d : Option (Option Tree)) → TracksAt a b → TracksAt c d → TracksAt (or_else a c) (or_else b d)
+tracks_else : (a c : Option TakenName) (b d : Option (Option Tree)) → TracksAt a b → TracksAt c d → TracksAt (or_else a c) (or_else b d)
 tracks_else None c None d h k = k
 tracks_else None c (Some x) d h k = absurd h
 tracks_else (Some t) c None d h k = absurd h
 tracks_else (Some t) c (Some None) d h k = tt
 tracks_else (Some t) c (Some (Some u)) d h k = h
 
-tracks_cond : (b : Bool) (t : Taken) (x : Option Tree) → TracksAt (Some t) (Some x) → TracksAt (cond b (Some t) None) (cond b (Some x) None)
+tracks_cond : (b : Bool) (t : TakenName) (x : Option Tree) → TracksAt (Some t) (Some x) → TracksAt (cond b (Some t) None) (cond b (Some x) None)
 tracks_cond true t x h = h
 tracks_cond false t x h = tt
 
-tracks_more : (ts : List Taken) (known : Known) (t : Taken) (m : List ℕ) (x : Option Tree) → ((n : List ℕ) → TracksAt (introducer ts n) (found known n)) → t.name ≡ m → TracksAt (Some t) (Some x)
+tracks_more : (ts : List TakenName) (known : Known) (t : TakenName) (m : List ℕ) (x : Option Tree) → ((n : List ℕ) → TracksAt (introducer ts n) (found known n)) → t.name ≡ m → TracksAt (Some t) (Some x)
     → (n : List ℕ) → TracksAt (introducer (ts ++ t ∷ []) n) (found (known ++ (m, x) ∷ []) n)
 tracks_more ts known t m x h e k n =
-    let both : TracksAt (or_else (introducer ts n) (cond (is_name n t.name) (Some t) None)) (or_else (found known n) (cond (is_name n m) (Some x) None))
-    = tracks_else (introducer ts n) (cond (is_name n t.name) (Some t) None) (found known n) (cond (is_name n m) (Some x) None) (h n)
-    (subst (λ (l : List ℕ). TracksAt (cond (is_name n t.name) (Some t) None) (cond (is_name n l) (Some x) None)) e (tracks_cond (is_name n t.name) t x k)) in
-    subst (λ (o : Option Taken). TracksAt o (found (known ++ (m, x) ∷ []) n)) (sym (introducer_append ts t n))
-    (subst (λ (o : Option (Option Tree)). TracksAt (or_else (introducer ts n) (cond (is_name n t.name) (Some t) None)) o) (sym (found_append known m x n)) both)
+    let both : TracksAt (or_else (introducer ts n) (cond (is_same_name n t.name) (Some t) None)) (or_else (found known n) (cond (is_same_name n m) (Some x) None))
+    = tracks_else (introducer ts n) (cond (is_same_name n t.name) (Some t) None) (found known n) (cond (is_same_name n m) (Some x) None) (h n)
+    (subst (λ (l : List ℕ). TracksAt (cond (is_same_name n t.name) (Some t) None) (cond (is_same_name n l) (Some x) None)) e (tracks_cond (is_same_name n t.name) t x k)) in
+    subst (λ (o : Option TakenName). TracksAt o (found (known ++ (m, x) ∷ []) n)) (sym (introducer_append ts t n))
+    (subst (λ (o : Option (Option Tree)). TracksAt (or_else (introducer ts n) (cond (is_same_name n t.name) (Some t) None)) o) (sym (found_append known m x n)) both)
 
-agree_at : (o : Option Taken) (own : Bool) (t : Tree) → TracksAt o (Some (Some t)) → (u : Tree) × (sense_after o own ≡ a_type u) × (emptied u ≡ t)
+agree_at : (o : Option TakenName) (own : Bool) (t : Tree) → TracksAt o (Some (Some t)) → (u : Tree) × (sense_after o own ≡ a_type u) × (emptied u ≡ t)
 agree_at None own t h = absurd h
-agree_at (Some x) own t h = (h.0, ap (λ (k : Outcome). sense_from k) h.1, h.2)
+agree_at (Some x) own t h = (h.0, ap (λ (k : DeclarationOutcome). sense_from k) h.1, h.2)
 
 pub agrees : (past : Past) (known : Known) (place : ℕ → Location) (own : Name) → Tracks past known → Agrees (denoted known) (after past.taken place own)
-agrees past known place own h n t d = agree_at (introducer past.taken n) (is_name n own.name) t (subst (λ (o : Option (Option Tree)). TracksAt (introducer past.taken n) o) d (h n))
+agrees past known place own h n t d = agree_at (introducer past.taken n) (is_same_name n own.name) t (subst (λ (o : Option (Option Tree)). TracksAt (introducer past.taken n) o) d (h n))
 
-none_at : (o : Option Taken) → TracksAt o None → o ≡ None
+none_at : (o : Option TakenName) → TracksAt o None → o ≡ None
 none_at None h = refl
 none_at (Some t) h = absurd h
 
 pub name_is_new : (past : Past) (known : Known) (place : ℕ → Location) (own : Name) → Tracks past known → found known own.name ≡ None → declared_name past.taken place own ≡ None
 name_is_new past known place own h e =
-    ap (λ (o : Option Taken). option_map (λ earlier. name_already_exists own.name (place own.start) earlier) (option_map (λ t. t.place) o))
+    ap (λ (o : Option TakenName). option_map (λ earlier. name_already_exists own.name (place own.start) earlier) (option_map (λ t. t.place) o))
     (none_at (introducer past.taken own.name) (subst (λ (o : Option (Option Tree)). TracksAt (introducer past.taken own.name) o) e (h own.name)))
 
 -- ---- one declaration
@@ -137,10 +137,10 @@ module_fine past known path text cs m ds o h st f q =
 pub definition_fine : (past : Past) (known : Known) (path : Path) (text : List ℕ) (i : NotedItem) (d : DefinitionTree) → Tracks past known → DefinitionStands known d → SaysDefinition d i.item
     → DefinitionFine past known (declared_in path text i) d
 definition_fine past known path text i (typename_of n t d) h st q =
-    subst (λ (x : forms.ItemTree). DefinitionFine past known (declared_in path text (record { comments = i.comments; item = x })) (typename_of n t d)) (sym q.2)
+    subst (λ (x : forms.FormTree). DefinitionFine past known (declared_in path text (record { comments = i.comments; item = x })) (typename_of n t d)) (sym q.2)
     (typename_fine past known path text i.comments q.0 q.1 n t d h st.0 st.1 q.3 q.4)
 definition_fine past known path text i (module_of o) h st q =
-    subst (λ (x : forms.ItemTree). DefinitionFine past known (declared_in path text (record { comments = i.comments; item = x })) (module_of o)) (sym q.2)
+    subst (λ (x : forms.FormTree). DefinitionFine past known (declared_in path text (record { comments = i.comments; item = x })) (module_of o)) (sym q.2)
     (module_fine past known path text i.comments q.0 q.1 o h st q.3 q.4)
 definition_fine past known path text i (constant_of c) h st q = absurd q
 

@@ -19,9 +19,9 @@ use Rattle.witx_ast.specs.Functions.{FunctionTree}
 use Rattle.witx_ast.specs.Items.{ItemTree, import_of, func_of}
 use Rattle.witx_ast.specs.Definitions.{DefinitionTree, ModuleTree, typename_of, module_of, constant_of}
 use Rattle.witx_scope.specs.Modules.{item_called}
-use Rattle.witx_render.specs.TypeExpressions.{are_bare}
+use Rattle.witx_render.specs.TypeExpressions.{have_no_payload}
 use Rattle.witx_render.specs.ModuleExpressions.{items_in_order, is_import, is_func}
-use Rattle.witx_render.specs.DocumentTexts.{is_typename, is_module, in_order}
+use Rattle.witx_render.specs.DocumentTexts.{is_typename, is_module, typenames_first}
 use Rattle.witx_read_back.specs.Emptied.{emptied}
 use Rattle.witx_read_back.proofs.Stands.{Denotes, Stands, FieldsStand, ArmsStand, StandsRecord, StandsVariant, ParamsStand, FuncStands, ItemStands, ItemsStand, Known, denoted, learned, DefinitionStands, DefinitionsStand}
 use Rattle.witx_read_back.specs.Distinct.{any_same, AllNew}
@@ -55,7 +55,7 @@ module _ (D E : Denotes) (g : SaysMore D E) where
     more_type named (Tree.pointer_to t) st = more_type false t st
     more_type named (Tree.const_pointer_to t) st = more_type false t st
     more_type named (Tree.record_of kind ms) st = more_record kind named ms (FieldsStand D ms) (FieldsStand E ms) (λ x. more_fields ms x) st
-    more_type named (Tree.variant_of r cs) st = more_variant (is_bool_arms (arm_list cs)) (are_bare cs) named r cs (ArmsStand D cs) (ArmsStand E cs) (λ x. more_arms cs x) st
+    more_type named (Tree.variant_of r cs) st = more_variant (is_bool_arms (arm_list cs)) (have_no_payload cs) named r cs (ArmsStand D cs) (ArmsStand E cs) (λ x. more_arms cs x) st
 
     more_fields : (ms : ast.Fields) → FieldsStand D ms → FieldsStand E ms
     more_fields ast.no_fields st = tt
@@ -356,7 +356,7 @@ modules_stand known out (constant_of c ∷ ds) g r d w = modules_stand known out
 
 -- ---- the whole document
 
-pub all_stand : (ds : List DefinitionTree) → AllGiven [] ds → DefinitionsStand [] (in_order ds)
+pub all_stand : (ds : List DefinitionTree) → AllGiven [] ds → DefinitionsStand [] (typenames_first ds)
 all_stand ds w =
     let d = given_differ [] ds w in
     typenames_stand [] [] ds (filter is_module ds) (λ n t e. e) (λ k e. e) w
@@ -378,7 +378,7 @@ modules_writable known (typename_of n t d ∷ ds) w = modules_writable (known ++
 modules_writable known (module_of m ∷ ds) w = (writable_ordered m.items w.0.3, modules_writable (known ++ one m.name None) ds w.1)
 modules_writable known (constant_of c ∷ ds) w = modules_writable known ds w.1
 
-pub all_writable : (ds : List DefinitionTree) → AllGiven [] ds → DocumentWritable (in_order ds)
+pub all_writable : (ds : List DefinitionTree) → AllGiven [] ds → DocumentWritable (typenames_first ds)
 all_writable ds w = all_writable_both (filter is_typename ds) (filter is_module ds) (typenames_writable [] ds w) (modules_writable [] ds w)
 
 pub given_items : (known : Known) (ds : List DefinitionTree) → AllGiven known ds → AllItemsDiffer ds

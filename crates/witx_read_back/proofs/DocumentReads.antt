@@ -27,7 +27,7 @@ use Rattle.witx_language.specs.TokenKinds.{token_kind, token_kinds}
 use Rattle.witx_language.specs.Values.{Val, leaf, param, result_of, noreturn, stored, an_entry, some_entries, a_decl, some_decls, an_item, some_items}
 use Rattle.witx_render.specs.Expressions.{SExpr, vec, word as bare_word, ident, quote, SExprs, nil, ◌▹◌, exprs_of, with_docs}
 use Rattle.witx_render.specs.TypeExpressions.{type_expr, named_expr, witx_expr}
-use Rattle.witx_render.specs.ModuleExpressions.{param_expr, param_exprs, noreturn_mark, stored_mark, func_parts, item_expr, item_exprs, items_in_order}
+use Rattle.witx_render.specs.ModuleExpressions.{param_expr, param_exprs, noreturn_mark, stored_expressions, func_parts, item_expr, item_exprs, items_in_order}
 use Rattle.witx_render.specs.DocumentTexts.{definition_expr}
 use Rattle.witx_read_back.specs.PrintedTokens.{expr_tokens, exprs_tokens, all_tokens}
 use Rattle.witx_read_back.proofs.Tokens.{expr_more}
@@ -71,7 +71,7 @@ noreturn_reads = row prod.Noreturn 65 refl (opening (at_witx (a_word (codes "nor
 stored_reads : Reads (expr_tokens (witx_expr (codes "stored")) []) form.Entry (Unit {0}) (λ u. an_entry stored) (λ u. Unit {0})
 stored_reads = row prod.Stored 66 refl (opening (at_witx (a_word (codes "stored") w_stored (closing (stop (λ ls. (tt, (λ vs. refl), tt)))))))
 
-stored_mark_reads : (abi : Abi) → EntriesRead (exprs_of (stored_mark abi)) [] [] false (is_stored abi)
+stored_mark_reads : (abi : Abi) → EntriesRead (exprs_of (stored_expressions abi)) [] [] false (is_stored abi)
 stored_mark_reads Abi.Preview1 = no_more
 stored_mark_reads Abi.Stored = row prod.MoreEntries 68 refl (expr (witx_expr (codes "stored")) stored_reads (last no_more
     (λ es q u h ls. (
@@ -80,7 +80,7 @@ stored_mark_reads Abi.Stored = row prod.MoreEntries 68 refl (expr (witx_expr (co
       record { params = q.params; results = q.results; noreturn = q.noreturn; stored = refl },
     ))))
 
-marks_read : (b : Bool) (abi : Abi) → EntriesRead (exprs_of (noreturn_mark b ++ stored_mark abi)) [] [] b (is_stored abi)
+marks_read : (b : Bool) (abi : Abi) → EntriesRead (exprs_of (noreturn_mark b ++ stored_expressions abi)) [] [] b (is_stored abi)
 marks_read false abi = stored_mark_reads abi
 marks_read true abi = row prod.MoreEntries 68 refl (expr (witx_expr (codes "noreturn")) noreturn_reads (last (stored_mark_reads abi)
     (λ es q u h ls. (
@@ -90,7 +90,7 @@ marks_read true abi = row prod.MoreEntries 68 refl (expr (witx_expr (codes "nore
     ))))
 
 results_read : (rs : List ast.Field) (b : Bool) (abi : Abi) → ParamsWritable rs
-    → EntriesRead (param_exprs (codes "result") rs (exprs_of (noreturn_mark b ++ stored_mark abi))) [] rs b (is_stored abi)
+    → EntriesRead (param_exprs (codes "result") rs (exprs_of (noreturn_mark b ++ stored_expressions abi))) [] rs b (is_stored abi)
 results_read [] b abi w = marks_read b abi
 results_read (r ∷ rs) b abi w = row prod.MoreEntries 68 refl (expr (param_expr (codes "result") r)
     (under_docs r.comment (named_expr (codes "result") r.called (type_expr r.tree)) (result_reads r.called r.tree w.0)) (last (results_read rs b abi w.1)
@@ -101,7 +101,7 @@ results_read (r ∷ rs) b abi w = row prod.MoreEntries 68 refl (expr (param_expr
     ))))
 
 params_read : (ps rs : List ast.Field) (b : Bool) (abi : Abi) → ParamsWritable ps → ParamsWritable rs
-    → EntriesRead (param_exprs (codes "param") ps (param_exprs (codes "result") rs (exprs_of (noreturn_mark b ++ stored_mark abi)))) ps rs b (is_stored abi)
+    → EntriesRead (param_exprs (codes "param") ps (param_exprs (codes "result") rs (exprs_of (noreturn_mark b ++ stored_expressions abi)))) ps rs b (is_stored abi)
 params_read [] rs b abi w v = results_read rs b abi v
 params_read (r ∷ ps) rs b abi w v = row prod.MoreEntries 68 refl (expr (param_expr (codes "param") r)
     (under_docs r.comment (named_expr (codes "param") r.called (type_expr r.tree)) (param_reads r.called r.tree w.0)) (last (params_read ps rs b abi w.1 v)
@@ -145,7 +145,7 @@ items_read (i ∷ is) w = row prod.MoreDecls 62 refl (expr (item_expr i) (item_r
 
 -- ---- definitions
 
-pub definition_reads : (d : DefinitionTree) → DefinitionWritable d → Reads (expr_tokens (definition_expr d) []) form.Item forms.ItemTree (λ i. an_item i) (SaysDefinition d)
+pub definition_reads : (d : DefinitionTree) → DefinitionWritable d → Reads (expr_tokens (definition_expr d) []) form.Item forms.FormTree (λ i. an_item i) (SaysDefinition d)
 definition_reads (typename_of n t d) w = under_docs d (vec (bare_word (codes "typename") ▹ ident n ▹ type_expr t ▹ nil))
     (row prod.Typename 3 refl (opening (a_word (codes "typename") w_typename (name n (expr (type_expr t) (type_reads t w) (closing (stop
     (λ s q m e ls. (forms.typename m s, (λ vs. refl), (m, s, refl, e, q))))))))))

@@ -8,7 +8,7 @@ use Rattle.witx_ast.specs.Items.{ItemTree, import_of, func_of, item_name}
 use Rattle.witx_ast.specs.Definitions.{DefinitionTree, ModuleTree, typename_of, module_of, constant_of, introduced}
 use Rattle.witx_scope.specs.Modules.{item_called}
 use Rattle.witx_render.specs.ModuleExpressions.{items_in_order, is_import, is_func}
-use Rattle.witx_render.specs.DocumentTexts.{is_typename, is_module, in_order}
+use Rattle.witx_render.specs.DocumentTexts.{is_typename, is_module, typenames_first}
 use Rattle.witx_read_back.proofs.Printed.{as_printed, emptied_definition}
 use Rattle.witx_read_back.specs.Emptied.{emptied, emptied_item}
 use Rattle.witx_read_back.specs.SameEntries.{SameItems, SameDefinition, SameAt, SameEntries}
@@ -57,7 +57,7 @@ defs_split (module_of m ∷ ds) n d = swapped n m.name (module_of m) (found (by_
     (λ e. no_typename ds n (subst (λ (k : List ℕ). NotIn k (def_names ds)) (sym (same_is n m.name e)) d.0)) (defs_split ds n d.1)
 defs_split (constant_of c ∷ ds) n d = defs_split ds n d
 
-defs_ordered : (ds : List DefinitionTree) (n : List ℕ) → AllDiffer (def_names ds) → found (by_name introduced (in_order ds)) n ≡ found (by_name introduced ds) n
+defs_ordered : (ds : List DefinitionTree) (n : List ℕ) → AllDiffer (def_names ds) → found (by_name introduced (typenames_first ds)) n ≡ found (by_name introduced ds) n
 defs_ordered ds n d = ap (λ l. found l n) (defs_append (filter is_typename ds) (filter is_module ds))
     ∙ found_both (by_name introduced (filter is_typename ds)) (by_name introduced (filter is_module ds)) n ∙ defs_split ds n d
 
@@ -168,7 +168,7 @@ same_at (Some d) None h q = absurd (none_some (emptied_printed d) q)
 same_at (Some d) (Some e) h q = same_definition d e h (some_is (emptied_definition e) (emptied_printed d) q)
 
 -- definitions that are those of the print, but for documentation, have the same entries
-pub same_entries : (ds es : List DefinitionTree) → AllDiffer (def_names ds) → AllItemsDiffer ds → map emptied_definition es ≡ map emptied_printed (in_order ds) → SameEntries ds es
+pub same_entries : (ds es : List DefinitionTree) → AllDiffer (def_names ds) → AllItemsDiffer ds → map emptied_definition es ≡ map emptied_printed (typenames_first ds) → SameEntries ds es
 same_entries ds es d h e n = same_at (found (by_name introduced ds) n) (found (by_name introduced es) n) (found_differ ds n h)
-    (sym (found_emptied es n) ∙ ap (λ (l : List DefinitionTree). found (by_name introduced l) n) e ∙ found_printed (in_order ds) n
+    (sym (found_emptied es n) ∙ ap (λ (l : List DefinitionTree). found (by_name introduced l) n) e ∙ found_printed (typenames_first ds) n
     ∙ ap (λ (o : Option DefinitionTree). option_map emptied_printed o) (defs_ordered ds n d))

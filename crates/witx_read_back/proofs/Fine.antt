@@ -20,11 +20,11 @@ use Rattle.witx_syntax_tree.specs.declared.tree.BuiltinSyntax.{BuiltinSyntax}
 use Rattle.witx_comments.specs.Comments.{Comments}
 use Rattle.witx_syntax_tree.specs.Trees.{Name, Member, TypeTree, Maybe, Types, Fields, Cases, absent, present, no_types, one_type, no_fields, one_field, no_cases, one_case}
 use Rattle.witx_scope.specs.Faults.{Fault, Check, first_fault, name_already_exists, invalid_repr, wrong_kind_name}
-use Rattle.witx_scope.specs.Names.{Here, Marks, Sense, a_type, sense_tree, new_mark, use_check}
+use Rattle.witx_scope.specs.Names.{Here, NameMarks, Sense, a_type, sense_tree, new_mark, use_check}
 use Rattle.witx_scope.specs.Tags.{builtin_type, repr_of, repr_check, repr_meant, or_u32, tag_check, tag_checks, tag_repr, tag_names, size_check, case_check, arm_names}
 use Rattle.witx_scope.specs.Trees.{tree_meant, maybe_tree, types_meant, fields_meant, case_arms, bool_tree, member_arm, flag_field, enum_tree, flags_tree, in_order, number_name}
 use Rattle.witx_scope.specs.Checks.{type_checks, maybe_checks, each_type_checks, field_checks, case_checks, member_checks, anonymous, cases_count}
-use Rattle.witx_render.specs.TypeExpressions.{are_bare}
+use Rattle.witx_render.specs.TypeExpressions.{have_no_payload}
 use Rattle.witx_read_back.specs.Emptied.{emptied, emptied_fields, emptied_arms}
 use Rattle.witx_read_back.proofs.Stands.{Denotes, field_names, AreFlags, NumbersFrom, StandsRecord, StandsVariant, Stands, FieldsStand, ArmsStand}
 use Rattle.witx_read_back.specs.Distinct.{any_same, AllNew}
@@ -53,13 +53,13 @@ is_none : {A : Type 0} (o : Option A) → is_some o ≡ false → o ≡ None
 is_none None e = refl
 is_none (Some x) e = absurd (no_some e)
 
-pub new_mark_passes : (h : Here) (marks : Marks) (n : List ℕ) (at : ℕ) → any_same n (keys_of marks) ≡ false → new_mark h marks n at ≡ None
+pub new_mark_passes : (h : Here) (marks : NameMarks) (n : List ℕ) (at : ℕ) → any_same n (keys_of marks) ≡ false → new_mark h marks n at ≡ None
 new_mark_passes h marks n at e = ap (λ (o : Option ℕ). option_map (λ earlier. name_already_exists n (h.place at) (h.place earlier)) o)
     (is_none (found marks n) (is_some-lookup (λ key. is_eq (slice_cmp nat_cmp n key)) marks ∙ e))
 
 -- ---- names of an enum and of flags
 
-member_step : (h : Here) (marks : Marks) (n : List ℕ) (ns : List Member) (m : Member) (ks : List Member) → ns ≡ m ∷ ks → m.name.name ≡ n → any_same n (keys_of marks) ≡ false
+member_step : (h : Here) (marks : NameMarks) (n : List ℕ) (ns : List Member) (m : Member) (ks : List Member) → ns ≡ m ∷ ks → m.name.name ≡ n → any_same n (keys_of marks) ≡ false
     → Pass (member_checks h ((m.name.name, m.name.start) ∷ marks) ks) → Pass (member_checks h marks ns)
 member_step h marks n ns m ks e f w p =
     subst (λ (l : List Member). Pass (member_checks h marks l)) (sym e)
@@ -69,14 +69,14 @@ member_step h marks n ns m ks e f w p =
 seen_as : (k n : List ℕ) (seen ns : List (List ℕ)) → k ≡ n → AllNew (n ∷ seen) ns → AllNew (k ∷ seen) ns
 seen_as k n seen ns e w = subst (λ (m : List ℕ). AllNew (m ∷ seen) ns) (sym e) w
 
-names_pass : (h : Here) (marks : Marks) (cs : ast.Arms) (ns : List Member) → SaysNames cs ns → AllNew (keys_of marks) (arm_names cs) → Pass (member_checks h marks ns)
+names_pass : (h : Here) (marks : NameMarks) (cs : ast.Arms) (ns : List Member) → SaysNames cs ns → AllNew (keys_of marks) (arm_names cs) → Pass (member_checks h marks ns)
 names_pass h marks ast.no_arms ns q w = subst (λ (l : List Member). Pass (member_checks h marks l)) (sym q) refl
 names_pass h marks (ast.bare n d cs) ns q w = member_step h marks n ns q.0 q.1 q.2 q.3 w.0
     (names_pass h ((q.0.name.name, q.0.name.start) ∷ marks) cs q.1 q.4 (seen_as q.0.name.name n (keys_of marks) (arm_names cs) q.3 w.1))
 names_pass h marks (ast.carries n t d cs) ns q w = member_step h marks n ns q.0 q.1 q.2 q.3 w.0
     (names_pass h ((q.0.name.name, q.0.name.start) ∷ marks) cs q.1 q.4 (seen_as q.0.name.name n (keys_of marks) (arm_names cs) q.3 w.1))
 
-flags_pass : (h : Here) (marks : Marks) (ms : ast.Fields) (ns : List Member) → SaysFlags ms ns → AllNew (keys_of marks) (field_names ms) → Pass (member_checks h marks ns)
+flags_pass : (h : Here) (marks : NameMarks) (ms : ast.Fields) (ns : List Member) → SaysFlags ms ns → AllNew (keys_of marks) (field_names ms) → Pass (member_checks h marks ns)
 flags_pass h marks ast.no_fields ns q w = subst (λ (l : List Member). Pass (member_checks h marks l)) (sym q) refl
 flags_pass h marks (ast.field n t d ms) ns q w = member_step h marks n ns q.0 q.1 q.2 q.3 w.0
     (flags_pass h ((q.0.name.name, q.0.name.start) ∷ marks) ms q.1 q.4 (seen_as q.0.name.name n (keys_of marks) (field_names ms) q.3 w.1))
@@ -99,7 +99,7 @@ flags_meant (ast.field n t d ms) ns q w =
 no_true : false ≡ true → ⊥
 no_true e = cc
 
-names_meant : (cs : ast.Arms) (ns : List Member) → SaysNames cs ns → are_bare cs ≡ true → emptied_arms (arms_of (map member_arm ns)) ≡ emptied_arms cs
+names_meant : (cs : ast.Arms) (ns : List Member) → SaysNames cs ns → have_no_payload cs ≡ true → emptied_arms (arms_of (map member_arm ns)) ≡ emptied_arms cs
 names_meant ast.no_arms ns q w = ap (λ (l : List Member). emptied_arms (arms_of (map member_arm l))) q
 names_meant (ast.bare n d cs) ns q w =
     ap (λ (l : List Member). emptied_arms (arms_of (map member_arm l))) q.2
@@ -153,7 +153,7 @@ abbrev pub TypesFine : Here → ℕ → ast.Fields → Types → Type 0
 TypesFine h i ms us = (emptied_fields (fields_of (types_meant h i us)) ≡ emptied_fields ms) × ((near : Location) → Pass (each_type_checks h near us))
 
 abbrev pub FieldsFine : Here → ast.Fields → Fields → Type 0
-FieldsFine h ms fs = (emptied_fields (fields_of (fields_meant h fs)) ≡ emptied_fields ms) × ((marks : Marks) → AllNew (keys_of marks) (field_names ms) → Pass (field_checks h marks fs))
+FieldsFine h ms fs = (emptied_fields (fields_of (fields_meant h fs)) ≡ emptied_fields ms) × ((marks : NameMarks) → AllNew (keys_of marks) (field_names ms) → Pass (field_checks h marks fs))
 
 abbrev pub CasesFine : Here → ast.Arms → Cases → Type 0
 CasesFine h cs ds = (emptied_arms (arms_of (case_arms h ds)) ≡ emptied_arms cs) × ((before : List (List ℕ)) → Pass (case_checks h None before ds))
@@ -199,7 +199,7 @@ record_fine h named RecordKind.Other ms s S T F st q types fields =
     )
 
 variant_fine : (h : Here) (named : Bool) (is_bool bare : Bool) (r : IntRepr) (cs : ast.Arms) (s : TypeTree) (S : Type 0) (C : Cases → Type 0)
-    → is_bool_arms (arm_list cs) ≡ is_bool → are_bare cs ≡ bare
+    → is_bool_arms (arm_list cs) ≡ is_bool → have_no_payload cs ≡ bare
     → StandsVariant is_bool bare named r cs S → SaysVariant is_bool bare r cs C s → ((ds : Cases) → S → C ds → CasesFine h cs ds) → Fine h named (Tree.variant_of r cs) s
 variant_fine h named true bare r cs s S C e f st q cases =
     subst (λ (x : TypeTree). Fine h named (Tree.variant_of r cs) x) (sym q)
@@ -244,7 +244,7 @@ mutual
   type_fine D h g named (Tree.record_of kind ms) s st q =
       record_fine h named kind ms s (FieldsStand D ms) (SaysTypes ms) (SaysFields ms) st q (λ us n w r. types_fine D h g 0 ms us n w r) (λ fs w r. fields_fine D h g ms fs w r)
   type_fine D h g named (Tree.variant_of r cs) s st q =
-      variant_fine h named (is_bool_arms (arm_list cs)) (are_bare cs) r cs s (ArmsStand D cs) (SaysCases cs) refl refl st q (λ ds w r. cases_fine D h g cs ds w r)
+      variant_fine h named (is_bool_arms (arm_list cs)) (have_no_payload cs) r cs s (ArmsStand D cs) (SaysCases cs) refl refl st q (λ ds w r. cases_fine D h g cs ds w r)
 
   types_fine : (D : Denotes) (h : Here) → Agrees D h → (i : ℕ) (ms : ast.Fields) (us : Types) → NumbersFrom i ms → FieldsStand D ms → SaysTypes ms us → TypesFine h i ms us
   types_fine D h g i ast.no_fields us n w q = subst (λ (x : Types). TypesFine h i ast.no_fields x) (sym q) (refl, λ near. refl)

@@ -18,11 +18,11 @@ use Rattle.witx_syntax_tree.specs.declared.tree.BuiltinSyntax.{BuiltinSyntax}
 use Rattle.witx_comments.specs.Comments.{Comments}
 use Rattle.witx_syntax_tree.specs.Trees.{Name, Member, TypeTree, Maybe, Types, Fields, UnionFields, Cases, absent, present, no_types, one_type, no_fields, one_field, no_union_fields, one_union_field, no_cases, one_case}
 use Rattle.witx_scope.specs.Faults.{Fault, Check, first_fault, name_already_exists, anonymous_record}
-use Rattle.witx_scope.specs.Names.{Here, Marks, Sense, unknown, unfinished, a_module, a_type, sense_tree, new_mark, use_check}
+use Rattle.witx_scope.specs.Names.{Here, NameMarks, Sense, unknown, unfinished, a_module, a_type, sense_tree, new_mark, use_check}
 use Rattle.witx_scope.specs.Tags.{repr_check, tag_checks, tag_repr, tag_names, size_check, case_check, repr_meant}
 use Rattle.witx_scope.specs.Trees.{tree_meant, maybe_tree, types_meant, union_arms, fields_meant, case_arms, bool_tree, member_arm, flag_field, enum_tree, flags_tree, in_order, arm_called, bare_arm, union_name, expected_tree}
 use Rattle.witx_scope.specs.Checks.{type_checks, maybe_checks, each_type_checks, union_field_checks, field_checks, case_checks, member_checks, anonymous, cases_count, union_fields_count}
-use Rattle.witx_render.specs.TypeExpressions.{are_bare}
+use Rattle.witx_render.specs.TypeExpressions.{have_no_payload}
 use Rattle.witx_read_back.specs.Emptied.{emptied}
 use Rattle.witx_read_back.proofs.Stands.{Denotes, field_names, AreFlags, NumbersFrom, StandsRecord, StandsVariant, Stands, FieldsStand, ArmsStand}
 use Rattle.witx_read_back.specs.Distinct.{any_same, AllNew}
@@ -51,7 +51,7 @@ pub mapped_none : {A B : Type 0} (f : A → B) (o : Option A) → option_map f o
 mapped_none f None e = refl
 mapped_none f (Some x) e = absurd (some_none (f x) e)
 
-pub mark_is_new : (h : Here) (marks : Marks) (n : List ℕ) (at : ℕ) → new_mark h marks n at ≡ None → any_same n (keys_of marks) ≡ false
+pub mark_is_new : (h : Here) (marks : NameMarks) (n : List ℕ) (at : ℕ) → new_mark h marks n at ≡ None → any_same n (keys_of marks) ≡ false
 mark_is_new h marks n at e =
     sym (is_some-lookup (λ key. is_eq (slice_cmp nat_cmp n key)) marks)
     ∙ ap (λ (o : Option ℕ). is_some o) (mapped_none (λ earlier. name_already_exists n (h.place at) (h.place earlier)) (found marks n) e)
@@ -117,7 +117,7 @@ variant_given : (D : Denotes) (named : Bool) (r : IntRepr) (l : List Arm) → Pa
 variant_given D named r l h w =
     let cs = arms_of l in
     let g = arms_given D l h w.1 in
-    (variant_stands D (is_bool_arms (arm_list cs)) (are_bare cs) named r cs w.0 g.0, (has_name (is_bool_arms (arm_list cs)) (are_bare cs) named r cs w.0, g.1))
+    (variant_stands D (is_bool_arms (arm_list cs)) (have_no_payload cs) named r cs w.0 g.0, (has_name (is_bool_arms (arm_list cs)) (have_no_payload cs) named r cs w.0, g.1))
 
 -- ---- arms that are called by names
 
@@ -143,7 +143,7 @@ members_given D (n ∷ ns) = (tt, members_given D ns)
 
 -- ---- flags
 
-flags_new : (h : Here) (marks : Marks) (ns : List Member) → Pass (member_checks h marks ns) → AllNew (keys_of marks) (field_names (fields_of (map flag_field ns)))
+flags_new : (h : Here) (marks : NameMarks) (ns : List Member) → Pass (member_checks h marks ns) → AllNew (keys_of marks) (field_names (fields_of (map flag_field ns)))
 flags_new h marks [] e = tt
 flags_new h marks (n ∷ ns) e =
     let p = head_passes (new_mark h marks n.name.name n.name.start) (member_checks h ((n.name.name, n.name.start) ∷ marks) ns) e in
@@ -272,7 +272,7 @@ mutual
       let p = parts_pass (type_checks h false near t) (union_field_checks h near fs) e in
       (type_given D h g false near t p.0 f.0, union_given D h g near names (i + 1) fs p.1 f.1)
 
-  fields_given : (D : Denotes) (h : Here) → Knows D h → (marks : Marks) (fs : Fields) → Pass (field_checks h marks fs) → FilledFields fs → PlainFields (fields_of (fields_meant h fs))
+  fields_given : (D : Denotes) (h : Here) → Knows D h → (marks : NameMarks) (fs : Fields) → Pass (field_checks h marks fs) → FilledFields fs → PlainFields (fields_of (fields_meant h fs))
       → AllNew (keys_of marks) (field_names (fields_of (fields_meant h fs))) × (FieldsStand D (fields_of (fields_meant h fs)) × FieldsWritable (fields_of (fields_meant h fs)))
   fields_given D h g marks no_fields e f w = (tt, (tt, tt))
   fields_given D h g marks (one_field k m t fs) e f w =

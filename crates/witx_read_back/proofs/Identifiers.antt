@@ -6,7 +6,7 @@ use Rattle.std.specs.Str.{IsUtf8}
 use Rattle.witx_lex.specs.Characters.{dollar, at_sign}
 use Rattle.witx_lex.specs.Pieces.{Part, part_value, Piece, blank, line, block, opening, closing, run, quoted as quoted_piece, spelling, IsPiece, Stand, Stands, open_after}
 use Rattle.witx_lex.specs.Tokens.{Token, left, right, id, word, annot, int, quoted, Lexed}
-use Rattle.witx_lex.specs.Meaning.{run_token, is_int, Seen, nothing, comment, token, seen, with_seen, tokens_from, HasTokens}
+use Rattle.witx_lex.specs.Meaning.{run_token, is_int, Seen, nothing, comment, token, piece_seen, with_seen, tokens_from, HasTokens}
 use Rattle.witx_syntax_tree.specs.Trees.{Name, TypeTree, Maybe, absent, present, Types, no_types, one_type, Fields, no_fields, one_field, UnionFields, no_union_fields, one_union_field, Cases, no_cases, one_case, DeclTree, memory, function, NotedDecl, Document}
 use Rattle.witx_syntax_tree.specs.Trees as forms
 use Rattle.witx_syntax.specs.Names.{NamesOfType, NamesOfMaybe, NamesOfTypes, NamesOfFields, NamesOfUnionFields, NamesOfCases, NamesOfDecl, NamesOfDecls, NamesOfItem, AllNames, HasOne as GrammarHasOne}
@@ -48,7 +48,7 @@ run_claim [] h = absurd (h.0 refl)
 run_claim (b ∷ s) h = choose_claim (b == dollar) (b == at_sign && nat_lt 1 (length (b ∷ s))) (is_int (b ∷ s)) (b ∷ s) s
     (λ e. subst (λ (c : ℕ). IsRun (c ∷ s)) (eqb-true b dollar e) h)
 
-piece_claim : (p : Piece) → IsPiece p → SeenClaim (seen p)
+piece_claim : (p : Piece) → IsPiece p → SeenClaim (piece_seen p)
 piece_claim (blank b) h = tt
 piece_claim (line t) h = tt
 piece_claim (block t) h = tt
@@ -64,7 +64,7 @@ with_claim (token t) at end cs more h k = (h, k [])
 
 pieces_claim : (n at : ℕ) (cs : List (List ℕ)) (ps : List Piece) (text rest : List ℕ) → Stand n ps text rest → Claims (tokens_from at cs ps)
 pieces_claim n at cs [] text rest h = tt
-pieces_claim n at cs (p ∷ ps) text rest h = with_claim (seen p) at (at + length (spelling p)) cs (λ ds. tokens_from (at + length (spelling p)) ds ps) (piece_claim p h.1.piece)
+pieces_claim n at cs (p ∷ ps) text rest h = with_claim (piece_seen p) at (at + length (spelling p)) cs (λ ds. tokens_from (at + length (spelling p)) ds ps) (piece_claim p h.1.piece)
     (λ ds. pieces_claim (open_after n p) (at + length (spelling p)) ds ps h.0 rest h.2)
 
 abbrev pub named_well : Name → Type 0
@@ -136,7 +136,7 @@ module _ (P : Name → Type 0) (Q : List ℕ → Type 0) where
       filled_decl (memory q) h = tt
       filled_decl (function q ps rs n s) h = (filled_fields ps h.1.0, filled_fields rs h.1.1)
 
-  pub filled_item : (i : forms.ItemTree) → NamesOfItem P Q i → FilledItem i
+  pub filled_item : (i : forms.FormTree) → NamesOfItem P Q i → FilledItem i
   filled_item (forms.uses t) h = tt
   filled_item (forms.typename m t) h = filled t h.1
   filled_item (forms.module_of m ds) h = filled_decls ds h.1

@@ -14,7 +14,7 @@ use Rattle.witx_ast.specs.Items.{ItemTree, import_of, func_of}
 use Rattle.witx_comments.specs.Comments.{Comments}
 use Rattle.witx_syntax_tree.specs.Trees.{Name, QuotedText, TypeTree, Fields, no_fields, one_field, DeclTree, memory, function, NotedDecl}
 use Rattle.witx_scope.specs.Faults.{Fault, Check, first_fault, abi}
-use Rattle.witx_scope.specs.Names.{Here, Marks, new_mark}
+use Rattle.witx_scope.specs.Names.{Here, NameMarks, new_mark}
 use Rattle.witx_scope.specs.Trees.{tree_meant, fields_meant}
 use Rattle.witx_scope.specs.Checks.{type_checks, field_checks}
 use Rattle.witx_scope.specs.Functions.{fields_scope, result_checks, abi_of, abi_check, func_checks, func_meant}
@@ -40,7 +40,7 @@ params_meant D h g (p ∷ ps) fs w q =
     ∙ same_param q.1.name p.called (emptied (tree_meant h q.2)) (emptied p.tree) (map emptied_param (fields_meant h q.3)) (map emptied_param ps) q.5
     (type_fine D h g false p.tree q.2 w.0 q.6).0 (params_meant D h g ps q.3 w.1 q.7)
 
-params_pass : (D : Denotes) (h : Here) → Agrees D h → (ps : List Field) (fs : Fields) (marks : Marks) → ParamsStand D ps → SaysParams ps fs → AllNew (keys_of marks) (param_names ps) → Pass (field_checks h marks fs)
+params_pass : (D : Denotes) (h : Here) → Agrees D h → (ps : List Field) (fs : Fields) (marks : NameMarks) → ParamsStand D ps → SaysParams ps fs → AllNew (keys_of marks) (param_names ps) → Pass (field_checks h marks fs)
 params_pass D h g [] fs marks w q n = subst (λ (x : Fields). Pass (field_checks h marks x)) (sym q) refl
 params_pass D h g (p ∷ ps) fs marks w q n =
     let m = q.1 in
@@ -50,7 +50,7 @@ params_pass D h g (p ∷ ps) fs marks w q n =
     (both_pass (type_checks h false (h.place m.start) q.2) (field_checks h ((m.name, m.start) ∷ marks) q.3) ((type_fine D h g false p.tree q.2 w.0 q.6).1 (h.place m.start))
     (params_pass D h g ps q.3 ((m.name, m.start) ∷ marks) w.1 q.7 (seen_as m.name p.called (keys_of marks) (param_names ps) q.5 n.1))))
 
-results_pass : (D : Denotes) (h : Here) → Agrees D h → (ps : List Field) (fs : Fields) (marks : Marks) → ParamsStand D ps → SaysParams ps fs → AllNew (keys_of marks) (param_names ps) → Pass (result_checks h marks fs)
+results_pass : (D : Denotes) (h : Here) → Agrees D h → (ps : List Field) (fs : Fields) (marks : NameMarks) → ParamsStand D ps → SaysParams ps fs → AllNew (keys_of marks) (param_names ps) → Pass (result_checks h marks fs)
 results_pass D h g [] fs marks w q n = subst (λ (x : Fields). Pass (result_checks h marks x)) (sym q) refl
 results_pass D h g (p ∷ ps) fs marks w q n =
     let m = q.1 in
@@ -60,7 +60,7 @@ results_pass D h g (p ∷ ps) fs marks w q n =
     (new_mark_passes h marks m.name m.start (ap (λ (l : List ℕ). any_same l (keys_of marks)) q.5 ∙ n.0))
     (results_pass D h g ps q.3 ((m.name, m.start) ∷ marks) w.1 q.7 (seen_as m.name p.called (keys_of marks) (param_names ps) q.5 n.1))))
 
-scope_is : (ps : List Field) (fs : Fields) (marks : Marks) → SaysParams ps fs → keys_of (fields_scope marks fs) ≡ scope_after (keys_of marks) (param_names ps)
+scope_is : (ps : List Field) (fs : Fields) (marks : NameMarks) → SaysParams ps fs → keys_of (fields_scope marks fs) ≡ scope_after (keys_of marks) (param_names ps)
 scope_is [] fs marks q = ap (λ (x : Fields). keys_of (fields_scope marks x)) q
 scope_is (p ∷ ps) fs marks q =
     ap (λ (x : Fields). keys_of (fields_scope marks x)) q.4 ∙ scope_is ps q.3 ((q.1.name, q.1.start) ∷ marks) q.7
@@ -68,7 +68,7 @@ scope_is (p ∷ ps) fs marks q =
 
 -- ---- functions
 
-func_pass : (D : Denotes) (h : Here) → Agrees D h → (f : FunctionTree) (marks : Marks) (q : QuotedText) (ps rs : Fields) → FuncStands D f → q.text ≡ f.name → SaysParams f.params ps → SaysParams f.results rs
+func_pass : (D : Denotes) (h : Here) → Agrees D h → (f : FunctionTree) (marks : NameMarks) (q : QuotedText) (ps rs : Fields) → FuncStands D f → q.text ≡ f.name → SaysParams f.params ps → SaysParams f.results rs
     → any_same f.name (keys_of marks) ≡ false → Pass (func_checks h marks f.abi q ps rs)
 func_pass D h g f marks q ps rs w e a b n =
     passes (new_mark h marks q.text q.start) (field_checks h [] ps ++ (result_checks h (fields_scope [] ps) rs ++ (abi_check f.abi (fields_meant h rs) (h.place q.start) ∷ [])))
@@ -109,7 +109,7 @@ item_means D h g (func_of f) d w q =
     ∙ same_func (abi_of (is_stored f.abi)) f.abi q.0.text f.name (map emptied_param (fields_meant h q.1)) (map emptied_param f.params) (map emptied_param (fields_meant h q.2)) (map emptied_param f.results) f.noreturn
     (the_abi f.abi) q.4 (params_meant D h g f.params q.1 w.params q.5) (params_meant D h g f.results q.2 w.results q.6)
 
-item_passes : (D : Denotes) (h : Here) → Agrees D h → (i : ItemTree) (d : DeclTree) (marks : Marks) → ItemStands D i → SaysItem i d → any_same (item_called i) (keys_of marks) ≡ false
+item_passes : (D : Denotes) (h : Here) → Agrees D h → (i : ItemTree) (d : DeclTree) (marks : NameMarks) → ItemStands D i → SaysItem i d → any_same (item_called i) (keys_of marks) ≡ false
     → Pass (item_checks h marks d) × ((quoted_name d).text ≡ item_called i)
 item_passes D h g (import_of i) d marks w q n =
     subst (λ (x : DeclTree). Pass (item_checks h marks x) × ((quoted_name x).text ≡ i.name)) (sym q.1)
@@ -118,7 +118,7 @@ item_passes D h g (func_of f) d marks w q n =
     subst (λ (x : DeclTree). Pass (item_checks h marks x) × ((quoted_name x).text ≡ f.name)) (sym q.3)
     (subst (λ (a : Abi). Pass (func_checks h marks a q.0 q.1 q.2)) (sym (the_abi f.abi)) (func_pass D h g f marks q.0 q.1 q.2 w q.4 q.5 q.6 n), q.4)
 
-pub items_pass : (D : Denotes) (h : Here) → Agrees D h → (is : List ItemTree) (ds : List NotedDecl) (marks : Marks) → ItemsStand D is → SaysItems is ds → AllNew (keys_of marks) (map item_called is)
+pub items_pass : (D : Denotes) (h : Here) → Agrees D h → (is : List ItemTree) (ds : List NotedDecl) (marks : NameMarks) → ItemsStand D is → SaysItems is ds → AllNew (keys_of marks) (map item_called is)
     → Pass (items_checks h marks ds)
 items_pass D h g [] ds marks w q n = subst (λ (x : List NotedDecl). Pass (items_checks h marks x)) (sym q) refl
 items_pass D h g (i ∷ is) ds marks w q n =

@@ -10,7 +10,7 @@ use Rattle.witx_ast.specs.Items.{ItemTree, import_of, func_of}
 use Rattle.witx_comments.specs.Comments.{Comments}
 use Rattle.witx_syntax_tree.specs.Trees.{Name, QuotedText, TypeTree, Fields, no_fields, one_field, DeclTree, memory, function, NotedDecl}
 use Rattle.witx_scope.specs.Faults.{Fault, Check, first_fault, abi}
-use Rattle.witx_scope.specs.Names.{Here, Marks, new_mark}
+use Rattle.witx_scope.specs.Names.{Here, NameMarks, new_mark}
 use Rattle.witx_scope.specs.Trees.{tree_meant, fields_meant}
 use Rattle.witx_scope.specs.Checks.{type_checks, field_checks}
 use Rattle.witx_scope.specs.Functions.{fields_scope, result_checks, abi_of, abi_check, func_checks}
@@ -22,7 +22,7 @@ use Rattle.witx_read_back.proofs.Writable.{ParamsWritable, ItemWritable, ItemsWr
 use Rattle.witx_read_back.proofs.Fine.{Pass}
 use Rattle.witx_read_back.proofs.Given.{Knows, Filled, FilledFields, head_passes, parts_pass, mark_is_new, mapped_none, type_given}
 
-params_given : (D : Denotes) (h : Here) → Knows D h → (marks : Marks) (fs : Fields) → Pass (field_checks h marks fs) → FilledFields fs → PlainParams (fields_meant h fs)
+params_given : (D : Denotes) (h : Here) → Knows D h → (marks : NameMarks) (fs : Fields) → Pass (field_checks h marks fs) → FilledFields fs → PlainParams (fields_meant h fs)
     → AllNew (keys_of marks) (param_names (fields_meant h fs)) × ParamsStand D (fields_meant h fs) × ParamsWritable (fields_meant h fs)
 params_given D h g marks no_fields e f w = (tt, tt, tt)
 params_given D h g marks (one_field k m t fs) e f w =
@@ -32,7 +32,7 @@ params_given D h g marks (one_field k m t fs) e f w =
     let b = params_given D h g ((m.name, m.start) ∷ marks) fs q.1 f.1 w.1 in
     ((mark_is_new h marks m.name m.start p.0, b.0), (a.0, b.1), (a.1, b.2))
 
-results_given : (D : Denotes) (h : Here) → Knows D h → (marks : Marks) (fs : Fields) → Pass (result_checks h marks fs) → FilledFields fs → PlainParams (fields_meant h fs)
+results_given : (D : Denotes) (h : Here) → Knows D h → (marks : NameMarks) (fs : Fields) → Pass (result_checks h marks fs) → FilledFields fs → PlainParams (fields_meant h fs)
     → AllNew (keys_of marks) (param_names (fields_meant h fs)) × ParamsStand D (fields_meant h fs) × ParamsWritable (fields_meant h fs)
 results_given D h g marks no_fields e f w = (tt, tt, tt)
 results_given D h g marks (one_field k m t fs) e f w =
@@ -42,7 +42,7 @@ results_given D h g marks (one_field k m t fs) e f w =
     let b = results_given D h g ((m.name, m.start) ∷ marks) fs q.1 f.1 w.1 in
     ((mark_is_new h marks m.name m.start q.0, b.0), (a.0, b.1), (a.1, b.2))
 
-scope_meant : (h : Here) (marks : Marks) (fs : Fields) → keys_of (fields_scope marks fs) ≡ scope_after (keys_of marks) (param_names (fields_meant h fs))
+scope_meant : (h : Here) (marks : NameMarks) (fs : Fields) → keys_of (fields_scope marks fs) ≡ scope_after (keys_of marks) (param_names (fields_meant h fs))
 scope_meant h marks no_fields = refl
 scope_meant h marks (one_field k m t fs) = scope_meant h ((m.name, m.start) ∷ marks) fs
 
@@ -54,7 +54,7 @@ abbrev pub FilledDecls : List NotedDecl → Type 0
 FilledDecls [] = Unit {0}
 FilledDecls (d ∷ ds) = FilledDecl d.decl × FilledDecls ds
 
-item_given : (D : Denotes) (h : Here) → Knows D h → (marks : Marks) (cs : Comments) (d : DeclTree) → Pass (item_checks h marks d) → FilledDecl d → PlainItem (decl_meant h cs d)
+item_given : (D : Denotes) (h : Here) → Knows D h → (marks : NameMarks) (cs : Comments) (d : DeclTree) → Pass (item_checks h marks d) → FilledDecl d → PlainItem (decl_meant h cs d)
     → (any_same (item_called (decl_meant h cs d)) (keys_of marks) ≡ false) × ItemStands D (decl_meant h cs d) × ItemWritable (decl_meant h cs d)
 item_given D h g marks cs (memory q) e f w = (mark_is_new h marks q.text q.start (head_passes (new_mark h marks q.text q.start) [] e).0, tt, tt)
 item_given D h g marks cs (function q ps rs n s) e f w =
@@ -75,11 +75,11 @@ item_given D h g marks cs (function q ps rs n s) e f w =
       (a.2, c.2),
     )
 
-called_as : (h : Here) (cs : Comments) (d : DeclTree) (marks : Marks) → keys_of (with_name d marks) ≡ item_called (decl_meant h cs d) ∷ keys_of marks
+called_as : (h : Here) (cs : Comments) (d : DeclTree) (marks : NameMarks) → keys_of (with_name d marks) ≡ item_called (decl_meant h cs d) ∷ keys_of marks
 called_as h cs (memory q) marks = refl
 called_as h cs (function q ps rs n s) marks = refl
 
-pub items_given : (D : Denotes) (h : Here) → Knows D h → (marks : Marks) (ds : List NotedDecl) → Pass (items_checks h marks ds) → FilledDecls ds → PlainItems (map (item_meant h) ds)
+pub items_given : (D : Denotes) (h : Here) → Knows D h → (marks : NameMarks) (ds : List NotedDecl) → Pass (items_checks h marks ds) → FilledDecls ds → PlainItems (map (item_meant h) ds)
     → AllNew (keys_of marks) (map item_called (map (item_meant h) ds)) × ItemsStand D (map (item_meant h) ds) × ItemsWritable (map (item_meant h) ds)
 items_given D h g marks [] e f w = (tt, tt, tt)
 items_given D h g marks (d ∷ ds) e f w =

@@ -5,13 +5,13 @@ use Rattle.std.specs.List.{list_all, flat_map}
 use Rattle.std.specs.Str.{IsUtf8}
 use Rattle.std.proofs.lemmas.List.{append_assoc}
 use Rattle.std.proofs.lemmas.Bool.{and_parts}
-use Rattle.witx_lex.specs.Characters.{is_name, is_raw, begins, semicolon, dollar}
-use Rattle.witx_lex.specs.Blocks.{Inside, empty, byte, inside_spelling, begins_mark, is_inside, IsBlockText}
+use Rattle.witx_lex.specs.Characters.{is_name_character, is_raw, begins, semicolon, dollar}
+use Rattle.witx_lex.specs.Blocks.{InsideComment, empty, byte, inside_spelling, begins_mark, is_inside, IsBlockText}
 use Rattle.witx_lex.specs.Pieces.{Part, raw, Piece, blank, block, opening, closing, run, quoted, part_spelling, part_value, spelling, is_part, IsPiece, IsEnded, open_after, Stands, Stand, most_open, ArePieces}
 use Rattle.witx_lex.specs.Tokens.{Token, left, right, id, annot, quoted as quoted_token, Lexed}
-use Rattle.witx_lex.specs.Meaning.{run_token, Seen, nothing, comment, token, seen, with_seen, tokens_from, tokens_of, HasTokens}
+use Rattle.witx_lex.specs.Meaning.{run_token, Seen, nothing, comment, token, piece_seen, with_seen, tokens_from, tokens_of, HasTokens}
 use Rattle.witx_render.specs.Expressions.{SExpr, vec, word, ident, quote, annot as annotation, docs, SExprs, nil, cons, text_of, text_of_all, text_behind}
-use Rattle.witx_render.specs.DocumentTexts.{lines_of}
+use Rattle.witx_render.specs.DocumentTexts.{expression_lines}
 use Rattle.witx_read_back.specs.Plain.{no_marks}
 use Rattle.witx_read_back.proofs.Readable.{IsRun}
 use Rattle.witx_read_back.specs.PrintedTokens.{tokens}
@@ -66,7 +66,7 @@ onto (token t) ts = t ∷ ts
 
 abbrev pub piece_tokens : List Piece → List Token
 piece_tokens [] = []
-piece_tokens (p ∷ ps) = onto (seen p) (piece_tokens ps)
+piece_tokens (p ∷ ps) = onto (piece_seen p) (piece_tokens ps)
 
 with_seen_tokens : (s : Seen) (at end : ℕ) (cs : List (List ℕ)) (more : List (List ℕ) → List Lexed) (xs : List Token) → ((ds : List (List ℕ)) → tokens (more ds) ≡ xs)
     → tokens (with_seen s at end cs more) ≡ onto s xs
@@ -76,7 +76,7 @@ with_seen_tokens (token t) at end cs more xs h = ap (λ (l : List Token). t ∷ 
 
 pub tokens_from_pieces : (at : ℕ) (cs : List (List ℕ)) (ps : List Piece) → tokens (tokens_from at cs ps) ≡ piece_tokens ps
 tokens_from_pieces at cs [] = refl
-tokens_from_pieces at cs (p ∷ ps) = with_seen_tokens (seen p) at (at + length (spelling p)) cs (λ ds. tokens_from (at + length (spelling p)) ds ps) (piece_tokens ps)
+tokens_from_pieces at cs (p ∷ ps) = with_seen_tokens (piece_seen p) at (at + length (spelling p)) cs (λ ds. tokens_from (at + length (spelling p)) ds ps) (piece_tokens ps)
     (λ ds. tokens_from_pieces (at + length (spelling p)) ds ps)
 
 raw_values : (s : List ℕ) → flat_map part_value (raws s) ≡ s
@@ -113,7 +113,7 @@ mutual
 not_both : true ≡ false → ⊥
 not_both e = cc
 
-abbrev bytes : List ℕ → Inside
+abbrev bytes : List ℕ → InsideComment
 bytes [] = empty
 bytes (b ∷ bs) = byte b (bytes bs)
 
@@ -154,13 +154,13 @@ block_text d h = (bytes (inner d), text_inside d h, sym (bytes_spelled (inner d)
 
 -- ---- places
 
-no_name : (b : ℕ) (t : Bool) → (b == 59) ≡ t → is_name b ≡ true → t ≡ false
-no_name b true e h = absurd (not_both (sym (subst (λ (c : ℕ). is_name c ≡ true) (eqb-true b 59 e) h)))
+no_name : (b : ℕ) (t : Bool) → (b == 59) ≡ t → is_name_character b ≡ true → t ≡ false
+no_name b true e h = absurd (not_both (sym (subst (λ (c : ℕ). is_name_character c ≡ true) (eqb-true b 59 e) h)))
 no_name b false e h = refl
 
 run_begins : (s after : List ℕ) → IsRun s → begins (λ b. b == semicolon) (s ++ after) ≡ false
 run_begins [] after h = absurd (h.0 refl)
-run_begins (b ∷ s) after h = no_name b (b == 59) refl (and_parts (is_name b) (list_all is_name s) h.1).0
+run_begins (b ∷ s) after h = no_name b (b == 59) refl (and_parts (is_name_character b) (list_all is_name_character s) h.1).0
 
 expr_begins : (n : ℕ) (e : SExpr) (after : List ℕ) → Lexable n e → begins (λ b. b == semicolon) (text_of e ++ after) ≡ false
 expr_begins n (vec es) after h = refl
@@ -175,7 +175,7 @@ all_begin n nil after h = refl
 all_begin n (cons e es) after h = subst (λ (l : List ℕ). begins (λ b. b == semicolon) l ≡ false) (sym (append_assoc (text_of e) (text_behind es) (41 ∷ after)))
     (expr_begins n e (text_behind es ++ 41 ∷ after) h.0)
 
-no_name_behind : (es : SExprs) (after : List ℕ) → begins is_name after ≡ false → begins is_name (text_behind es ++ after) ≡ false
+no_name_behind : (es : SExprs) (after : List ℕ) → begins is_name_character after ≡ false → begins is_name_character (text_behind es ++ after) ≡ false
 no_name_behind nil after b = b
 no_name_behind (cons e es) after b = refl
 
@@ -190,7 +190,7 @@ back_again : (n : ℕ) → n + 1 - 1 ≡ n
 back_again n = omega arith
 
 mutual
-  pub expr_stand : (n : ℕ) (e : SExpr) → Lexable n e → n ≤ most_open → (more : List Piece) (after rest : List ℕ) → begins is_name after ≡ false
+  pub expr_stand : (n : ℕ) (e : SExpr) → Lexable n e → n ≤ most_open → (more : List Piece) (after rest : List ℕ) → begins is_name_character after ≡ false
       → Stand n more after rest → Stand n (expr_pieces e more) (text_of e ++ after) rest
   expr_stand n (vec es) h le more after rest b k = (
     text_of_all es ++ 41 ∷ after,
@@ -235,14 +235,14 @@ mutual
     (text_of e ++ after, record { piece = refl; spelled = refl; ended = tt; depth = le }, expr_stand n e h.1 le more after rest b k),
   )
 
-  exprs_stand : (n : ℕ) (es : SExprs) → AllLexable n es → n ≤ most_open → (more : List Piece) (after rest : List ℕ) → begins is_name after ≡ false
+  exprs_stand : (n : ℕ) (es : SExprs) → AllLexable n es → n ≤ most_open → (more : List Piece) (after rest : List ℕ) → begins is_name_character after ≡ false
       → Stand n more after rest → Stand n (exprs_pieces es more) (text_of_all es ++ after) rest
   exprs_stand n nil h le more after rest b k = k
   exprs_stand n (cons e es) h le more after rest b k =
       subst (λ (l : List ℕ). Stand n (expr_pieces e (pieces_behind es more)) l rest) (sym (append_assoc (text_of e) (text_behind es) after))
       (expr_stand n e h.0 le (pieces_behind es more) (text_behind es ++ after) rest (no_name_behind es after b) (behind_stand n es h.1 le more after rest b k))
 
-  behind_stand : (n : ℕ) (es : SExprs) → AllLexable n es → n ≤ most_open → (more : List Piece) (after rest : List ℕ) → begins is_name after ≡ false
+  behind_stand : (n : ℕ) (es : SExprs) → AllLexable n es → n ≤ most_open → (more : List Piece) (after rest : List ℕ) → begins is_name_character after ≡ false
       → Stand n more after rest → Stand n (pieces_behind es more) (text_behind es ++ after) rest
   behind_stand n nil h le more after rest b k = k
   behind_stand n (cons e es) h le more after rest b k = (
@@ -262,15 +262,15 @@ abbrev line_pieces : List SExpr → List Piece
 line_pieces [] = []
 line_pieces (e ∷ es) = expr_pieces e (blank 10 ∷ line_pieces es)
 
-lines_stand : (es : List SExpr) → LinesLexable es → Stand 0 (line_pieces es) (lines_of es) []
+lines_stand : (es : List SExpr) → LinesLexable es → Stand 0 (line_pieces es) (expression_lines es) []
 lines_stand [] h = refl
-lines_stand (e ∷ es) h = expr_stand 0 e h.0 (omega arith) (blank 10 ∷ line_pieces es) (10 ∷ lines_of es) [] refl
-    (lines_of es, record { piece = refl; spelled = refl; ended = tt; depth = omega arith }, lines_stand es h.1)
+lines_stand (e ∷ es) h = expr_stand 0 e h.0 (omega arith) (blank 10 ∷ line_pieces es) (10 ∷ expression_lines es) [] refl
+    (expression_lines es, record { piece = refl; spelled = refl; ended = tt; depth = omega arith }, lines_stand es h.1)
 
 line_tokens : (es : List SExpr) → LinesLexable es → piece_tokens (line_pieces es) ≡ all_tokens es
 line_tokens [] h = refl
 line_tokens (e ∷ es) h = expr_piece_tokens 0 e h.0 (blank 10 ∷ line_pieces es) ∙ ap (λ (l : List Token). expr_tokens e l) (line_tokens es h.1)
 
 -- the text of lines has exactly the tokens of their expressions
-pub lines_have_tokens : (es : List SExpr) → LinesLexable es → (ts : List Lexed) × HasTokens (lines_of es) ts × (tokens ts ≡ all_tokens es)
+pub lines_have_tokens : (es : List SExpr) → LinesLexable es → (ts : List Lexed) × HasTokens (expression_lines es) ts × (tokens ts ≡ all_tokens es)
 lines_have_tokens es h = (tokens_of (line_pieces es), (line_pieces es, lines_stand es h, refl), tokens_from_pieces 0 [] (line_pieces es) ∙ line_tokens es h)

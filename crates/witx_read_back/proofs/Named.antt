@@ -5,7 +5,7 @@ use Rattle.std.specs.Fmt.{decimal, digits, digits_onto, digit_glyph}
 use Rattle.std.specs.List.{list_all}
 use Rattle.std.specs.Str.{IsUtf8}
 use Rattle.witx_files.specs.declared.location.Location.{Location}
-use Rattle.witx_lex.specs.Characters.{is_name, dollar}
+use Rattle.witx_lex.specs.Characters.{is_name_character, dollar}
 use Rattle.witx_ast.specs.Tree as ast
 use Rattle.witx_ast.specs.Tree.{Tree, Arm, Field, arm, fields_of, arms_of, behind}
 use Rattle.witx_base.specs.Texts.{same_text}
@@ -13,7 +13,7 @@ use Rattle.witx_comments.specs.Comments.{Comments}
 use Rattle.witx_syntax_tree.specs.Trees.{Name, Member, TypeTree, Maybe, Types, Fields, UnionFields, Cases, absent, present, no_types, one_type, no_fields, one_field, no_union_fields, one_union_field, no_cases, one_case}
 use Rattle.witx_syntax.specs.Names.{NamesOfMembers, NamesOfType, NamesOfMaybe, NamesOfTypes, NamesOfFields, NamesOfUnionFields, NamesOfCases}
 use Rattle.witx_scope.specs.Faults.{Check, union_size_mismatch}
-use Rattle.witx_scope.specs.Names.{Here, Marks, Sense, a_type, sense_tree, new_mark, use_check}
+use Rattle.witx_scope.specs.Names.{Here, NameMarks, Sense, a_type, sense_tree, new_mark, use_check}
 use Rattle.witx_scope.specs.Tags.{tag_checks, tag_names, names_in, size_check, case_check, arm_names, repr_check}
 use Rattle.witx_scope.specs.Trees.{tree_meant, maybe_tree, types_meant, union_arms, fields_meant, case_arms, bool_tree, member_arm, flag_field, in_order, arm_called, bare_arm, union_name, nth_name, number_name}
 use Rattle.witx_scope.specs.Checks.{type_checks, maybe_checks, each_type_checks, union_field_checks, field_checks, case_checks, member_checks, anonymous, cases_count, union_fields_count}
@@ -30,9 +30,9 @@ well = record { name = IsIdentifier; quoted = IsUtf8; docs = (λ d. Unit {0}) }
 -- ---- decimal digits
 
 abbrev AreNames : List ℕ → Type 0
-AreNames s = list_all is_name s ≡ true
+AreNames s = list_all is_name_character s ≡ true
 
-digit_name : (d : ℕ) → d < 10 → is_name (digit_glyph false d) ≡ true
+digit_name : (d : ℕ) → d < 10 → is_name_character (digit_glyph false d) ≡ true
 digit_name zero l = refl
 digit_name (suc zero) l = refl
 digit_name (suc (suc zero)) l = refl
@@ -48,7 +48,7 @@ digit_name (suc (suc (suc (suc (suc (suc (suc (suc (suc (suc d)))))))))) l = abs
 below_ten : (n : ℕ) → n % 10 < 10
 below_ten n = omega arith
 
-both_names : (b : ℕ) (s : List ℕ) → is_name b ≡ true → AreNames s → AreNames (b ∷ s)
+both_names : (b : ℕ) (s : List ℕ) → is_name_character b ≡ true → AreNames s → AreNames (b ∷ s)
 both_names b s e h = rw (e, h) refl
 
 names_either : (t : Bool) (a b : List ℕ) → AreNames a → AreNames b → AreNames (cond t a b)
@@ -92,7 +92,7 @@ number_identifier n = (
 )
 
 -- the name is an identifier, by computation
-two_more : (b c : ℕ) (s : List ℕ) → list_all is_name (36 ∷ b ∷ c ∷ s) ≡ true → IsIdentifier (b ∷ c ∷ s)
+two_more : (b c : ℕ) (s : List ℕ) → list_all is_name_character (36 ∷ b ∷ c ∷ s) ≡ true → IsIdentifier (b ∷ c ∷ s)
 two_more b c s e = (not_nil 36 (b ∷ c ∷ s), e, (λ f. not_nil b (c ∷ s) (behind_one 36 36 (b ∷ c ∷ s) f)))
 
 false_well : IsIdentifier (codes "false")
@@ -270,7 +270,7 @@ module _ (h : Here) (k : KnowsWell h) where
         let p = parts_pass (type_checks h false near t) (each_type_checks h near ts) e in
         (tt, (type_well false near t p.0 w.0).0, types_well (i + 1) near ts p.1 w.1)
 
-    pub fields_well : (marks : Marks) (fs : Fields) → Pass (field_checks h marks fs) → NamesOfFields named_well IsUtf8 fs → FieldTexts well (fields_of (fields_meant h fs))
+    pub fields_well : (marks : NameMarks) (fs : Fields) → Pass (field_checks h marks fs) → NamesOfFields named_well IsUtf8 fs → FieldTexts well (fields_of (fields_meant h fs))
     fields_well marks no_fields e w = tt
     fields_well marks (one_field c m t fs) e w =
         let p = head_passes (new_mark h marks m.name m.start) (type_checks h false (h.place m.start) t ++ field_checks h ((m.name, m.start) ∷ marks) fs) e in

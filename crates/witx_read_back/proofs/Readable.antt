@@ -2,13 +2,13 @@
 use Rattle.std.specs.Prelude.{◌≢◌, ℕ, IsTrue, List, [], ◌∷◌}
 use Rattle.std.specs.List.{list_all}
 use Rattle.std.specs.Str.{IsUtf8}
-use Rattle.witx_lex.specs.Characters.{is_name, is_raw, dollar}
+use Rattle.witx_lex.specs.Characters.{is_name_character, is_raw, dollar}
 use Rattle.witx_read_back.specs.DocumentTexts.{Claims}
 use Rattle.witx_read_back.specs.Plain.{no_marks}
 
 -- a text that is one run of name characters
 abbrev pub IsRun : List ℕ → Type 0
-IsRun s = (s ≢ []) × IsTrue (list_all is_name s) × (s ≢ dollar ∷ [])
+IsRun s = (s ≢ []) × IsTrue (list_all is_name_character s) × (s ≢ dollar ∷ [])
 
 abbrev pub IsIdentifier : List ℕ → Type 0
 IsIdentifier n = IsRun (dollar ∷ n)

@@ -15,7 +15,7 @@ use Rattle.witx_ast.specs.Words.{is_bool_arms}
 use Rattle.witx_scope.specs.Trees.{bool_tree, number_name}
 use Rattle.witx_scope.specs.Tags as tags
 use Rattle.witx_scope.specs.Modules.{item_called}
-use Rattle.witx_render.specs.TypeExpressions.{are_bare}
+use Rattle.witx_render.specs.TypeExpressions.{have_no_payload}
 use Rattle.witx_render.specs.ModuleExpressions.{items_in_order}
 use Rattle.witx_read_back.specs.Distinct.{any_same, AllNew}
 use Rattle.witx_read_back.specs.Emptied.{emptied}
@@ -57,7 +57,7 @@ abbrev mutual
   Stands D named (Tree.pointer_to t) = Stands D false t
   Stands D named (Tree.const_pointer_to t) = Stands D false t
   Stands D named (Tree.record_of kind ms) = StandsRecord kind named ms (FieldsStand D ms)
-  Stands D named (Tree.variant_of r cs) = StandsVariant (is_bool_arms (arm_list cs)) (are_bare cs) named r cs (ArmsStand D cs)
+  Stands D named (Tree.variant_of r cs) = StandsVariant (is_bool_arms (arm_list cs)) (have_no_payload cs) named r cs (ArmsStand D cs)
 
   pub FieldsStand : Denotes → Fields → Type 0
   FieldsStand D Fields.no_fields = Unit {0}

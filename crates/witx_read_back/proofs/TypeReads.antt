@@ -21,7 +21,7 @@ use Rattle.witx_language.specs.TokenKinds.{token_kind}
 use Rattle.witx_language.specs.Values.{Val, a_name, a_builtin, a_type, some_types, a_member, some_members, a_field, some_fields, a_case, some_cases}
 use Rattle.witx_scope.specs.Tags.{builtin_type, repr_of}
 use Rattle.witx_render.specs.Expressions.{SExpr, vec, word as bare_word, ident, annot as annotation, SExprs, nil, cons, ◌▹◌, with_docs}
-use Rattle.witx_render.specs.TypeExpressions.{builtin_expr, repr_expr, width_expr, are_bare, variant_expr, type_expr, member_exprs, case_exprs}
+use Rattle.witx_render.specs.TypeExpressions.{builtin_expr, repr_expr, width_expr, have_no_payload, variant_expr, type_expr, member_exprs, case_exprs}
 use Rattle.witx_read_back.specs.PrintedTokens.{expr_tokens, exprs_tokens}
 use Rattle.witx_read_back.proofs.Tokens.{expr_more, exprs_more}
 use Rattle.witx_read_back.proofs.Forms.{Wants, Makes, Reads, row, opening, closing, a_word, at_witx, name, expr, last, under_docs}
@@ -293,7 +293,7 @@ mutual
         (λ vs. refl),
         (one_field f.comments f.called f.type_ fs, refl, (f.comments, f.called, f.type_, fs, refl, e.0, e.1, q)),
       )))))))
-  type_reads (Tree.variant_of r cs) w = is_plain (variant_reads (is_bool_arms (arm_list cs)) (are_bare cs) r cs w.0 (cases_read cs w.1))
+  type_reads (Tree.variant_of r cs) w = is_plain (variant_reads (is_bool_arms (arm_list cs)) (have_no_payload cs) r cs w.0 (cases_read cs w.1))
 
   types_read : (ms : ast.Fields) → FieldsWritable ms → Reads (exprs_tokens (member_exprs RecordKind.Tuple ms) (right ∷ [])) form.Types Types (λ us. some_types us) (SaysTypes ms)
   types_read ast.no_fields w = row prod.NoTypes 44 refl (closing (stop (λ ls. (no_types, (λ vs. refl), refl))))

@@ -15,10 +15,10 @@ use Rattle.witx_syntax.specs.Names.{AllNames, NamesOfItem}
 use Rattle.witx_language.specs.FaultPlaces.{Told}
 use Rattle.witx_syntax.specs.Reads.{Reads, IsFaultOf}
 use Rattle.witx_scope.specs.Faults.{Fault}
-use Rattle.witx_order.specs.Items.{Item, declaration, use_of, item_at, item_of, items_of, Declared, SyntaxFault}
-use Rattle.witx_order.specs.Walks.{World, IsRead}
+use Rattle.witx_order.specs.Items.{TextItem, declaration, use_of, item_at, item_of, items_of, Declared, SyntaxFault}
+use Rattle.witx_order.specs.Walks.{World, IsReadDeclaration}
 use Rattle.witx_order.specs.Fronts.{AreSound}
-use Rattle.witx_walk.specs.Readings.{Reading, IsReading, syntax_fault}
+use Rattle.witx_walk.specs.Readings.{FileReading, IsReading, syntax_fault}
 use Rattle.witx_walk.specs.Meaning.{definitions_of, fault_behind, world, MeansDocument}
 use Rattle.witx_read_back.specs.DocumentTexts.{Claims, TypeTexts, TupleTexts, FieldTexts, FlagTexts, RecordTexts, CaseTexts, ParamTexts, ItemTexts, ItemsTexts, DefinitionTexts, DocumentTexts}
 use Rattle.witx_read_back.specs.Plain.{IsPlain, plain_texts}
@@ -29,7 +29,7 @@ use Rattle.witx_read_back.proofs.Identifiers.{named_well, read_names, filled_ite
 use Rattle.witx_read_back.proofs.Declared.{AllFilled}
 use Rattle.witx_order.proofs.Read.{walk-read}
 use Rattle.witx_order.specs.Verdicts.{Verdict, fine, refused}
-use Rattle.witx_order.specs.Walks.{Refusal}
+use Rattle.witx_order.specs.Walks.{WalkRefusal}
 use Rattle.witx_files.specs.declared.fault.IoFault.TheVariants.{NotFound, LineNotFound, Failed}
 use Rattle.witx_walk.specs.Answers.{Answer, AgreesWith, answer_of}
 use Rattle.witx_walk.specs.OneFile.{IsOfOneFile, IsSourceAnswer, IsSourceVerdict}
@@ -121,14 +121,14 @@ no_use i t e = cc
 one_declaration : (i j : NotedItem) → declaration i ≡ declaration j → j ≡ i
 one_declaration i j e = cc
 
-module _ (P : forms.ItemTree → Type 0) where
-  at_item : (i j : NotedItem) (x : forms.ItemTree) → j.item ≡ x → P j.item → declaration i ≡ item_at j x → P i.item
+module _ (P : forms.FormTree → Type 0) where
+  at_item : (i j : NotedItem) (x : forms.FormTree) → j.item ≡ x → P j.item → declaration i ≡ item_at j x → P i.item
   at_item i j (forms.uses t) q h e = absurd (no_use i t e)
   at_item i j (forms.typename m t) q h e = subst (λ (k : NotedItem). P k.item) (one_declaration i j e) h
   at_item i j (forms.module_of m ds) q h e = subst (λ (k : NotedItem). P k.item) (one_declaration i j e) h
   at_item i j (forms.constant cs t m v) q h e = subst (λ (k : NotedItem). P k.item) (one_declaration i j e) h
 
-in_items : (i : NotedItem) (d : Document) (before behind : List Item) → AllNames named_well IsUtf8 d → before ++ declaration i ∷ behind ≡ items_of d → NamesOfItem named_well IsUtf8 i.item
+in_items : (i : NotedItem) (d : Document) (before behind : List TextItem) → AllNames named_well IsUtf8 d → before ++ declaration i ∷ behind ≡ items_of d → NamesOfItem named_well IsUtf8 i.item
 in_items i [] before behind h e = absurd (not_behind before (declaration i) behind e)
 in_items i (j ∷ js) [] behind h e = at_item (NamesOfItem named_well IsUtf8) i j j.item refl h.0 (first_is (declaration i) (item_of j) behind (items_of js) e)
 in_items i (j ∷ js) (b ∷ bs) behind h e = in_items i js bs behind h.1 (others_are b (item_of j) (bs ++ declaration i ∷ behind) (items_of js) e)
@@ -144,20 +144,20 @@ same_ok x y r e f = cc
 not_err : {A E : Type 0} (x : A) (y : E) (r : Result A E) → r ≡ Ok x → r ≡ Err y → ⊥
 not_err x y r e f = cc
 
-document_of : OneOrOther → (reading : Reading) → IsReading reading → (text : List ℕ) (items : List Item) → reading text ≡ Ok items → (d : Document) × Reads text d × (items ≡ items_of d)
+document_of : OneOrOther → (reading : FileReading) → IsReading reading → (text : List ℕ) (items : List TextItem) → reading text ≡ Ok items → (d : Document) × Reads text d × (items ≡ items_of d)
 document_of one reading r text items e = by_cases (one text)
   where
     by_cases : ((d : Document) × Reads text d) ⊎ ((f : Told) × IsFaultOf text f) → (d : Document) × Reads text d × (items ≡ items_of d)
     by_cases (inl d) = (d.0, d.1, same_ok items (items_of d.0) (reading text) e (r.documents text d.0 d.1))
     by_cases (inr f) = absurd (not_err items (syntax_fault f.0) (reading text) e (r.faults text f.0 f.1))
 
-module _ (one : OneOrOther) (reading : Reading) (r : IsReading reading) (w : World Fault) (same : w.reading ≡ reading) where
-  read_well : (δ : Declared) → IsRead w δ → NamesOfItem named_well IsUtf8 δ.item.item
+module _ (one : OneOrOther) (reading : FileReading) (r : IsReading reading) (w : World Fault) (same : w.reading ≡ reading) where
+  read_well : (δ : Declared) → IsReadDeclaration w δ → NamesOfItem named_well IsUtf8 δ.item.item
   read_well δ q =
-      let d = document_of one reading r δ.text (q.1.0 ++ declaration δ.item ∷ q.1.1) (sym (ap (λ (f : Reading). f δ.text) same) ∙ q.1.2) in
+      let d = document_of one reading r δ.text (q.1.0 ++ declaration δ.item ∷ q.1.1) (sym (ap (λ (f : FileReading). f δ.text) same) ∙ q.1.2) in
       in_items δ.item d.0 q.1.0 q.1.1 (read_names δ.text d.0 d.1) d.2
 
-  all_well : (δs : List Declared) → AllByRecursion (IsRead w) δs → AllNamedWell δs
+  all_well : (δs : List Declared) → AllByRecursion (IsReadDeclaration w) δs → AllNamedWell δs
   all_well [] h = tt
   all_well (δ ∷ δs) h = (read_well δ h.0, all_well δs h.1)
 
@@ -169,8 +169,8 @@ nothing_kept : (n : List ℕ) → Unit {0}
 nothing_kept n = tt
 
 -- what declarations without a fault mean that are items of texts
-read_prepared : OneOrOther → (reading : Reading) → IsReading reading → (w : World Fault) → w.reading ≡ reading → w.fault_of ≡ fault_behind → (declared : List Declared)
-    → AllByRecursion (IsRead w) declared → AreSound w [] declared → IsPlain (definitions_of declared) → IsPrepared (definitions_of declared)
+read_prepared : OneOrOther → (reading : FileReading) → IsReading reading → (w : World Fault) → w.reading ≡ reading → w.fault_of ≡ fault_behind → (declared : List Declared)
+    → AllByRecursion (IsReadDeclaration w) declared → AreSound w [] declared → IsPlain (definitions_of declared) → IsPrepared (definitions_of declared)
 read_prepared one reading r w same faults declared h s p =
     let n = all_well one reading r w same declared h in
     let t = readable_texts (definitions_of declared) (declared_well w faults declared [] nothing_kept s n) p.texts in
@@ -203,7 +203,7 @@ fine_of δs = fine δs
 fine_declared : (δs ηs : List Declared) → fine_of δs ≡ fine_of ηs → δs ≡ ηs
 fine_declared δs ηs e = cc
 
-fine_refused : (δs : List Declared) (x : Refusal Fault) → fine_of δs ≡ refused x → ⊥
+fine_refused : (δs : List Declared) (x : WalkRefusal Fault) → fine_of δs ≡ refused x → ⊥
 fine_refused δs x e = cc
 
 -- an answer that is the verdict

@@ -8,7 +8,7 @@ use Rattle.witx_ast.specs.Items.{ItemTree, import_of, func_of}
 use Rattle.witx_ast.specs.Definitions.{DefinitionTree, typename_of, module_of, constant_of}
 use Rattle.witx_comments.specs.Comments.{Comments}
 use Rattle.witx_syntax_tree.specs.Trees.{Name, TypeTree, Maybe, Fields, absent, present}
-use Rattle.witx_render.specs.TypeExpressions.{are_bare}
+use Rattle.witx_render.specs.TypeExpressions.{have_no_payload}
 use Rattle.witx_render.specs.ModuleExpressions.{items_in_order}
 use Rattle.witx_read_back.specs.Says.{Says, SaysParams}
 
@@ -57,7 +57,7 @@ abbrev mutual
   IsWritable (Tree.pointer_to t) = IsWritable t
   IsWritable (Tree.const_pointer_to t) = IsWritable t
   IsWritable (Tree.record_of kind ms) = HasField kind ms × FieldsWritable ms
-  IsWritable (Tree.variant_of r cs) = HasName (is_bool_arms (arm_list cs)) (are_bare cs) cs × ArmsWritable cs
+  IsWritable (Tree.variant_of r cs) = HasName (is_bool_arms (arm_list cs)) (have_no_payload cs) cs × ArmsWritable cs
 
   pub FieldsWritable : ast.Fields → Type 0
   FieldsWritable ast.no_fields = Unit {0}

@@ -14,7 +14,7 @@ use Rattle.witx_ast.specs.Items.{ItemTree, import_of, func_of}
 use Rattle.witx_ast.specs.Definitions.{DefinitionTree, typename_of, module_of, constant_of}
 use Rattle.witx_scope.specs.Tags.{arm_names}
 use Rattle.witx_render.specs.Expressions.{SExpr, vec, word, ident, quote, annot, docs, SExprs, nil, cons}
-use Rattle.witx_render.specs.TypeExpressions.{are_bare}
+use Rattle.witx_render.specs.TypeExpressions.{have_no_payload}
 use Rattle.witx_render.specs.DocumentTexts.{document_exprs}
 use Rattle.witx_read_back.specs.Distinct.{AllNew}
 use Rattle.witx_read_back.specs.DocumentTexts.{Claims, DocumentTexts}
@@ -42,7 +42,7 @@ abbrev mutual
   PlainType named (Tree.pointer_to t) = PlainType false t
   PlainType named (Tree.const_pointer_to t) = PlainType false t
   PlainType named (Tree.record_of kind ms) = PlainFields ms
-  PlainType named (Tree.variant_of r cs) = PlainVariant (is_bool_arms (arm_list cs)) (are_bare cs) named r cs × PlainArms cs
+  PlainType named (Tree.variant_of r cs) = PlainVariant (is_bool_arms (arm_list cs)) (have_no_payload cs) named r cs × PlainArms cs
 
   pub PlainFields : Fields → Type 0
   PlainFields Fields.no_fields = Unit {0}

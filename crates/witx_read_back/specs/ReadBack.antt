@@ -11,12 +11,12 @@ use Rattle.witx_syntax.specs.Reads.{Reads}
 use Rattle.witx_ast.specs.Definitions.{DefinitionTree}
 use Rattle.witx_order.specs.Items.{Declared}
 use Rattle.witx_order.specs.Verdicts.{fine, IsVerdict}
-use Rattle.witx_walk.specs.Readings.{Reading, IsReading}
+use Rattle.witx_walk.specs.Readings.{FileReading, IsReading}
 use Rattle.witx_walk.specs.Meaning.{world, definitions_of, MeansDocument}
 use Rattle.witx_walk.specs.OneFile.{source_path, source_world}
 use Rattle.witx_walk.specs.Answers.{Answer}
 use Rattle.witx_walk.specs.declared.error.WitxError.TheVariants.{Io, Parse, Validation, BadPath, TooManyFiles, OutOfMemory}
-use Rattle.witx_render.specs.DocumentTexts.{in_order, document_exprs, document_text}
+use Rattle.witx_render.specs.DocumentTexts.{typenames_first, document_exprs, document_text}
 use Rattle.witx_read_back.specs.Plain.{IsPlain}
 use Rattle.witx_read_back.specs.PrintedTokens.{tokens, all_tokens}
 use Rattle.witx_read_back.specs.SameEntries.{SameEntries}
@@ -24,7 +24,7 @@ use Rattle.witx_read_back.specs.Says.{SaysDocument}
 
 -- some files mean these definitions
 pub record IsMeant (ds : List DefinitionTree) : Type 0 where
-  pub reading : Reading
+  pub reading : FileReading
   pub files : Files
   pub aliases : Aliases
   pub handed : List Path
@@ -37,11 +37,11 @@ HasPrintedTokens ds = (ts : List Lexed) × HasTokens (document_text ds) ts × (t
 
 -- the bytes read as a syntax tree that says the typenames and then the modules
 abbrev pub ReadsAsPrinted : List DefinitionTree → Type 0
-ReadsAsPrinted ds = (document : Document) × Reads (document_text ds) document × SaysDocument (in_order ds) document
+ReadsAsPrinted ds = (document : Document) × Reads (document_text ds) document × SaysDocument (typenames_first ds) document
 
 -- as the one file the bytes have the verdict that no declaration has a fault, and these define equal entries
 abbrev pub MeansTheSame : List DefinitionTree → Type 0
-MeansTheSame ds = (reading : Reading) → IsReading reading → (declared : List Declared)
+MeansTheSame ds = (reading : FileReading) → IsReading reading → (declared : List Declared)
     × IsVerdict (source_world (document_text ds) reading) (source_path ∷ []) (fine declared) × SameEntries ds (definitions_of declared)
 
 -- an answer has equal entries, or is want of memory

@@ -13,7 +13,7 @@ use Rattle.witx_syntax_tree.specs.Trees.{Name, QuotedText, Member, DeclTree, mem
 use Rattle.witx_scope.specs.Tags.{builtin_type, repr_of}
 use Rattle.witx_ast.specs.Items.{ItemTree, import_of, func_of}
 use Rattle.witx_ast.specs.Definitions.{DefinitionTree, typename_of, module_of, constant_of}
-use Rattle.witx_render.specs.TypeExpressions.{are_bare}
+use Rattle.witx_render.specs.TypeExpressions.{have_no_payload}
 use Rattle.witx_render.specs.ModuleExpressions.{items_in_order}
 
 abbrev pub IsRepr : IntRepr → BuiltinSyntax → Type 0
@@ -47,7 +47,7 @@ abbrev mutual
   Says (Tree.pointer_to t) s = (u : TypeTree) × (s ≡ TypeTree.pointer_to u) × Says t u
   Says (Tree.const_pointer_to t) s = (u : TypeTree) × (s ≡ TypeTree.const_pointer_to u) × Says t u
   Says (Tree.record_of kind ms) s = SaysRecord kind ms (SaysTypes ms) (SaysFields ms) s
-  Says (Tree.variant_of r cs) s = SaysVariant (is_bool_arms (arm_list cs)) (are_bare cs) r cs (SaysCases cs) s
+  Says (Tree.variant_of r cs) s = SaysVariant (is_bool_arms (arm_list cs)) (have_no_payload cs) r cs (SaysCases cs) s
 
   pub SaysTypes : ast.Fields → Types → Type 0
   SaysTypes ast.no_fields ts = ts ≡ no_types
@@ -86,7 +86,7 @@ abbrev pub SaysItems : List ItemTree → List NotedDecl → Type 0
 SaysItems [] ds = ds ≡ []
 SaysItems (i ∷ is) ds = (d : NotedDecl) × (es : List NotedDecl) × (ds ≡ d ∷ es) × SaysItem i d.decl × SaysItems is es
 
-abbrev pub SaysDefinition : DefinitionTree → forms.ItemTree → Type 0
+abbrev pub SaysDefinition : DefinitionTree → forms.FormTree → Type 0
 SaysDefinition (typename_of n t d) i = (m : Name) × (u : TypeTree) × (i ≡ forms.typename m u) × (m.name ≡ n) × Says t u
 SaysDefinition (module_of o) i = (m : Name) × (ds : List NotedDecl) × (i ≡ forms.module_of m ds) × (m.name ≡ o.name) × SaysItems (items_in_order o.items) ds
 SaysDefinition (constant_of c) i = ⊥

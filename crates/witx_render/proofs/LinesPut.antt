@@ -13,7 +13,7 @@ use Rattle.witx_ast.specs.Views.{tree_of}
 use Rattle.witx_ast.specs.Definitions.{DefinitionTree, definition_tree, module_tree}
 use Rattle.witx_render.specs.Expressions.{SExpr, text_of}
 use Rattle.witx_render.specs.ModuleExpressions.{module_expr}
-use Rattle.witx_render.specs.DocumentTexts.{typename_expr, definition_expr, is_typename, is_module, lines_of, document_text}
+use Rattle.witx_render.specs.DocumentTexts.{typename_expr, definition_expr, is_typename, is_module, expression_lines, document_text}
 use Rattle.witx_render.specs.Lists.{lines_where}
 use Rattle.witx_render.proofs.ItemsBuilt.{picked_next, passed_next, picked_all}
 
@@ -32,8 +32,8 @@ pub typename-put : (xs : List Definition) (i : ℕ) (x : Definition) (r : Rc Nam
     → now ++ lines_where is_typename (map definition_tree (drop (i + 1) xs)) ≡ total
 typename-put xs i x r done now total l p q w e =
     let rest = filter is_typename (map definition_tree (drop (i + 1) xs)) in
-    line_put done (text_of (typename_expr r.value.name (tree_of r.value.tref) r.value.docs)) (lines_of (map definition_expr rest)) total now w
-    (ap (λ ds. done ++ lines_of (map definition_expr ds))
+    line_put done (text_of (typename_expr r.value.name (tree_of r.value.tref) r.value.docs)) (expression_lines (map definition_expr rest)) total now w
+    (ap (λ ds. done ++ expression_lines (map definition_expr ds))
     (sym (picked_next is_typename definition_tree xs i x l p (ap (λ y. is_typename (definition_tree y)) q) ∙ ap (λ y. definition_tree y ∷ rest) q)) ∙ e)
 
 pub module-put : (xs : List Definition) (i : ℕ) (x : Definition) (r : Rc Module Global) (done now total : List ℕ)
@@ -43,8 +43,8 @@ pub module-put : (xs : List Definition) (i : ℕ) (x : Definition) (r : Rc Modul
     → now ++ lines_where is_module (map definition_tree (drop (i + 1) xs)) ≡ total
 module-put xs i x r done now total l p q w e =
     let rest = filter is_module (map definition_tree (drop (i + 1) xs)) in
-    line_put done (text_of (module_expr (module_tree r.value))) (lines_of (map definition_expr rest)) total now w
-    (ap (λ ds. done ++ lines_of (map definition_expr ds))
+    line_put done (text_of (module_expr (module_tree r.value))) (expression_lines (map definition_expr rest)) total now w
+    (ap (λ ds. done ++ expression_lines (map definition_expr ds))
     (sym (picked_next is_module definition_tree xs i x l p (ap (λ y. is_module (definition_tree y)) q) ∙ ap (λ y. definition_tree y ∷ rest) q)) ∙ e)
 
 pub module-passed : (xs : List Definition) (i : ℕ) (x : Definition) (r : Rc Module Global) (done total : List ℕ)
@@ -52,44 +52,44 @@ pub module-passed : (xs : List Definition) (i : ℕ) (x : Definition) (r : Rc Mo
     → done ++ lines_where is_typename (map definition_tree (drop i xs)) ≡ total
     → done ++ lines_where is_typename (map definition_tree (drop (i + 1) xs)) ≡ total
 module-passed xs i x r done total l p q e =
-    ap (λ ds. done ++ lines_of (map definition_expr ds)) (sym (passed_next is_typename definition_tree xs i x l p (ap (λ y. is_typename (definition_tree y)) q))) ∙ e
+    ap (λ ds. done ++ expression_lines (map definition_expr ds)) (sym (passed_next is_typename definition_tree xs i x l p (ap (λ y. is_typename (definition_tree y)) q))) ∙ e
 
 pub constant-passed : (xs : List Definition) (i : ℕ) (x : Definition) (c : Constant) (done total : List ℕ)
     → i < length xs → x ≡ get_or xs i x → x ≡ variant.Constant c
     → done ++ lines_where is_typename (map definition_tree (drop i xs)) ≡ total
     → done ++ lines_where is_typename (map definition_tree (drop (i + 1) xs)) ≡ total
 constant-passed xs i x c done total l p q e =
-    ap (λ ds. done ++ lines_of (map definition_expr ds)) (sym (passed_next is_typename definition_tree xs i x l p (ap (λ y. is_typename (definition_tree y)) q))) ∙ e
+    ap (λ ds. done ++ expression_lines (map definition_expr ds)) (sym (passed_next is_typename definition_tree xs i x l p (ap (λ y. is_typename (definition_tree y)) q))) ∙ e
 
 pub typename-skipped : (xs : List Definition) (i : ℕ) (x : Definition) (r : Rc NamedType Global) (done total : List ℕ)
     → i < length xs → x ≡ get_or xs i x → x ≡ variant.Typename r
     → done ++ lines_where is_module (map definition_tree (drop i xs)) ≡ total
     → done ++ lines_where is_module (map definition_tree (drop (i + 1) xs)) ≡ total
 typename-skipped xs i x r done total l p q e =
-    ap (λ ds. done ++ lines_of (map definition_expr ds)) (sym (passed_next is_module definition_tree xs i x l p (ap (λ y. is_module (definition_tree y)) q))) ∙ e
+    ap (λ ds. done ++ expression_lines (map definition_expr ds)) (sym (passed_next is_module definition_tree xs i x l p (ap (λ y. is_module (definition_tree y)) q))) ∙ e
 
 pub constant-skipped : (xs : List Definition) (i : ℕ) (x : Definition) (c : Constant) (done total : List ℕ)
     → i < length xs → x ≡ get_or xs i x → x ≡ variant.Constant c
     → done ++ lines_where is_module (map definition_tree (drop i xs)) ≡ total
     → done ++ lines_where is_module (map definition_tree (drop (i + 1) xs)) ≡ total
 constant-skipped xs i x c done total l p q e =
-    ap (λ ds. done ++ lines_of (map definition_expr ds)) (sym (passed_next is_module definition_tree xs i x l p (ap (λ y. is_module (definition_tree y)) q))) ∙ e
+    ap (λ ds. done ++ expression_lines (map definition_expr ds)) (sym (passed_next is_module definition_tree xs i x l p (ap (λ y. is_module (definition_tree y)) q))) ∙ e
 
 pub typenames-end : (xs : List Definition) (i : ℕ) (done total : List ℕ) → length xs ≤ i
     → done ++ lines_where is_typename (map definition_tree (drop i xs)) ≡ total → done ≡ total
 typenames-end xs i done total l e =
-    sym (append-nil done) ∙ ap (λ ds. done ++ lines_of (map definition_expr ds)) (sym (picked_all is_typename definition_tree xs i l)) ∙ e
+    sym (append-nil done) ∙ ap (λ ds. done ++ expression_lines (map definition_expr ds)) (sym (picked_all is_typename definition_tree xs i l)) ∙ e
 
 pub modules-end : (xs : List Definition) (i : ℕ) (done total : List ℕ) → length xs ≤ i
     → done ++ lines_where is_module (map definition_tree (drop i xs)) ≡ total → done ≡ total
 modules-end xs i done total l e =
-    sym (append-nil done) ∙ ap (λ ds. done ++ lines_of (map definition_expr ds)) (sym (picked_all is_module definition_tree xs i l)) ∙ e
+    sym (append-nil done) ∙ ap (λ ds. done ++ expression_lines (map definition_expr ds)) (sym (picked_all is_module definition_tree xs i l)) ∙ e
 
-pub lines_more : (es fs : List SExpr) → lines_of (es ++ fs) ≡ lines_of es ++ lines_of fs
+pub lines_more : (es fs : List SExpr) → expression_lines (es ++ fs) ≡ expression_lines es ++ expression_lines fs
 lines_more [] fs = refl
 lines_more (e ∷ es) fs =
     ap (λ (l : List ℕ). text_of e ++ 10 ∷ l) (lines_more es fs)
-    ∙ sym (append_assoc (text_of e) (10 ∷ lines_of es) (lines_of fs))
+    ∙ sym (append_assoc (text_of e) (10 ∷ expression_lines es) (expression_lines fs))
 
 -- first the typenames, then the modules
 pub both-put : (ds : List DefinitionTree) (typenames whole : List ℕ)
@@ -97,7 +97,7 @@ pub both-put : (ds : List DefinitionTree) (typenames whole : List ℕ)
 unfolding document_text
 both-put ds typenames whole t w =
     w ∙ ap (λ (s : List ℕ). s ++ lines_where is_module ds) t
-    ∙ sym (ap lines_of (map-append definition_expr (filter is_typename ds) (filter is_module ds))
+    ∙ sym (ap expression_lines (map-append definition_expr (filter is_typename ds) (filter is_module ds))
     ∙ lines_more (map definition_expr (filter is_typename ds)) (map definition_expr (filter is_module ds)))
 
 pub ruleset put_rules = (typename-put, module-put, module-passed, constant-passed, typename-skipped, constant-skipped, typenames-end, modules-end, both-put)

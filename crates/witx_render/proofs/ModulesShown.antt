@@ -15,7 +15,7 @@ use Rattle.witx_ast.specs.Definitions.{ModuleTree}
 use Rattle.witx_render.specs.declared.expression.SExpr as code
 use Rattle.witx_render.specs.Expressions.{SExpr, vec, word, ident, annot, SExprs, ◌▹◌, exprs_of}
 use Rattle.witx_render.specs.ExpressionViews.{expr_view, exprs_view}
-use Rattle.witx_render.specs.ModuleExpressions.{export_expr, param_expr, param_exprs, noreturn_mark, stored_mark, func_parts, func_expr, import_expr, item_expr, item_exprs, is_import, is_func, module_parts}
+use Rattle.witx_render.specs.ModuleExpressions.{export_expr, param_expr, param_exprs, noreturn_mark, stored_expressions, func_parts, func_expr, import_expr, item_expr, item_exprs, is_import, is_func, module_expressions}
 use Rattle.witx_render.specs.Lists.{func_words, module_words}
 use Rattle.witx_render.proofs.ItemsBuilt.{one_more, next-shown, all-shown, picked_next, passed_next, picked_all}
 
@@ -27,12 +27,12 @@ params_front w (p ∷ ps) more = ap (λ (l : SExprs). param_expr w p ▹ l) (par
 
 pub func-built : (f : FunctionTree) (head params results noreturn whole : List SExpr) → head ≡ func_words f.name
     → params ≡ head ++ map (param_expr (codes "param")) f.params → results ≡ params ++ map (param_expr (codes "result")) f.results
-    → noreturn ≡ results ++ noreturn_mark f.noreturn → whole ≡ noreturn ++ stored_mark f.abi → vec (exprs_of whole) ≡ vec (func_parts f)
+    → noreturn ≡ results ++ noreturn_mark f.noreturn → whole ≡ noreturn ++ stored_expressions f.abi → vec (exprs_of whole) ≡ vec (func_parts f)
 func-built f head params results noreturn whole h p r n w =
     let ps = map (param_expr (codes "param")) f.params in
     let rs = map (param_expr (codes "result")) f.results in
     let m = noreturn_mark f.noreturn in
-    let s = stored_mark f.abi in
+    let s = stored_expressions f.abi in
     ap (λ (k : List SExpr). vec (exprs_of k))
     (w ∙ ap (λ (k : List SExpr). k ++ s) (n ∙ ap (λ (k : List SExpr). k ++ m) (r ∙ ap (λ (k : List SExpr). k ++ rs) (p ∙ ap (λ (k : List SExpr). k ++ ps) h)))
     ∙ append_assoc (((func_words f.name ++ ps) ++ rs)) m s
@@ -49,7 +49,7 @@ items_listed (i ∷ is) = ap (λ (l : SExprs). item_expr i ▹ l) (items_listed 
 
 pub module-built : (m : ModuleTree) (head imports whole : List SExpr) → head ≡ module_words m.name
     → imports ≡ head ++ map item_expr (filter is_import m.items) → whole ≡ imports ++ map item_expr (filter is_func m.items)
-    → vec (exprs_of whole) ≡ vec (module_parts m)
+    → vec (exprs_of whole) ≡ vec (module_expressions m)
 module-built m head imports whole h i w =
     let is = map item_expr (filter is_import m.items) in
     let fs = map item_expr (filter is_func m.items) in

@@ -16,7 +16,7 @@ use Rattle.witx_ast.proofs.ResultLaws.{arms-listed}
 use Rattle.witx_render.specs.declared.expression.SExpr as code
 use Rattle.witx_render.specs.Expressions.{SExpr, vec, word, SExprs, nil, ◌▹◌, exprs_of, with_docs}
 use Rattle.witx_render.specs.ExpressionViews.{expr_view, exprs_view}
-use Rattle.witx_render.specs.TypeExpressions.{type_expr, record_expr, member_expr, member_exprs, variant_expr, case_expr, case_exprs, are_bare}
+use Rattle.witx_render.specs.TypeExpressions.{type_expr, record_expr, member_expr, member_exprs, variant_expr, case_expr, case_exprs, have_no_payload}
 use Rattle.witx_render.specs.Lists.{record_words, member_item, variant_words, case_item, payload_exprs}
 use Rattle.witx_render.proofs.ItemsBuilt.{next-shown, all-shown}
 

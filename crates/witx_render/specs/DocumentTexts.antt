@@ -26,16 +26,16 @@ is_module (module_of m) = true
 is_module (constant_of c) = false
 
 -- the typenames, and then the modules
-abbrev pub in_order : List DefinitionTree → List DefinitionTree
-in_order ds = filter is_typename ds ++ filter is_module ds
+abbrev pub typenames_first : List DefinitionTree → List DefinitionTree
+typenames_first ds = filter is_typename ds ++ filter is_module ds
 
 abbrev pub document_exprs : List DefinitionTree → List SExpr
-document_exprs ds = map definition_expr (in_order ds)
+document_exprs ds = map definition_expr (typenames_first ds)
 
 -- each expression, and a line feed
-abbrev pub lines_of : List SExpr → List ℕ
-lines_of [] = []
-lines_of (e ∷ es) = text_of e ++ 10 ∷ lines_of es
+abbrev pub expression_lines : List SExpr → List ℕ
+expression_lines [] = []
+expression_lines (e ∷ es) = text_of e ++ 10 ∷ expression_lines es
 
 unfoldable pub document_text : List DefinitionTree → List ℕ
-document_text ds = lines_of (document_exprs ds)
+document_text ds = expression_lines (document_exprs ds)

@@ -7,7 +7,7 @@ use Rattle.witx_ast.specs.Definitions.{DefinitionTree}
 use Rattle.witx_render.specs.Expressions.{SExpr, word, ident, annot, SExprs, nil, ◌▹◌, with_docs, text_of}
 use Rattle.witx_render.specs.TypeExpressions.{type_expr, width_expr, member_expr, case_expr}
 use Rattle.witx_render.specs.ModuleExpressions.{export_expr}
-use Rattle.witx_render.specs.DocumentTexts.{definition_expr, lines_of}
+use Rattle.witx_render.specs.DocumentTexts.{definition_expr, expression_lines}
 
 -- what stands before the members of a record
 abbrev pub record_words : RecordKind → List SExpr
@@ -41,4 +41,4 @@ module_words name = word (codes "module") ∷ ident name ∷ []
 
 -- the lines of the definitions that are picked
 abbrev pub lines_where : (DefinitionTree → Bool) → List DefinitionTree → List ℕ
-lines_where picked ds = lines_of (map definition_expr (filter picked ds))
+lines_where picked ds = expression_lines (map definition_expr (filter picked ds))

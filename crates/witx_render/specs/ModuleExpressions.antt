@@ -24,13 +24,13 @@ abbrev pub noreturn_mark : Bool → List SExpr
 noreturn_mark true = witx_expr (codes "noreturn") ∷ []
 noreturn_mark false = []
 
-abbrev pub stored_mark : Abi → List SExpr
-stored_mark Abi.Preview1 = []
-stored_mark Abi.Stored = witx_expr (codes "stored") ∷ []
+abbrev pub stored_expressions : Abi → List SExpr
+stored_expressions Abi.Preview1 = []
+stored_expressions Abi.Stored = witx_expr (codes "stored") ∷ []
 
 -- what follows a function's results
 abbrev pub marks : FunctionTree → SExprs
-marks f = exprs_of (noreturn_mark f.noreturn ++ stored_mark f.abi)
+marks f = exprs_of (noreturn_mark f.noreturn ++ stored_expressions f.abi)
 
 abbrev pub export_expr : List ℕ → SExpr
 export_expr name = vec (word (codes "export") ▹ quote name ▹ nil)
@@ -64,8 +64,8 @@ is_func i = not (is_import i)
 abbrev pub items_in_order : List ItemTree → List ItemTree
 items_in_order is = filter is_import is ++ filter is_func is
 
-abbrev pub module_parts : ModuleTree → SExprs
-module_parts m = word (codes "module") ▹ ident m.name ▹ item_exprs (items_in_order m.items)
+abbrev pub module_expressions : ModuleTree → SExprs
+module_expressions m = word (codes "module") ▹ ident m.name ▹ item_exprs (items_in_order m.items)
 
 abbrev pub module_expr : ModuleTree → SExpr
-module_expr m = with_docs m.comment (vec (module_parts m))
+module_expr m = with_docs m.comment (vec (module_expressions m))

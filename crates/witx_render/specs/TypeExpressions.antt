@@ -50,8 +50,8 @@ abbrev pub named_expr : List ℕ → List ℕ → SExpr → SExpr
 named_expr w n t = vec (word w ▹ ident n ▹ t ▹ nil)
 
 -- no case has a payload
-abbrev pub are_bare : Arms → Bool
-are_bare cs = all_arms_bare (arm_list cs)
+abbrev pub have_no_payload : Arms → Bool
+have_no_payload cs = all_arms_bare (arm_list cs)
 
 -- a record, by its kind, its members' expressions behind its first words
 abbrev pub record_expr : RecordKind → SExprs → SExpr
@@ -85,7 +85,7 @@ abbrev mutual
   type_expr (Tree.pointer_to t) = pointer_expr (codes "pointer") (type_expr t)
   type_expr (Tree.const_pointer_to t) = pointer_expr (codes "const_pointer") (type_expr t)
   type_expr (Tree.record_of kind ms) = record_expr kind (member_exprs kind ms)
-  type_expr (Tree.variant_of r cs) = variant_expr (is_bool_arms (arm_list cs)) (are_bare cs) r (case_exprs (are_bare cs) cs)
+  type_expr (Tree.variant_of r cs) = variant_expr (is_bool_arms (arm_list cs)) (have_no_payload cs) r (case_exprs (have_no_payload cs) cs)
 
   pub member_exprs : RecordKind → Fields → SExprs
   member_exprs kind Fields.no_fields = nil

@@ -4,7 +4,7 @@ ghost use Rattle.std.specs.Prelude.{◌≡◌, ◌++◌, IfOk, OnOk, codes, map}
 ghost use Rattle.witx_ast.specs.Functions.{func_tree, param_field};
 ghost use Rattle.witx_render.specs.Expressions.{vec, word, quote, nil, ◌▹◌};
 ghost use Rattle.witx_render.specs.ExpressionViews.{expr_view};
-ghost use Rattle.witx_render.specs.ModuleExpressions.{import_expr, func_expr, func_parts, param_expr, noreturn_mark, stored_mark, export_expr};
+ghost use Rattle.witx_render.specs.ModuleExpressions.{import_expr, func_expr, func_parts, param_expr, noreturn_mark, stored_expressions, export_expr};
 ghost use Rattle.witx_render.specs.Lists.{func_words};
 
 use crate::expression::{SExpr, SExprs};
@@ -126,7 +126,7 @@ fn push_noreturn(alloc: Global, items: &mut SExprs, noreturn: bool) -> Result<()
 
 #[tactic(auto, using(crate::proofs::ModulesShown::shown_rules))]
 fn push_stored(alloc: Global, items: &mut SExprs, abi: Abi) -> Result<(), OutOfMemory>
-    ensures { OnOk result (map expr_view items.new ≡ map expr_view items.old ++ stored_mark abi) }
+    ensures { OnOk result (map expr_view items.new ≡ map expr_view items.old ++ stored_expressions abi) }
 {
     match abi {
         Abi::Preview1 => Ok(()),

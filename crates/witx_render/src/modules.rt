@@ -6,7 +6,7 @@ ghost use Rattle.witx_ast.specs.Items.{item_tree};
 ghost use Rattle.witx_ast.specs.Definitions.{module_tree};
 ghost use Rattle.witx_render.specs.Expressions.{vec};
 ghost use Rattle.witx_render.specs.ExpressionViews.{expr_view};
-ghost use Rattle.witx_render.specs.ModuleExpressions.{item_expr, is_import, is_func, module_expr, module_parts};
+ghost use Rattle.witx_render.specs.ModuleExpressions.{item_expr, is_import, is_func, module_expr, module_expressions};
 ghost use Rattle.witx_render.specs.DocumentTexts.{typename_expr};
 
 use crate::expression::{SExpr, SExprs};
@@ -38,7 +38,7 @@ impl ToSExpr for Module {
 /// A module without its documentation: imports, and then functions.
 #[tactic(auto, using(crate::proofs::ModulesShown::shown_rules))]
 fn bare_module(alloc: Global, shown_module: &Module) -> Result<SExpr, OutOfMemory>
-    ensures { IfOk result (λ e. expr_view e ≡ vec (module_parts (module_tree shown_module.now))) }
+    ensures { IfOk result (λ e. expr_view e ≡ vec (module_expressions (module_tree shown_module.now))) }
 {
     let mut items = two_items(
         alloc,

@@ -7,13 +7,13 @@ use Rattle.witx_ast.specs.Tree.{Tree}
 use Rattle.witx_machine.specs.Events.{Event, push, finish}
 use Rattle.witx_machine.specs.Rows.{result_lower, result_lift}
 use Rattle.witx_machine.specs.Machine as machine
-use Rattle.witx_machine.specs.Machine.{Domain, Tried, went, no_rule, stuck_at, next, found, only, flowing, play, left_over, with_stack, word_item, value_item, plain_item, payload_item, in_lower, in_lift, two_blocks, top_word, top_value, block_word, lifted_payload}
+use Rattle.witx_machine.specs.Machine.{Domain, Tried, went, no_rule, stuck_at, goes_on, if_found, only, flowing, play, left_over, with_stack, word_item, value_item, plain_item, payload_item, in_lower, in_lift, two_blocks, top_word, top_value, block_word, lifted_payload}
 use Rattle.witx_machine.specs.Positions.{Spot}
 use Rattle.witx_machine.specs.Words.{when}
 use Rattle.witx_run.specs.BlockEnds.{first, ends_from, block_ends}
 use Rattle.witx_run.specs.Frames.{Frame, behind, resume, leaves}
 use Rattle.witx_run.specs.LeftOver.{left_item, left_row, result_with}
-use Rattle.witx_run.specs.MachineViews.{Numbered, Setting, part, spot_in, inside_of, state_in, block_of}
+use Rattle.witx_run.specs.MachineViews.{Numbered, Setting, part, spot_in, inside_of, state_in, block_view}
 use Rattle.witx_run.specs.ScriptParts.{BlockFound, finish_value}
 use Rattle.witx_run.specs.StackRows.{tried_if, top_value_of, top_word_of, pushed_word, pushed_value}
 use Rattle.witx_run.specs.Views.{stack_of}
@@ -99,13 +99,13 @@ module _ {pv pw pm V W M : Type 0} (D : Domain V W M) (value : pv → V) (word :
   pub enters : (in' inside : declared_inside.Inside pv pw) (lowers error : Bool) (b : declared_block.Block) (f : declared_frame.Frame pv pw) (frames : Vec (declared_frame.Frame pv pw)) (stack : Vec (declared_item.Item pv pw)) → length p.frames.items < length es → in' ≡ inside →
       f.inside ≡ p.inside → f.at ≡ p.at → f.end ≡ p.end → f.below ≡ p.machine.stack → f.lowers ≡ lowers → f.error ≡ error → f.has_value ≡ b.has_value → f.finish ≡ b.end →
       frames.items ≡ p.frames.items ++ f ∷ [] → stack.items ≡ [] →
-      whole_behind D value word memory x es p (entering D value word memory x es p (inside_of value word inside) lowers error (block_of spot es b) (stack_of value word p.machine.stack.items) now)
+      whole_behind D value word memory x es p (entering D value word memory x es p (inside_of value word inside) lowers error (block_view spot es b) (stack_of value word p.machine.stack.items) now)
       ≡ whole D value word memory x es (record { machine = record p.machine { stack = stack }; frames = frames; inside = in'; at = b.first; end = b.end })
   enters in' inside lowers error b f frames stack l same f1 f2 f3 f4 f5 f6 f7 f8 pushed empty =
       let one : length es - length p.frames.items ≡ suc (length es - suc (length p.frames.items)) = omega arith in
       ap (λ n. resume (λ e. e.1) (λ e. e.0) D x.side n (frames_of value word spot es p.frames.items)
       (behind (λ e. e.1) (λ e. e.0) D x.side n (inside_of value word p.inside) (spot p.at) (part spot es (suc p.at) p.end)
-      (next (machine.run_block (λ e. e.1) (λ e. e.0) D x.side (runs_in D value word memory x es n) (inside_of value word inside) (block_of spot es b) now) (leaves D lowers error (stack_of value word p.machine.stack.items))))) one
+      (goes_on (machine.run_block (λ e. e.1) (λ e. e.0) D x.side (runs_in D value word memory x es n) (inside_of value word inside) (block_view spot es b) now) (leaves D lowers error (stack_of value word p.machine.stack.items))))) one
       ∙ ap (λ f. in_block inside b (length es - suc (length p.frames.items)) (f ∷ frames_of value word spot es p.frames.items) (with_stack [] now)) (sym frame)
       ∙ ap (λ fs. in_block inside b (length es - suc (length p.frames.items)) fs (with_stack [] now)) (sym (ap (frames_of value word spot es) pushed ∙ frames-pushed value word spot es p.frames.items f))
       ∙ ap (λ n. in_block inside b n (frames_of value word spot es frames.items) (with_stack [] now)) (sym (ap (λ fs. length es - length fs) pushed ∙ more-deep es p.frames.items f))
@@ -128,7 +128,7 @@ module _ {pv pw pm V W M : Type 0} (D : Domain V W M) (value : pv → V) (word :
   too-deep inside lowers error b below l =
       let none : length es - length p.frames.items ≡ 0 = omega arith in
       stuck-behind D value word memory x es p (entering D value word memory x es p inside lowers error b below now)
-      (ap (λ n. next (machine.run_block (λ e. e.1) (λ e. e.0) D x.side (runs_in D value word memory x es n) inside b now) (leaves D lowers error below)) none)
+      (ap (λ n. goes_on (machine.run_block (λ e. e.1) (λ e. e.0) D x.side (runs_in D value word memory x es n) inside b now) (leaves D lowers error below)) none)
 
   -- the innermost block, or the trace, is over
   pub block-over : (f : declared_frame.Frame pv pw) (frames : Vec (declared_frame.Frame pv pw)) → p.frames.items ≡ frames.items ++ f ∷ [] → whole_with D value word memory x es p (went now) ≡ leaving D value word memory x es (record p { frames = frames }) f
@@ -152,19 +152,19 @@ module _ {pv pw pm V W M : Type 0} (D : Domain V W M) (value : pv → V) (word :
   leaves-is : (lowers e : Bool) (y : Option (machine.Item V W)) (below : List (machine.Item V W)) (s : StateIn x) → leaves {P = Spot} D lowers e below (y, s) ≡ on_stack D s (left_row D lowers e y below)
   leaves-is true e y below s = as_word (block_word D e y)
     where
-      as_word : (o : Option W) → found {P = Spot} o (λ w. went (with_stack (word_item w ∷ below) s)) ≡ on_stack D s (pushed_word o below)
+      as_word : (o : Option W) → if_found {P = Spot} o (λ w. went (with_stack (word_item w ∷ below) s)) ≡ on_stack D s (pushed_word o below)
       as_word None = refl
       as_word (Some w) = refl
   leaves-is false e y below s = result (lifted_payload y)
     where
-      result : (o : Option (Option V)) → found {P = Spot} o (λ p. went (with_stack (plain_item (D.result e p) ∷ below) s)) ≡ on_stack D s (pushed_value (result_with D e o) below)
+      result : (o : Option (Option V)) → if_found {P = Spot} o (λ p. went (with_stack (plain_item (D.result e p) ∷ below) s)) ≡ on_stack D s (pushed_value (result_with D e o) below)
       result None = refl
       result (Some p) = refl
 
   pub leaves-wrong : (f : declared_frame.Frame pv pw) → left_item f.has_value (stack_of value word p.machine.stack.items) ≡ None → leaving D value word memory x es p f ≡ stuck_at (spot f.finish)
   leaves-wrong f e =
       ap (λ t. resume (λ e. e.1) (λ e. e.0) D x.side (suc (length es - suc (length p.frames.items))) (frames_of value word spot es p.frames.items)
-      (behind (λ e. e.1) (λ e. e.0) D x.side (suc (length es - suc (length p.frames.items))) (inside_of value word f.inside) (spot f.at) (part spot es (suc f.at) f.end) (next t (leaves D f.lowers f.error (stack_of value word f.below.items)))))
+      (behind (λ e. e.1) (λ e. e.0) D x.side (suc (length es - suc (length p.frames.items))) (inside_of value word f.inside) (spot f.at) (part spot es (suc f.at) f.end) (goes_on t (leaves D f.lowers f.error (stack_of value word f.below.items)))))
       (left-is (spot f.finish) f.has_value (stack_of value word p.machine.stack.items) now ∙ ap (λ o. left_tried (spot f.finish) o now) e)
       ∙ resume_stuck (λ (e : Numbered). e.1) (λ (e : Numbered). e.0) D x.side (suc (length es - suc (length p.frames.items))) (frames_of value word spot es p.frames.items) (spot f.finish)
 
@@ -175,7 +175,7 @@ module _ {pv pw pm V W M : Type 0} (D : Domain V W M) (value : pv → V) (word :
       let one : suc (length es - suc (length p.frames.items)) ≡ length es - length p.frames.items = omega arith in
       ap (λ t. resume (λ e. e.1) (λ e. e.0) D x.side (suc (length es - suc (length p.frames.items))) (frames_of value word spot es p.frames.items)
       (behind (λ e. e.1) (λ e. e.0) D x.side (suc (length es - suc (length p.frames.items))) (inside_of value word f.inside) (spot f.at) (part spot es (suc f.at) f.end) t))
-      (ap (λ t. next t (leaves D f.lowers f.error (stack_of value word f.below.items))) (left-is (spot f.finish) f.has_value (stack_of value word p.machine.stack.items) now ∙ ap (λ o. left_tried (spot f.finish) o now) e)
+      (ap (λ t. goes_on t (leaves D f.lowers f.error (stack_of value word f.below.items))) (left-is (spot f.finish) f.has_value (stack_of value word p.machine.stack.items) now ∙ ap (λ o. left_tried (spot f.finish) o now) e)
       ∙ leaves-is f.lowers f.error y (stack_of value word f.below.items) now ∙ went-stack D now t (stack_of value word stack.items) (left_row D f.lowers f.error y (stack_of value word f.below.items)) (row ∙ ap (λ b. left_row D f.lowers f.error y (stack_of value word b.items)) under))
       ∙ ap (λ n. resume (λ e. e.1) (λ e. e.0) D x.side n (frames_of value word spot es p.frames.items)
       (behind (λ e. e.1) (λ e. e.0) D x.side n (inside_of value word f.inside) (spot f.at) (part spot es (suc f.at) f.end) (tried_if t (with_stack (stack_of value word stack.items) now)))) one
@@ -222,12 +222,12 @@ module _ {pv pw pm V W M : Type 0} (D : Domain V W M) (value : pv → V) (word :
   -- the two blocks set aside last
   two-of : (bs : List declared_block.Block) (a b : declared_block.Block) (all : List declared_block.Block) → all ≡ (bs ++ a ∷ []) ++ b ∷ [] →
       (f : machine.Block Numbered → machine.Block Numbered → List (machine.Block Numbered) → Tried Spot (StateIn x)) →
-      two_blocks (map (block_of spot es) (reverse all)) f ≡ f (block_of spot es a) (block_of spot es b) (map (block_of spot es) (reverse bs))
+      two_blocks (map (block_view spot es) (reverse all)) f ≡ f (block_view spot es a) (block_view spot es b) (map (block_view spot es) (reverse bs))
   two-of bs a b all e f =
-      ap (λ all. two_blocks (map (block_of spot es) (reverse all)) f) e
-      ∙ ap (λ all. two_blocks (map (block_of spot es) all) f) (reverse-append (bs ++ a ∷ []) (b ∷ []) ∙ ap (λ l. b ∷ l) (reverse-append bs (a ∷ [])))
+      ap (λ all. two_blocks (map (block_view spot es) (reverse all)) f) e
+      ∙ ap (λ all. two_blocks (map (block_view spot es) all) f) (reverse-append (bs ++ a ∷ []) (b ∷ []) ∙ ap (λ l. b ∷ l) (reverse-append bs (a ∷ [])))
 
-  two-none : (all : List declared_block.Block) → length all < 2 → (f : machine.Block Numbered → machine.Block Numbered → List (machine.Block Numbered) → Tried Spot (StateIn x)) → two_blocks (map (block_of spot es) (reverse all)) f ≡ no_rule
+  two-none : (all : List declared_block.Block) → length all < 2 → (f : machine.Block Numbered → machine.Block Numbered → List (machine.Block Numbered) → Tried Spot (StateIn x)) → two_blocks (map (block_view spot es) (reverse all)) f ≡ no_rule
   two-none [] l f = refl
   two-none (b ∷ []) l f = refl
   two-none (b ∷ a ∷ all) l f = absurd (omega arith)
@@ -244,21 +244,21 @@ module _ {pv pw pm V W M : Type 0} (D : Domain V W M) (value : pv → V) (word :
 
     pub no-case : (ok err : Option Tree) (v : V) → D.picks ok err v ≡ None → whole_behind D value word memory x es p (lowering_by D value word memory x es p ok err v (stack_of value word p.machine.stack.items) now) ≡ stuck_at (spot p.at)
     no-case ok err v e = stuck-behind D value word memory x es p _ (two-of bs.items a b p.machine.blocks.items taken _
-        ∙ ap (λ o. found o (λ c. entering D value word memory x es p (in_lower (payload_item c.1)) true c.0 (cond c.0 (block_of spot es b) (block_of spot es a)) (stack_of value word p.machine.stack.items) (state_in value word memory x es q.machine))) e)
+        ∙ ap (λ o. if_found o (λ c. entering D value word memory x es p (in_lower (payload_item c.1)) true c.0 (cond c.0 (block_view spot es b) (block_view spot es a)) (stack_of value word p.machine.stack.items) (state_in value word memory x es q.machine))) e)
 
     pub lowers-case : (ok err : Option Tree) (v : V) (c : Bool × Option (V × Option Tree)) (chosen : declared_block.Block) (inside : machine.Inside V W) → D.picks ok err v ≡ Some c → chosen ≡ cond c.0 b a → inside ≡ in_lower (payload_item c.1) →
-        whole_behind D value word memory x es p (lowering_by D value word memory x es p ok err v (stack_of value word p.machine.stack.items) now) ≡ whole_behind D value word memory x es q (entering D value word memory x es q inside true c.0 (block_of spot es chosen) (stack_of value word p.machine.stack.items) (state_in value word memory x es q.machine))
+        whole_behind D value word memory x es p (lowering_by D value word memory x es p ok err v (stack_of value word p.machine.stack.items) now) ≡ whole_behind D value word memory x es q (entering D value word memory x es q inside true c.0 (block_view spot es chosen) (stack_of value word p.machine.stack.items) (state_in value word memory x es q.machine))
     lowers-case ok err v c chosen inside e is within = ap (whole_behind D value word memory x es p) (two-of bs.items a b p.machine.blocks.items taken _
-        ∙ ap (λ o. found o (λ c. entering D value word memory x es p (in_lower (payload_item c.1)) true c.0 (cond c.0 (block_of spot es b) (block_of spot es a)) (stack_of value word p.machine.stack.items) (state_in value word memory x es q.machine))) e
-        ∙ ap (λ i. entering D value word memory x es p i true c.0 (cond c.0 (block_of spot es b) (block_of spot es a)) (stack_of value word p.machine.stack.items) (state_in value word memory x es q.machine)) (sym within)
-        ∙ ap (λ bl. entering D value word memory x es p inside true c.0 bl (stack_of value word p.machine.stack.items) (state_in value word memory x es q.machine)) (sym (ap (block_of spot es) is ∙ either (block_of spot es) c.0 b a)))
+        ∙ ap (λ o. if_found o (λ c. entering D value word memory x es p (in_lower (payload_item c.1)) true c.0 (cond c.0 (block_view spot es b) (block_view spot es a)) (stack_of value word p.machine.stack.items) (state_in value word memory x es q.machine))) e
+        ∙ ap (λ i. entering D value word memory x es p i true c.0 (cond c.0 (block_view spot es b) (block_view spot es a)) (stack_of value word p.machine.stack.items) (state_in value word memory x es q.machine)) (sym within)
+        ∙ ap (λ bl. entering D value word memory x es p inside true c.0 bl (stack_of value word p.machine.stack.items) (state_in value word memory x es q.machine)) (sym (ap (block_view spot es) is ∙ either (block_view spot es) c.0 b a)))
 
     pub no-choice : (y : W) → D.chooses y ≡ None → whole_behind D value word memory x es p (lifting_by D value word memory x es p y (stack_of value word p.machine.stack.items) now) ≡ stuck_at (spot p.at)
     no-choice y e = stuck-behind D value word memory x es p _ (two-of bs.items a b p.machine.blocks.items taken _
-        ∙ ap (λ o. found o (λ e. entering D value word memory x es p in_lift false e (cond e (block_of spot es b) (block_of spot es a)) (stack_of value word p.machine.stack.items) (state_in value word memory x es q.machine))) e)
+        ∙ ap (λ o. if_found o (λ e. entering D value word memory x es p in_lift false e (cond e (block_view spot es b) (block_view spot es a)) (stack_of value word p.machine.stack.items) (state_in value word memory x es q.machine))) e)
 
     pub lifts-case : (y : W) (c : Bool) (chosen : declared_block.Block) → D.chooses y ≡ Some c → chosen ≡ cond c b a →
-        whole_behind D value word memory x es p (lifting_by D value word memory x es p y (stack_of value word p.machine.stack.items) now) ≡ whole_behind D value word memory x es q (entering D value word memory x es q in_lift false c (block_of spot es chosen) (stack_of value word p.machine.stack.items) (state_in value word memory x es q.machine))
+        whole_behind D value word memory x es p (lifting_by D value word memory x es p y (stack_of value word p.machine.stack.items) now) ≡ whole_behind D value word memory x es q (entering D value word memory x es q in_lift false c (block_view spot es chosen) (stack_of value word p.machine.stack.items) (state_in value word memory x es q.machine))
     lifts-case y c chosen e is = ap (whole_behind D value word memory x es p) (two-of bs.items a b p.machine.blocks.items taken _
-        ∙ ap (λ o. found o (λ e. entering D value word memory x es p in_lift false e (cond e (block_of spot es b) (block_of spot es a)) (stack_of value word p.machine.stack.items) (state_in value word memory x es q.machine))) e
-        ∙ ap (λ bl. entering D value word memory x es p in_lift false c bl (stack_of value word p.machine.stack.items) (state_in value word memory x es q.machine)) (sym (ap (block_of spot es) is ∙ either (block_of spot es) c b a)))
+        ∙ ap (λ o. if_found o (λ e. entering D value word memory x es p in_lift false e (cond e (block_view spot es b) (block_view spot es a)) (stack_of value word p.machine.stack.items) (state_in value word memory x es q.machine))) e
+        ∙ ap (λ bl. entering D value word memory x es p in_lift false c bl (stack_of value word p.machine.stack.items) (state_in value word memory x es q.machine)) (sym (ap (block_view spot es) is ∙ either (block_view spot es) c b a)))

@@ -18,7 +18,7 @@ use Rattle.witx_machine.specs.Words.{same_types, when}
 use Rattle.witx_machine.specs.Events.{Event}
 use Rattle.witx_machine.specs.Functions.{Function, name_of}
 use Rattle.witx_machine.specs.Signature.{signature_params, signature_results}
-use Rattle.witx_machine.specs.Machine.{Domain, Item, Tried, went, found, only, word_item, value_item, pushed, words_off, values_off}
+use Rattle.witx_machine.specs.Machine.{Domain, Item, Tried, went, if_found, only, word_item, value_item, pushed, words_off, values_off}
 use Rattle.witx_machine.specs.Positions.{Spot, in_callee, numbered}
 use Rattle.witx_machine.specs.Run.{words_in, typed, reply_items, itself, one_word, answered, handed_on, called_with, replied}
 use Rattle.witx_machine.proofs.Scalars.{same_types_is, truth}
@@ -150,7 +150,7 @@ module _ {v w m V W M : Type 0} (D : Domain V W M) (value : v → V) (word : w �
 
     pub not-called : (new : Machine v w m) → names_function home f m' n ps rs ≡ false → Replies D value word memory home f reply m' n ps rs old new None
     not-called new e = λ words es.
-        ap (λ b. only b (found {A = List V × Stack} (values_off (length f.params) [] (stack_of value word old.stack.items)) (λ r. replied (λ (e : Numbered). e.1) (λ (e : Numbered). e.0) D home f reply r.0 r.1 (callee_before words es)))) e
+        ap (λ b. only b (if_found {A = List V × Stack} (values_off (length f.params) [] (stack_of value word old.stack.items)) (λ r. replied (λ (e : Numbered). e.1) (λ (e : Numbered). e.0) D home f reply r.0 r.1 (callee_before words es)))) e
 
     pub replies : (stack : Vec (declared_item.Item v w)) (r : Result (Option (Vec v)) OutOfMemory) → names_function home f m' n ps rs ≡ true →
         IfOk r (λ noted. option_map (λ vs. (map value vs.items, stack_of value word stack.items)) noted ≡ reply_row f reply (stack_of value word old.stack.items)) →
@@ -158,25 +158,25 @@ module _ {v w m V W M : Type 0} (D : Domain V W M) (value : v → V) (word : w �
     replies stack (Err x) e h = h
     replies stack (Ok noted) e h = λ words es.
         let before = callee_before words es in
-        ap (λ b. only b (found {A = List V × Stack} (values_off (length f.params) [] (stack_of value word old.stack.items)) (λ r. replied (λ (e : Numbered). e.1) (λ (e : Numbered). e.0) D home f reply r.0 r.1 before))) e
+        ap (λ b. only b (if_found {A = List V × Stack} (values_off (length f.params) [] (stack_of value word old.stack.items)) (λ r. replied (λ (e : Numbered). e.1) (λ (e : Numbered). e.0) D home f reply r.0 r.1 before))) e
         ∙ row before (values_off (length f.params) [] (stack_of value word old.stack.items))
-        ∙ ap (λ (o : Option (List V × Stack)). found o (λ r. went (record before { stack = r.1; called = Some r.0 }))) (sym h)
+        ∙ ap (λ (o : Option (List V × Stack)). if_found o (λ r. went (record before { stack = r.1; called = Some r.0 }))) (sym h)
         ∙ by words es noted
       where
         on : (before : CalleeState V W M) (o : Option (List (Item V W))) (r : List V × Stack) →
-            found {P = Spot} o (λ xs. went (record before { stack = xs ++ r.1; called = Some r.0 })) ≡ found {A = List V × Stack} (reply_on o r) (λ r. went (record before { stack = r.1; called = Some r.0 }))
+            if_found {P = Spot} o (λ xs. went (record before { stack = xs ++ r.1; called = Some r.0 })) ≡ if_found {A = List V × Stack} (reply_on o r) (λ r. went (record before { stack = r.1; called = Some r.0 }))
         on before None r = refl
         on before (Some xs) r = refl
 
         row : (before : CalleeState V W M) (o : Option (List V × Stack)) →
-            found {P = Spot} {A = List V × Stack} o (λ r. replied (λ (e : Numbered). e.1) (λ (e : Numbered). e.0) D home f reply r.0 r.1 before)
-            ≡ found {A = List V × Stack} (option_and_then (reply_on (reply_items f.results reply)) o) (λ r. went (record before { stack = r.1; called = Some r.0 }))
+            if_found {P = Spot} {A = List V × Stack} o (λ r. replied (λ (e : Numbered). e.1) (λ (e : Numbered). e.0) D home f reply r.0 r.1 before)
+            ≡ if_found {A = List V × Stack} (option_and_then (reply_on (reply_items f.results reply)) o) (λ r. went (record before { stack = r.1; called = Some r.0 }))
         row before None = refl
         row before (Some r) = on before (reply_items f.results reply) r
 
         by : (words : List W) (es : List Event) (noted : Option (Vec v)) →
-            found {P = Spot} {A = List V × Stack} (option_map (λ (vs : Vec v). (map value vs.items, stack_of value word stack.items)) noted) (λ r. went (record (callee_before words es) { stack = r.1; called = Some r.0 }))
-            ≡ found noted (λ vs. went (state_in value word memory (callee_setting D home f reply words (Some (map value vs.items))) es (record old { stack = stack })))
+            if_found {P = Spot} {A = List V × Stack} (option_map (λ (vs : Vec v). (map value vs.items, stack_of value word stack.items)) noted) (λ r. went (record (callee_before words es) { stack = r.1; called = Some r.0 }))
+            ≡ if_found noted (λ vs. went (state_in value word memory (callee_setting D home f reply words (Some (map value vs.items))) es (record old { stack = stack })))
         by words es None = refl
         by words es (Some vs) = refl
 
@@ -229,39 +229,39 @@ module _ {v w m V W M : Type 0} (D : Domain V W M) (value : v → V) (word : w �
         handed_on (λ (e : Numbered). e.1) (λ (e : Numbered). e.0) D home f (itself home f) (in_callee (length callee)) (numbered in_callee 0 callee) reply r.0 (record before { stack = r.1 }) r.0
 
     handed-row : ps ≡ signature_params f → (o : Option (List W × List (Item V W))) → ((r : List W × List (Item V W)) → o ≡ Some r → length r.0 ≡ length ps + 0) →
-        found o (λ r. only (typed D ps r.0) (calls_with r)) ≡ found (option_and_then (λ r. when (typed D ps r.0) (Some r)) o) hands_on
+        if_found o (λ r. only (typed D ps r.0) (calls_with r)) ≡ if_found (option_and_then (λ r. when (typed D ps r.0) (Some r)) o) hands_on
     handed-row e None long = refl
     handed-row e (Some r) long = at (typed D ps r.0)
       where
         number : length (signature_params f) ≡ length r.0
         number = sym (ap length e) ∙ omega (arith, long r refl)
 
-        at : (b : Bool) → only b (calls_with r) ≡ found (when b (Some r)) hands_on
+        at : (b : Bool) → only b (calls_with r) ≡ if_found (when b (Some r)) hands_on
         at false = refl
         at true =
-            ap (λ o. found o (handed_on (λ (e : Numbered). e.1) (λ (e : Numbered). e.0) D home f (itself home f) (in_callee (length callee)) (numbered in_callee 0 callee) reply r.0 (record before { stack = r.1 })))
+            ap (λ o. if_found o (handed_on (λ (e : Numbered). e.1) (λ (e : Numbered). e.0) D home f (itself home f) (in_callee (length callee)) (numbered in_callee 0 callee) reply r.0 (record before { stack = r.1 })))
             (all_in_order r.0 (length (signature_params f)) number)
 
   pub not-made : (new : Machine v w m) → names_words home f m' n ps rs ≡ false → HandsOn D value word memory home f m' n ps rs old new None
   not-made new e = λ callee arguments reply es.
-      ap (λ b. only b (found (words_off (length ps) [] (stack_of value word old.stack.items)) (λ r. only (typed D ps r.0) (calls_with callee arguments reply es r)))) e
+      ap (λ b. only b (if_found (words_off (length ps) [] (stack_of value word old.stack.items)) (λ r. only (typed D ps r.0) (calls_with callee arguments reply es r)))) e
 
   pub hands-on : (stack : Vec (declared_item.Item v w)) (r : Result (Option (Vec w)) OutOfMemory) → names_words home f m' n ps rs ≡ true →
       IfOk r (λ words. option_map (λ ws. (map word ws.items, stack_of value word stack.items)) words ≡ words_row D ps (stack_of value word old.stack.items)) →
       IfOk r (HandsOn D value word memory home f m' n ps rs old (record old { stack = stack }))
   hands-on stack (Err x) e h = h
   hands-on stack (Ok words) e h = λ callee arguments reply es.
-      ap (λ b. only b (found (words_off (length ps) [] (stack_of value word old.stack.items)) (λ r. only (typed D ps r.0) (calls_with callee arguments reply es r)))) e
+      ap (λ b. only b (if_found (words_off (length ps) [] (stack_of value word old.stack.items)) (λ r. only (typed D ps r.0) (calls_with callee arguments reply es r)))) e
       ∙ handed-row callee arguments reply es types (words_off (length ps) [] (stack_of value word old.stack.items)) (λ r k. words-long (length ps) [] (stack_of value word old.stack.items) r k)
-      ∙ ap (λ o. found o (hands_on callee arguments reply es)) (sym h)
+      ∙ ap (λ o. if_found o (hands_on callee arguments reply es)) (sym h)
       ∙ by callee arguments reply es words
     where
       types : ps ≡ signature_params f
       types = same_types_is ps (signature_params f) (truth (both-true (same_bytes m' home) (same_bytes n f.name) (same_types ps (signature_params f)) (same_types rs (signature_results f)) e))
 
       by : (callee : List Event) (arguments : List V) (reply : Option V) (es : List Event) (words : Option (Vec w)) →
-          found {A = List W × List (Item V W)} (option_map (λ (ws : Vec w). (map word ws.items, stack_of value word stack.items)) words) (hands_on callee arguments reply es)
-          ≡ found words (λ ws. handed_on (λ (e : Numbered). e.1) (λ (e : Numbered). e.0) D home f (itself home f) (in_callee (length callee)) (numbered in_callee 0 callee) reply (map word ws.items)
+          if_found {A = List W × List (Item V W)} (option_map (λ (ws : Vec w). (map word ws.items, stack_of value word stack.items)) words) (hands_on callee arguments reply es)
+          ≡ if_found words (λ ws. handed_on (λ (e : Numbered). e.1) (λ (e : Numbered). e.0) D home f (itself home f) (in_callee (length callee)) (numbered in_callee 0 callee) reply (map word ws.items)
           (state_in value word memory (caller_setting D home f callee arguments reply None) es (record old { stack = stack })) (map word ws.items))
       by callee arguments reply es None = refl
       by callee arguments reply es (Some ws) = refl
@@ -271,24 +271,24 @@ module _ {v w m V W M : Type 0} (D : Domain V W M) (value : v → V) (word : w �
     (f : Function) (words : List W) (noted : List V) (at_return : M) (old new : Machine v w m) where
   module _ (back : List (Item V W)) where
     back-row : (home : List ℕ) (s : CallerState V W M) (o : Option (List W)) →
-        found {P = Spot} o (λ ws. only (typed D (signature_results f) ws) (went (answered (λ (e : Numbered). e.1) (λ (e : Numbered). e.0) D home f (itself home f) words noted ws at_return s)))
-        ≡ found (option_and_then (typed_only D (signature_results f)) o) (λ ws. went (answered (λ (e : Numbered). e.1) (λ (e : Numbered). e.0) D home f (itself home f) words noted ws at_return s))
+        if_found {P = Spot} o (λ ws. only (typed D (signature_results f) ws) (went (answered (λ (e : Numbered). e.1) (λ (e : Numbered). e.0) D home f (itself home f) words noted ws at_return s)))
+        ≡ if_found (option_and_then (typed_only D (signature_results f)) o) (λ ws. went (answered (λ (e : Numbered). e.1) (λ (e : Numbered). e.0) D home f (itself home f) words noted ws at_return s))
     back-row home s None = refl
     back-row home s (Some ws) = at (typed D (signature_results f) ws)
       where
         at : (b : Bool) → only {P = Spot} b (went (answered (λ (e : Numbered). e.1) (λ (e : Numbered). e.0) D home f (itself home f) words noted ws at_return s))
-            ≡ found (when b (Some ws)) (λ ws. went (answered (λ (e : Numbered). e.1) (λ (e : Numbered). e.0) D home f (itself home f) words noted ws at_return s))
+            ≡ if_found (when b (Some ws)) (λ ws. went (answered (λ (e : Numbered). e.1) (λ (e : Numbered). e.0) D home f (itself home f) words noted ws at_return s))
         at true = refl
         at false = refl
 
     -- whatever memory it is that was left
     backs : (home : List ℕ) (s : CallerState V W M) (memory' : M) → memory' ≡ at_return → (o : Option (List W)) → o ≡ option_and_then (typed_only D (signature_results f)) (words_in back) →
-        found {P = Spot} (words_in back) (λ ws. only (typed D (signature_results f) ws) (went (answered (λ (e : Numbered). e.1) (λ (e : Numbered). e.0) D home f (itself home f) words noted ws memory' s)))
-        ≡ found o (λ ws. went (answered (λ (e : Numbered). e.1) (λ (e : Numbered). e.0) D home f (itself home f) words noted ws at_return s))
+        if_found {P = Spot} (words_in back) (λ ws. only (typed D (signature_results f) ws) (went (answered (λ (e : Numbered). e.1) (λ (e : Numbered). e.0) D home f (itself home f) words noted ws memory' s)))
+        ≡ if_found o (λ ws. went (answered (λ (e : Numbered). e.1) (λ (e : Numbered). e.0) D home f (itself home f) words noted ws at_return s))
     backs home s memory' e o h =
-        ap (λ a. found {P = Spot} (words_in back) (λ ws. only (typed D (signature_results f) ws) (went (answered (λ (e : Numbered). e.1) (λ (e : Numbered). e.0) D home f (itself home f) words noted ws a s)))) e
+        ap (λ a. if_found {P = Spot} (words_in back) (λ ws. only (typed D (signature_results f) ws) (went (answered (λ (e : Numbered). e.1) (λ (e : Numbered). e.0) D home f (itself home f) words noted ws a s)))) e
         ∙ back-row home s (words_in back)
-        ∙ sym (ap (λ o. found o (λ ws. went (answered (λ (e : Numbered). e.1) (λ (e : Numbered). e.0) D home f (itself home f) words noted ws at_return s))) h)
+        ∙ sym (ap (λ o. if_found o (λ ws. went (answered (λ (e : Numbered). e.1) (λ (e : Numbered). e.0) D home f (itself home f) words noted ws at_return s))) h)
 
     pub not-back : None ≡ option_and_then (typed_only D (signature_results f)) (words_in back) → TakesBack D value word memory f words noted back at_return old new None
     not-back h = λ home callee arguments reply es end e.

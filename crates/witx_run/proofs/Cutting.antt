@@ -3,7 +3,7 @@ use Rattle.std.proofs.Common.{◌≡◌, ℕ, zero, suc, ◌+◌, ◌<◌, ◌�
 use Rattle.witx_machine.specs.Events.{Event, emit, space, push, finish}
 use Rattle.witx_machine.specs.Positions.{Spot, numbered}
 use Rattle.witx_run.specs.BlockEnds.{first, behind_first, unmatched, ends_from}
-use Rattle.witx_run.specs.Cuts.{Cut, deeper, cut, cut_by}
+use Rattle.witx_run.specs.Cuts.{Cut, cut_deeper, cut, cut_by}
 
 -- where the d-th of the ends stands, d blocks being open
 abbrev pub behind : {A : Type 0} → ℕ → List A → List A
@@ -29,11 +29,11 @@ module _ {E : Type 0} (event : E → Event) where
   CutAt es i c None = c ≡ None
   CutAt es i c (Some k) = (n : ℕ) × (k ≡ i + n) × (v : Bool) × (e : E) × (slice_get es n ≡ Some e) × (event e ≡ finish v) × (c ≡ Some (record { inner = take n es; has_value = v; end = e; rest = drop (suc n) es }))
 
-  further : (e : E) (es : List E) (i : ℕ) (c : Option (Cut E)) (o : Option ℕ) → CutAt es (i + 1) c o → CutAt (e ∷ es) i (deeper e c) o
-  further e es i c None h = ap (deeper e) h
+  further : (e : E) (es : List E) (i : ℕ) (c : Option (Cut E)) (o : Option ℕ) → CutAt es (i + 1) c o → CutAt (e ∷ es) i (cut_deeper e c) o
+  further e es i c None h = ap (cut_deeper e) h
   further e es i c (Some k) h =
       let plus : i + 1 + h.0 ≡ i + suc h.0 = omega arith in
-      (suc h.0, h.1 ∙ plus, h.2, h.3, h.4, h.5, ap (deeper e) h.6)
+      (suc h.0, h.1 ∙ plus, h.2, h.3, h.4, h.5, ap (cut_deeper e) h.6)
 
   pub cut_at : (es : List E) (i d : ℕ) → CutAt es i (cut event es d) (first (behind d (ends_from i (map event es))))
   cut_at [] i d = by d

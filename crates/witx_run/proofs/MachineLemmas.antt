@@ -6,7 +6,7 @@ use Rattle.witx_base.specs.declared.memory.OutOfMemory.{OutOfMemory}
 use Rattle.witx_ast.specs.Tree.{Tree}
 use Rattle.witx_machine.specs.Events.{Event}
 use Rattle.witx_machine.specs.Machine as machine
-use Rattle.witx_machine.specs.Machine.{Domain, found, went, slot_word, give_slot, runs_within, act}
+use Rattle.witx_machine.specs.Machine.{Domain, if_found, went, slot_word, give_slot, runs_within, act}
 use Rattle.witx_machine.specs.Rows.{Row, get_arg, addr_of, lowering, lifting, list_pointer_length, list_from_pointer_length, return_pointer_get, load, store, tuple_lift, tuple_lower, reuse_return, returns}
 use Rattle.witx_machine.specs.Words.{Scalar, when}
 use Rattle.witx_run.specs.MachineViews.{GivesSlot, Numbered, Performs, Setting, inside_of, state_in}
@@ -115,14 +115,14 @@ module _ {v w m V W M : Type 0} (D : Domain V W M) (value : v → V) (word : w �
   pub slot-none : (new : declared_machine.Machine v w m) → None ≡ slot_word k (reverse s.slots.in_order.items) → None ≡ D.give t (memory s.memory) → GivesSlot D value word memory k t s new false
   slot-none new e f = λ x es n inside.
       ap (λ o. give_slot (λ e. e.1) (λ e. e.0) D x.side (runs_within (λ e. e.1) (λ e. e.0) D x.side n) inside k t o (state_in value word memory x es s)) (slot-is None e)
-      ∙ ap (λ o. found o (λ r. went (record (state_in value word memory x es s) { slots = (k, r.0) ∷ given_slots word s.slots.in_order.items; memory = r.1 }))) (sym f)
+      ∙ ap (λ o. if_found o (λ r. went (record (state_in value word memory x es s) { slots = (k, r.0) ∷ given_slots word s.slots.in_order.items; memory = r.1 }))) (sym f)
 
   pub slot-given : (a : w) (slots : declared_slots.Slots w) (new : m) →
       None ≡ slot_word k (reverse s.slots.in_order.items) → Some (word a, memory new) ≡ D.give t (memory s.memory) → reverse slots.in_order.items ≡ (k, a) ∷ reverse s.slots.in_order.items →
       GivesSlot D value word memory k t s (record s { slots = slots; memory = new }) true
   slot-given a slots new e f g = λ x es n inside.
       ap (λ o. give_slot (λ e. e.1) (λ e. e.0) D x.side (runs_within (λ e. e.1) (λ e. e.0) D x.side n) inside k t o (state_in value word memory x es s)) (slot-is None e)
-      ∙ ap (λ o. found o (λ r. went (record (state_in value word memory x es s) { slots = (k, r.0) ∷ given_slots word s.slots.in_order.items; memory = r.1 }))) (sym f)
+      ∙ ap (λ o. if_found o (λ r. went (record (state_in value word memory x es s) { slots = (k, r.0) ∷ given_slots word s.slots.in_order.items; memory = r.1 }))) (sym f)
       ∙ ap (λ l. went (record (state_in value word memory x es s) { slots = map (λ (p : ℕ × w). (p.0, word p.1)) l; memory = memory new })) (sym g)
 
 pub ruleset machine_rules = (slot-taken, slot-none, slot-given)

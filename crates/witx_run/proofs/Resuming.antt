@@ -2,11 +2,11 @@
 -- is cut out of the events at once, where its end is known.
 use Rattle.std.proofs.Common.{◌||◌, is_none, ◌≡◌, ℕ, zero, suc, Bool, true, false, cond, refl, sym, ap, ◌∙◌, append_assoc, Option, Some, None, List, [], ◌∷◌, ◌++◌}
 use Rattle.witx_ast.specs.Tree.{Tree}
-use Rattle.witx_run.specs.Cuts.{Cut, deeper, cut, cut_by}
+use Rattle.witx_run.specs.Cuts.{Cut, cut_deeper, cut, cut_by}
 use Rattle.witx_run.specs.Frames.{Frame, behind, resume}
 use Rattle.witx_machine.specs.Events.{Event, emit, space, push, finish, Step}
 use Rattle.witx_machine.specs.Rows.{row}
-use Rattle.witx_machine.specs.Machine.{Domain, Tried, went, no_rule, stuck_at, found, State, Inside, Side, is_nil, act, flowing, gathering, set_aside, flows, gathers, play, runs_within, give_slot, slot_word}
+use Rattle.witx_machine.specs.Machine.{Domain, Tried, went, no_rule, stuck_at, if_found, State, Inside, Side, is_nil, act, flowing, gathering, set_aside, flows, gathers, play, runs_within, give_slot, slot_word}
 
 module _ {P E V W M C : Type 0} (event : E → Event) (place : E → P) (D : Domain V W M) (side : Side P E V W M C) where
   abbrev go_on : (runs : Inside V W → List E → State E V W M C → Tried P (State E V W M C)) → Inside V W → E → List E → Option (Cut E) → State E V W M C → Tried P (State E V W M C)
@@ -19,7 +19,7 @@ module _ {P E V W M C : Type 0} (event : E → Event) (place : E → P) (D : Dom
   gathers_cut runs inside b [] d es s = refl
   gathers_cut runs inside b (e ∷ more) d es s = by (event e) d (λ d' gs. gathers_cut runs inside b more d' gs s)
     where
-      deep : (o : Option (Cut E)) → go_on runs inside b (es ++ e ∷ []) o s ≡ go_on runs inside b es (deeper e o) s
+      deep : (o : Option (Cut E)) → go_on runs inside b (es ++ e ∷ []) o s ≡ go_on runs inside b es (cut_deeper e o) s
       deep None = refl
       deep (Some c) = ap (λ gs. play event place D side runs inside c.rest flowing (set_aside gs c.has_value c.end s)) (append_assoc es (e ∷ []) c.inner)
 
@@ -74,7 +74,7 @@ module _ {P E V W M C : Type 0} (event : E → Event) (place : E → P) (D : Dom
     at_push is = ap (λ y. resume event place D side n fs (flows event place D side runs_n inside y e (is_nil more) (play event place D side runs_n inside more) s)) is ∙ ap (resume event place D side n fs) (gathers_cut runs_n inside e more 0 [] s)
 
     pub push_block : (c : Cut E) → event e ≡ push → cut event more 0 ≡ Some c → here ≡ resume event place D side n fs (play event place D side runs_n inside c.rest flowing (set_aside c.inner c.has_value c.end s))
-    push_block c is found = at_push is ∙ ap (λ o. resume event place D side n fs (go_on runs_n inside e [] o s)) found
+    push_block c is if_found = at_push is ∙ ap (λ o. resume event place D side n fs (go_on runs_n inside e [] o s)) if_found
 
     pub push_open : event e ≡ push → cut event more 0 ≡ None → here ≡ stuck_at (place e)
     push_open is none = at_push is ∙ ap (λ o. resume event place D side n fs (go_on runs_n inside e [] o s)) none ∙ resume_stuck n fs (place e)

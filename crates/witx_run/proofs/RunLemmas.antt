@@ -9,7 +9,7 @@ use Rattle.witx_ast.specs.Views.{tree_of}
 use Rattle.witx_machine.specs.declared.surface.WasmType.{WasmType}
 use Rattle.witx_machine.specs.Events.{Event}
 use Rattle.witx_machine.specs.Functions.{Function}
-use Rattle.witx_machine.specs.Machine.{Domain, Tried, went, no_rule, stuck_at, next, word_item, ended, outside, runs_within}
+use Rattle.witx_machine.specs.Machine.{Domain, Tried, went, no_rule, stuck_at, goes_on, word_item, ended, outside, runs_within}
 use Rattle.witx_machine.specs.Rows.{call_wasm, call_interface}
 use Rattle.witx_machine.specs.Positions.{Spot, in_caller, in_callee, numbered, spotted_run}
 use Rattle.witx_machine.specs.Run.{Call, argument_items, start, itself, taken_back}
@@ -21,7 +21,7 @@ use Rattle.witx_run.specs.OutcomeViews.{call_of, run_of}
 use Rattle.witx_run.specs.RunEnds.{CallsNoMore, CalleeComes, CalleeEnds, CallerComes, EndsAs, HandedOn, IsEndWith, IsRunWith, TakenUp, callee_run, finished, outcome_from}
 use Rattle.witx_run.specs.Sides.{callee_setting, caller_setting}
 use Rattle.witx_run.specs.Stops.{interface_at, interface_row, stuck_event, wasm_at, wasm_row}
-use Rattle.witx_run.specs.Turns.{HaltsAt, Known, StateIn, deeper, events_of, frames_of, run_start, stopped, whole, whole_at, whole_behind}
+use Rattle.witx_run.specs.Turns.{HaltsAt, Known, StateIn, deeper, script_events, frames_of, run_start, stopped, whole, whole_at, whole_behind}
 use Rattle.witx_run.specs.Views.{items_of}
 use Rattle.witx_run.specs.declared.outcome.CallMade as declared_call
 use Rattle.witx_run.specs.declared.item.Item as declared_item
@@ -109,9 +109,9 @@ module _ {pv pw pm V W M : Type 0} (value : pv → V) (word : pw → W) (memory 
 
   pub finishes : (D : Domain V W M) (script : declared_script.Script pv pw) (before : (x : Setting V W M) → List Event → Tried Spot (StateIn x)) (new : declared_progress.Progress pv pw pm) (s : declared_stop.Stop) (e : declared_end.End pv pw pm) →
       HaltsAt D value word memory script true before new s →
-      ((x : Setting V W M) (c : Noted V W M x.trace) → Known value word x script true → x.called ≡ Some c → CallsNoMore x → EndsAs value word memory x c e (finished x (events_of script) (stopped D value word memory x (events_of script) new s))) →
-      (x : Setting V W M) (c : Noted V W M x.trace) → Known value word x script true → x.called ≡ Some c → CallsNoMore x → EndsAs value word memory x c e (finished x (events_of script) (before x (events_of script)))
-  finishes D script before new s e halts ends x c known k over = subst (λ t. EndsAs value word memory x c e (finished x (events_of script) t)) (sym (halts x known)) (ends x c known k over)
+      ((x : Setting V W M) (c : Noted V W M x.trace) → Known value word x script true → x.called ≡ Some c → CallsNoMore x → EndsAs value word memory x c e (finished x (script_events script) (stopped D value word memory x (script_events script) new s))) →
+      (x : Setting V W M) (c : Noted V W M x.trace) → Known value word x script true → x.called ≡ Some c → CallsNoMore x → EndsAs value word memory x c e (finished x (script_events script) (before x (script_events script)))
+  finishes D script before new s e halts ends x c known k over = subst (λ t. EndsAs value word memory x c e (finished x (script_events script) t)) (sym (halts x known)) (ends x c known k over)
 
 -- WHAT THE PROGRAM KNOWS of the two sides
 module _ {pv pw V W M : Type 0} (D : Domain V W M) (value : pv → V) (word : pw → W) (home : List ℕ) (reply : Option V) (script : declared_script.Script pv pw) where
@@ -142,7 +142,7 @@ module _ {pv pw pm V W M : Type 0} (D : Domain V W M) (value : pv → V) (word :
   of_script words noted = callee_setting D home (called script.func.now) reply words noted
 
   abbrev es : List Event
-  es = events_of script
+  es = script_events script
 
   pub callee-finished : (noted : List V) (before : (x : Setting V W M) → List Event → Tried Spot (StateIn x)) (e : declared_end.End pv pw pm) (r : declared_callee.CalleeEnd pv pw pm) →
       ((x : Setting V W M) (c : Noted V W M x.trace) → Known value word x script true → x.called ≡ Some c → CallsNoMore x → EndsAs value word memory x c e (finished x es (before x es))) →
@@ -217,7 +217,7 @@ module _ {pv pw pm V W M : Type 0} (D : Domain V W M) (value : pv → V) (word :
   with_script arguments made = caller_setting D home (called script.func.now) callee arguments reply made
 
   abbrev own : List Event
-  own = events_of script
+  own = script_events script
 
   pub caller-finished : (made : Call V W M) (before : (x : Setting V W M) → List Event → Tried Spot (StateIn x)) (e : declared_end.End pv pw pm) (r : declared_run.Run pv pw pm) →
       ((x : Setting V W M) (c : Noted V W M x.trace) → Known value word x script true → x.called ≡ Some c → CallsNoMore x → EndsAs value word memory x c e (finished x own (before x own))) →
@@ -279,7 +279,7 @@ module _ {pv pw pm V W M : Type 0} (D : Domain V W M) (value : pv → V) (word :
       HandedOn D value word memory home callee reply script p words (run.StuckInCallee i)
   handed-stuck p words i h = λ arguments k.
       let x = with_script arguments None in
-      sym (ap (λ t. outcome_from (finished x own (whole_behind D value word memory x own p (next t (taken_back (λ (e : Numbered). e.1) (λ (e : Numbered). e.0) D home (called script.func.now) (itself home (called script.func.now)) words (state_in value word memory x own p.machine)))))) h
+      sym (ap (λ t. outcome_from (finished x own (whole_behind D value word memory x own p (goes_on t (taken_back (λ (e : Numbered). e.1) (λ (e : Numbered). e.0) D home (called script.func.now) (itself home (called script.func.now)) words (state_in value word memory x own p.machine)))))) h
       ∙ ap (λ t. outcome_from (finished x own t)) (behind-stuck D value word memory x own p (in_callee i)))
 
   pub handed-returned : (p : declared_progress.Progress pv pw pm) (words : List W) (returned : declared_returned.Returned pv pw pm) (r : Result (declared_run.Run pv pw pm) OutOfMemory) →
@@ -289,7 +289,7 @@ module _ {pv pw pm V W M : Type 0} (D : Domain V W M) (value : pv → V) (word :
   handed-returned p words returned (Ok r) h k = λ arguments l.
       let x = with_script arguments None in
       k callee h.0 h.2 arguments l
-      ∙ sym (ap (λ t. outcome_from (finished x own (whole_behind D value word memory x own p (next t (taken_back (λ (e : Numbered). e.1) (λ (e : Numbered). e.0) D home (called script.func.now) (itself home (called script.func.now)) words (state_in value word memory x own p.machine)))))) h.1)
+      ∙ sym (ap (λ t. outcome_from (finished x own (whole_behind D value word memory x own p (goes_on t (taken_back (λ (e : Numbered). e.1) (λ (e : Numbered). e.0) D home (called script.func.now) (itself home (called script.func.now)) words (state_in value word memory x own p.machine)))))) h.1)
 
   pub caller-ran : (evs : List Event) (f : Function) (arguments : List V) (old : M) (p : declared_progress.Progress pv pw pm) (r : Result (declared_run.Run pv pw pm) OutOfMemory) →
       own ≡ evs → called script.func.now ≡ f → items_of value word script.arguments.items ≡ argument_items (called script.func.now).params arguments →
@@ -313,8 +313,8 @@ module _ {pv pw pm V W M : Type 0} (D : Domain V W M) (value : pv → V) (word :
   taken-none home reply i at h = λ callee last e arguments k.
       let x = caller_setting D home (called script.func.now) callee arguments reply None in
       ap (λ i. stuck_at (in_caller i)) at
-      ∙ sym (ap (λ t. outcome_from (finished x (events_of script) (whole_behind D value word memory x (events_of script) p t))) (h home callee arguments reply (events_of script) last e)
-      ∙ ap (λ t. outcome_from (finished x (events_of script) t)) (behind-none D value word memory x (events_of script) p))
+      ∙ sym (ap (λ t. outcome_from (finished x (script_events script) (whole_behind D value word memory x (script_events script) p t))) (h home callee arguments reply (script_events script) last e)
+      ∙ ap (λ t. outcome_from (finished x (script_events script) t)) (behind-none D value word memory x (script_events script) p))
 
   pub taken-some : (home : List ℕ) (reply : Option V) (call : declared_call.CallMade pv pw pm) (r : Result (declared_run.Run pv pw pm) OutOfMemory) → takes_back (Some call) →
       IfOk r (λ run. (callee : List Event) → CallerComes D value word memory home callee reply (Some (call_of value word memory call)) script
@@ -323,4 +323,4 @@ module _ {pv pw pm V W M : Type 0} (D : Domain V W M) (value : pv → V) (word :
   taken-some home reply call (Err e) h k = k
   taken-some home reply call (Ok r) h k = λ callee last e arguments l.
       let x = caller_setting D home (called script.func.now) callee arguments reply None in
-      k callee arguments l ∙ sym (ap (λ t. outcome_from (finished x (events_of script) (whole_behind D value word memory x (events_of script) p t))) (h home callee arguments reply (events_of script) last e))
+      k callee arguments l ∙ sym (ap (λ t. outcome_from (finished x (script_events script) (whole_behind D value word memory x (script_events script) p t))) (h home callee arguments reply (script_events script) last e))

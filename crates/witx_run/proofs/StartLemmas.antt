@@ -7,7 +7,7 @@ use Rattle.witx_machine.specs.Machine.{Domain, flowing, play}
 use Rattle.witx_machine.specs.Positions.{Spot, numbered}
 use Rattle.witx_machine.specs.Run.{start}
 use Rattle.witx_run.specs.Frames.{resume}
-use Rattle.witx_run.specs.MachineViews.{IsNew, Setting, spot_in, inside_of, block_of, state_in}
+use Rattle.witx_run.specs.MachineViews.{IsNew, Setting, spot_in, inside_of, block_view, state_in}
 use Rattle.witx_run.specs.SlotViews.{given_slots}
 use Rattle.witx_run.specs.Views.{items_of, stack_of}
 use Rattle.witx_run.specs.Turns.{StateIn, whole, run_start, runs_in, deeper, frames_of}
@@ -21,7 +21,7 @@ module _ {pv pw pm V W M : Type 0} (value : pv → V) (word : pw → W) (memory 
       ap (λ xs. record (state_in value word memory x es s) { stack = stack_of value word xs }) new.stack
       ∙ ap (λ xs. record (state_in value word memory x es s) { stack = []; slots = given_slots word xs }) new.slots
       ∙ ap (λ m. record (state_in value word memory x es s) { stack = []; slots = []; memory = memory m }) new.memory_is
-      ∙ ap (λ xs. record (state_in value word memory x es s) { stack = []; slots = []; memory = memory old; blocks = map (block_of (spot_in x.trace) es) (reverse xs) }) new.blocks
+      ∙ ap (λ xs. record (state_in value word memory x es s) { stack = []; slots = []; memory = memory old; blocks = map (block_view (spot_in x.trace) es) (reverse xs) }) new.blocks
       ∙ ap (λ o. record (state_in value word memory x es s) { stack = []; slots = []; memory = memory old; blocks = []; returned = option_map word o }) new.returned
       ∙ ap (λ o. record (state_in value word memory x es s) { stack = []; slots = []; memory = memory old; blocks = []; returned = None; answer = option_map (λ xs. items_of value word xs.items) o }) new.answer
       ∙ ap (λ o. record (state_in value word memory x es s) { stack = []; slots = []; memory = memory old; blocks = []; returned = None; answer = None; called = o }) called

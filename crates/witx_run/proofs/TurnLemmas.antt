@@ -9,7 +9,7 @@ use Rattle.witx_machine.specs.Rows.{row}
 use Rattle.witx_machine.specs.Machine.{Domain, Tried, went, no_rule, stuck_at, flowing, play, is_nil}
 use Rattle.witx_machine.specs.Positions.{Spot}
 use Rattle.witx_run.specs.Frames.{Frame}
-use Rattle.witx_run.specs.MachineViews.{Numbered, Setting, part, spot_in, inside_of, state_in, block_of}
+use Rattle.witx_run.specs.MachineViews.{Numbered, Setting, part, spot_in, inside_of, state_in, block_view}
 use Rattle.witx_run.specs.ScriptParts.{event_below, cut_of, BlockFound}
 use Rattle.witx_run.specs.StackRows.{tried_if}
 use Rattle.witx_run.specs.Views.{items_of}
@@ -126,10 +126,10 @@ module _ {pv pw pm V W M : Type 0} (D : Domain V W M) (value : pv → V) (word :
       event-here push h
       ∙ push_block (λ (e : Numbered). e.1) (λ (e : Numbered). e.0) D x.side n fs (inside_of value word p.inside) (spot_in x.trace p.at, push) (part (spot_in x.trace) es (suc p.at) p.end) now (cut_of (spot_in x.trace) es p.end b) refl (f.3 (spot_in x.trace))
       ∙ ap (λ bs. whole_with D value word memory x es p (play (λ e. e.1) (λ e. e.0) D x.side (runs_in D value word memory x es n) (inside_of value word p.inside) (part (spot_in x.trace) es (suc b.end) p.end) flowing (record now { blocks = bs })))
-      (ap (λ bl. bl ∷ map (block_of (spot_in x.trace) es) (reverse p.machine.blocks.items)) first-is ∙ sym (ap (λ bs. map (block_of (spot_in x.trace) es) (reverse bs)) e ∙ ap (map (block_of (spot_in x.trace) es)) (reverse-append p.machine.blocks.items (b ∷ []))))
+      (ap (λ bl. bl ∷ map (block_view (spot_in x.trace) es) (reverse p.machine.blocks.items)) first-is ∙ sym (ap (λ bs. map (block_view (spot_in x.trace) es) (reverse bs)) e ∙ ap (map (block_view (spot_in x.trace) es)) (reverse-append p.machine.blocks.items (b ∷ []))))
       ∙ ap (λ i. whole D value word memory x es (record p { at = i; machine = record p.machine { blocks = blocks } })) (sym one)
     where
-      first-is : record { events = part (spot_in x.trace) es b.first b.end; has_value = b.has_value; end = (spot_in x.trace b.end, finish b.has_value) } ≡ block_of (spot_in x.trace) es b
+      first-is : record { events = part (spot_in x.trace) es b.first b.end; has_value = b.has_value; end = (spot_in x.trace b.end, finish b.has_value) } ≡ block_view (spot_in x.trace) es b
       first-is = refl
 
   pub at-open : event_below es p.at p.end ≡ Some push → BlockFound es p.at p.end None → whole D value word memory x es p ≡ stuck_at (spot_in x.trace p.at)

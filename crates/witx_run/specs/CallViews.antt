@@ -8,7 +8,7 @@ use Rattle.witx_machine.specs.Words.{same_types, when}
 use Rattle.witx_machine.specs.Events.{Event}
 use Rattle.witx_machine.specs.Functions.{Function}
 use Rattle.witx_machine.specs.Signature.{signature_params, signature_results}
-use Rattle.witx_machine.specs.Machine.{Domain, Item, State, found, went, words_off, values_off}
+use Rattle.witx_machine.specs.Machine.{Domain, Item, State, if_found, went, words_off, values_off}
 use Rattle.witx_machine.specs.Positions.{in_callee, numbered}
 use Rattle.witx_machine.specs.Run.{Call, same_trees, reply_items, itself, answered, handed_on, taken_back, typed}
 use Rattle.witx_run.specs.MachineViews.{Numbered, state_in}
@@ -58,7 +58,7 @@ module _ {v w m V W M : Type 0} (D : Domain V W M) (value : v → V) (word : w �
       (words : List W) (es : List Event) →
       let x = callee_setting D home f reply words in
       (x None).side.on_interface m' n ps rs (state_in value word memory (x None) es old)
-      ≡ found noted (λ vs. went (state_in value word memory (x (Some (map value vs.items))) es new))
+      ≡ if_found noted (λ vs. went (state_in value word memory (x (Some (map value vs.items))) es new))
 
   -- A CALL OF WEBASSEMBLY in the caller's trace comes to the callee's run on these words, or has no rule
   abbrev pub HandsOn : List ℕ → Function → (module_name name : List ℕ) → (params results : List WasmType)
@@ -67,7 +67,7 @@ module _ {v w m V W M : Type 0} (D : Domain V W M) (value : v → V) (word : w �
       (callee : List Event) (arguments : List V) (reply : Option V) (es : List Event) →
       let x = caller_setting D home f callee arguments reply None in
       x.side.on_wasm m' n ps rs (state_in value word memory x es old)
-      ≡ found words (λ ws. handed_on (λ e. e.1) (λ e. e.0) D home f (itself home f) (in_callee (length callee)) (numbered in_callee 0 callee) reply
+      ≡ if_found words (λ ws. handed_on (λ e. e.1) (λ e. e.0) D home f (itself home f) (in_callee (length callee)) (numbered in_callee 0 callee) reply
       (map word ws.items) (state_in value word memory x es new) (map word ws.items))
 
   -- the caller's trace comes to this machine with this call made, or the call has no rule: where the callee's run has
@@ -78,7 +78,7 @@ module _ {v w m V W M : Type 0} (D : Domain V W M) (value : v → V) (word : w �
       let x = caller_setting D home f callee arguments reply in
       end.memory ≡ at_return →
       taken_back (λ e. e.1) (λ e. e.0) D home f (itself home f) words (state_in value word memory (x None) es old) (noted, back, end)
-      ≡ found call (λ c. went (state_in value word memory (x (Some (call_of value word memory c))) es new))
+      ≡ if_found call (λ c. went (state_in value word memory (x (Some (call_of value word memory c))) es new))
 
   -- the same, where these words came back and are of their types
   abbrev pub IsAnswered : List W → List V → List W → M → (old new : Machine v w m) → CallMade v w m → Type 0

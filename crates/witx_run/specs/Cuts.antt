@@ -9,18 +9,18 @@ pub record Cut (E : Type 0) : Type 0 where
   pub end : E
   pub rest : List E
 
-abbrev pub deeper : {E : Type 0} → E → Option (Cut E) → Option (Cut E)
-deeper e None = None
-deeper e (Some c) = Some (record { inner = e ∷ c.inner; has_value = c.has_value; end = c.end; rest = c.rest })
+abbrev pub cut_deeper : {E : Type 0} → E → Option (Cut E) → Option (Cut E)
+cut_deeper e None = None
+cut_deeper e (Some c) = Some (record { inner = e ∷ c.inner; has_value = c.has_value; end = c.end; rest = c.rest })
 
 -- d: how many inner blocks are open
 module _ {E : Type 0} (event : E → Event) where
   abbrev pub cut_by : Event → E → ℕ → List E → (ℕ → Option (Cut E)) → Option (Cut E)
-  cut_by (emit x) e d es go = deeper e (go d)
-  cut_by (space k t) e d es go = deeper e (go d)
-  cut_by push e d es go = deeper e (go (suc d))
+  cut_by (emit x) e d es go = cut_deeper e (go d)
+  cut_by (space k t) e d es go = cut_deeper e (go d)
+  cut_by push e d es go = cut_deeper e (go (suc d))
   cut_by (finish v) e zero es go = Some (record { inner = []; has_value = v; end = e; rest = es })
-  cut_by (finish v) e (suc d) es go = deeper e (go d)
+  cut_by (finish v) e (suc d) es go = cut_deeper e (go d)
 
   abbrev pub cut : List E → ℕ → Option (Cut E)
   cut [] d = None

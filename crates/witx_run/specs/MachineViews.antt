@@ -45,8 +45,8 @@ pub record Setting (V W M : Type 0) : Type 0 where
   pub side : Side Spot Numbered V W M (Noted V W M trace)
   pub called : Option (Noted V W M trace)
 
-abbrev pub block_of : (ℕ → Spot) → List Event → declared_block.Block → machine.Block Numbered
-block_of spot es b = record { events = part spot es b.first b.end; has_value = b.has_value; end = (spot b.end, finish b.has_value) }
+abbrev pub block_view : (ℕ → Spot) → List Event → declared_block.Block → machine.Block Numbered
+block_view spot es b = record { events = part spot es b.first b.end; has_value = b.has_value; end = (spot b.end, finish b.has_value) }
 
 module _ {v w V W : Type 0} (value : v → V) (word : w → W) where
   abbrev pub inside_of : declared_inside.Inside v w → machine.Inside V W
@@ -60,7 +60,7 @@ module _ {v w m V W M : Type 0} (value : v → V) (word : w → W) (memory : m �
     stack = stack_of value word s.stack.items;
     slots = given_slots word s.slots.in_order.items;
     memory = memory s.memory;
-    blocks = map (block_of (spot_in x.trace) es) (reverse s.blocks.items);
+    blocks = map (block_view (spot_in x.trace) es) (reverse s.blocks.items);
     returned = option_map word s.returned;
     called = x.called;
     answer = option_map (λ xs. items_of value word xs.items) s.answer;

@@ -4,7 +4,7 @@ use Rattle.witx_ast.specs.Tree.{Tree}
 use Rattle.witx_machine.specs.declared.surface.WasmType.{WasmType}
 use Rattle.witx_machine.specs.Events.{Event}
 use Rattle.witx_machine.specs.Functions.{Function}
-use Rattle.witx_machine.specs.Machine.{Domain, Tried, went, no_rule, stuck_at, next, Item, word_item, ended, run_trace}
+use Rattle.witx_machine.specs.Machine.{Domain, Tried, went, no_rule, stuck_at, goes_on, Item, word_item, ended, run_trace}
 use Rattle.witx_machine.specs.Positions.{Spot, in_callee, numbered}
 use Rattle.witx_machine.specs.Run.{Call, Outcome, argument_items, handed_on, itself, start, taken_back}
 use Rattle.witx_instructions.specs.Views.{called}
@@ -12,7 +12,7 @@ use Rattle.witx_run.specs.CallViews.{CalleeState, CallerState}
 use Rattle.witx_run.specs.MachineViews.{Noted, Setting, spot_in, state_in}
 use Rattle.witx_run.specs.OutcomeViews.{run_of}
 use Rattle.witx_run.specs.Sides.{callee_setting, caller_setting}
-use Rattle.witx_run.specs.Turns.{StateIn, events_of, whole_behind}
+use Rattle.witx_run.specs.Turns.{StateIn, script_events, whole_behind}
 use Rattle.witx_run.specs.Views.{items_of}
 use Rattle.witx_run.specs.declared.script.Script as declared_script
 use Rattle.witx_run.specs.declared.outcome.Run as declared_run
@@ -26,11 +26,11 @@ use Rattle.witx_run.specs.declared.callee.CalleeEnd.TheVariants as callee
 module _ {V W M : Type 0} where
   -- what a trace comes to whose events came to t: it has made its call, and has returned
   abbrev pub finished : (x : Setting V W M) → List Event → Tried Spot (StateIn x) → Tried Spot (Noted V W M x.trace × List (Item V W) × StateIn x)
-  finished x es t = next t (λ s. ended (spot_in x.trace (length es)) s.called s.answer s)
+  finished x es t = goes_on t (λ s. ended (spot_in x.trace (length es)) s.called s.answer s)
 
   -- what comes of a caller's run
   abbrev pub outcome_from : Tried Spot (Call V W M × List (Item V W) × CallerState V W M) → Tried Spot (Outcome V W M)
-  outcome_from t = next t (λ r. went (record { call = r.0; back = r.1; memory = r.2.memory }))
+  outcome_from t = goes_on t (λ r. went (record { call = r.0; back = r.1; memory = r.2.memory }))
 
 -- no call is made any more
 pub record CallsNoMore {V W M : Type 0} (x : Setting V W M) : Type 0 where
@@ -77,7 +77,7 @@ module _ {v w m V W M : Type 0} (D : Domain V W M) (value : v → V) (word : w �
   CalleeComes home reply noted script run e =
       (words : List W) → items_of value word script.arguments.items ≡ map word_item words →
       let x = callee_setting D home (called script.func.now) reply words noted in
-      CalleeEnds value word memory e (finished x (events_of script) (run x (events_of script)))
+      CalleeEnds value word memory e (finished x (script_events script) (run x (script_events script)))
 
   -- what the caller's trace comes to, of which so much is run, whatever arguments it was given
   abbrev pub CallerComes : List ℕ → List Event → Option V → Option (Call V W M) → declared_script.Script v w
@@ -85,7 +85,7 @@ module _ {v w m V W M : Type 0} (D : Domain V W M) (value : v → V) (word : w �
   CallerComes home callee reply made script run r =
       (arguments : List V) → items_of value word script.arguments.items ≡ argument_items (called script.func.now).params arguments →
       let x = caller_setting D home (called script.func.now) callee arguments reply made in
-      run_of value word memory r ≡ outcome_from (finished x (events_of script) (run x (events_of script)))
+      run_of value word memory r ≡ outcome_from (finished x (script_events script) (run x (script_events script)))
 
   -- the same, where so much is run, and the event at hand makes this of the machine's state
   abbrev pub CallerGets : List ℕ → List Event → Option V → declared_script.Script v w → declared_progress.Progress v w m
@@ -93,8 +93,8 @@ module _ {v w m V W M : Type 0} (D : Domain V W M) (value : v → V) (word : w �
   CallerGets home callee reply script p step r =
       (arguments : List V) → items_of value word script.arguments.items ≡ argument_items (called script.func.now).params arguments →
       let x = caller_setting D home (called script.func.now) callee arguments reply None in
-      run_of value word memory r ≡ outcome_from (finished x (events_of script)
-      (whole_behind D value word memory x (events_of script) p (step (state_in value word memory x (events_of script) p.machine))))
+      run_of value word memory r ≡ outcome_from (finished x (script_events script)
+      (whole_behind D value word memory x (script_events script) p (step (state_in value word memory x (script_events script) p.machine))))
 
   -- the callee's run on the words, and what the caller takes back of it
   abbrev pub HandedOn : List ℕ → List Event → Option V → declared_script.Script v w → declared_progress.Progress v w m

@@ -14,7 +14,7 @@ use Rattle.witx_machine.specs.Run.{Call}
 use Rattle.witx_run.specs.CallViews.{Replies, HandsOn, TakesBack}
 use Rattle.witx_run.specs.MachineViews.{Noted, Setting, state_in}
 use Rattle.witx_run.specs.RunEnds.{CallsNoMore, CalleeComes, CalleeEnds, CallerComes, EndsAs, HandedOn, TakenUp, callee_run, finished}
-use Rattle.witx_run.specs.Turns.{Known, StateIn, events_of, stopped, whole, whole_at, whole_behind}
+use Rattle.witx_run.specs.Turns.{Known, StateIn, script_events, stopped, whole, whole_at, whole_behind}
 use Rattle.witx_run.specs.Views.{items_of, reply_of}
 use Rattle.witx_run.specs.declared.callee.CalleeEnd.{CalleeEnd}
 use Rattle.witx_run.specs.declared.callee.Returned.{Returned}
@@ -82,7 +82,7 @@ module _ {D v w m : Type 0} (d : Domain.Ghosts D v w m) where
     EndsSo run e =
         (x : Setting d.V d.W d.M) (c : Noted d.V d.W d.M x.trace) →
         Known d.value_of d.word_of x s.script.now true → x.called ≡ Some c → CallsNoMore x →
-        EndsAs d.value_of d.word_of d.memory_of x c e (finished x (events_of s.script.now) (run x (events_of s.script.now)))
+        EndsAs d.value_of d.word_of d.memory_of x c e (finished x (script_events s.script.now) (run x (script_events s.script.now)))
 
     -- the callee's trace ends so, which has noted this
     abbrev pub EndsAsCallee : Option (List d.V) → Coming → CalleeEnd v w m → Type 0

@@ -6,7 +6,7 @@ use Rattle.witx_ast.specs.Views.{tree_of}
 use Rattle.witx_machine.specs.Events.{Event}
 use Rattle.witx_machine.specs.Rows.{Row, call_wasm, call_interface}
 use Rattle.witx_machine.specs.Machine as machine
-use Rattle.witx_machine.specs.Machine.{Domain, Item, Tried, went, stuck_at, found, next, State, outside, in_lower, in_lift, payload_item, act, give_slot, slot_word, two_blocks, run_block, flowing, play, runs_within}
+use Rattle.witx_machine.specs.Machine.{Domain, Item, Tried, went, stuck_at, if_found, goes_on, State, outside, in_lower, in_lift, payload_item, act, give_slot, slot_word, two_blocks, run_block, flowing, play, runs_within}
 use Rattle.witx_machine.specs.Positions.{Spot, numbered}
 use Rattle.witx_machine.specs.Run.{result_has_cases, start}
 use Rattle.witx_instructions.specs.Views.{event_of, called}
@@ -26,8 +26,8 @@ use Rattle.witx_run.specs.declared.progress.Turn.TheVariants as turn
 abbrev pub StateIn : {V W M : Type 0} → Setting V W M → Type 0
 StateIn {V} {W} {M} x = State Numbered V W M (Noted V W M x.trace)
 
-abbrev pub events_of : {v w : Type 0} → declared_script.Script v w → List Event
-events_of s = map event_of s.events.now
+abbrev pub script_events : {v w : Type 0} → declared_script.Script v w → List Event
+script_events s = map event_of s.events.now
 
 module _ {v w V W : Type 0} (value : v → V) (word : w → W) where
   abbrev pub frame_of : (ℕ → Spot) → List Event → declared_frame.Frame v w → Frame Spot Numbered V W
@@ -90,16 +90,16 @@ module _ {v w m V W M : Type 0} (D : Domain V W M) (value : v → V) (word : w �
   abbrev pub entering : declared_progress.Progress v w m → machine.Inside V W → Bool → Bool → machine.Block Numbered
       → List (Item V W) → StateIn x → Tried Spot (StateIn x)
   entering p inside lowers error block below s =
-      next (run_block (λ e. e.1) (λ e. e.0) D x.side (runs_in (deeper es p.frames.items)) inside block s)
+      goes_on (run_block (λ e. e.1) (λ e. e.0) D x.side (runs_in (deeper es p.frames.items)) inside block s)
       (leaves D lowers error below)
 
   -- a step that has taken a value, or a word, off the stack and runs the block of the value's case, or the word's
   abbrev pub lowering_by : declared_progress.Progress v w m → Option Tree → Option Tree → V → List (Item V W) → StateIn x → Tried Spot (StateIn x)
-  lowering_by p ok err v below s = two_blocks s.blocks (λ a b more. found (D.picks ok err v) (λ c.
+  lowering_by p ok err v below s = two_blocks s.blocks (λ a b more. if_found (D.picks ok err v) (λ c.
       entering p (in_lower (payload_item c.1)) true c.0 (cond c.0 b a) below (record s { blocks = more })))
 
   abbrev pub lifting_by : declared_progress.Progress v w m → W → List (Item V W) → StateIn x → Tried Spot (StateIn x)
-  lifting_by p y below s = two_blocks s.blocks (λ a b more. found (D.chooses y) (λ e.
+  lifting_by p y below s = two_blocks s.blocks (λ a b more. if_found (D.chooses y) (λ e.
       entering p in_lift false e (cond e b a) below (record s { blocks = more })))
 
   -- what the trace comes to where the innermost block, run by this frame, is over
@@ -133,12 +133,12 @@ module _ {v w m V W M : Type 0} (D : Domain V W M) (value : v → V) (word : w �
   -- whatever the side is, a trace that came to this comes to what the turn has left
   abbrev pub ComesTo : ((x : Setting V W M) → List Event → Tried Spot (StateIn x)) → declared_progress.Progress v w m → declared_turn.Turn → Type 0
   ComesTo before new turn =
-      (x : Setting V W M) → Known value word x script calls → before x (events_of script) ≡ turned D value word memory x (events_of script) new turn
+      (x : Setting V W M) → Known value word x script calls → before x (script_events script) ≡ turned D value word memory x (script_events script) new turn
 
   -- and to what the run that has halted leaves
   abbrev pub HaltsAt : ((x : Setting V W M) → List Event → Tried Spot (StateIn x)) → declared_progress.Progress v w m → declared_stop.Stop → Type 0
   HaltsAt before new stop =
-      (x : Setting V W M) → Known value word x script calls → before x (events_of script) ≡ stopped D value word memory x (events_of script) new stop
+      (x : Setting V W M) → Known value word x script calls → before x (script_events script) ≡ stopped D value word memory x (script_events script) new stop
 
 -- the event at hand, a call, is within what is left
 abbrev pub IsHere : {v w m : Type 0} → declared_progress.Progress v w m → declared_stop.Stop → Type 0

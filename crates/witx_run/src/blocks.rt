@@ -7,11 +7,11 @@ ghost use Rattle.witx_machine.specs.Machine as machine_specs;
 ghost use Rattle.witx_machine.specs.Machine.{block_word, payload_item, went};
 ghost use Rattle.witx_machine.specs.Rows.{result_lower, result_lift};
 ghost use Rattle.witx_run.specs.LeftOver.{left_item, left_row};
-ghost use Rattle.witx_run.specs.MachineViews.{Setting, block_of, inside_of, spot_in, state_in};
+ghost use Rattle.witx_run.specs.MachineViews.{Setting, block_view, inside_of, spot_in, state_in};
 ghost use Rattle.witx_run.specs.Nearing.{Falls};
 ghost use Rattle.witx_run.specs.RowEnds.{Makes};
 ghost use Rattle.witx_run.specs.ScriptParts.{event_below};
-ghost use Rattle.witx_run.specs.Turns.{ComesTo, FramesFit, TurnsHere, entering, events_of, leaving, lifting_by, lowering_by, turned, whole, whole_at, whole_behind, whole_with};
+ghost use Rattle.witx_run.specs.Turns.{ComesTo, FramesFit, TurnsHere, entering, script_events, leaving, lifting_by, lowering_by, turned, whole, whole_at, whole_behind, whole_with};
 
 use crate::cases::has_cases;
 use crate::domain::{Domain, Picked};
@@ -47,10 +47,10 @@ pub(crate) fn set_aside<'a, D: Domain>(
     progress: &mut ProgressOf<D>,
     script: &ScriptOf<'a, D>,
 ) -> Result<Turn<'a>, OutOfMemory>
-    requires { event_below (events_of script.now) progress.old.at progress.old.end ≡ Some push }
+    requires { event_below (script_events script.now) progress.old.at progress.old.end ≡ Some push }
     ensures comes { IfOk result (λ turn. (d : machine_specs.Domain D.V D.W D.M) (x : Setting D.V D.W D.M) →
-        whole d D.value_of D.word_of D.memory_of x (events_of script.now) progress.old
-        ≡ turned d D.value_of D.word_of D.memory_of x (events_of script.now) progress.new turn) }
+        whole d D.value_of D.word_of D.memory_of x (script_events script.now) progress.old
+        ≡ turned d D.value_of D.word_of D.memory_of x (script_events script.now) progress.new turn) }
     ensures falls { IfOk result (λ turn. Falls 0 progress.old progress.new turn) }
     ensures frames { IfOk result (λ _. progress.new.frames ≡ progress.old.frames) }
     ensures here { IfOk result (λ turn. TurnsHere progress.new turn) }
@@ -103,12 +103,12 @@ fn lower_value<'a, D: Domain>(
     requires here { progress.old.at < progress.old.end }
     requires deep { FramesFit script.now progress.old }
     ensures comes { IfOk result (λ turn. (x : Setting D.V D.W D.M) →
-        whole_behind (D.domain domain.now) D.value_of D.word_of D.memory_of x (events_of script.now) progress.old
-        (lowering_by (D.domain domain.now) D.value_of D.word_of D.memory_of x (events_of script.now) progress.old
+        whole_behind (D.domain domain.now) D.value_of D.word_of D.memory_of x (script_events script.now) progress.old
+        (lowering_by (D.domain domain.now) D.value_of D.word_of D.memory_of x (script_events script.now) progress.old
         (type_tree cases.entry.ok) (type_tree cases.entry.err) (D.value_of value)
         (stack_of D.value_of D.word_of progress.old.machine.stack.items)
-        (state_in D.value_of D.word_of D.memory_of x (events_of script.now) progress.old.machine))
-        ≡ turned (D.domain domain.now) D.value_of D.word_of D.memory_of x (events_of script.now) progress.new turn) }
+        (state_in D.value_of D.word_of D.memory_of x (script_events script.now) progress.old.machine))
+        ≡ turned (D.domain domain.now) D.value_of D.word_of D.memory_of x (script_events script.now) progress.new turn) }
     ensures falls { IfOk result (λ turn. Falls 0 progress.old progress.new turn) }
     ensures deep { IfOk result (λ _. FramesFit script.now progress.new) }
     ensures here { IfOk result (λ turn. TurnsHere progress.new turn) }
@@ -143,9 +143,9 @@ pub(crate) fn lift_result<'a, D: Domain>(
     requires here { progress.old.at < progress.old.end }
     requires deep { FramesFit script.now progress.old }
     ensures comes { IfOk result (λ turn. (x : Setting D.V D.W D.M) →
-        whole_at (D.domain domain.now) D.value_of D.word_of D.memory_of x (events_of script.now) progress.old
+        whole_at (D.domain domain.now) D.value_of D.word_of D.memory_of x (script_events script.now) progress.old
         result_lift
-        ≡ turned (D.domain domain.now) D.value_of D.word_of D.memory_of x (events_of script.now) progress.new turn) }
+        ≡ turned (D.domain domain.now) D.value_of D.word_of D.memory_of x (script_events script.now) progress.new turn) }
     ensures falls { IfOk result (λ turn. Falls 0 progress.old progress.new turn) }
     ensures deep { IfOk result (λ _. FramesFit script.now progress.new) }
     ensures here { IfOk result (λ turn. TurnsHere progress.new turn) }
@@ -166,12 +166,12 @@ fn lift_word<'a, D: Domain>(
     requires here { progress.old.at < progress.old.end }
     requires deep { FramesFit script.now progress.old }
     ensures comes { IfOk result (λ turn. (x : Setting D.V D.W D.M) →
-        whole_behind (D.domain domain.now) D.value_of D.word_of D.memory_of x (events_of script.now) progress.old
-        (lifting_by (D.domain domain.now) D.value_of D.word_of D.memory_of x (events_of script.now) progress.old
+        whole_behind (D.domain domain.now) D.value_of D.word_of D.memory_of x (script_events script.now) progress.old
+        (lifting_by (D.domain domain.now) D.value_of D.word_of D.memory_of x (script_events script.now) progress.old
         (D.word_of word)
         (stack_of D.value_of D.word_of progress.old.machine.stack.items)
-        (state_in D.value_of D.word_of D.memory_of x (events_of script.now) progress.old.machine))
-        ≡ turned (D.domain domain.now) D.value_of D.word_of D.memory_of x (events_of script.now) progress.new turn) }
+        (state_in D.value_of D.word_of D.memory_of x (script_events script.now) progress.old.machine))
+        ≡ turned (D.domain domain.now) D.value_of D.word_of D.memory_of x (script_events script.now) progress.new turn) }
     ensures falls { IfOk result (λ turn. Falls 0 progress.old progress.new turn) }
     ensures deep { IfOk result (λ _. FramesFit script.now progress.new) }
     ensures here { IfOk result (λ turn. TurnsHere progress.new turn) }
@@ -207,13 +207,13 @@ fn enter<'a, D: Domain>(
     requires here { progress.old.at < progress.old.end }
     requires deep { FramesFit script.now progress.old }
     ensures comes { IfOk result (λ turn. (d : machine_specs.Domain D.V D.W D.M) (x : Setting D.V D.W D.M) →
-        whole_behind d D.value_of D.word_of D.memory_of x (events_of script.now) progress.old
-        (entering d D.value_of D.word_of D.memory_of x (events_of script.now) progress.old
+        whole_behind d D.value_of D.word_of D.memory_of x (script_events script.now) progress.old
+        (entering d D.value_of D.word_of D.memory_of x (script_events script.now) progress.old
         (inside_of D.value_of D.word_of inside) step.lowers step.error
-        (block_of (spot_in x.trace) (events_of script.now) step.block)
+        (block_view (spot_in x.trace) (script_events script.now) step.block)
         (stack_of D.value_of D.word_of progress.old.machine.stack.items)
-        (state_in D.value_of D.word_of D.memory_of x (events_of script.now) progress.old.machine))
-        ≡ turned d D.value_of D.word_of D.memory_of x (events_of script.now) progress.new turn) }
+        (state_in D.value_of D.word_of D.memory_of x (script_events script.now) progress.old.machine))
+        ≡ turned d D.value_of D.word_of D.memory_of x (script_events script.now) progress.new turn) }
     ensures falls { IfOk result (λ turn. Falls (suc (step.block.end - step.block.first)) progress.old progress.new turn) }
     ensures deep { IfOk result (λ _. FramesFit script.now progress.new) }
     ensures here { IfOk result (λ turn. TurnsHere progress.new turn) }
@@ -247,9 +247,9 @@ pub(crate) fn leave<'a, D: Domain>(
 ) -> Result<Turn<'a>, OutOfMemory>
     requires deep { FramesFit script.now progress.old }
     ensures comes { IfOk result (λ turn. (x : Setting D.V D.W D.M) →
-        whole_with (D.domain domain.now) D.value_of D.word_of D.memory_of x (events_of script.now) progress.old
-        (went (state_in D.value_of D.word_of D.memory_of x (events_of script.now) progress.old.machine))
-        ≡ turned (D.domain domain.now) D.value_of D.word_of D.memory_of x (events_of script.now) progress.new turn) }
+        whole_with (D.domain domain.now) D.value_of D.word_of D.memory_of x (script_events script.now) progress.old
+        (went (state_in D.value_of D.word_of D.memory_of x (script_events script.now) progress.old.machine))
+        ≡ turned (D.domain domain.now) D.value_of D.word_of D.memory_of x (script_events script.now) progress.new turn) }
     ensures falls { IfOk result (λ turn. Falls 0 progress.old progress.new turn) }
     ensures deep { IfOk result (λ _. FramesFit script.now progress.new) }
     ensures here { IfOk result (λ turn. TurnsHere progress.new turn) }
@@ -269,8 +269,8 @@ fn leave_block<'a, D: Domain>(
 ) -> Result<Turn<'a>, OutOfMemory>
     requires deep { suc (length progress.old.frames.items) ≤ length script.now.events.now }
     ensures comes { IfOk result (λ turn. (x : Setting D.V D.W D.M) →
-        leaving (D.domain domain.now) D.value_of D.word_of D.memory_of x (events_of script.now) progress.old frame
-        ≡ turned (D.domain domain.now) D.value_of D.word_of D.memory_of x (events_of script.now) progress.new turn) }
+        leaving (D.domain domain.now) D.value_of D.word_of D.memory_of x (script_events script.now) progress.old frame
+        ≡ turned (D.domain domain.now) D.value_of D.word_of D.memory_of x (script_events script.now) progress.new turn) }
     ensures falls { IfOk result (λ turn. Falls (frame.end - frame.at) progress.old progress.new turn) }
     ensures frames { IfOk result (λ _. progress.new.frames ≡ progress.old.frames) }
     ensures here { IfOk result (λ turn. TurnsHere progress.new turn) }

@@ -10,7 +10,7 @@ ghost use Rattle.witx_run.specs.Nearing.{Falls};
 ghost use Rattle.witx_run.specs.RowViews.{row_view, runs_nothing};
 ghost use Rattle.witx_run.specs.ScriptParts.{event_below};
 ghost use Rattle.witx_run.specs.StackRows.{tried_if};
-ghost use Rattle.witx_run.specs.Turns.{ComesTo, FramesFit, HaltsAt, IsHere, TurnsHere, events_of, run_start, whole, whole_behind, whole_at, space_at, turned};
+ghost use Rattle.witx_run.specs.Turns.{ComesTo, FramesFit, HaltsAt, IsHere, TurnsHere, script_events, run_start, whole, whole_behind, whole_at, space_at, turned};
 
 use crate::blocks::{Cases, leave, lift_result, lower_result, set_aside};
 use crate::domain::Domain;
@@ -90,8 +90,8 @@ pub(crate) type ProgressOf<D> = Progress<
 /// Nothing was run yet.
 pub fn start<D: Domain>(alloc: Global, script: &ScriptOf<'_, D>, memory: D::Memory) -> ProgressOf<D>
     ensures comes { (d : machine_specs.Domain D.V D.W D.M) (x : Setting D.V D.W D.M) → x.called ≡ None →
-        whole d D.value_of D.word_of D.memory_of x (events_of script.now) result
-        ≡ run_start d D.value_of D.word_of D.memory_of x (events_of script.now) (D.memory_of memory) }
+        whole d D.value_of D.word_of D.memory_of x (script_events script.now) result
+        ≡ run_start d D.value_of D.word_of D.memory_of x (script_events script.now) (D.memory_of memory) }
     ensures frames { result.frames.items ≡ [] }
 {
     Progress {
@@ -265,9 +265,9 @@ fn give_space<'a, D: Domain>(
 ) -> Result<Turn<'a>, OutOfMemory>
     requires { progress.old.at < progress.old.end }
     ensures comes { IfOk result (λ turn. (x : Setting D.V D.W D.M) →
-        space_at (D.domain domain.now) D.value_of D.word_of D.memory_of x (events_of script.now) progress.old
+        space_at (D.domain domain.now) D.value_of D.word_of D.memory_of x (script_events script.now) progress.old
         slot (named_tree ty.now.value)
-        ≡ turned (D.domain domain.now) D.value_of D.word_of D.memory_of x (events_of script.now) progress.new turn) }
+        ≡ turned (D.domain domain.now) D.value_of D.word_of D.memory_of x (script_events script.now) progress.new turn) }
     ensures falls { IfOk result (λ turn. Falls 0 progress.old progress.new turn) }
     ensures frames { IfOk result (λ _. progress.new.frames ≡ progress.old.frames) }
     ensures here { IfOk result (λ turn. TurnsHere progress.new turn) }
@@ -284,9 +284,9 @@ pub(crate) fn settle<'a, D: Domain>(
 ) -> Turn<'a>
     requires { progress.old.at < progress.old.end }
     ensures comes { (d : machine_specs.Domain D.V D.W D.M) (x : Setting D.V D.W D.M) →
-        whole_behind d D.value_of D.word_of D.memory_of x (events_of script.now) progress.old
-        (tried_if went (state_in D.value_of D.word_of D.memory_of x (events_of script.now) progress.old.machine))
-        ≡ turned d D.value_of D.word_of D.memory_of x (events_of script.now) progress.new result }
+        whole_behind d D.value_of D.word_of D.memory_of x (script_events script.now) progress.old
+        (tried_if went (state_in D.value_of D.word_of D.memory_of x (script_events script.now) progress.old.machine))
+        ≡ turned d D.value_of D.word_of D.memory_of x (script_events script.now) progress.new result }
     ensures falls { Falls 0 progress.old progress.new result }
     ensures frames { progress.new.frames ≡ progress.old.frames }
     ensures here { TurnsHere progress.new result }
@@ -305,7 +305,7 @@ pub(crate) fn settle<'a, D: Domain>(
 /// Whether the trace hasn't returned yet, or has no event of this number.
 fn goes_to<D: Domain>(progress: &ProgressOf<D>, script: &ScriptOf<'_, D>, next: usize) -> bool
     ensures { result ≡ (is_none progress.now.machine.answer
-        || is_none (event_below (events_of script.now) next progress.now.end)) }
+        || is_none (event_below (script_events script.now) next progress.now.end)) }
 {
     progress.machine.answer.is_none() || script.event_at(next, progress.end).is_none()
 }

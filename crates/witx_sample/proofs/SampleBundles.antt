@@ -7,7 +7,7 @@ use Rattle.witx_bundle.specs.Bundles.{IsRead, limit, lines_of, stray}
 use Rattle.witx_bundle.specs.declared.error.BundleError.{BundleError}
 use Rattle.witx_bundle.specs.declared.error.BundleError.TheVariants as bundle
 use Rattle.witx_sample.specs.declared.sample.TheConstants.{LARGEST_SAMPLE}
-use Rattle.witx_sample.specs.Samples.{each, enum_line, func_head, func_line, func_params, func_result, header_line, list_case, module_text, record_case, record_line, sample_text, type_lines, types_text, variant_head, variant_line}
+use Rattle.witx_sample.specs.Samples.{each_below, enum_line, func_head, sample_func_line, func_params, func_result, header_line, list_case, sample_module_text, record_case, record_line, sample_text, type_lines, sample_types_text, variant_head, variant_line}
 
 -- ---- how long the lines are
 
@@ -75,8 +75,8 @@ type-few : (i : ℕ) → i < 2 ^ 64 → length (type_lines i) ≤ 256
 unfolding type_lines
 type-few i h = omega (arith, longer (record_line i) (variant_line i) 87 168 (record-few i h) (variant-few i h))
 
-func-few : (i : ℕ) → i < 2 ^ 64 → length (func_line i) ≤ 256
-unfolding func_line
+func-few : (i : ℕ) → i < 2 ^ 64 → length (sample_func_line i) ≤ 256
+unfolding sample_func_line
 func-few i h =
     let back = longer (func_params i) (func_result i) 52 70 (func_params-few i h) (func_result-few i h) in
     let all = longer (func_head i) (func_params i ++ func_result i) 49 122 (func_head-few i h) back in
@@ -90,15 +90,15 @@ each-few f h a (suc n) l =
     omega (arith, length-append (f a) (flat_map f (range_with_len (a + 1) n)), here, more)
 
 sample-few : (n : ℕ) → n ≤ LARGEST_SAMPLE → length (sample_text n) ≤ limit
-unfolding sample_text types_text module_text
+unfolding sample_text sample_types_text sample_module_text
 sample-few n h =
     let types = each-few type_lines type-few 0 n (omega (arith, h)) in
-    let functions = each-few func_line func-few 0 n (omega (arith, h)) in
-    let head = longer enum_line (each type_lines n) 46 (256 * n) (few enum_line 46 refl) types in
-    let tail = longer (each func_line n) (codes ")\n") (256 * n) 2 functions (few (codes ")\n") 2 refl) in
-    let front = longer header_line (enum_line ++ each type_lines n) 23 (46 + 256 * n) (few header_line 23 refl) head in
-    let back = longer (codes "(module $m\n") (each func_line n ++ codes ")\n") 11 (256 * n + 2) (few (codes "(module $m\n") 11 refl) tail in
-    let all = longer (header_line ++ (enum_line ++ each type_lines n)) (codes "(module $m\n" ++ (each func_line n ++ codes ")\n")) (23 + (46 + 256 * n)) (11 + (256 * n + 2)) front back in
+    let functions = each-few sample_func_line func-few 0 n (omega (arith, h)) in
+    let head = longer enum_line (each_below type_lines n) 46 (256 * n) (few enum_line 46 refl) types in
+    let tail = longer (each_below sample_func_line n) (codes ")\n") (256 * n) 2 functions (few (codes ")\n") 2 refl) in
+    let front = longer header_line (enum_line ++ each_below type_lines n) 23 (46 + 256 * n) (few header_line 23 refl) head in
+    let back = longer (codes "(module $m\n") (each_below sample_func_line n ++ codes ")\n") 11 (256 * n + 2) (few (codes "(module $m\n") 11 refl) tail in
+    let all = longer (header_line ++ (enum_line ++ each_below type_lines n)) (codes "(module $m\n" ++ (each_below sample_func_line n ++ codes ")\n")) (23 + (46 + 256 * n)) (11 + (256 * n + 2)) front back in
     omega (arith, h, all)
 
 -- ---- nothing stands before the first header
@@ -107,8 +107,8 @@ behind-header : (xs : List ℕ) → stray (lines_of (header_line ++ xs)) ≡ Non
 behind-header xs = refl
 
 no-stray : (n : ℕ) → stray (lines_of (sample_text n)) ≡ None
-unfolding sample_text types_text
-no-stray n = behind-header ((enum_line ++ each type_lines n) ++ module_text n)
+unfolding sample_text sample_types_text
+no-stray n = behind-header ((enum_line ++ each_below type_lines n) ++ sample_module_text n)
 
 -- ---- so it is refused only for want of memory
 

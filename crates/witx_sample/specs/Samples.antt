@@ -45,22 +45,22 @@ func_params i = codes " (param $p $v" ++ decimal i ++ codes ") (param $q string)
 unfoldable pub func_result : ℕ → List ℕ
 func_result i = codes " (result $s (expected (tuple $r" ++ decimal i ++ codes " $e) (error $e))))\n"
 
-unfoldable pub func_line : ℕ → List ℕ
-func_line i = func_head i ++ (func_params i ++ func_result i)
+unfoldable pub sample_func_line : ℕ → List ℕ
+sample_func_line i = func_head i ++ (func_params i ++ func_result i)
 
 -- the types of a number
 unfoldable pub type_lines : ℕ → List ℕ
 type_lines i = record_line i ++ variant_line i
 
 -- what stands once for each number below n, in rising order
-abbrev pub each : (ℕ → List ℕ) → ℕ → List ℕ
-each lines n = flat_map lines (range_with_len 0 n)
+abbrev pub each_below : (ℕ → List ℕ) → ℕ → List ℕ
+each_below lines n = flat_map lines (range_with_len 0 n)
 
-unfoldable pub types_text : ℕ → List ℕ
-types_text n = header_line ++ (enum_line ++ each type_lines n)
+unfoldable pub sample_types_text : ℕ → List ℕ
+sample_types_text n = header_line ++ (enum_line ++ each_below type_lines n)
 
-unfoldable pub module_text : ℕ → List ℕ
-module_text n = codes "(module $m\n" ++ (each func_line n ++ codes ")\n")
+unfoldable pub sample_module_text : ℕ → List ℕ
+sample_module_text n = codes "(module $m\n" ++ (each_below sample_func_line n ++ codes ")\n")
 
 unfoldable pub sample_text : ℕ → List ℕ
-sample_text n = types_text n ++ module_text n
+sample_text n = sample_types_text n ++ sample_module_text n

@@ -2,7 +2,7 @@
 
 ghost use Rattle.std.specs.Prelude.{◌≡◌, ◌↔◌, ◌≤◌, ◌++◌, ℕ, true, IfOk, Ok, OnOk, string_bytes};
 ghost use Rattle.witx_bundle.specs.Bundles.{IsRead};
-ghost use Rattle.witx_sample.specs.Samples.{each, func_head, func_line, func_params, func_result, is_size, list_case, module_text, record_case, record_line, sample_text, type_lines, types_text, variant_head, variant_line};
+ghost use Rattle.witx_sample.specs.Samples.{each_below, func_head, sample_func_line, func_params, func_result, is_size, list_case, sample_module_text, record_case, record_line, sample_text, type_lines, sample_types_text, variant_head, variant_line};
 
 use std::alloc::{AllocError, Global};
 use std::fmt::Write;
@@ -47,9 +47,9 @@ pub fn sample_files(alloc: Global, n: usize) -> Result<MockFs, OutOfMemory>
 }
 
 /// The header and the typenames.
-#[tactic(auto, unfolding(crate::specs::Samples::types_text))]
+#[tactic(auto, unfolding(crate::specs::Samples::sample_types_text))]
 fn put_types(text: &mut String, n: usize) -> Result<(), AllocError>
-    ensures { OnOk result (string_bytes text.new ≡ string_bytes text.old ++ types_text n) }
+    ensures { OnOk result (string_bytes text.new ≡ string_bytes text.old ++ sample_types_text n) }
 {
     text.push_str(";;;; file /sample.witx\n")?;
     text.push_str("(typename $e (enum (@witx tag u16) $ok $bad))\n")?;
@@ -58,7 +58,7 @@ fn put_types(text: &mut String, n: usize) -> Result<(), AllocError>
 
 #[tactic(auto, using(crate::proofs::Numbered::numbered_rules))]
 fn put_numbered_types(text: &mut String, n: usize) -> Result<(), AllocError>
-    ensures { OnOk result (string_bytes text.new ≡ string_bytes text.old ++ each type_lines n) }
+    ensures { OnOk result (string_bytes text.new ≡ string_bytes text.old ++ each_below type_lines n) }
 {
     for i in 0..n {
         put_types_of(text, i)?;
@@ -115,9 +115,9 @@ fn put_list_case(text: &mut String, i: usize) -> Result<(), AllocError>
 }
 
 /// The module with its functions.
-#[tactic(auto, unfolding(crate::specs::Samples::module_text))]
+#[tactic(auto, unfolding(crate::specs::Samples::sample_module_text))]
 fn put_module(text: &mut String, n: usize) -> Result<(), AllocError>
-    ensures { OnOk result (string_bytes text.new ≡ string_bytes text.old ++ module_text n) }
+    ensures { OnOk result (string_bytes text.new ≡ string_bytes text.old ++ sample_module_text n) }
 {
     text.push_str("(module $m\n")?;
     put_functions(text, n)?;
@@ -126,7 +126,7 @@ fn put_module(text: &mut String, n: usize) -> Result<(), AllocError>
 
 #[tactic(auto, using(crate::proofs::Numbered::numbered_rules))]
 fn put_functions(text: &mut String, n: usize) -> Result<(), AllocError>
-    ensures { OnOk result (string_bytes text.new ≡ string_bytes text.old ++ each func_line n) }
+    ensures { OnOk result (string_bytes text.new ≡ string_bytes text.old ++ each_below sample_func_line n) }
 {
     for i in 0..n {
         put_function(text, i)?;
@@ -135,7 +135,7 @@ fn put_functions(text: &mut String, n: usize) -> Result<(), AllocError>
 }
 
 fn put_function(text: &mut String, i: usize) -> Result<(), AllocError>
-    ensures { OnOk result (string_bytes text.new ≡ string_bytes text.old ++ func_line i) }
+    ensures { OnOk result (string_bytes text.new ≡ string_bytes text.old ++ sample_func_line i) }
 {
     put_func_head(text, i)?;
     put_func_params(text, i)?;

@@ -10,7 +10,7 @@ use Rattle.witx_render.specs.TypeExpressions.{width_expr}
 use Rattle.witx_render.specs.DocumentTexts.{definition_expr}
 use Rattle.witx_read_back.specs.PrintedTokens.{tokens, expr_tokens}
 use Rattle.witx_read_back.proofs.Lexes.{Lexable, expr_pieces, piece_tokens, tokens_from_pieces, expr_piece_tokens, expr_stand}
-use Rattle.witx_sample.specs.Samples.{each, enum_line, record_line, variant_head, record_case, list_case, variant_line, func_head, func_params, func_result, func_line, type_lines, module_text}
+use Rattle.witx_sample.specs.Samples.{each_below, enum_line, record_line, variant_head, record_case, list_case, variant_line, func_head, func_params, func_result, sample_func_line, type_lines, sample_module_text}
 use Rattle.witx_sample_laws.proofs.Documents.{enum_name, module_name, record_name, variant_name, function_name, record_definition, variant_definition}
 use Rattle.witx_sample_laws.proofs.Names.{run_of, record_run, variant_run, function_raw, function_utf8}
 use Rattle.witx_sample_laws.proofs.SampleFiles.{body}
@@ -114,8 +114,8 @@ func_onto : (i : ℕ) (rest : List ℕ)
     ≡ onto (func_expr i) (10 ∷ rest)
 func_onto i rest = refl
 
-func_text : (i : ℕ) (rest : List ℕ) → func_line i ++ rest ≡ text_of (func_expr i) ++ 10 ∷ rest
-unfolding func_line func_head func_params func_result
+func_text : (i : ℕ) (rest : List ℕ) → sample_func_line i ++ rest ≡ text_of (func_expr i) ++ 10 ∷ rest
+unfolding sample_func_line func_head func_params func_result
 func_text i rest =
     append_assoc (func_head i) (func_params i ++ func_result i) rest
     ∙ (ap (λ (l : List ℕ). func_head i ++ l) (append_assoc (func_params i) (func_result i) rest)
@@ -293,13 +293,13 @@ types_told i (suc k) after ts l h =
     (one_line 0 (record_expr i) (text_of (variant_expr i) ++ 10 ∷ (rest ++ after)) (expr_tokens (variant_expr i) (types_tokens (i + 1) k ts)) (record_lexable i small) (omega arith)
     (one_line 0 (variant_expr i) (rest ++ after) (types_tokens (i + 1) k ts) (variant_lexable i small) (omega arith) (types_told (i + 1) k after ts (omega (arith, l)) h)))
 
-funcs_told : (i k : ℕ) (after : List ℕ) (ts : List Token) → i + k ≤ 2 ^ 64 → Tells 1 after ts → Tells 1 (flat_map func_line (range_with_len i k) ++ after) (funcs_tokens i k ts)
+funcs_told : (i k : ℕ) (after : List ℕ) (ts : List Token) → i + k ≤ 2 ^ 64 → Tells 1 after ts → Tells 1 (flat_map sample_func_line (range_with_len i k) ++ after) (funcs_tokens i k ts)
 funcs_told i zero after ts l h = h
 funcs_told i (suc k) after ts l h =
-    let rest = flat_map func_line (range_with_len (i + 1) k) in
+    let rest = flat_map sample_func_line (range_with_len (i + 1) k) in
     let small : i < 2 ^ 64 = omega (arith, l) in
-    as_text 1 ((func_line i ++ rest) ++ after) (text_of (func_expr i) ++ 10 ∷ (rest ++ after)) (funcs_tokens i (suc k) ts)
-    (append_assoc (func_line i) rest after ∙ func_text i (rest ++ after))
+    as_text 1 ((sample_func_line i ++ rest) ++ after) (text_of (func_expr i) ++ 10 ∷ (rest ++ after)) (funcs_tokens i (suc k) ts)
+    (append_assoc (sample_func_line i) rest after ∙ func_text i (rest ++ after))
     (one_line 1 (func_expr i) (rest ++ after) (funcs_tokens (i + 1) k ts) (func_lexable i small) (omega arith) (funcs_told (i + 1) k after ts (omega (arith, l)) h))
 
 end_told : Tells 1 (codes ")\n") (right ∷ [])
@@ -332,9 +332,9 @@ module_head text ts h = record {
   told = ap (λ (l : List Token). left ∷ a_word (codes "module") ∷ id module_name ∷ l) h.told;
 }
 
-module_told : (n : ℕ) → n ≤ 2 ^ 64 → Tells 0 (module_text n) (module_tokens n [])
-unfolding module_text
-module_told n l = module_head (each func_line n ++ codes ")\n") (funcs_tokens 0 n (right ∷ [])) (funcs_told 0 n (codes ")\n") (right ∷ []) (omega (arith, l)) end_told)
+module_told : (n : ℕ) → n ≤ 2 ^ 64 → Tells 0 (sample_module_text n) (module_tokens n [])
+unfolding sample_module_text
+module_told n l = module_head (each_below sample_func_line n ++ codes ")\n") (funcs_tokens 0 n (right ∷ [])) (funcs_told 0 n (codes ")\n") (right ∷ []) (omega (arith, l)) end_told)
 
 -- the tokens of the file of a sample
 abbrev pub sample_tokens : ℕ → List Token
@@ -342,9 +342,9 @@ sample_tokens n = expr_tokens enum_expr (types_tokens 0 n (module_tokens n []))
 
 body_told : (n : ℕ) → n ≤ 2 ^ 64 → Tells 0 (body n) (sample_tokens n)
 body_told n l =
-    let rest = each type_lines n ++ module_text n in
+    let rest = each_below type_lines n ++ sample_module_text n in
     as_text 0 (body n) (text_of enum_expr ++ 10 ∷ rest) (sample_tokens n) (enum_text rest)
-    (one_line 0 enum_expr rest (types_tokens 0 n (module_tokens n [])) enum_lexable (omega arith) (types_told 0 n (module_text n) (module_tokens n []) (omega (arith, l)) (module_told n l)))
+    (one_line 0 enum_expr rest (types_tokens 0 n (module_tokens n [])) enum_lexable (omega arith) (types_told 0 n (sample_module_text n) (module_tokens n []) (omega (arith, l)) (module_told n l)))
 
 pub body_tokens : (n : ℕ) → n ≤ 2 ^ 64 → (ts : List Lexed) × HasTokens (body n) ts × (tokens ts ≡ sample_tokens n)
 body_tokens n l =

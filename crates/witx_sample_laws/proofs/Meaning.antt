@@ -1,18 +1,18 @@
 -- The bundle of a sample means a document of its definitions.
 use Rattle.std.proofs.Common.{◌≡◌, ℕ, zero, suc, ◌+◌, ◌≤◌, List, [], ◌∷◌, map, Option, Some, Result, Ok, refl, sym, ap, ◌∙◌, subst, arith}
 use Rattle.witx_base.specs.Paths.{Path, path_of, join, all_but_last}
-use Rattle.witx_files.specs.Files.{Files, held}
+use Rattle.witx_files.specs.Files.{Files, text_in}
 use Rattle.witx_bundle.specs.Bundles.{IsRead}
 use Rattle.witx_ast.specs.Definitions.{DefinitionTree, typename_of}
 use Rattle.witx_ast.specs.Tree.{Tree}
 use Rattle.witx_syntax_tree.specs.Trees as forms
 use Rattle.witx_syntax_tree.specs.Trees.{NotedItem}
-use Rattle.witx_order.specs.Items.{Item, item_at, items_of, SyntaxFault}
+use Rattle.witx_order.specs.Items.{TextItem, item_at, items_of, SyntaxFault}
 use Rattle.witx_order.specs.Walks.{start, place, open_file, declared_in, beginning, folder_of, started}
 use Rattle.witx_order.specs.Verdicts.{fine, on, turn, turned, Ends, along, IsVerdict}
 use Rattle.witx_order.specs.Fronts.{AreSound}
 use Rattle.witx_order.proofs.FinalFronts.{fine-walk}
-use Rattle.witx_walk.specs.Readings.{Reading, IsReading}
+use Rattle.witx_walk.specs.Readings.{FileReading, IsReading}
 use Rattle.witx_walk.specs.Meaning.{definitions_of, world, MeansDocument}
 use Rattle.witx_read_back.specs.Says.{SaysDefinition}
 use Rattle.witx_read_back.proofs.ReadBack.{AreDeclarations, ends_fine}
@@ -26,10 +26,10 @@ use Rattle.witx_sample_laws.proofs.Sound.{sample_sound}
 -- ---- all items are declarations
 
 typename_declares : (n : List ℕ) (t : Tree) (Q : List NotedItem → Type 0) → ((js : List NotedItem) → Q js → AreDeclarations js) → (is : List NotedItem) → Front (SaysDefinition (typename_of n t [])) Q is → AreDeclarations is
-typename_declares n t Q more is q = subst (λ (x : List NotedItem). AreDeclarations x) (sym q.2) (ap (λ (x : forms.ItemTree). item_at q.0 x) q.3.2, more q.1 q.4)
+typename_declares n t Q more is q = subst (λ (x : List NotedItem). AreDeclarations x) (sym q.2) (ap (λ (x : forms.FormTree). item_at q.0 x) q.3.2, more q.1 q.4)
 
 module_declares : (n : ℕ) (is : List NotedItem) → Front (SaysModule n) IsLast is → AreDeclarations is
-module_declares n is q = subst (λ (x : List NotedItem). AreDeclarations x) (sym (q.2 ∙ ap (λ (l : List NotedItem). q.0 ∷ l) q.4)) (ap (λ (x : forms.ItemTree). item_at q.0 x) q.3.2, tt)
+module_declares n is q = subst (λ (x : List NotedItem). AreDeclarations x) (sym (q.2 ∙ ap (λ (l : List NotedItem). q.0 ∷ l) q.4)) (ap (λ (x : forms.FormTree). item_at q.0 x) q.3.2, tt)
 
 types_declare : (n i k : ℕ) (is : List NotedItem) → SaysTypes i k (Front (SaysModule n) IsLast) is → AreDeclarations is
 types_declare n i zero is q = module_declares n is q
@@ -46,12 +46,12 @@ sample_declares n is q = typename_declares enum_name the_enum (SaysTypes 0 n (Fr
 abbrev directory : Path
 directory = all_but_last sample_path
 
-starts : (files : Files) (reading : Reading) (text : List ℕ) → held files sample_path ≡ Some text
+starts : (files : Files) (reading : FileReading) (text : List ℕ) → text_in files sample_path ≡ Some text
     → turn (world files [] reading) (beginning (sample_path ∷ [])) ≡ on (start sample_path directory) (place (open_file sample_path text (folder_of sample_path directory) (reading text) ∷ []) [] (sample_path ∷ []) [])
 unfolding join path_of
 starts files reading text e = ap (λ (o : Option (List ℕ)). turned (world files [] reading) [] (started (world files [] reading) (place [] [] [] []) sample_path directory o)) e
 
-verdict_of : (files : Files) (reading : Reading) (text : List ℕ) (is : List NotedItem) → held files sample_path ≡ Some text → reading text ≡ Ok (items_of is)
+verdict_of : (files : Files) (reading : FileReading) (text : List ℕ) (is : List NotedItem) → text_in files sample_path ≡ Some text → reading text ≡ Ok (items_of is)
     → AreDeclarations is → AreSound (world files [] reading) [] (map (declared_in sample_path text) is)
     → IsVerdict (world files [] reading) (sample_path ∷ []) (fine (map (declared_in sample_path text) is))
 verdict_of files reading text is h e a s =
@@ -59,7 +59,7 @@ verdict_of files reading text is h e a s =
     let folder = folder_of sample_path directory in
     let ended = ends_fine w sample_path text folder (sample_path ∷ []) is [] a s in
     let more : Ends w (place (open_file sample_path text folder (reading text) ∷ []) [] (sample_path ∷ []) []) (fine (map (declared_in sample_path text) is))
-    = subst (λ (r : Result (List Item) SyntaxFault). Ends w (place (open_file sample_path text folder r ∷ []) [] (sample_path ∷ []) []) (fine (map (declared_in sample_path text) is))) (sym e) ended in
+    = subst (λ (r : Result (List TextItem) SyntaxFault). Ends w (place (open_file sample_path text folder r ∷ []) [] (sample_path ∷ []) []) (fine (map (declared_in sample_path text) is))) (sym e) ended in
     record {
       last = more.last;
       way = along (beginning (sample_path ∷ [])) (start sample_path directory) (place (open_file sample_path text folder (reading text) ∷ []) [] (sample_path ∷ []) []) more.last (starts files reading text h) more.way;
@@ -72,7 +72,7 @@ verdict_of files reading text is h e a s =
 pub record SampleMeant (n : ℕ) (files : Files) : Type 0 where
   pub definitions : List DefinitionTree
   pub sample : IsSample n definitions
-  pub meant : (reading : Reading) → IsReading reading → MeansDocument (world files [] reading) (sample_path ∷ []) definitions
+  pub meant : (reading : FileReading) → IsReading reading → MeansDocument (world files [] reading) (sample_path ∷ []) definitions
 
 pub sample_meant : (n : ℕ) → n ≤ 4096 → (files : Files) → IsRead (sample_text n) (Ok files) → SampleMeant n files
 sample_meant n few files r =
@@ -80,7 +80,7 @@ sample_meant n few files r =
     let read = sample_reads n (omega (arith, few)) in
     let text = body n in
     let declared = map (declared_in sample_path text) read.0 in
-    let sound : (reading : Reading) → AreSound (world files [] reading) [] declared × IsSample n (definitions_of declared) = λ reading. sample_sound (world files [] reading) refl sample_path text n read.0 (omega (arith, few)) read.2 in
+    let sound : (reading : FileReading) → AreSound (world files [] reading) [] declared × IsSample n (definitions_of declared) = λ reading. sample_sound (world files [] reading) refl sample_path text n read.0 (omega (arith, few)) read.2 in
     record {
       definitions = definitions_of declared;
       sample = (sound (λ t. Ok [])).1;

@@ -7,7 +7,7 @@ use Rattle.std.proofs.lemmas.Bool.{and_from, and_parts, eqb-true, eqb-false}
 use Rattle.std.proofs.lemmas.Fmt.{decimal_is_IsNumeral, decimal_injective, IsAscii-decimal}
 use Rattle.std.proofs.lemmas.Str.{IsUtf8-from_ascii, IsUtf8-append}
 use Rattle.std.proofs.lemmas.Str.Parse.{digit_from_value}
-use Rattle.witx_lex.specs.Characters.{is_name, is_raw, dollar}
+use Rattle.witx_lex.specs.Characters.{is_name_character, is_raw, dollar}
 use Rattle.witx_read_back.proofs.Orders.{same, same_is}
 use Rattle.witx_read_back.proofs.Readable.{IsRun}
 use Rattle.witx_sample_laws.proofs.Documents.{record_name, variant_name, function_name}
@@ -43,14 +43,14 @@ not_one : (b c d : ℕ) (s : List ℕ) → b ∷ c ∷ s ≡ d ∷ [] → ⊥
 not_one b c d s e = cc
 
 -- two bytes or more that may stand in a name
-pub run_of : (b c : ℕ) (s : List ℕ) → list_all is_name (b ∷ c ∷ s) ≡ true → IsRun (b ∷ c ∷ s)
+pub run_of : (b c : ℕ) (s : List ℕ) → list_all is_name_character (b ∷ c ∷ s) ≡ true → IsRun (b ∷ c ∷ s)
 run_of b c s e = (two_or_more b c s, e, not_one b c dollar s)
 
 pub record_run : (i : ℕ) → i < 2 ^ 64 → IsRun (36 ∷ record_name i)
-record_run i l = run_of 36 114 (decimal i) (number_passes is_name refl i l)
+record_run i l = run_of 36 114 (decimal i) (number_passes is_name_character refl i l)
 
 pub variant_run : (i : ℕ) → i < 2 ^ 64 → IsRun (36 ∷ variant_name i)
-variant_run i l = run_of 36 118 (decimal i) (number_passes is_name refl i l)
+variant_run i l = run_of 36 118 (decimal i) (number_passes is_name_character refl i l)
 
 pub function_raw : (i : ℕ) → i < 2 ^ 64 → list_all is_raw (function_name i) ≡ true
 function_raw i l = number_passes is_raw refl i l

@@ -173,13 +173,13 @@ funcs_read i (suc k) = row prod.MoreDecls 62 refl (expr (func_expr i) (func_read
 -- ---- the whole file
 
 -- an item of which the one claim holds, and behind it items of which the other does
-abbrev pub Front : (forms.ItemTree → Type 0) → (List NotedItem → Type 0) → List NotedItem → Type 0
+abbrev pub Front : (forms.FormTree → Type 0) → (List NotedItem → Type 0) → List NotedItem → Type 0
 Front P Q is = (i : NotedItem) × (js : List NotedItem) × (is ≡ i ∷ js) × P i.item × Q js
 
 abbrev TextReads : List LexToken → (List NotedItem → Type 0) → Type 0
 TextReads xs Q = ReadsOut xs form.Text (List NotedItem) (λ is. some_items is) Q
 
-item_reads : (P : forms.ItemTree → Type 0) (Q : List NotedItem → Type 0) (xs ys zs : List LexToken) → zs ≡ xs ++ ys → Reads xs form.Item forms.ItemTree (λ i. an_item i) P → TextReads ys Q → TextReads zs (Front P Q)
+item_reads : (P : forms.FormTree → Type 0) (Q : List NotedItem → Type 0) (xs ys zs : List LexToken) → zs ≡ xs ++ ys → Reads xs form.Item forms.FormTree (λ i. an_item i) P → TextReads ys Q → TextReads zs (Front P Q)
 item_reads P Q xs ys zs s g m = row prod.MoreItems 1 refl (inner xs s g (outer m
     (λ is q i e ls. (record { comments = _; item = i } ∷ is, (λ vs. refl), (record { comments = _; item = i }, is, refl, e, q)))))
 
@@ -197,10 +197,10 @@ types_read i (suc k) ts Q h =
     item_reads (SaysDefinition (record_definition i)) (Front (SaysDefinition (variant_definition i)) (SaysTypes (i + 1) k Q)) (expr_tokens (record_expr i) []) (expr_tokens (variant_expr i) (types_tokens (i + 1) k ts))
     (types_tokens i (suc k) ts) (expr_more (record_expr i) [] (expr_tokens (variant_expr i) (types_tokens (i + 1) k ts))) (definition_reads (record_definition i) (tt, (tt, (tt, (tt, tt))))) variant
 
-abbrev pub SaysModule : ℕ → forms.ItemTree → Type 0
+abbrev pub SaysModule : ℕ → forms.FormTree → Type 0
 SaysModule n i = (m : Name) × (ds : List NotedDecl) × (i ≡ forms.module_of m ds) × (m.name ≡ module_name) × SaysFuncs 0 n ds
 
-module_reads : (n : ℕ) → Reads (module_tokens n []) form.Item forms.ItemTree (λ i. an_item i) (SaysModule n)
+module_reads : (n : ℕ) → Reads (module_tokens n []) form.Item forms.FormTree (λ i. an_item i) (SaysModule n)
 module_reads n = row prod.Module 4 refl (opening (a_word (codes "module") w_module (name module_name (last (funcs_read 0 n)
     (λ ds q m e ls. (forms.module_of m ds, (λ vs. refl), (m, ds, refl, e, q)))))))
 
@@ -212,8 +212,8 @@ enum_writable : DefinitionWritable enum_definition
 unfolding same_text
 enum_writable = (tt, tt)
 
-enum_reads : Reads (expr_tokens enum_expr []) form.Item forms.ItemTree (λ i. an_item i) (SaysDefinition enum_definition)
-enum_reads = subst (λ (e : SExpr). Reads (expr_tokens e []) form.Item forms.ItemTree (λ i. an_item i) (SaysDefinition enum_definition)) enum_is (definition_reads enum_definition enum_writable)
+enum_reads : Reads (expr_tokens enum_expr []) form.Item forms.FormTree (λ i. an_item i) (SaysDefinition enum_definition)
+enum_reads = subst (λ (e : SExpr). Reads (expr_tokens e []) form.Item forms.FormTree (λ i. an_item i) (SaysDefinition enum_definition)) enum_is (definition_reads enum_definition enum_writable)
 
 abbrev pub IsLast : List NotedItem → Type 0
 IsLast is = is ≡ []

@@ -7,20 +7,20 @@ use Rattle.std.proofs.lemmas.List.Folds.{list_all-append}
 use Rattle.std.proofs.lemmas.List.Splits.{join_with_byte-slice_split}
 use Rattle.std.proofs.lemmas.Str.{IsUtf8-append, IsUtf8-from_ascii}
 use Rattle.witx_base.specs.Paths.{Path, path_of}
-use Rattle.witx_files.specs.Files.{Files, held}
+use Rattle.witx_files.specs.Files.{Files, text_in}
 use Rattle.witx_bundle.specs.Bundles.{IsRead, limit, lines_of, stray, is_header, ended_lines, text_before, header_path, given, told_at}
 use Rattle.witx_bundle.specs.declared.error.BundleError.TheVariants as bundle
 use Rattle.witx_sample.proofs.SampleBundles.{only-memory}
-use Rattle.witx_sample.specs.Samples.{sample_path, each, header_line, enum_line, record_line, variant_head, record_case, list_case, variant_line, func_head, func_params, func_result, func_line, type_lines, types_text, module_text, sample_text}
+use Rattle.witx_sample.specs.Samples.{sample_path, each_below, header_line, enum_line, record_line, variant_head, record_case, list_case, variant_line, func_head, func_params, func_result, sample_func_line, type_lines, sample_types_text, sample_module_text, sample_text}
 use Rattle.witx_read_back.proofs.Orders.{or_parts, or_none}
 use Rattle.witx_sample_laws.proofs.Names.{number_passes}
 
 -- what stands behind the header
 abbrev pub body : ℕ → List ℕ
-body n = enum_line ++ (each type_lines n ++ module_text n)
+body n = enum_line ++ (each_below type_lines n ++ sample_module_text n)
 
 pub sample_is : (n : ℕ) → sample_text n ≡ header_line ++ body n
-unfolding sample_text types_text
+unfolding sample_text sample_types_text
 sample_is n = refl
 
 -- ---- each byte of it is ASCII, and none is a `;`
@@ -44,8 +44,8 @@ types_clean i l =
     (both (variant_head i) (record_case i ++ list_case i) (around (codes "(typename $v") (codes " (variant (@witx tag u8)") i l refl refl)
     (both (record_case i) (list_case i) (around (codes " (case $x $r") (codes ")") i l refl refl) (around (codes " (case $y (list $r") (codes ")) (case $z)))\n") i l refl refl)))
 
-func_clean : (i : ℕ) → i < 2 ^ 64 → list_all plain_byte (func_line i) ≡ true
-unfolding func_line func_head func_params func_result
+func_clean : (i : ℕ) → i < 2 ^ 64 → list_all plain_byte (sample_func_line i) ≡ true
+unfolding sample_func_line func_head func_params func_result
 func_clean i l =
     both (func_head i) (func_params i ++ func_result i) (around (codes "(@interface func (export \"f") (codes "\")") i l refl refl)
     (both (func_params i) (func_result i) (around (codes " (param $p $v") (codes ") (param $q string)") i l refl refl)
@@ -56,11 +56,11 @@ each_clean f h a zero l = refl
 each_clean f h a (suc n) l = both (f a) (flat_map f (range_with_len (a + 1) n)) (h a (omega (arith, l))) (each_clean f h (a + 1) n (omega (arith, l)))
 
 body_clean : (n : ℕ) → n ≤ 4096 → list_all plain_byte (body n) ≡ true
-unfolding module_text
+unfolding sample_module_text
 body_clean n l =
-    both enum_line (each type_lines n ++ module_text n) refl
-    (both (each type_lines n) (module_text n) (each_clean type_lines types_clean 0 n (omega (arith, l)))
-    (both (codes "(module $m\n") (each func_line n ++ codes ")\n") refl (both (each func_line n) (codes ")\n") (each_clean func_line func_clean 0 n (omega (arith, l))) refl)))
+    both enum_line (each_below type_lines n ++ sample_module_text n) refl
+    (both (each_below type_lines n) (sample_module_text n) (each_clean type_lines types_clean 0 n (omega (arith, l)))
+    (both (codes "(module $m\n") (each_below sample_func_line n ++ codes ")\n") refl (both (each_below sample_func_line n) (codes ")\n") (each_clean sample_func_line func_clean 0 n (omega (arith, l))) refl)))
 
 -- ---- so none of its lines is a header
 
@@ -101,7 +101,7 @@ behind_header : (xs : List ℕ) → given (lines_of (header_line ++ (enum_line +
 unfolding path_of
 behind_header xs = refl
 
-held_alone : (text : List ℕ) → held (reverse ((sample_path, text) ∷ [])) sample_path ≡ Some text
+held_alone : (text : List ℕ) → text_in (reverse ((sample_path, text) ∷ [])) sample_path ≡ Some text
 unfolding path_of
 held_alone text = refl
 
@@ -109,16 +109,16 @@ held_alone text = refl
 abbrev the_file : ℕ → Files
 the_file n = (sample_path, body n) ∷ []
 
-told_is : (n : ℕ) → n ≤ 4096 → (q : Path) → told_at (lines_of (sample_text n)) q ≡ held (reverse (the_file n)) q
+told_is : (n : ℕ) → n ≤ 4096 → (q : Path) → told_at (lines_of (sample_text n)) q ≡ text_in (reverse (the_file n)) q
 told_is n l q =
     let none = no_header (body n) (body_clean n l) in
     ap (λ (bs : List ℕ). told_at (lines_of bs) q) (sample_is n)
-    ∙ (ap (λ (fs : Files). held (reverse fs) q) (behind_header (each type_lines n ++ module_text n))
-    ∙ (ap (λ (fs : Files). held (reverse ((sample_path, text_before (lines_of (body n))) ∷ fs)) q) (nothing_given (lines_of (body n)) none)
-    ∙ ap (λ (t : List ℕ). held (reverse ((sample_path, t) ∷ [])) q) (text_is (body n) none)))
+    ∙ (ap (λ (fs : Files). text_in (reverse fs) q) (behind_header (each_below type_lines n ++ sample_module_text n))
+    ∙ (ap (λ (fs : Files). text_in (reverse ((sample_path, text_before (lines_of (body n))) ∷ fs)) q) (nothing_given (lines_of (body n)) none)
+    ∙ ap (λ (t : List ℕ). text_in (reverse ((sample_path, t) ∷ [])) q) (text_is (body n) none)))
 
 -- it is what files that are read from the bundle hold
-pub sample_held : (n : ℕ) → n ≤ 4096 → (files : Files) → IsRead (sample_text n) (Ok files) → held files sample_path ≡ Some (body n)
+pub sample_held : (n : ℕ) → n ≤ 4096 → (files : Files) → IsRead (sample_text n) (Ok files) → text_in files sample_path ≡ Some (body n)
 sample_held n l files r = r.3 sample_path ∙ (told_is n l sample_path ∙ held_alone (body n))
 
 -- ---- and they are a bundle

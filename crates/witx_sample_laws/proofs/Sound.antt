@@ -21,12 +21,12 @@ use Rattle.witx_comments.specs.Documentation.{documentation_of}
 use Rattle.witx_syntax_tree.specs.Trees as forms
 use Rattle.witx_syntax_tree.specs.Trees.{Name, QuotedText, TypeTree, string, expected, tuple_of, Types, one_type, no_types, present, one_field, no_fields, DeclTree, function, NotedDecl, NotedItem}
 use Rattle.witx_scope.specs.Faults.{Fault, abi}
-use Rattle.witx_scope.specs.Names.{Here, Marks, new_mark}
+use Rattle.witx_scope.specs.Names.{Here, NameMarks, new_mark}
 use Rattle.witx_scope.specs.Trees.{tree_meant, fields_meant}
 use Rattle.witx_scope.specs.Checks.{type_checks, field_checks}
 use Rattle.witx_scope.specs.Functions.{result_checks, abi_check}
 use Rattle.witx_scope.specs.Modules.{quoted_name, item_checks, items_checks, with_name, item_meant}
-use Rattle.witx_scope.specs.Positions.{is_name, declared_name, after}
+use Rattle.witx_scope.specs.Positions.{is_same_name, declared_name, after}
 use Rattle.witx_scope.specs.Declarations.{Past}
 use Rattle.witx_order.specs.Items.{Declared}
 use Rattle.witx_order.specs.Walks.{World, declared_in}
@@ -79,10 +79,10 @@ abbrev with_types : Known → ℕ → Known
 with_types known i = learned (with_record known i) (variant_definition i)
 
 found_after : (known : Known) (i : ℕ) (n : List ℕ) → found (with_types known i) n
-    ≡ or_else (or_else (found known n) (cond (is_name n (record_name i)) (Some (Some (named_record i))) None)) (cond (is_name n (variant_name i)) (Some (Some (named_variant i))) None)
+    ≡ or_else (or_else (found known n) (cond (is_same_name n (record_name i)) (Some (Some (named_record i))) None)) (cond (is_same_name n (variant_name i)) (Some (Some (named_variant i))) None)
 found_after known i n =
     found_append (with_record known i) (variant_name i) (Some (named_variant i)) n
-    ∙ ap (λ (o : Option (Option Tree)). or_else o (cond (is_name n (variant_name i)) (Some (Some (named_variant i))) None)) (found_append known (record_name i) (Some (named_record i)) n)
+    ∙ ap (λ (o : Option (Option Tree)). or_else o (cond (is_same_name n (variant_name i)) (Some (Some (named_variant i))) None)) (found_append known (record_name i) (Some (named_record i)) n)
 
 below_or_is : (i j : ℕ) → j < i + 1 → (i ≡ j → ⊥) → j < i
 below_or_is i j l d = omega (arith, l, d)
@@ -90,27 +90,27 @@ below_or_is i j l d = omega (arith, l, d)
 module _ (known : Known) (i : ℕ) (k : Knows i known) (small : i < 2 ^ 64) where
   record_at : (j : ℕ) (t : Bool) → (i == j) ≡ t → j < i + 1 → found (with_types known i) (record_name j) ≡ Some (Some (named_record j))
   record_at j true e l = subst (λ (m : ℕ). found (with_types known i) (record_name m) ≡ Some (Some (named_record m))) (eqb-true i j e)
-      (found_after known i (record_name i) ∙ first_found (found known (record_name i)) (is_name (record_name i) (record_name i)) (is_name (record_name i) (variant_name i)) (Some (named_record i)) (Some (named_variant i))
+      (found_after known i (record_name i) ∙ first_found (found known (record_name i)) (is_same_name (record_name i) (record_name i)) (is_same_name (record_name i) (variant_name i)) (Some (named_record i)) (Some (named_variant i))
       (k.records_new i (omega arith) small) (same_refl (record_name i)))
-  record_at j false e l = found_after known i (record_name j) ∙ kept_found (found known (record_name j)) (is_name (record_name j) (record_name i)) (is_name (record_name j) (variant_name i)) (Some (named_record i)) (Some (named_variant i)) (Some (named_record j))
+  record_at j false e l = found_after known i (record_name j) ∙ kept_found (found known (record_name j)) (is_same_name (record_name j) (record_name i)) (is_same_name (record_name j) (variant_name i)) (Some (named_record i)) (Some (named_variant i)) (Some (named_record j))
       (k.records j (below_or_is i j l (eqb-false i j e)))
 
   variant_at : (j : ℕ) (t : Bool) → (i == j) ≡ t → j < i + 1 → found (with_types known i) (variant_name j) ≡ Some (Some (named_variant j))
   variant_at j true e l = subst (λ (m : ℕ). found (with_types known i) (variant_name m) ≡ Some (Some (named_variant m))) (eqb-true i j e)
-      (found_after known i (variant_name i) ∙ second_found (found known (variant_name i)) (is_name (variant_name i) (record_name i)) (is_name (variant_name i) (variant_name i)) (Some (named_record i)) (Some (named_variant i))
+      (found_after known i (variant_name i) ∙ second_found (found known (variant_name i)) (is_same_name (variant_name i) (record_name i)) (is_same_name (variant_name i) (variant_name i)) (Some (named_record i)) (Some (named_variant i))
       (k.variants_new i (omega arith) small) refl (same_refl (variant_name i)))
-  variant_at j false e l = found_after known i (variant_name j) ∙ kept_found (found known (variant_name j)) (is_name (variant_name j) (record_name i)) (is_name (variant_name j) (variant_name i)) (Some (named_record i)) (Some (named_variant i)) (Some (named_variant j))
+  variant_at j false e l = found_after known i (variant_name j) ∙ kept_found (found known (variant_name j)) (is_same_name (variant_name j) (record_name i)) (is_same_name (variant_name j) (variant_name i)) (Some (named_record i)) (Some (named_variant i)) (Some (named_variant j))
       (k.variants j (below_or_is i j l (eqb-false i j e)))
 
   knows_more : Knows (i + 1) (with_types known i)
   knows_more = record {
-    enum_known = found_after known i enum_name ∙ kept_found (found known enum_name) (is_name enum_name (record_name i)) (is_name enum_name (variant_name i)) (Some (named_record i)) (Some (named_variant i)) (Some named_enum) k.enum_known;
-    module_new = found_after known i module_name ∙ both_none (found known module_name) (is_name module_name (record_name i)) (is_name module_name (variant_name i)) (Some (named_record i)) (Some (named_variant i)) k.module_new refl refl;
+    enum_known = found_after known i enum_name ∙ kept_found (found known enum_name) (is_same_name enum_name (record_name i)) (is_same_name enum_name (variant_name i)) (Some (named_record i)) (Some (named_variant i)) (Some named_enum) k.enum_known;
+    module_new = found_after known i module_name ∙ both_none (found known module_name) (is_same_name module_name (record_name i)) (is_same_name module_name (variant_name i)) (Some (named_record i)) (Some (named_variant i)) k.module_new refl refl;
     records = λ j l. record_at j (i == j) refl l;
     variants = λ j l. variant_at j (i == j) refl l;
-    records_new = λ j l m. found_after known i (record_name j) ∙ both_none (found known (record_name j)) (is_name (record_name j) (record_name i)) (is_name (record_name j) (variant_name i)) (Some (named_record i)) (Some (named_variant i))
+    records_new = λ j l m. found_after known i (record_name j) ∙ both_none (found known (record_name j)) (is_same_name (record_name j) (record_name i)) (is_same_name (record_name j) (variant_name i)) (Some (named_record i)) (Some (named_variant i))
         (k.records_new j (omega (arith, l)) m) (numbers_differ j i m small (λ e. omega (arith, l, e))) refl;
-    variants_new = λ j l m. found_after known i (variant_name j) ∙ both_none (found known (variant_name j)) (is_name (variant_name j) (record_name i)) (is_name (variant_name j) (variant_name i)) (Some (named_record i)) (Some (named_variant i))
+    variants_new = λ j l m. found_after known i (variant_name j) ∙ both_none (found known (variant_name j)) (is_same_name (variant_name j) (record_name i)) (is_same_name (variant_name j) (variant_name i)) (Some (named_record i)) (Some (named_variant i))
         (k.variants_new j (omega (arith, l)) m) refl (numbers_differ j i m small (λ e. omega (arith, l, e)));
   }
 
@@ -178,14 +178,14 @@ module _ (known : Known) (h : Here) (g : Agrees (denoted known) h) (i : ℕ) (w 
   enum_fine : (s : TypeTree) → Says named_enum s → Fine h false named_enum s
   enum_fine s q = type_fine (denoted known) h g false named_enum s w.enum_known q
 
-  decl_passes : (marks : Marks) (name : QuotedText) (p q s : OneField) (u e f : TypeTree) → Says (named_variant i) p.type_ → Says (named_record i) u → Says named_enum e → Says named_enum f
+  decl_passes : (marks : NameMarks) (name : QuotedText) (p q s : OneField) (u e f : TypeTree) → Says (named_variant i) p.type_ → Says (named_record i) u → Says named_enum e → Says named_enum f
       → p.called.name ≡ codes "p" → q.called.name ≡ codes "q" → s.called.name ≡ codes "s" → any_same name.text (keys_of marks) ≡ false → Pass (item_checks h marks (the_decl name p q s u e f))
   decl_passes marks name p q s u e f ps us es fs pn qn sn new =
       let at = h.place name.start in
       let params = one_field p.comments p.called p.type_ (one_field q.comments q.called string no_fields) in
       let results = one_field s.comments s.called (expected (present (tuple_of (one_type u (one_type e no_types)))) (present f)) no_fields in
       let near = h.place s.called.start in
-      let scope : Marks = (q.called.name, q.called.start) ∷ (p.called.name, p.called.start) ∷ [] in
+      let scope : NameMarks = (q.called.name, q.called.start) ∷ (p.called.name, p.called.start) ∷ [] in
       passes (new_mark h marks name.text name.start) (field_checks h [] params ++ (result_checks h scope results ++ abi_check Abi.Preview1 (fields_meant h results) at ∷ []))
       (new_mark_passes h marks name.text name.start new)
       (both_pass (field_checks h [] params) (result_checks h scope results ++ abi_check Abi.Preview1 (fields_meant h results) at ∷ [])
@@ -216,7 +216,7 @@ module _ (known : Known) (h : Here) (g : Agrees (denoted known) h) (i : ℕ) (w 
   )
 
 -- its checks pass, it has its name, and it means a function that is counted
-pub record FuncFine (i : ℕ) (h : Here) (marks : Marks) (cs : Comments) (d : DeclTree) : Type 0 where
+pub record FuncFine (i : ℕ) (h : Here) (marks : NameMarks) (cs : Comments) (d : DeclTree) : Type 0 where
   pub checks : Pass (item_checks h marks d)
   pub called : (quoted_name d).text ≡ function_name i
   pub means : (x : FunctionTree) × (item_meant h (record { comments = cs; decl = d }) ≡ func_of x) × IsCounted x
@@ -232,7 +232,7 @@ func_is i d f =
     ∙ ap (λ (x : TypeTree). function f.name (one_field f.p.comments f.p.called f.p.type_ (one_field f.q.comments f.q.called string no_fields)) (one_field f.s.comments f.s.called x no_fields) false false)
     (r.is ∙ ap (λ (x : TypeTree). expected (present x) (present r.err)) (t.1 ∙ ap (λ (x : Types). tuple_of x) (u.2 ∙ ap (λ (x : Types). one_type u.0 x) (u.4.2 ∙ ap (λ (x : Types). one_type u.4.0 x) u.4.4)))))
 
-func_fine : (known : Known) (h : Here) → Agrees (denoted known) h → (i : ℕ) → Uses known i → (marks : Marks) (cs : Comments) (d : DeclTree) → SaysFunc i d → any_same (function_name i) (keys_of marks) ≡ false
+func_fine : (known : Known) (h : Here) → Agrees (denoted known) h → (i : ℕ) → Uses known i → (marks : NameMarks) (cs : Comments) (d : DeclTree) → SaysFunc i d → any_same (function_name i) (keys_of marks) ≡ false
     → FuncFine i h marks cs d
 func_fine known h g i w marks cs d f new =
     let r = f.s_says.1 in
@@ -253,16 +253,16 @@ all_used : (n : ℕ) (known : Known) → Knows n known → AllUsed known n
 all_used n known k j l = record { record_known = k.records j l; variant_known = k.variants j l; enum_known = k.enum_known }
 
 -- no name of a function from the i-th on is among these
-abbrev pub AllFree : ℕ → Marks → Type 0
+abbrev pub AllFree : ℕ → NameMarks → Type 0
 AllFree i marks = (j : ℕ) → i ≤ j → j < 2 ^ 64 → any_same (function_name j) (keys_of marks) ≡ false
 
-free_more : (i : ℕ) (marks : Marks) (d : DeclTree) → i < 2 ^ 64 → AllFree i marks → (quoted_name d).text ≡ function_name i → AllFree (i + 1) (with_name d marks)
+free_more : (i : ℕ) (marks : NameMarks) (d : DeclTree) → i < 2 ^ 64 → AllFree i marks → (quoted_name d).text ≡ function_name i → AllFree (i + 1) (with_name d marks)
 free_more i marks d small free e j l m =
     or_none (same (function_name j) (quoted_name d).text) (any_same (function_name j) (keys_of marks))
     (ap (λ (n : List ℕ). same (function_name j) n) e ∙ numbers_differ j i m small (λ k. omega (arith, l, k))) (free j (omega (arith, l)) m)
 
 module _ (known : Known) (h : Here) (g : Agrees (denoted known) h) (n : ℕ) (used : AllUsed known n) (few : n ≤ 2 ^ 64) where
-  funcs_pass : (i k : ℕ) (marks : Marks) (ds : List NotedDecl) → SaysFuncs i k ds → i + k ≤ n → AllFree i marks → Pass (items_checks h marks ds)
+  funcs_pass : (i k : ℕ) (marks : NameMarks) (ds : List NotedDecl) → SaysFuncs i k ds → i + k ≤ n → AllFree i marks → Pass (items_checks h marks ds)
   funcs_pass i zero marks ds q l free = subst (λ (x : List NotedDecl). Pass (items_checks h marks x)) (sym q) refl
   funcs_pass i (suc k) marks ds q l free =
       let small : i < 2 ^ 64 = omega (arith, l, few) in
@@ -271,7 +271,7 @@ module _ (known : Known) (h : Here) (g : Agrees (denoted known) h) (n : ℕ) (us
       (both_pass (item_checks h marks q.0.decl) (items_checks h (with_name q.0.decl marks) q.1) f.checks
       (funcs_pass (i + 1) k (with_name q.0.decl marks) q.1 q.4 (omega (arith, l)) (free_more i marks q.0.decl small free f.called)))
 
-  funcs_counted : (i k : ℕ) (marks : Marks) (ds : List NotedDecl) → SaysFuncs i k ds → i + k ≤ n → AllFree i marks → AreCounted k (map (item_meant h) ds)
+  funcs_counted : (i k : ℕ) (marks : NameMarks) (ds : List NotedDecl) → SaysFuncs i k ds → i + k ≤ n → AllFree i marks → AreCounted k (map (item_meant h) ds)
   funcs_counted i zero marks ds q l free = ap (λ (x : List NotedDecl). map (item_meant h) x) q
   funcs_counted i (suc k) marks ds q l free =
       let small : i < 2 ^ 64 = omega (arith, l, few) in
@@ -305,7 +305,7 @@ module_fine n past known path text cs m ds few t k e q =
 
 item_fine : (n : ℕ) (past : Past) (known : Known) (path : Path) (text : List ℕ) (i : NotedItem) → n ≤ 2 ^ 64 → Tracks past known → Knows n known → SaysModule n i.item → ModuleFine n past (declared_in path text i)
 item_fine n past known path text i few t k q =
-    subst (λ (x : forms.ItemTree). ModuleFine n past (declared_in path text (record { comments = i.comments; item = x }))) (sym q.2)
+    subst (λ (x : forms.FormTree). ModuleFine n past (declared_in path text (record { comments = i.comments; item = x }))) (sym q.2)
     (module_fine n past known path text i.comments q.0 q.1 few t k q.3 q.4)
 
 -- ---- all declarations

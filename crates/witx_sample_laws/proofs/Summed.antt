@@ -24,7 +24,7 @@ use Rattle.witx_commands.specs.declared.refusal.Refusal.TheVariants as refusal
 use Rattle.witx_commands.specs.Words as asked
 use Rattle.witx_commands.specs.Words.{Asked, asked_of, if_known, is_known, is_printed_size}
 use Rattle.witx_commands.proofs.Reading.{OfSample, asked-sample}
-use Rattle.witx_commands.specs.Adapting.{IsAdapted, IsParsed, Parses, defined}
+use Rattle.witx_commands.specs.Adapting.{IsAdapted, IsParsedDocument, Parses, defined}
 use Rattle.witx_commands.specs.Laws.{ValidIsNotRefused}
 use Rattle.witx_commands.specs.Causes.{IsAdaptedText, IsOutput}
 use Rattle.witx_sample_laws.specs.SampleLaws.{SamplesAreBundles, SamplesAreValid, SampleWordsHaveASize, SamplesAreNotRefused, SamplesAreSummedUp, sample_summary}
@@ -44,7 +44,7 @@ same_aliases as_ bs e = cc
 
 -- what they mean is what parsing them answers
 parsed : (n : ℕ) (files : Files) (m : SampleMeant n files) → Parses files (sample_path ∷ []) (Ok m.definitions)
-unfolding IsParsed
+unfolding IsParsedDocument
 parsed n files m fs links reading e f is = (
   refl,
   subst (λ (bs : Aliases). MeansDocument (world fs bs reading) (sample_path ∷ []) m.definitions) (same_aliases [] links f)
@@ -111,7 +111,7 @@ same_ok : {E : Type 0} (xs ys : List DefinitionTree) → ◌≡◌ {A = Result (
 same_ok xs ys e = cc
 
 one_meaning : OneAnswer → (files : Files) (handed : List Path) (xs ys : List DefinitionTree) → Parses files handed (Ok xs) → Parses files handed (Ok ys) → xs ≡ ys
-unfolding IsParsed
+unfolding IsParsedDocument
 one_meaning law files handed xs ys p q = same_ok xs ys (law files [] handed 0 0 0 0 (Ok xs) (Ok ys) (Ok xs) (Ok ys) p q refl refl)
 
 text_summed : OneAnswer → (n : ℕ) → is_size n ≡ true → (files : Files) → IsRead (sample_text n) (Ok files) → (text : List ℕ) (adapted : Option Adapted)

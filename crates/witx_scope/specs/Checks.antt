@@ -4,7 +4,7 @@ use Rattle.std.specs.Prelude.{ℕ, List, [], ◌∷◌, ◌++◌, ◌+◌, Optio
 use Rattle.witx_files.specs.declared.location.Location.{Location}
 use Rattle.witx_syntax_tree.specs.Trees.{TypeTree, builtin, ident, string, boolean, handle, list_of, pointer_to, const_pointer_to, tuple_of, expected, enum_of, flags_of, record_of, union_of, variant_of, Member, Maybe, absent, present, Fields, no_fields, one_field, Types, no_types, one_type, UnionFields, no_union_fields, one_union_field, Cases, no_cases, one_case}
 use Rattle.witx_scope.specs.Faults.{anonymous_record, Check}
-use Rattle.witx_scope.specs.Names.{Here, Marks, new_mark, use_check}
+use Rattle.witx_scope.specs.Names.{Here, NameMarks, new_mark, use_check}
 use Rattle.witx_scope.specs.Tags.{repr_check, tag_checks, tag_names, size_check, case_check}
 use Rattle.witx_scope.specs.Trees.{maybe_tree}
 
@@ -20,7 +20,7 @@ abbrev pub anonymous : Bool → Location → Check
 anonymous true near = None
 anonymous false near = Some (anonymous_record near)
 
-abbrev pub member_checks : Here → Marks → List Member → List Check
+abbrev pub member_checks : Here → NameMarks → List Member → List Check
 member_checks h before [] = []
 member_checks h before (n ∷ ns) = new_mark h before n.name.name n.name.start ∷ member_checks h ((n.name.name, n.name.start) ∷ before) ns
 
@@ -64,7 +64,7 @@ abbrev mutual
   union_field_checks h near no_union_fields = []
   union_field_checks h near (one_union_field docs t fs) = type_checks h false near t ++ union_field_checks h near fs
 
-  pub field_checks : Here → Marks → Fields → List Check
+  pub field_checks : Here → NameMarks → Fields → List Check
   field_checks h before no_fields = []
   field_checks h before (one_field docs m t fs) =
       new_mark h before m.name m.start

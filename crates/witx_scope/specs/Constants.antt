@@ -9,10 +9,10 @@ use Rattle.witx_syntax_tree.specs.declared.tree.ConstSyntax.{ConstSyntax}
 use Rattle.witx_ast.specs.declared.definition.Constant.{Constant}
 use Rattle.witx_scope.specs.declared.constants.ConstantName.{ConstantName}
 use Rattle.witx_scope.specs.Faults.{Check, name_already_exists}
-use Rattle.witx_scope.specs.Positions.{is_name}
+use Rattle.witx_scope.specs.Positions.{is_same_name}
 
 abbrev pub is_constant : List ℕ → List ℕ → ConstantName → Bool
-is_constant type_name name key = is_name type_name key.ty && is_name name key.name
+is_constant type_name name key = is_same_name type_name key.ty && is_same_name name key.name
 
 abbrev pub constant_place : List (ConstantName × Location) → List ℕ → List ℕ → Option Location
 constant_place entries type_name name = lookup (is_constant type_name name) entries
@@ -29,11 +29,11 @@ made_constant d = record {
 -- the same with one place more, under two names,
 abbrev pub place_under : List (ConstantName × Location) → ConstantName → Location → List ℕ → List ℕ → Option Location
 place_under old key at type_name name =
-    cond (is_name type_name key.ty && is_name name key.name) (Some at) (constant_place old type_name name)
+    cond (is_same_name type_name key.ty && is_same_name name key.name) (Some at) (constant_place old type_name name)
 
 -- and with one constant more, whose name stands at a place
 abbrev pub place_with : List (ConstantName × Location) → Constant → Location → List ℕ → List ℕ → Option Location
-place_with old c at type_name name = cond (is_name type_name c.ty && is_name name c.name) (Some at) (constant_place old type_name name)
+place_with old c at type_name name = cond (is_same_name type_name c.ty && is_same_name name c.name) (Some at) (constant_place old type_name name)
 
 -- the name of a constant, which stands at a place
 abbrev pub repeated_constant : List (ConstantName × Location) → ConstSyntax → Location → Check

@@ -14,7 +14,7 @@ use Rattle.witx_scope.specs.Trees.{tree_meant}
 use Rattle.witx_scope.specs.Checks.{type_checks}
 use Rattle.witx_scope.specs.Modules.{items_checks, item_meant}
 use Rattle.witx_scope.specs.DeclarationForms.{DeclForm, typename_form, module_form, constant_form}
-use Rattle.witx_scope.specs.Positions.{Taken, Outcome, refused, made_type, made_module, is_name, after, denotes_before, declared_name}
+use Rattle.witx_scope.specs.Positions.{TakenName, DeclarationOutcome, refused, made_type, made_module, is_same_name, after, denotes_before, declared_name}
 
 -- a constant that was accepted: its type's name, and its name with its place
 pub record TakenConstant : Type 0 where
@@ -24,7 +24,7 @@ pub record TakenConstant : Type 0 where
 
 -- what stands before a declaration
 pub record Past : Type 0 where
-  pub taken : List Taken
+  pub taken : List TakenName
   pub constants : List TakenConstant
 
 abbrev pub nothing_before : Past
@@ -32,7 +32,7 @@ nothing_before = record { taken = []; constants = [] }
 
 -- the constants of one type name, each name with its place
 abbrev pub constants_of_type : List TakenConstant → List ℕ → Names
-constants_of_type cs type_name = map (λ c. (c.name, c.place)) (filter (λ c. is_name c.type_name type_name) cs)
+constants_of_type cs type_name = map (λ c. (c.name, c.place)) (filter (λ c. is_same_name c.type_name type_name) cs)
 
 abbrev pub decl_checks : Past → (ℕ → Location) → DeclForm → List Check
 decl_checks past place (typename_form n t) = declared_name past.taken place n ∷ type_checks (after past.taken place n) true (place n.start) t
@@ -50,7 +50,7 @@ decl_tree past place comments (module_form n items) = module_of (record {
 })
 decl_tree past place comments (constant_form ty n value own) = constant_of (record { ty = ty.name; name = n.name; value = value; docs = documentation_of own })
 
-abbrev pub with_taken : Past → (ℕ → Location) → Name → Outcome → Past
+abbrev pub with_taken : Past → (ℕ → Location) → Name → DeclarationOutcome → Past
 with_taken past place n outcome = record past { taken = past.taken ++ record { name = n.name; place = place n.start; outcome = outcome } ∷ [] }
 
 -- what stands before the next declaration: after one that was accepted,

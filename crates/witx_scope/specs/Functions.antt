@@ -10,17 +10,17 @@ use Rattle.witx_ast.specs.Functions.{FunctionTree}
 use Rattle.witx_ast.specs.Tree.{Field}
 use Rattle.witx_ast.specs.Results.{results_reason}
 use Rattle.witx_scope.specs.Faults.{Check, abi}
-use Rattle.witx_scope.specs.Names.{Here, Marks, new_mark}
+use Rattle.witx_scope.specs.Names.{Here, NameMarks, new_mark}
 use Rattle.witx_scope.specs.Checks.{type_checks, field_checks}
 use Rattle.witx_scope.specs.Trees.{fields_meant}
 
 -- the names of a scope after some fields
-abbrev pub fields_scope : Marks → Fields → Marks
+abbrev pub fields_scope : NameMarks → Fields → NameMarks
 fields_scope before no_fields = before
 fields_scope before (one_field docs m t fs) = fields_scope ((m.name, m.start) ∷ before) fs
 
 -- results: the type and then the name
-abbrev pub result_checks : Here → Marks → Fields → List Check
+abbrev pub result_checks : Here → NameMarks → Fields → List Check
 result_checks h before no_fields = []
 result_checks h before (one_field docs m t fs) =
     type_checks h false (h.place m.start) t ++ (new_mark h before m.name m.start ∷ result_checks h ((m.name, m.start) ∷ before) fs)
@@ -41,7 +41,7 @@ inner_checks h a params results at =
     ++ (abi_check a (fields_meant h results) at ∷ []))
 
 -- a function, after the names of its module: its name, and what stands in it
-abbrev pub func_checks : Here → Marks → Abi → QuotedText → Fields → Fields → List Check
+abbrev pub func_checks : Here → NameMarks → Abi → QuotedText → Fields → Fields → List Check
 func_checks h before a export params results =
     new_mark h before export.text export.start ∷ inner_checks h a params results (h.place export.start)
 
@@ -52,7 +52,7 @@ export_of f = record { text = f.export; start = f.export_loc.start; end = f.expo
 abbrev pub checks_inside : Here → InterfaceFuncSyntax → List Check
 checks_inside h f = inner_checks h (abi_of f.stored) (fields_view f.params) (fields_view f.results) (h.place f.export_loc.start)
 
-abbrev pub checks_func : Here → Marks → InterfaceFuncSyntax → List Check
+abbrev pub checks_func : Here → NameMarks → InterfaceFuncSyntax → List Check
 checks_func h before f = func_checks h before (abi_of f.stored) (export_of f) (fields_view f.params) (fields_view f.results)
 
 abbrev pub func_meant : Here → QuotedText → Fields → Fields → Bool → Bool → List (List ℕ) → FunctionTree
@@ -69,5 +69,5 @@ abbrev pub makes_func : Here → List (List ℕ) → InterfaceFuncSyntax → Fun
 makes_func h comments f = func_meant h (export_of f) (fields_view f.params) (fields_view f.results) f.noreturn f.stored comments
 
 -- names in a module, with a function's one more
-abbrev pub with_export : InterfaceFuncSyntax → Marks → Marks
+abbrev pub with_export : InterfaceFuncSyntax → NameMarks → NameMarks
 with_export f before = (f.export, f.export_loc.start) ∷ before

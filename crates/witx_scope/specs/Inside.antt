@@ -35,5 +35,5 @@ abbrev pub TakesAtMost : Names → Names → List ℕ → Location → Type 0
 TakesAtMost old new n at = (new ≡ old) ⊎ Takes old new n at
 
 -- a refused declaration: its name was new and is taken in, or it stood and nothing has changed
-abbrev pub Refuses : Names → Names → List ℕ → Location → Type 0
-Refuses old new n at = Takes old new n at ⊎ ((found old n ≡ None → ⊥) × (new ≡ old))
+abbrev pub RefusesDeclaration : Names → Names → List ℕ → Location → Type 0
+RefusesDeclaration old new n at = Takes old new n at ⊎ ((found old n ≡ None → ⊥) × (new ≡ old))

@@ -11,7 +11,7 @@ use Rattle.witx_ast.specs.declared.definition.Entry.TheVariants as entry
 use Rattle.witx_scope.specs.declared.constants.ConstantName.{ConstantName}
 use Rattle.witx_scope.specs.Constants.{constant_place}
 use Rattle.witx_scope.specs.Names.{Sense, a_module, a_type, Names}
-use Rattle.witx_scope.specs.Positions.{is_name, Outcome, refused, made_type, made_module, Taken, introducer, first_place}
+use Rattle.witx_scope.specs.Positions.{is_same_name, DeclarationOutcome, refused, made_type, made_module, TakenName, introducer, first_place}
 use Rattle.witx_scope.specs.Declarations.{Past, TakenConstant, constants_of_type}
 
 -- the names and places, the entries, and the constants by the names of their types
@@ -21,12 +21,12 @@ pub record Kept : Type 0 where
   pub constants : List (ConstantName × Location)
 
 -- the sense of a finished name
-abbrev pub finished : Outcome → Option Sense
+abbrev pub finished : DeclarationOutcome → Option Sense
 finished refused = None
 finished (made_type t) = Some (a_type t)
 finished made_module = Some a_module
 
-abbrev pub finished_sense : Option Taken → Option Sense
+abbrev pub finished_sense : Option TakenName → Option Sense
 finished_sense None = None
 finished_sense (Some t) = finished t.outcome
 
@@ -41,12 +41,12 @@ made_typename n = typename_of n.name (tree_of n.tref) n.docs
 
 -- what a name denotes, and the definition that it goes by, with one name more
 abbrev pub sense_with : List (List ℕ × Entry) → List ℕ → Option Sense → List ℕ → Option Sense
-sense_with es n sense q = cond (is_name q n) sense (entry_sense_of (found es q))
+sense_with es n sense q = cond (is_same_name q n) sense (entry_sense_of (found es q))
 
 abbrev pub tree_with : List (List ℕ × Entry) → List ℕ → DefinitionTree → List ℕ → Option DefinitionTree
-tree_with es n tree q = cond (is_name q n) (Some tree) (option_map entry_tree (found es q))
+tree_with es n tree q = cond (is_same_name q n) (Some tree) (option_map entry_tree (found es q))
 
-pub record KeepsNames (names : Names) (entries : List (List ℕ × Entry)) (taken : List Taken) : Type 0 where
+pub record KeepsNames (names : Names) (entries : List (List ℕ × Entry)) (taken : List TakenName) : Type 0 where
   pub places : (n : List ℕ) → found names n ≡ first_place taken n
   pub senses : (n : List ℕ) → entry_sense_of (found entries n) ≡ finished_sense (introducer taken n)
 

@@ -8,8 +8,8 @@ use Rattle.witx_ast.specs.declared.module.ModuleImportVariant.TheVariants.{Memor
 use Rattle.witx_ast.specs.declared.module.ModuleEntry.{ModuleEntry}
 use Rattle.witx_ast.specs.Items as items
 use Rattle.witx_scope.specs.Faults.{Check}
-use Rattle.witx_scope.specs.Names.{Here, Marks, new_mark}
-use Rattle.witx_scope.specs.Positions.{is_name}
+use Rattle.witx_scope.specs.Names.{Here, NameMarks, new_mark}
+use Rattle.witx_scope.specs.Positions.{is_same_name}
 use Rattle.witx_scope.specs.Functions.{abi_of, func_checks, func_meant}
 
 -- the quoted name of an import or a function
@@ -17,14 +17,14 @@ abbrev pub quoted_name : DeclTree → QuotedText
 quoted_name (memory name) = name
 quoted_name (function name params results noreturn stored) = name
 
-abbrev pub item_checks : Here → Marks → DeclTree → List Check
+abbrev pub item_checks : Here → NameMarks → DeclTree → List Check
 item_checks h before (memory name) = new_mark h before name.text name.start ∷ []
 item_checks h before (function name params results noreturn stored) = func_checks h before (abi_of stored) name params results
 
-abbrev pub with_name : DeclTree → Marks → Marks
+abbrev pub with_name : DeclTree → NameMarks → NameMarks
 with_name d before = ((quoted_name d).text, (quoted_name d).start) ∷ before
 
-abbrev pub items_checks : Here → Marks → List NotedDecl → List Check
+abbrev pub items_checks : Here → NameMarks → List NotedDecl → List Check
 items_checks h before [] = []
 items_checks h before (d ∷ ds) = item_checks h before d.decl ++ items_checks h (with_name d.decl before) ds
 
@@ -41,4 +41,4 @@ item_called (items.func_of f) = f.name
 
 -- the items that names go by, with one more
 abbrev pub item_with : List (List ℕ × ModuleEntry) → items.ItemTree → List ℕ → Option items.ItemTree
-item_with entries item q = cond (is_name q (item_called item)) (Some item) (option_map items.entry_item (found entries q))
+item_with entries item q = cond (is_same_name q (item_called item)) (Some item) (option_map items.entry_item (found entries q))

@@ -25,10 +25,10 @@ abbrev pub new_name : Names → List ℕ → Location → Check
 new_name before n at = option_map (λ earlier. name_already_exists n at earlier) (found before n)
 
 -- names inside one declaration, with the offsets at which they stand
-abbrev pub Marks : Type 0
-Marks = List (List ℕ × ℕ)
+abbrev pub NameMarks : Type 0
+NameMarks = List (List ℕ × ℕ)
 
-abbrev pub new_mark : Here → Marks → List ℕ → ℕ → Check
+abbrev pub new_mark : Here → NameMarks → List ℕ → ℕ → Check
 new_mark h before n at = option_map (λ earlier. name_already_exists n (h.place at) (h.place earlier)) (found before n)
 
 abbrev pub use_check : List ℕ → Location → Sense → Check

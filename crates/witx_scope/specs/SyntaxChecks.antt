@@ -20,7 +20,7 @@ use Rattle.witx_files.specs.declared.location.Location.{Location}
 use Rattle.witx_ast.specs.Tree.{Tree, Field, Arm}
 use Rattle.witx_scope.specs.Faults.{Check}
 use Rattle.witx_scope.specs.Integers.{constant_type_checks}
-use Rattle.witx_scope.specs.Names.{Here, Marks, use_check, sense_tree}
+use Rattle.witx_scope.specs.Names.{Here, NameMarks, use_check, sense_tree}
 use Rattle.witx_scope.specs.Tags.{repr_check, tag_checks, size_check, case_check, tag_names}
 use Rattle.witx_scope.specs.Trees.{maybe_tree, tree_meant}
 use Rattle.witx_scope.specs.Checks.{type_checks, member_checks, field_checks, each_type_checks, maybe_checks, union_field_checks, case_checks}
@@ -112,11 +112,11 @@ abbrev pub variant_meant : Here → VariantSyntax → Tree
 variant_meant h v = tree_meant h (variant_of (variant_tag v) (cases_view (out-VariantSyntax v).cases))
 
 -- the check of a case's name, where these cases stand before it
-abbrev pub name_check : Here → Option (List (List ℕ)) → Marks → IdSyntax → Check
+abbrev pub name_check : Here → Option (List (List ℕ)) → NameMarks → IdSyntax → Check
 name_check h names seen n = case_check names (keys_of seen) n.name.now (h.place n.span.start)
 
 -- the names of cases, with one more: only a tag with names asks for them
-abbrev pub Sees : Option (List (List ℕ)) → Marks → Marks → IdSyntax → Type 0
+abbrev pub Sees : Option (List (List ℕ)) → NameMarks → NameMarks → IdSyntax → Type 0
 Sees None old new n = new ≡ old
 Sees (Some names) old new n = (q : List ℕ) → found new q ≡ found ((n.name.now, n.span.start) ∷ old) q
 

@@ -10,7 +10,7 @@ use Rattle.witx_ast.specs.Ordered.{IsOrdered}
 use Rattle.witx_ast.specs.Definitions.{DefinitionTree, definition_tree, DefinitionsFit}
 use Rattle.witx_ast.specs.declared.definition.Definition.{Definition}
 use Rattle.witx_scope.specs.declared.error.CheckError.{CheckError}
-use Rattle.witx_scope.specs.Answers.{IsFault}
+use Rattle.witx_scope.specs.Answers.{IsCheckFault}
 use Rattle.witx_scope.specs.Blame.{Blames}
 use Rattle.witx_scope.specs.DeclarationForms.{DeclForm, decl_form_of}
 use Rattle.witx_scope.specs.Declarations as declarations
@@ -45,7 +45,7 @@ pub record Validates (before after : Kept) (old new : List Definition) (at : Sit
   pub accepted : (past : Past) → OnOk r (Keeps before past → Keeps after (declarations.accepted past at.place at.comments at.form))
   -- refused: the fault is the first one, and the next one finds what a refused one leaves
   pub fault : (past : Past) → IfErr r (λ e. Keeps before past → Blames e (first_fault (decl_checks past at.place at.form)))
-  pub rejected : (past : Past) → IfErr r (λ e. IsFault e → Keeps before past → Keeps after (declarations.rejected past at.place at.form))
+  pub rejected : (past : Past) → IfErr r (λ e. IsCheckFault e → Keeps before past → Keeps after (declarations.rejected past at.place at.form))
   -- refused, or out of memory: the definitions are unchanged, and at most the name is kept
   pub unchanged : OnErr r (new ≡ old)
   pub out_of_memory : (past : Past) → OnErr r (Keeps before past → Keeps after past ⊎ Keeps after (declarations.rejected past at.place at.form))

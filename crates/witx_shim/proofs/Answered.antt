@@ -15,12 +15,12 @@ use Rattle.witx_machine.specs.declared.surface.Place.{Place}
 use Rattle.witx_machine.specs.declared.surface.WasmType.{WasmType}
 use Rattle.witx_machine.specs.Functions.{Function, function_of}
 use Rattle.witx_machine.specs.Signature.{param_words, words_of_params, return_pointers, signature_params}
-use Rattle.witx_machine.specs.Lowerable.{first_place, lowerable, unlowerable, unlowerable_result}
+use Rattle.witx_machine.specs.Lowerable.{earlier_place, lowerable, unlowerable, unlowerable_result}
 use Rattle.witx_machine.specs.Run.{numbers}
 use Rattle.witx_machine.specs.Traces.{caller_events, callee_events}
 use Rattle.witx_machine.specs.Shims.{StandsIn, pass, FaithfulThrough}
 use Rattle.witx_shim.specs.Numbers.{width, widths, all_handed}
-use Rattle.witx_shim.specs.Refusals.{Refusal, not_compatible, other_abi, old_unlowerable, new_unlowerable, unless, first_of, call_refusals, repeated, repeated_param}
+use Rattle.witx_shim.specs.Refusals.{ShimRefusal, not_compatible, other_abi, old_unlowerable, new_unlowerable, refusal_unless, first_refusal_of, call_refusals, repeated, repeated_param}
 use Rattle.witx_shim.specs.Arrivals.{words_passed, EachArrives}
 use Rattle.witx_shim.proofs.Compared.{AtMostOne, IsCompatible, compatible-parts, each-named, results-alike, trees}
 use Rattle.witx_shim.proofs.Standing.{Ordered, all-served, in-order-of-names}
@@ -40,11 +40,11 @@ behind-params f =
 
 -- ---- what nothing refuses
 
-all-none : (o : Option Refusal) (rest : List (Option Refusal)) → first_of (o ∷ rest) ≡ None → (o ≡ None) × (first_of rest ≡ None)
+all-none : (o : Option ShimRefusal) (rest : List (Option ShimRefusal)) → first_refusal_of (o ∷ rest) ≡ None → (o ≡ None) × (first_refusal_of rest ≡ None)
 all-none None rest h = (refl, h)
 all-none (Some refusal) rest h = absurd (none-some refusal (sym h))
 
-unless-true : (b : Bool) (refusal : Refusal) → unless b refusal ≡ None → b ≡ true
+unless-true : (b : Bool) (refusal : ShimRefusal) → refusal_unless b refusal ≡ None → b ≡ true
 unless-true true refusal h = refl
 unless-true false refusal h = absurd (none-some refusal (sym h))
 
@@ -55,7 +55,7 @@ map-none f (Some x) h = absurd (none-some (f x) (sym h))
 abi-same : (a b : Abi) → abis.ghosts.eq a b ≡ true → a ≡ b
 abi-same a b h = search rules
 
-place-none : (o : Option ℕ) (r : Option Place) → first_place o r ≡ None → r ≡ None
+place-none : (o : Option ℕ) (r : Option Place) → earlier_place o r ≡ None → r ≡ None
 place-none None r h = h
 place-none (Some i) r h = absurd (none-some (Place.Param i) (sym h))
 
@@ -73,7 +73,7 @@ pub record Ready (old new : FunctionTree) : Type 0 where
   pub old_lowers : IsTrue (lowerable (function_of old))
   pub new_lowers : IsTrue (lowerable (function_of new))
 
-pub ready : (old new : FunctionTree) → first_of (call_refusals (function_mapped new old)) ≡ None → repeated_param new.params ≡ None → Ready old new
+pub ready : (old new : FunctionTree) → first_refusal_of (call_refusals (function_mapped new old)) ≡ None → repeated_param new.params ≡ None → Ready old new
 ready old new h r =
     let a = all-none _ _ h in let b = all-none _ _ a.1 in let c = all-none _ _ b.1 in let d = all-none _ _ c.1 in
     let parts : IsCompatible new.params old.params new.results old.results = compatible-parts _ new.params old.params new.results old.results (unless-true _ not_compatible a.0) in
@@ -136,12 +136,12 @@ pub record Made (old new : FunctionTree) (words : List ℕ) : Type 0 where
   pub arrives : EachArrives old new words
 
 pub shim-made : (old new : FunctionTree) (view : MappedFunction) (olds news again : List Field) (count total : ℕ) (signature : List WasmType) (f : Function) (made : List ℕ) → ShimLaw
-    → olds ≡ old.params → news ≡ new.params → again ≡ new.params → view ≡ function_mapped new old → first_of (call_refusals view) ≡ None
+    → olds ≡ old.params → news ≡ new.params → again ≡ new.params → view ≡ function_mapped new old → first_refusal_of (call_refusals view) ≡ None
     → option_map repeated (repeated_param news) ≡ None → count ≡ widths olds → total ≡ length signature → signature ≡ signature_params f → function_of old ≡ f
     → made ≡ all_handed olds again ++ numbers count (total - count) → Made old new made
 shim-made old new view olds news again count total signature f made law o n a v calls names c t s g m =
     let distinct = map-none repeated (repeated_param new.params) (ap (λ ps. option_map repeated (repeated_param ps)) (sym n) ∙ names) in
-    let called = ap (λ w. first_of (call_refusals w)) (sym v) ∙ calls in
+    let called = ap (λ w. first_refusal_of (call_refusals w)) (sym v) ∙ calls in
     let r = ready old new called distinct in
     let same = same-words old new made count total (c ∙ ap widths o) (t ∙ ap length s ∙ ap (λ h. length (signature_params h)) (sym g))
     (m ∙ ap (λ ps. all_handed ps again ++ numbers count (total - count)) o ∙ ap (λ ps. all_handed old.params ps ++ numbers count (total - count)) a) in

@@ -9,7 +9,7 @@ use Rattle.std.proofs.lemmas.Option.{none-some}
 use Rattle.witx_base.specs.SameBytes.{same_bytes}
 use Rattle.witx_ast.specs.Functions.{param_field}
 use Rattle.witx_ast.specs.declared.function.InterfaceFuncParam.{InterfaceFuncParam}
-use Rattle.witx_shim.specs.Refusals.{Refusal, repeated, repeated_after, repeated_param, Says, first_of}
+use Rattle.witx_shim.specs.Refusals.{ShimRefusal, repeated, repeated_after, repeated_param, IsShimRefusal, first_refusal_of}
 use Rattle.witx_shim.specs.declared.error.ShimError.{ShimError}
 
 abbrev pub names_of : List InterfaceFuncParam → List (List ℕ)
@@ -59,7 +59,7 @@ next-seen xs i x old new a q l p n e =
 -- ---- refusals
 
 -- an error that no refusal is behind may stand for any
-pub free-error : (refusal : Option Refusal) (e : ShimError) → Says None e → Says refusal e
+pub free-error : (refusal : Option ShimRefusal) (e : ShimError) → IsShimRefusal None e → IsShimRefusal refusal e
 free-error refusal (ShimError.Repeated name) h = absurd (none-some _ h)
 free-error refusal ShimError.NotCompatible h = absurd (none-some _ h)
 free-error refusal ShimError.OtherAbi h = absurd (none-some _ h)
@@ -67,35 +67,35 @@ free-error refusal (ShimError.OldUnlowerable place) h = absurd (none-some _ h)
 free-error refusal (ShimError.NewUnlowerable place) h = absurd (none-some _ h)
 free-error refusal ShimError.OutOfMemory h = tt
 
-pub says-memory : (refusal : Option Refusal) (e : ShimError) → e ≡ ShimError.OutOfMemory → Says refusal e
+pub says-memory : (refusal : Option ShimRefusal) (e : ShimError) → e ≡ ShimError.OutOfMemory → IsShimRefusal refusal e
 says-memory refusal e h = rw h tt
 
-refused-by : (b : Bool) (name : List ℕ) (whole : Option (List ℕ)) (e : ShimError) → (b ≡ true → whole ≡ Some name) → Says (cond b (Some (repeated name)) None) e
-    → Says (option_map repeated whole) e
-refused-by true name whole e k h = subst (λ w. Says (option_map repeated w) e) (sym (k refl)) h
+refused-by : (b : Bool) (name : List ℕ) (whole : Option (List ℕ)) (e : ShimError) → (b ≡ true → whole ≡ Some name) → IsShimRefusal (cond b (Some (repeated name)) None) e
+    → IsShimRefusal (option_map repeated whole) e
+refused-by true name whole e k h = subst (λ w. IsShimRefusal (option_map repeated w) e) (sym (k refl)) h
 refused-by false name whole e k h = free-error (option_map repeated whole) e h
 
 -- the refusal of a name that the table has already
 pub refused-name : (xs : List InterfaceFuncParam) (i : ℕ) (x : InterfaceFuncParam) (b : Bool) (whole : Option (List ℕ)) (e : ShimError) → i < length xs → x ≡ get_or xs i x
     → b ≡ list_any (λ b. same_bytes b x.name) (names_of (take i xs))
     → repeated_after (names_of (take i xs)) (names_of (drop i xs)) ≡ whole
-    → Says (cond b (Some (repeated x.name)) None) e → Says (option_map repeated whole) e
+    → IsShimRefusal (cond b (Some (repeated x.name)) None) e → IsShimRefusal (option_map repeated whole) e
 refused-name xs i x b whole e l p s h r = refused-by b x.name whole e (λ t. met-name xs i x whole l p (sym s ∙ t) h) r
 
 -- a name that isn't refused is new
-pub fresh-name : (b : Bool) (refusal : Refusal) → cond b (Some refusal) None ≡ None → b ≡ false
+pub fresh-name : (b : Bool) (refusal : ShimRefusal) → cond b (Some refusal) None ≡ None → b ≡ false
 fresh-name true refusal h = absurd (none-some refusal (sym h))
 fresh-name false refusal h = refl
 
 -- the first of several: what is behind those that hold not
-pub behind : (o : Option Refusal) (rest : List (Option Refusal)) → o ≡ None → first_of (o ∷ rest) ≡ first_of rest
+pub behind : (o : Option ShimRefusal) (rest : List (Option ShimRefusal)) → o ≡ None → first_refusal_of (o ∷ rest) ≡ first_refusal_of rest
 behind o rest h = rw h refl
 
-pub refused-first : (o : Option Refusal) (rest : List (Option Refusal)) (e : ShimError) → Says o e → Says (first_of (o ∷ rest)) e
-refused-first None rest e h = free-error (first_of rest) e h
+pub refused-first : (o : Option ShimRefusal) (rest : List (Option ShimRefusal)) (e : ShimError) → IsShimRefusal o e → IsShimRefusal (first_refusal_of (o ∷ rest)) e
+refused-first None rest e h = free-error (first_refusal_of rest) e h
 refused-first (Some refusal) rest e h = h
 
-pub refused-behind : (o : Option Refusal) (rest : List (Option Refusal)) (e : ShimError) → o ≡ None → Says (first_of rest) e → Says (first_of (o ∷ rest)) e
+pub refused-behind : (o : Option ShimRefusal) (rest : List (Option ShimRefusal)) (e : ShimError) → o ≡ None → IsShimRefusal (first_refusal_of rest) e → IsShimRefusal (first_refusal_of (o ∷ rest)) e
 refused-behind o rest e n h = rw n h
 
 pub ruleset refusal_rules = (says-memory)

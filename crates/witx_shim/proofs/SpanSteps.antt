@@ -22,7 +22,7 @@ use Rattle.witx_compat.proofs.Tables.{key-bytes}
 use Rattle.witx_machine.specs.Run.{numbers}
 use Rattle.witx_machine.specs.Signature.{param_words}
 use Rattle.witx_shim.specs.declared.spans.Span.{Span}
-use Rattle.witx_shim.specs.Numbers.{widths, numbers_called, all_handed, or_none, span_numbers, span_called, earlier}
+use Rattle.witx_shim.specs.Numbers.{widths, numbers_called, all_handed, or_none, span_numbers, span_called, earlier_text}
 
 -- one more span
 pub put-span : (old new : List (List ℕ × Span)) (name q : List ℕ) (s : Span) (w n : ℕ) → found new q ≡ cond (is_eq (slice_cmp nat_cmp name q)) (Some s) (found old q)
@@ -38,7 +38,7 @@ put-span old new name q s w n e f g =
     by false = refl
 
 next-by : (old new whole : Option (List ℕ)) (b : Bool) (ns : List ℕ) (rest : Option (List ℕ)) → (b ≡ true → is_some old ≡ false) → new ≡ cond b (Some ns) old
-    → earlier old (cond b (Some ns) rest) ≡ whole → earlier new rest ≡ whole
+    → earlier_text old (cond b (Some ns) rest) ≡ whole → earlier_text new rest ≡ whole
 next-by None new whole true ns rest f n e = rw n e
 next-by (Some ms) new whole true ns rest f n e = absurd (false-true (sym (f refl)))
 next-by old new whole false ns rest f n e = rw n e
@@ -46,20 +46,20 @@ next-by old new whole false ns rest f n e = rw n e
 pub next-span : (xs : List InterfaceFuncParam) (i : ℕ) (x : InterfaceFuncParam) (old new whole : List ℕ → Option (List ℕ)) (w v : ℕ) → i < length xs → x ≡ get_or xs i x
     → is_some (old x.name) ≡ false → v ≡ w + length (param_words (plain (tree_of x.tref)))
     → ((q : List ℕ) → new q ≡ cond (same_bytes x.name q) (Some (numbers w (length (param_words (plain (tree_of x.tref)))))) (old q))
-    → ((q : List ℕ) → earlier (old q) (numbers_called q w (map param_field (drop i xs))) ≡ whole q)
-    → (q : List ℕ) → earlier (new q) (numbers_called q v (map param_field (drop (i + 1) xs))) ≡ whole q
+    → ((q : List ℕ) → earlier_text (old q) (numbers_called q w (map param_field (drop i xs))) ≡ whole q)
+    → (q : List ℕ) → earlier_text (new q) (numbers_called q v (map param_field (drop (i + 1) xs))) ≡ whole q
 next-span xs i x old new whole w v l p f c n e q =
-    let here : earlier (old q) (cond (same_bytes x.name q) (Some (numbers w (length (param_words (plain (tree_of x.tref)))))) (numbers_called q (w + length (param_words (plain (tree_of x.tref)))) (map param_field (drop (i + 1) xs)))) ≡ whole q
+    let here : earlier_text (old q) (cond (same_bytes x.name q) (Some (numbers w (length (param_words (plain (tree_of x.tref)))))) (numbers_called q (w + length (param_words (plain (tree_of x.tref)))) (map param_field (drop (i + 1) xs)))) ≡ whole q
     = rw (drop_more xs i x l, ← p) at (e q) in
-    ap (λ k. earlier (new q) (numbers_called q k (map param_field (drop (i + 1) xs)))) c
+    ap (λ k. earlier_text (new q) (numbers_called q k (map param_field (drop (i + 1) xs)))) c
     ∙ next-by (old q) (new q) (whole q) (same_bytes x.name q) _ _ (λ t. ap (λ m. is_some (old m)) (sym (bytes-to x.name q t)) ∙ f) (n q) here
 
-earlier-none : (o : Option (List ℕ)) → o ≡ earlier o None
+earlier-none : (o : Option (List ℕ)) → o ≡ earlier_text o None
 earlier-none None = refl
 earlier-none (Some ns) = refl
 
 pub last-span : (xs : List InterfaceFuncParam) (i w : ℕ) (o whole : Option (List ℕ)) (q : List ℕ) → length xs ≤ i
-    → earlier o (numbers_called q w (map param_field (drop i xs))) ≡ whole → o ≡ whole
+    → earlier_text o (numbers_called q w (map param_field (drop i xs))) ≡ whole → o ≡ whole
 last-span xs i w o whole q l e = earlier-none o ∙ (rw (drop_all i xs l) at e)
 
 pub next-count : (xs : List InterfaceFuncParam) (i : ℕ) (x : InterfaceFuncParam) (w v whole : ℕ) → i < length xs → x ≡ get_or xs i x

@@ -10,7 +10,7 @@ use Rattle.witx_ast.specs.Plain.{plain}
 use Rattle.witx_base.specs.SameBytes.{same_bytes, bytes-self, false-true}
 use Rattle.witx_compat.specs.Conversions.{is_compatible}
 use Rattle.witx_compat.specs.Polyfills.{first_called, prefer, mapped_params}
-use Rattle.witx_machine.specs.Run.{numbers, in_order}
+use Rattle.witx_machine.specs.Run.{numbers, picked_in_order}
 use Rattle.witx_machine.specs.Shims.{Alike, order_by_name, word_numbers}
 use Rattle.witx_shim.specs.Numbers.{width, numbers_called, all_handed, or_none}
 use Rattle.witx_shim.specs.Refusals.{repeated_after, repeated_param}
@@ -123,13 +123,13 @@ pub record Ordered (old new : List Field) : Type 0 where
   pub order : List ℕ
   pub by_name : order_by_name old new ≡ Some order
   pub types : List Tree
-  pub ordered : in_order order (trees old) ≡ Some types
+  pub ordered : picked_in_order order (trees old) ≡ Some types
   pub alike : Alike types (trees new)
   pub words : List (List ℕ)
-  pub handed : in_order order (word_numbers 0 (trees old)) ≡ Some words
+  pub handed : picked_in_order order (word_numbers 0 (trees old)) ≡ Some words
   pub whole : concat words ≡ all_handed old new
 
-one-more : {A : Type 0} (i : ℕ) (is : List ℕ) (xs : List A) (x : A) (ys : List A) → slice_get xs i ≡ Some x → in_order is xs ≡ Some ys → in_order (i ∷ is) xs ≡ Some (x ∷ ys)
+one-more : {A : Type 0} (i : ℕ) (is : List ℕ) (xs : List A) (x : A) (ys : List A) → slice_get xs i ≡ Some x → picked_in_order is xs ≡ Some ys → picked_in_order (i ∷ is) xs ≡ Some (x ∷ ys)
 one-more i is xs x ys a b = rw (a, b) refl
 
 one-name : (old ps : List Field) (p : Field) (i : ℕ) (is : List ℕ) → position (λ q. same_bytes q.called p.called) old ≡ Some i → order_by_name old ps ≡ Some is → order_by_name old (p ∷ ps) ≡ Some (i ∷ is)

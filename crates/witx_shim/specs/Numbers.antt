@@ -43,6 +43,6 @@ abbrev pub AreSpans : List (List ℕ × Span) → List Field → Type 0
 AreSpans spans params = (name : List ℕ) → span_called spans name ≡ numbers_called name 0 params
 
 -- the first that is there
-abbrev pub earlier : Option (List ℕ) → Option (List ℕ) → Option (List ℕ)
-earlier None later = later
-earlier (Some ns) later = Some ns
+abbrev pub earlier_text : Option (List ℕ) → Option (List ℕ) → Option (List ℕ)
+earlier_text None later = later
+earlier_text (Some ns) later = Some ns

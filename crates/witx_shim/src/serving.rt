@@ -4,7 +4,7 @@ ghost use Rattle.std.specs.Prelude.{◌≡◌, IfOk, Some};
 ghost use Rattle.witx_ast.specs.Functions.{func_tree};
 ghost use Rattle.witx_compat.specs.Polyfills.{function_mapped};
 ghost use Rattle.witx_compat.specs.Views.{function_view};
-ghost use Rattle.witx_shim.specs.Refusals.{Answers, call_refusals, first_of, refusal_of};
+ghost use Rattle.witx_shim.specs.Refusals.{AnswersRefusal, call_refusals, first_refusal_of, refusal_of};
 ghost use Rattle.witx_shim.specs.Arrivals.{EachArrives, words_passed};
 
 use crate::error::ShimError;
@@ -26,7 +26,7 @@ use witx_machine::shims_are_faithful;
 /// part of the old function, or else of the new one, that can't be lowered.
 pub fn shim(alloc: Global, poly: &FuncPolyfill) -> Result<Shim, ShimError>
     requires { function_view poly.now ≡ function_mapped (func_tree poly.now.new.value) (func_tree poly.now.old.value) }
-    ensures refused { Answers (refusal_of (function_view poly.now)) result }
+    ensures refused { AnswersRefusal (refusal_of (function_view poly.now)) result }
     ensures pass { IfOk result (λ made. words_passed (func_tree poly.now.old.value) (func_tree poly.now.new.value) ≡ Some made.pass) }
     ensures arrives { IfOk result (λ made. EachArrives (func_tree poly.now.old.value) (func_tree poly.now.new.value) made.pass) }
 {
@@ -42,7 +42,7 @@ pub fn shim(alloc: Global, poly: &FuncPolyfill) -> Result<Shim, ShimError>
 
 /// Whether calls of the old function could go to the new one, where the names of parameters are distinct.
 fn check_calls(poly: &FuncPolyfill) -> Result<(), ShimError>
-    ensures { Answers (first_of (call_refusals (function_view poly.now))) result }
+    ensures { AnswersRefusal (first_refusal_of (call_refusals (function_view poly.now))) result }
 {
     functions_are_read_as_their_trees();
     if !poly.full_compat() {

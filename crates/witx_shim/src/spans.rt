@@ -8,7 +8,7 @@ ghost use Rattle.witx_ast.specs.Views.{tree_of, datatype_tree};
 ghost use Rattle.witx_machine.specs.Run.{numbers};
 ghost use Rattle.witx_machine.specs.Signature.{param_words};
 ghost use Rattle.witx_shim.specs.Numbers.{AreSpans, span_called, widths};
-ghost use Rattle.witx_shim.specs.Refusals.{Answers, repeated, repeated_param};
+ghost use Rattle.witx_shim.specs.Refusals.{AnswersRefusal, repeated, repeated_param};
 
 use crate::error::ShimError;
 use std::alloc::Global;
@@ -33,7 +33,7 @@ pub struct Spans {
 /// The words of each parameter; refused for the first whose name an earlier one has.
 #[tactic(auto, using(crate::proofs::SpanSteps::span_rules, crate::proofs::Names::name_rules))]
 pub fn spans_of(alloc: Global, params: &[InterfaceFuncParam]) -> Result<Spans, ShimError>
-    ensures names { Answers (option_map repeated (repeated_param (map param_field params.now))) result }
+    ensures names { AnswersRefusal (option_map repeated (repeated_param (map param_field params.now))) result }
     ensures spans { IfOk result (λ spans. AreSpans spans.by_name (map param_field params.now)) }
     ensures count { IfOk result (λ spans. spans.count ≡ widths (map param_field params.now)) }
 {
@@ -58,7 +58,7 @@ impl Spans {
     /// The span of one more parameter, behind those of the others.
     #[tactic(auto, using(crate::proofs::SpanSteps::put_rules, crate::proofs::Names::refusal_rules))]
     fn add(&mut self, param: &InterfaceFuncParam) -> Result<(), ShimError>
-        ensures names { Answers (cond (is_some (span_called self.old.by_name param.now.name)) (Some (repeated param.now.name)) None) result }
+        ensures names { AnswersRefusal (cond (is_some (span_called self.old.by_name param.now.name)) (Some (repeated param.now.name)) None) result }
         ensures spans { (name : List ℕ) → OnOk result (span_called self.new.by_name name
             ≡ cond (same_bytes param.now.name name) (Some (numbers self.old.count (length (param_words (plain (tree_of param.now.tref))))))
             (span_called self.old.by_name name)) }

@@ -14,8 +14,8 @@ use Rattle.witx_machine.specs.Functions.{by_address, name_of}
 use Rattle.witx_machine.specs.Cells.{Cell, Cells, Memory, Taken, get, insert, loaded, stored, is_i32, list_at, cells, list_of_values, values_of, payload_of, picked, case_picked, result_value, tuple_parts}
 use Rattle.witx_machine.specs.Cells as machine_cells
 use Rattle.witx_machine.specs.Faithful.{direct_words, IsTaken}
-use Rattle.witx_symbols.specs.Symbols.{Source, Symbol, Symbols, atom, tuple, made, bare_made, no_symbols, symbol, SymbolWord, word_of_symbol, list_address, list_length, given, zero_word, one_word, is_of, are_of, atom_is, listed, symbols_of, same_symbol, same_option}
-use Rattle.witx_symbols.specs.Symbolic.{SymbolCell, SymbolMemory, World, symbols, has_kind, lower_symbol, lift_word, list_words, list_of_words, parts_of, give_symbol, symbol_at, get_symbol, put_in, set_symbol, replaced, picks_in, chooses_in, payload_tells, result_in, same_case, made_of, payload_is, word_has_type}
+use Rattle.witx_symbols.specs.Symbols.{Source, Symbol, Symbols, atom, tuple, made, bare_made, no_symbols, symbol, SymbolWord, word_of_symbol, list_address, list_length, given, zero_word, one_word, is_of, are_of, atom_is, symbols_listed, symbols_of, same_symbol, same_option}
+use Rattle.witx_symbols.specs.Symbolic.{SymbolCell, SymbolMemory, SymbolWorld, symbols, has_kind, lower_symbol, lift_word, symbol_list_words, list_of_words, symbol_parts, give_symbol, symbol_at, get_symbol, put_in, set_symbol, replaced, picks_in, chooses_in, payload_tells, result_in, same_case, made_of, payload_is, word_has_type}
 use Rattle.witx_machine.proofs.Scalars.{when_true, both_true, left_true, right_true, same_type_is}
 use Rattle.witx_machine.proofs.Laws.{Lowers}
 use Rattle.witx_machine.proofs.CellLaws.{scalar_words, own_cell, insert_other, not_zero}
@@ -162,7 +162,7 @@ module _ (at : Source → Option Value) where
   all_denoted (v ∷ vs) [] h = absurd h
   all_denoted (v ∷ vs) (u ∷ us) h = (h.0, all_denoted vs us h.1)
 
-  each_denoted : (vs : Symbols) (us : Values) → DenoteAll vs us → (length (listed vs) ≡ length (list_of_values us)) × Each Denotes (listed vs) (list_of_values us)
+  each_denoted : (vs : Symbols) (us : Values) → DenoteAll vs us → (length (symbols_listed vs) ≡ length (list_of_values us)) × Each Denotes (symbols_listed vs) (list_of_values us)
   each_denoted no_symbols Values.no_values h = (refl, tt)
   each_denoted no_symbols (Values.value_then u us) h = absurd h
   each_denoted (symbol v vs) Values.no_values h = absurd h
@@ -217,12 +217,12 @@ module _ (at : Source → Option Value) where
             let is : c.0 ≡ w = head_same (some_same (sym c.4 ∙ h.2)) in
             subst (λ o. Follows Denotes (Some (atom s t)) o) (sym (subst (λ w. value_of x w ≡ Some h.0) is c.2)) h.1
 
-    list_words_follow : (v : Symbol) (u : Value) → Denotes v u → Follows (λ p q. WordIs p.0 q.0 × WordIs p.1 q.1) (list_words v) (machine_cells.list_words u)
+    list_words_follow : (v : Symbol) (u : Value) → Denotes v u → Follows (λ p q. WordIs p.0 q.0 × WordIs p.1 q.1) (symbol_list_words v) (machine_cells.list_words u)
     list_words_follow (tuple vs) u d = tt
     list_words_follow (made i p) u d = tt
     list_words_follow (bare_made i) u d = tt
     list_words_follow (atom s (Plain.list_of t)) (Value.list_at a l) d =
-        subst (λ o. Follows (λ p q. WordIs p.0 q.0 × WordIs p.1 q.1) (list_words (atom s (Plain.list_of t))) o) (sym (when_true (is_u32 a && is_u32 l) (Some (i32 a, i32 l)) d.1)) ((a, l, refl, d), (a, l, refl, d))
+        subst (λ o. Follows (λ p q. WordIs p.0 q.0 × WordIs p.1 q.1) (symbol_list_words (atom s (Plain.list_of t))) o) (sym (when_true (is_u32 a && is_u32 l) (Some (i32 a, i32 l)) d.1)) ((a, l, refl, d), (a, l, refl, d))
     list_words_follow (atom s (Plain.list_of t)) (Value.number k z) d = absurd d.1
     list_words_follow (atom s (Plain.list_of t)) (Value.handle_number n) d = absurd d.1
     list_words_follow (atom s (Plain.list_of t)) (Value.address n) d = absurd d.1
@@ -277,15 +277,15 @@ module _ (at : Source → Option Value) where
     list_value_follows zero_word a' l l' h k = tt
     list_value_follows one_word a' l l' h k = tt
 
-    parts_follow : (n : ℕ) (v : Symbol) (u : Value) → Denotes v u → Follows (Each Denotes) (parts_of n v) (tuple_parts n u)
+    parts_follow : (n : ℕ) (v : Symbol) (u : Value) → Denotes v u → Follows (Each Denotes) (symbol_parts n v) (tuple_parts n u)
     parts_follow n (atom s t) u d = tt
     parts_follow n (made i p) u d = tt
     parts_follow n (bare_made i) u d = tt
     parts_follow n (tuple vs) u d =
         let e = each_denoted vs d.0 d.2 in
-        subst (λ u. Follows (Each Denotes) (parts_of n (tuple vs)) (tuple_parts n u)) (sym d.1) (go (nat_eq n (length (listed vs))) (nat_eq n (length (list_of_values d.0))) (ap (nat_eq n) e.0) e.1)
+        subst (λ u. Follows (Each Denotes) (symbol_parts n (tuple vs)) (tuple_parts n u)) (sym d.1) (go (nat_eq n (length (symbols_listed vs))) (nat_eq n (length (list_of_values d.0))) (ap (nat_eq n) e.0) e.1)
       where
-        go : (b b' : Bool) → b ≡ b' → Each Denotes (listed vs) (list_of_values d.0) → Follows (Each Denotes) (when b (Some (listed vs))) (when b' (Some (list_of_values d.0)))
+        go : (b b' : Bool) → b ≡ b' → Each Denotes (symbols_listed vs) (list_of_values d.0) → Follows (Each Denotes) (when b (Some (symbols_listed vs))) (when b' (Some (list_of_values d.0)))
         go false b' e h = tt
         go true true e h = h
         go true false e h = absurd (subst T e tt)
@@ -359,7 +359,7 @@ module _ (at : Source → Option Value) where
       abbrev Any : SymbolMemory → Type 0
       Any m = Unit {0}
 
-      gives : (t : Tree) (v : Option Symbol) (u : Option Value) (cs0 : List SymbolCell) (left : ℕ) (cs : Cells) (fresh : List ℕ) (taken : List (ℕ × Tree)) → Both Denotes v u → MemoryIs (record { made = cs0; left = left }) (record { cells = cs; fresh = fresh; taken = taken }) → Makes AnyAt Gives (give_symbol t v cs0 left) (machine_cells.given t u cs fresh taken)
+      gives : (t : Tree) (v : Option Symbol) (u : Option Value) (cs0 : List SymbolCell) (left : ℕ) (cs : Cells) (fresh : List ℕ) (taken : List (ℕ × Tree)) → Both Denotes v u → MemoryIs (record { made = cs0; left = left }) (record { cells = cs; fresh = fresh; taken = taken }) → Makes AnyAt Gives (give_symbol t v cs0 left) (machine_cells.cell_given t u cs fresh taken)
       gives t v u cs0 zero cs fresh taken b r = tt
       gives t v u cs0 (suc n) cs [] taken b r = absurd (omega (arith, r.left))
       gives t v u cs0 (suc n) cs (a ∷ more) taken b r =
@@ -473,7 +473,7 @@ module _ (at : Source → Option Value) where
               (makes_when _ _ _ _ (λ b. both_true _ _ (subst (λ q. T (same_plain (plain q) (plain t))) (sym s.4) (left_true (same_plain (plain c.0) (plain t)) _ b)) (is_of_value (plain t) v u (right_true (same_plain (plain c.0) (plain t)) _ b) d)) (related c s.2 s.4 (subst (IsTaken m'.taken) is s.6)))
 
       -- the world is the reply's: whole, case and payload are those of the value
-      module _ (w : World)
+      module _ (w : SymbolWorld)
           (world : (e : Bool) (v : Symbol) (u : Value) → w.error ≡ Some e → w.whole ≡ Some v → Denotes v u → (p : Option Value) × (u ≡ result_value e p) × Both Denotes w.load p)
           (known : (e : Bool) (v : Symbol) → w.error ≡ Some e → w.whole ≡ Some v → (u : Value) × Denotes v u)
           (nonzero : (s : Source) (t : Plain) (u : Value) (x : Word) → w.abi ≡ Abi.Preview1 → w.error ≡ Some true → w.load ≡ Some (atom s t) → AtomIs s t u → direct_words t u ≡ Some (x ∷ []) → T (nat_eq x.bits 0) → ⊥) where
@@ -621,6 +621,6 @@ module _ (at : Source → Option Value) where
           has_type = type_follows;
         }
           where
-            put_by : (b : Bool) (t : Tree) (v : Symbol) (u : Value) (m : SymbolMemory) (m' : Memory) → Denotes v u → MemoryIs m m' → Makes AnyAt Gives (when b (give_symbol t (Some v) m.made m.left)) (when b (machine_cells.given t (Some u) m'.cells m'.fresh m'.taken))
+            put_by : (b : Bool) (t : Tree) (v : Symbol) (u : Value) (m : SymbolMemory) (m' : Memory) → Denotes v u → MemoryIs m m' → Makes AnyAt Gives (when b (give_symbol t (Some v) m.made m.left)) (when b (machine_cells.cell_given t (Some u) m'.cells m'.fresh m'.taken))
             put_by false t v u m m' d r = tt
             put_by true t v u m m' d r = gives t (Some v) (Some u) m.made m.left m'.cells m'.fresh m'.taken d (record { stands = r.stands; fresh = r.fresh; left = r.left; kept = r.kept })

@@ -7,7 +7,7 @@ use Rattle.witx_symbols.specs.Symbols.{Symbol, same_symbol, same_symbols, same_m
 use Rattle.witx_symbols.specs.SymbolViews.{symbols_read}
 use Rattle.witx_symbols.specs.Verdicts.{are_values}
 use Rattle.witx_symbols.specs.WordViews.{Shared, shared_of, shared_symbols}
-use Rattle.witx_symbols.specs.OutcomeViews.{item_of, items_of}
+use Rattle.witx_symbols.specs.OutcomeViews.{symbol_item, symbol_items}
 use Rattle.witx_run.specs.declared.item.Item as declared_item
 use Rattle.witx_run.specs.declared.item.Item.TheVariants as item
 use Rattle.witx_symbols.specs.declared.words.Word as declared_word
@@ -25,18 +25,18 @@ members-symbols (x ∷ a) [] = refl
 members-symbols (x ∷ a) (y ∷ b) = ap (λ t. same_symbol (shared_of x) (shared_of y) && t) (members-symbols a b)
 
 -- what is given back
-pub nothing-back : (xs : List Laid) → are_values (values_in (items_of xs)) [] ≡ nat_eq (length xs) 0
+pub nothing-back : (xs : List Laid) → are_values (values_in (symbol_items xs)) [] ≡ nat_eq (length xs) 0
 nothing-back [] = refl
 nothing-back (item.Word w ∷ xs) = sym (eqb-suc-zero (length xs))
-nothing-back (item.Value v n ∷ xs) = go (values_in (items_of xs)) ∙ sym (eqb-suc-zero (length xs))
+nothing-back (item.Value v n ∷ xs) = go (values_in (symbol_items xs)) ∙ sym (eqb-suc-zero (length xs))
   where
     go : (o : Option (List Symbol)) → are_values (option_and_then (λ vs. Some (shared_of v ∷ vs)) o) [] ≡ false
     go None = refl
     go (Some vs) = refl
 
-pub one-item : (xs : List Laid) (x : Laid) → length xs ≡ 1 → x ≡ get_or xs 0 x → items_of xs ≡ item_of x ∷ []
+pub one-item : (xs : List Laid) (x : Laid) → length xs ≡ 1 → x ≡ get_or xs 0 x → symbol_items xs ≡ symbol_item x ∷ []
 one-item [] x l e = absurd (omega arith)
-one-item (y ∷ []) x l e = ap (λ i. item_of i ∷ []) (sym e)
+one-item (y ∷ []) x l e = ap (λ i. symbol_item i ∷ []) (sym e)
 one-item (y ∷ z ∷ xs) x l e = absurd (omega arith)
 
 pub value-back : (v u : Symbol) → same_symbols (v ∷ []) (u ∷ []) ≡ same_symbol v u
@@ -46,12 +46,12 @@ value-back v u = last (same_symbol v u)
     last true = refl
     last false = refl
 
-pub other-back : (xs : List Laid) (u : Symbol) → length xs ≢ 1 → are_values (values_in (items_of xs)) (u ∷ []) ≡ false
+pub other-back : (xs : List Laid) (u : Symbol) → length xs ≢ 1 → are_values (values_in (symbol_items xs)) (u ∷ []) ≡ false
 other-back [] u n = refl
 other-back (x ∷ []) u n = absurd (n refl)
 other-back (item.Word w ∷ y ∷ xs) u n = refl
 other-back (item.Value v k ∷ item.Word w ∷ xs) u n = refl
-other-back (item.Value v k ∷ item.Value z l ∷ xs) u n = go (values_in (items_of xs))
+other-back (item.Value v k ∷ item.Value z l ∷ xs) u n = go (values_in (symbol_items xs))
   where
     none : (b : Bool) → b && false ≡ false
     none true = refl

@@ -2,7 +2,7 @@
 use Rattle.std.proofs.Common.{ℕ, zero, suc, ◌||◌, Bool, true, false, cond, subst, is_none, Option, Some, None, List, [], ◌∷◌, ◌++◌, length}
 use Rattle.witx_machine.specs.Events.{Event, emit, space, push, finish}
 use Rattle.witx_machine.specs.Rows.{row}
-use Rattle.witx_machine.specs.Machine.{Domain, Tried, went, no_rule, stuck_at, next, Item, State, Inside, outside, Side, is_nil, slot_word, act, give_slot, Flow, flowing, gathering, after, set_aside, flows, gathers, play, runs_within, ended, run_trace}
+use Rattle.witx_machine.specs.Machine.{Domain, Tried, went, no_rule, stuck_at, goes_on, Item, State, Inside, outside, Side, is_nil, slot_word, act, give_slot, Flow, flowing, gathering, after, set_aside, flows, gathers, play, runs_within, ended, run_trace}
 use Rattle.witx_machine.specs.Run.{itself, caller_side, start}
 use Rattle.witx_machine.specs.Positions.{in_caller, in_callee, numbered}
 use Rattle.witx_symbols.specs.Symbolic.{symbols}
@@ -13,7 +13,7 @@ Named (went x) = Unit {0}
 Named no_rule = ⊥
 Named (stuck_at p) = Unit {0}
 
-next_named : {P A B : Type 0} (t : Tried P A) (f : A → Tried P B) → Named t → ((x : A) → Named (f x)) → Named (next t f)
+next_named : {P A B : Type 0} (t : Tried P A) (f : A → Tried P B) → Named t → ((x : A) → Named (f x)) → Named (goes_on t f)
 next_named (went x) f h k = k x
 next_named no_rule f h k = h
 next_named (stuck_at p) f h k = tt

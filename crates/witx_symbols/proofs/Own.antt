@@ -17,7 +17,7 @@ use Rattle.witx_machine.specs.Run.{Outcome, argument_items, reply_items, itself,
 use Rattle.witx_machine.specs.Positions.{Spot, in_caller, in_callee, numbered, spotted_run}
 use Rattle.witx_symbols.specs.declared.surface.Doubt.{Doubt}
 use Rattle.witx_symbols.specs.Symbols.{argument, reply, same_symbols}
-use Rattle.witx_symbols.specs.Symbolic.{SymbolMemory, World, symbols, reply_from, payload_from, world_if, unknown_world, known_world, worlds_by, worlds_of}
+use Rattle.witx_symbols.specs.Symbolic.{SymbolMemory, SymbolWorld, symbols, reply_from, payload_from, world_if, unknown_world, known_world, worlds_by, worlds_of}
 use Rattle.witx_symbols.specs.Verdicts.{are_values, arguments_from, unless, or_else, judged, doubt_in, first_doubt, misfit_place, doubt}
 use Rattle.witx_machine.proofs.Scalars.{left_true, right_true}
 use Rattle.witx_machine.proofs.Params.{AreArguments}
@@ -71,7 +71,7 @@ unless_true : (b : Bool) (d : Doubt) (rest : Option Doubt) → T b → unless b 
 unless_true true d rest h = refl
 unless_true false d rest h = absurd h
 
-module _ (w : World) where
+module _ (w : SymbolWorld) where
   arguments_are : (i : ℕ) (ts : List Tree) → AreArguments (symbol_laws w) ts (arguments_from i ts)
   unfolding symbol_laws
   arguments_are i [] = tt
@@ -153,13 +153,13 @@ module _ (m name : List ℕ) (abi : Abi) (params : List Tree) where
   abbrev g : List Tree → Function
   g results = record { abi = abi; name = name; params = params; results = results }
 
-  abbrev InAll : List Tree → List World → Type 0
+  abbrev InAll : List Tree → List SymbolWorld → Type 0
   InAll results ws = first_doubt ws m (g results) (caller_events m (g results)) (callee_events m (g results)) ≡ None
 
-  in_one : (results : List Tree) (w : World) (ws : List World) → T (lowerable (g results)) → T (all_fit params) → T (all_fit results) → IsReply (symbol_laws w) abi results (reply_from results) → InAll results ws → InAll results (w ∷ ws)
+  in_one : (results : List Tree) (w : SymbolWorld) (ws : List SymbolWorld) → T (lowerable (g results)) → T (all_fit params) → T (all_fit results) → IsReply (symbol_laws w) abi results (reply_from results) → InAll results ws → InAll results (w ∷ ws)
   in_one results w ws low fit fit' is rest = or_both _ _ (no_doubt_in w m (g results) low fit fit' is) rest
 
-  in_some : (results : List Tree) (b : Bool) (w : World) (ws : List World) → T (lowerable (g results)) → T (all_fit params) → T (all_fit results) → IsReply (symbol_laws w) abi results (reply_from results) → InAll results ws → InAll results (world_if b w ++ ws)
+  in_some : (results : List Tree) (b : Bool) (w : SymbolWorld) (ws : List SymbolWorld) → T (lowerable (g results)) → T (all_fit params) → T (all_fit results) → IsReply (symbol_laws w) abi results (reply_from results) → InAll results ws → InAll results (world_if b w ++ ws)
   in_some results true w ws low fit fit' is rest = in_one results w ws low fit fit' is rest
   in_some results false w ws low fit fit' is rest = rest
 
@@ -168,10 +168,10 @@ module _ (m name : List ℕ) (params : List Tree) (t : Tree) where
   at_stored : (c : Option Arms) → T (lowerable (g m name Abi.Stored params (t ∷ []))) → T (all_fit params) → T (all_fit (t ∷ [])) → InAll m name Abi.Stored params (t ∷ []) (worlds_by Abi.Stored (reply_from (t ∷ [])) c)
   at_stored c low fit fit' = go c
     where
-      is : (w : World) → w.whole ≡ reply_from (t ∷ []) → IsReply (symbol_laws w) Abi.Stored (t ∷ []) (reply_from (t ∷ []))
+      is : (w : SymbolWorld) → w.whole ≡ reply_from (t ∷ []) → IsReply (symbol_laws w) Abi.Stored (t ∷ []) (reply_from (t ∷ []))
       is w whole = reply_world w Abi.Stored t whole tt
 
-      last : (b : Bool) (w : World) → w.whole ≡ reply_from (t ∷ []) → InAll m name Abi.Stored params (t ∷ []) (world_if b w)
+      last : (b : Bool) (w : SymbolWorld) → w.whole ≡ reply_from (t ∷ []) → InAll m name Abi.Stored params (t ∷ []) (world_if b w)
       last true w whole = in_one m name Abi.Stored params (t ∷ []) w [] low fit fit' (is w whole) refl
       last false w whole = refl
 

@@ -18,8 +18,8 @@ use Rattle.witx_symbols.specs.Symbols.{Symbol, SymbolWord, word_of_symbol, list_
 use Rattle.witx_symbols.specs.Symbolic.{SymbolMemory}
 use Rattle.witx_symbols.specs.Verdicts.{passes, pointers_are, param_are, direct_are, hold_all, holds_symbol, is_made_for, is_word_of}
 use Rattle.witx_symbols.specs.PassageParts.{list_are, one_is, words_behind}
-use Rattle.witx_symbols.specs.Typing.{is_list_type}
-use Rattle.witx_symbols.specs.WordViews.{Shared, shared_of, shared_symbols, word_of}
+use Rattle.witx_symbols.specs.Typing.{is_listed_type}
+use Rattle.witx_symbols.specs.WordViews.{Shared, shared_of, shared_symbols, word_seen}
 use Rattle.witx_symbols.specs.OutcomeViews.{words_of}
 use Rattle.witx_symbols.specs.declared.words.Word as declared_word
 use Rattle.witx_symbols.proofs.FromLemmas.{types_of}
@@ -29,24 +29,24 @@ abbrev Words : Type 0
 Words = List declared_word.Word
 
 pub words-length : (ws : Words) → length (words_of ws) ≡ length ws
-words-length ws = length-map ws word_of
+words-length ws = length-map ws word_seen
 
 pub words-taken : (n : ℕ) (ws : Words) → words_of (take n ws) ≡ take n (words_of ws)
-words-taken n ws = sym (take-map word_of n ws)
+words-taken n ws = sym (take-map word_seen n ws)
 
 pub words-dropped : (n : ℕ) (ws : Words) → words_of (drop n ws) ≡ drop n (words_of ws)
-words-dropped n ws = sym (drop-map word_of n ws)
+words-dropped n ws = sym (drop-map word_seen n ws)
 
 -- one word, and two
-pub one-long : (ws : Words) (x : declared_word.Word) → length ws ≡ 1 → x ≡ get_or ws 0 x → words_of ws ≡ word_of x ∷ []
+pub one-long : (ws : Words) (x : declared_word.Word) → length ws ≡ 1 → x ≡ get_or ws 0 x → words_of ws ≡ word_seen x ∷ []
 one-long [] x l e = absurd (omega arith)
-one-long (y ∷ []) x l e = ap (λ w. word_of w ∷ []) (sym e)
+one-long (y ∷ []) x l e = ap (λ w. word_seen w ∷ []) (sym e)
 one-long (y ∷ z ∷ ws) x l e = absurd (omega arith)
 
-pub two-long : (ws : Words) (x y : declared_word.Word) → length ws ≡ 2 → x ≡ get_or ws 0 x → y ≡ get_or ws 1 y → words_of ws ≡ word_of x ∷ word_of y ∷ []
+pub two-long : (ws : Words) (x y : declared_word.Word) → length ws ≡ 2 → x ≡ get_or ws 0 x → y ≡ get_or ws 1 y → words_of ws ≡ word_seen x ∷ word_seen y ∷ []
 two-long [] x y l e f = absurd (omega arith)
 two-long (a ∷ []) x y l e f = absurd (omega arith)
-two-long (a ∷ b ∷ []) x y l e f = ap (λ w. word_of w ∷ word_of b ∷ []) (sym e) ∙ ap (λ w. word_of x ∷ word_of w ∷ []) (sym f)
+two-long (a ∷ b ∷ []) x y l e f = ap (λ w. word_seen w ∷ word_seen b ∷ []) (sym e) ∙ ap (λ w. word_seen x ∷ word_seen w ∷ []) (sym f)
 two-long (a ∷ b ∷ c ∷ ws) x y l e f = absurd (omega arith)
 
 -- other numbers of words
@@ -108,7 +108,7 @@ list-direct t v (given k ∷ ws) = refl
 list-direct t v (zero_word ∷ ws) = refl
 list-direct t v (one_word ∷ ws) = refl
 
-pub direct-list : (t : Plain) (v : Symbol) (ws : List SymbolWord) → is_list_type t ≡ true → direct_are t v ws ≡ list_are v ws
+pub direct-list : (t : Plain) (v : Symbol) (ws : List SymbolWord) → is_listed_type t ≡ true → direct_are t v ws ≡ list_are v ws
 direct-list (Plain.list_of t) v ws e = list-direct t v ws
 direct-list (Plain.builtin b) v ws e = absurd (clash e)
   where
@@ -135,7 +135,7 @@ direct-list (Plain.variant_of r cs) v ws e = absurd (clash e)
     clash : false ≡ true → ⊥
     clash e = cc
 
-no-more : (t : Plain) (v : Symbol) (w x : SymbolWord) (ws : List SymbolWord) → is_list_type t ≡ false → direct_are t v (w ∷ x ∷ ws) ≡ false
+no-more : (t : Plain) (v : Symbol) (w x : SymbolWord) (ws : List SymbolWord) → is_listed_type t ≡ false → direct_are t v (w ∷ x ∷ ws) ≡ false
 no-more (Plain.list_of t) v w x ws e = absurd (clash e)
   where
     clash : true ≡ false → ⊥
@@ -156,7 +156,7 @@ no-word (Plain.const_pointer_to t) v = refl
 no-word (Plain.record_of k ms) v = refl
 no-word (Plain.variant_of r cs) v = refl
 
-one-direct : (t : Plain) (v : Symbol) (w : SymbolWord) → is_list_type t ≡ false → direct_are t v (w ∷ []) ≡ is_word_of (param_words t) v w
+one-direct : (t : Plain) (v : Symbol) (w : SymbolWord) → is_listed_type t ≡ false → direct_are t v (w ∷ []) ≡ is_word_of (param_words t) v w
 one-direct (Plain.list_of t) v w e = absurd (clash e)
   where
     clash : true ≡ false → ⊥
@@ -168,13 +168,13 @@ one-direct (Plain.const_pointer_to t) v w e = refl
 one-direct (Plain.record_of k ms) v w e = refl
 one-direct (Plain.variant_of r cs) v w e = refl
 
-pub direct-one : (t : Plain) (v : Symbol) (ws : List SymbolWord) → is_list_type t ≡ false → direct_are t v ws ≡ one_is (param_words t) v ws
+pub direct-one : (t : Plain) (v : Symbol) (ws : List SymbolWord) → is_listed_type t ≡ false → direct_are t v ws ≡ one_is (param_words t) v ws
 direct-one t v [] e = no-word t v
 direct-one t v (w ∷ []) e = one-direct t v w e
 direct-one t v (w ∷ x ∷ ws) e = no-more t v w x ws e
 
 -- how many words a type has
-pub words-of-list : (t : Plain) → is_list_type t ≡ true → length (param_words t) ≡ 2
+pub words-of-list : (t : Plain) → is_listed_type t ≡ true → length (param_words t) ≡ 2
 words-of-list (Plain.list_of t) e = refl
 words-of-list (Plain.builtin b) e = absurd (clash e)
   where
@@ -201,7 +201,7 @@ words-of-list (Plain.variant_of r cs) e = absurd (clash e)
     clash : false ≡ true → ⊥
     clash e = cc
 
-pub words-of-other : (t : Plain) → is_list_type t ≡ false → length (param_words t) ≡ 1
+pub words-of-other : (t : Plain) → is_listed_type t ≡ false → length (param_words t) ≡ 1
 words-of-other (Plain.list_of t) e = absurd (clash e)
   where
     clash : true ≡ false → ⊥
@@ -316,11 +316,11 @@ abbrev pub left_pointers : SymbolMemory → Pointers → Words → ℕ → Bool
 left_pointers m ps ws i = pointers_are m (pointer_trees (drop i ps)) (words_of (drop i ws))
 
 pointer-step : (m : SymbolMemory) (ps : Pointers) (ws : Words) (i : ℕ) (p : Bor (Rc NamedType Global)) (w : declared_word.Word) → i < length ps → i < length ws → p ≡ get_or ps i p → w ≡ get_or ws i w →
-    left_pointers m ps ws i ≡ is_made_for m (word_of w) (named_tree p.now.value) && left_pointers m ps ws (i + 1)
+    left_pointers m ps ws i ≡ is_made_for m (word_seen w) (named_tree p.now.value) && left_pointers m ps ws (i + 1)
 pointer-step m ps ws i p w l k e f = rw (drop_more ps i p l, drop_more ws i w k, ← e, ← f) refl
 
 pub pointer-more : (m : SymbolMemory) (ps : Pointers) (ws : Words) (i : ℕ) (p : Bor (Rc NamedType Global)) (w : declared_word.Word) (all : Bool) → i < length ps → length ps ≡ length ws → p ≡ get_or ps i p → w ≡ get_or ws i w →
-    is_made_for m (word_of w) (named_tree p.now.value) ≡ true → left_pointers m ps ws i ≡ all → left_pointers m ps ws (i + 1) ≡ all
+    is_made_for m (word_seen w) (named_tree p.now.value) ≡ true → left_pointers m ps ws i ≡ all → left_pointers m ps ws (i + 1) ≡ all
 pointer-more m ps ws i p w all l n e f h k = sym (ap (λ b. b && left_pointers m ps ws (i + 1)) h) ∙ sym (pointer-step m ps ws i p w l (omega arith) e f) ∙ k
 
 pub pointers-done : (m : SymbolMemory) (ps : Pointers) (ws : Words) (i : ℕ) (all : Bool) → length ps ≤ i → length ps ≡ length ws → left_pointers m ps ws i ≡ all → true ≡ all
@@ -330,7 +330,7 @@ pub pointers-longer : (m : SymbolMemory) (ps : Pointers) (ws : Words) → length
 pointers-longer m [] [] n = absurd (n refl)
 pointers-longer m [] (w ∷ ws) n = refl
 pointers-longer m (p ∷ ps) [] n = refl
-pointers-longer m (p ∷ ps) (w ∷ ws) n = both (is_made_for m (word_of w) (named_tree p.now.value)) (pointers-longer m ps ws (λ e. n (ap suc e)))
+pointers-longer m (p ∷ ps) (w ∷ ws) n = both (is_made_for m (word_seen w) (named_tree p.now.value)) (pointers-longer m ps ws (λ e. n (ap suc e)))
   where
     both : (t : Bool) → {u : Bool} → u ≡ false → t && u ≡ false
     both true e = e

@@ -15,7 +15,7 @@ use Rattle.witx_machine.specs.Cells.{Cells, Memory, get, cells}
 use Rattle.witx_machine.specs.Passage.{last_words, PassesWords, PointerWords, ParamWords, HoldAll, HoldParts, ok_values, ReturnsCase, ReturnsPicked, ReturnsBy, ReturnsUnder}
 use Rattle.witx_machine.specs.Faithful.{cell_meaning, direct_words, IsTaken}
 use Rattle.witx_symbols.specs.Symbols.{Source, Symbol, atom, tuple, made, bare_made, SymbolWord, word_of_symbol, list_address, list_length, given, zero_word, one_word, is_of, same_option}
-use Rattle.witx_symbols.specs.Symbolic.{SymbolCell, SymbolMemory, World, symbols, picks_in, payload_is}
+use Rattle.witx_symbols.specs.Symbolic.{SymbolCell, SymbolMemory, SymbolWorld, symbols, picks_in, payload_is}
 use Rattle.witx_symbols.specs.Verdicts.{direct_are, cell_holds, cell_is_for, holds_symbol, is_made_for, param_are, pointers_are, passes, hold_all, hold_parts, ok_parts, is_case_word, returns_case, returns_picked, returns_by, returns_under}
 use Rattle.witx_machine.proofs.Scalars.{left_true, right_true}
 use Rattle.witx_machine.proofs.Simulation.{Follows, Both, Each, Simulates, each_length}
@@ -229,7 +229,7 @@ module _ (at : Source → Option Value) (addresses : List ℕ) (first : Cells) w
       go false i e = absurd (clash e)
       go true i e = subst (λ p. Typed (Some t) p) (some_same e) (subst T (sym i) tt)
 
-  picked_typed : (w : World) (ok err : Option Tree) (v : Symbol) (c : Bool × Option (Symbol × Option Tree)) → picks_in w.error w ok err v ≡ Some c → Typed (cond c.0 err ok) c.1
+  picked_typed : (w : SymbolWorld) (ok err : Option Tree) (v : Symbol) (c : Bool × Option (Symbol × Option Tree)) → picks_in w.error w ok err v ≡ Some c → Typed (cond c.0 err ok) c.1
   picked_typed w ok err v c e = go w.error e
     where
       clash : None ≡ Some c → ⊥
@@ -247,7 +247,7 @@ module _ (at : Source → Option Value) (addresses : List ℕ) (first : Cells) w
           here false e = absurd (clash e)
           here true e = named b (payload_is (cond b err ok) w.load) refl e
 
-  module _ (w : World) (G : SymbolMemory → Type 0) (H : Simulates (symbols w) cells (Denotes at) (λ t. Denotes at) Stand (MemoryIs at addresses first) G) where
+  module _ (w : SymbolWorld) (G : SymbolMemory → Type 0) (H : Simulates (symbols w) cells (Denotes at) (λ t. Denotes at) Stand (MemoryIs at addresses first) G) where
     abbrev Pays : (Symbol × Option Tree) → (Value × Option Tree) → Type 0
     Pays p q = Denotes at p.0 q.0 × (p.1 ≡ q.1)
 

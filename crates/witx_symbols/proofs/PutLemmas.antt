@@ -9,11 +9,11 @@ use Rattle.witx_machine.specs.Words.{when}
 use Rattle.witx_symbols.specs.Symbols.{Symbol}
 use Rattle.witx_symbols.specs.Symbolic.{SymbolMemory, give_symbol}
 use Rattle.witx_symbols.specs.Putting.{put_symbol}
-use Rattle.witx_symbols.specs.WordViews.{word_of}
+use Rattle.witx_symbols.specs.WordViews.{word_seen}
 use Rattle.witx_symbols.specs.declared.words.Word as declared_word
 
 pub put-there : (t : Tree) (v : Symbol) (m new : SymbolMemory) (b : Bool) (r : Result (Option declared_word.Word) OutOfMemory) → b ≡ by_address (plain t) → b ≡ true →
-    IfOk r (λ word. option_map (λ w. (word_of w, new)) word ≡ give_symbol t (Some v) m.made m.left) → IfOk r (λ word. option_map (λ w. (word_of w, new)) word ≡ put_symbol t v m)
+    IfOk r (λ word. option_map (λ w. (word_seen w, new)) word ≡ give_symbol t (Some v) m.made m.left) → IfOk r (λ word. option_map (λ w. (word_seen w, new)) word ≡ put_symbol t v m)
 put-there t v m new b (Ok word) e h p = p ∙ ap (λ b. when b (give_symbol t (Some v) m.made m.left)) (sym h ∙ e)
 put-there t v m new b (Err x) e h p = p
 

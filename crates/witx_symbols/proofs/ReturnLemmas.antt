@@ -14,11 +14,11 @@ use Rattle.witx_machine.specs.Passage.{last_words}
 use Rattle.witx_machine.specs.Signature.{ok_pointers, or_alone}
 use Rattle.witx_machine.specs.declared.surface.WasmType.{WasmType}
 use Rattle.witx_symbols.specs.Symbols.{Symbol, SymbolWord, word_of_symbol, list_address, list_length, given, zero_word, one_word}
-use Rattle.witx_symbols.specs.Symbolic.{SymbolMemory, World}
+use Rattle.witx_symbols.specs.Symbolic.{SymbolMemory, SymbolWorld}
 use Rattle.witx_symbols.specs.Verdicts.{gives_back, returns_case, hold_all, holds_symbol, is_case_word}
 use Rattle.witx_symbols.specs.PassageParts.{nothing_returns, ok_returns, err_returns}
-use Rattle.witx_symbols.specs.WordViews.{Shared, shared_of, shared_symbols, word_of}
-use Rattle.witx_symbols.specs.OutcomeViews.{Outcome, words_of}
+use Rattle.witx_symbols.specs.WordViews.{Shared, shared_of, shared_symbols, word_seen}
+use Rattle.witx_symbols.specs.OutcomeViews.{SymbolOutcome, words_of}
 use Rattle.witx_symbols.specs.declared.words.Word as declared_word
 use Rattle.witx_symbols.proofs.FromLemmas.{types_of}
 use Rattle.witx_symbols.proofs.WordLemmas.{word_rules}
@@ -37,7 +37,7 @@ nil-types [] = refl
 nil-types (p ∷ ps) = sym (eqb-suc-zero (length ps))
 
 -- no result, and one
-pub gives-none : (abi : Abi) (w : World) (ts : List Tree) (o : Outcome) → gives_back abi w ts None o ≡ nothing_returns ts o
+pub gives-none : (abi : Abi) (w : SymbolWorld) (ts : List Tree) (o : SymbolOutcome) → gives_back abi w ts None o ≡ nothing_returns ts o
 gives-none abi w [] o = refl
 gives-none abi w (t ∷ []) o = refl
 gives-none abi w (t ∷ u ∷ ts) o = refl
@@ -47,7 +47,7 @@ one-result [] p l e = absurd (omega arith)
 one-result (q ∷ []) p l e = ap (λ x. tree_of x.tref ∷ []) (sym e)
 one-result (q ∷ r ∷ ps) p l e = absurd (omega arith)
 
-pub gives-other : (abi : Abi) (w : World) (ps : List InterfaceFuncParam) (v : Symbol) (o : Outcome) → length ps ≢ 1 → gives_back abi w (types_of ps) (Some v) o ≡ false
+pub gives-other : (abi : Abi) (w : SymbolWorld) (ps : List InterfaceFuncParam) (v : Symbol) (o : SymbolOutcome) → length ps ≢ 1 → gives_back abi w (types_of ps) (Some v) o ≡ false
 gives-other abi w [] v o n = refl
 gives-other abi w (p ∷ []) v o n = absurd (n refl)
 gives-other abi w (p ∷ q ∷ ps) v o n = refl
@@ -62,7 +62,7 @@ all-taken (suc n) (x ∷ xs) l = ap (λ l. x ∷ l) (all-taken n xs (omega arith
 pub last-read : (n k : ℕ) (ws : Words) → k ≡ length ws - n → words_of (take (length ws - k) (drop k ws)) ≡ last_words n (words_of ws)
 last-read n k ws e =
     ap words_of (all-taken (length ws - k) (drop k ws) (omega (arith, length-drop k ws)))
-    ∙ words-dropped k ws ∙ ap (λ k. drop k (words_of ws)) (e ∙ ap (λ l. l - n) (sym (length-map ws word_of)))
+    ∙ words-dropped k ws ∙ ap (λ k. drop k (words_of ws)) (e ∙ ap (λ l. l - n) (sym (length-map ws word_seen)))
 
 -- the word of a case
 pub case-zero : (e : Bool) → is_case_word e (zero_word ∷ []) ≡ not e
@@ -134,11 +134,11 @@ abbrev pub left_held : SymbolMemory → Words → List Shared → ℕ → Bool
 left_held m ws vs i = hold_all m (words_of (drop i ws)) (shared_symbols (drop i vs))
 
 held-step : (m : SymbolMemory) (ws : Words) (vs : List Shared) (i : ℕ) (w : declared_word.Word) (v : Shared) → i < length ws → i < length vs → w ≡ get_or ws i w → v ≡ get_or vs i v →
-    left_held m ws vs i ≡ holds_symbol m (word_of w) (shared_of v) && left_held m ws vs (i + 1)
+    left_held m ws vs i ≡ holds_symbol m (word_seen w) (shared_of v) && left_held m ws vs (i + 1)
 held-step m ws vs i w v l k e f = rw (drop_more ws i w l, drop_more vs i v k, ← e, ← f) refl
 
 pub held-more : (m : SymbolMemory) (ws : Words) (vs : List Shared) (i : ℕ) (w : declared_word.Word) (v : Shared) (all : Bool) → i < length ws → length ws ≡ length vs → w ≡ get_or ws i w → v ≡ get_or vs i v →
-    holds_symbol m (word_of w) (shared_of v) ≡ true → left_held m ws vs i ≡ all → left_held m ws vs (i + 1) ≡ all
+    holds_symbol m (word_seen w) (shared_of v) ≡ true → left_held m ws vs i ≡ all → left_held m ws vs (i + 1) ≡ all
 held-more m ws vs i w v all l n e f h k = sym (ap (λ b. b && left_held m ws vs (i + 1)) h) ∙ sym (held-step m ws vs i w v l (omega arith) e f) ∙ k
 
 pub held-done : (m : SymbolMemory) (ws : Words) (vs : List Shared) (i : ℕ) (all : Bool) → length ws ≤ i → length ws ≡ length vs → left_held m ws vs i ≡ all → true ≡ all
@@ -148,7 +148,7 @@ pub held-longer : (m : SymbolMemory) (ws : Words) (vs : List Shared) → length 
 held-longer m [] [] n = absurd (n refl)
 held-longer m [] (v ∷ vs) n = refl
 held-longer m (w ∷ ws) [] n = refl
-held-longer m (w ∷ ws) (v ∷ vs) n = both (holds_symbol m (word_of w) (shared_of v)) (held-longer m ws vs (λ e. n (ap suc e)))
+held-longer m (w ∷ ws) (v ∷ vs) n = both (holds_symbol m (word_seen w) (shared_of v)) (held-longer m ws vs (λ e. n (ap suc e)))
   where
     both : (t : Bool) → {u : Bool} → u ≡ false → t && u ≡ false
     both true e = e

@@ -22,7 +22,7 @@ use Rattle.witx_machine.specs.Faithful.{EndsWell, Faithful, cell_meaning, are_ar
 use Rattle.witx_machine.specs.Positions.{Spot, in_caller, in_callee}
 use Rattle.witx_symbols.specs.declared.surface.Doubt.{Doubt}
 use Rattle.witx_symbols.specs.Symbols.{Source, argument, payload, reply, Symbol, atom, SymbolWord, symbol_from, same_symbols}
-use Rattle.witx_symbols.specs.Symbolic.{SymbolMemory, World, symbols, reply_from, payload_from, world_if, unknown_world, known_world, worlds_by, worlds_of}
+use Rattle.witx_symbols.specs.Symbolic.{SymbolMemory, SymbolWorld, symbols, reply_from, payload_from, world_if, unknown_world, known_world, worlds_by, worlds_of}
 use Rattle.witx_symbols.specs.Verdicts.{passes, gives_back, are_values, arguments_from, unless, or_else, judged, doubt_in, first_doubt, misfit_place, misfit, doubt}
 use Rattle.witx_machine.proofs.Scalars.{truth, left_true, right_true, both_true}
 use Rattle.witx_machine.proofs.All.{all_fit}
@@ -53,11 +53,11 @@ mapped_none : {A B : Type 0} (f : A → B) (o : Option A) → option_map f o ≡
 mapped_none f None e = refl
 mapped_none f (Some x) e = absurd (some_none e)
 
-abbrev Judged : World → Function → List Symbol → Option Symbol → Outcome Symbol SymbolWord SymbolMemory → Type 0
+abbrev Judged : SymbolWorld → Function → List Symbol → Option Symbol → Outcome Symbol SymbolWord SymbolMemory → Type 0
 Judged w f arguments whole o =
     T (passes o.call.at_call (return_pointers f) f.params arguments o.call.words) × T (gives_back f.abi w f.results whole o) × T (same_symbols o.call.noted arguments) × T (are_values (values_in o.back) (option_to_list whole))
 
-judged_none : (w : World) (f : Function) (arguments : List Symbol) (whole : Option Symbol) (t : Tried Spot (Outcome Symbol SymbolWord SymbolMemory)) → judged w f arguments whole t ≡ None → (o : Outcome Symbol SymbolWord SymbolMemory) × (t ≡ went o) × Judged w f arguments whole o
+judged_none : (w : SymbolWorld) (f : Function) (arguments : List Symbol) (whole : Option Symbol) (t : Tried Spot (Outcome Symbol SymbolWord SymbolMemory)) → judged w f arguments whole t ≡ None → (o : Outcome Symbol SymbolWord SymbolMemory) × (t ≡ went o) × Judged w f arguments whole o
 judged_none w f arguments whole (went o) e =
     let a = unless_none _ _ _ e in let b = unless_none _ _ _ a.1 in let c = unless_none _ _ _ b.1 in let d = unless_none _ _ _ c.1 in
     (o, refl, (a.0, b.0, c.0, d.0))
@@ -65,14 +65,14 @@ judged_none w f arguments whole no_rule e = absurd (some_none e)
 judged_none w f arguments whole (stuck_at (in_caller i)) e = absurd (some_none e)
 judged_none w f arguments whole (stuck_at (in_callee i)) e = absurd (some_none e)
 
-doubts_both : (xs ys : List World) (m : List ℕ) (f : Function) (caller callee : List Event) → first_doubt (xs ++ ys) m f caller callee ≡ None → (first_doubt xs m f caller callee ≡ None) × (first_doubt ys m f caller callee ≡ None)
+doubts_both : (xs ys : List SymbolWorld) (m : List ℕ) (f : Function) (caller callee : List Event) → first_doubt (xs ++ ys) m f caller callee ≡ None → (first_doubt xs m f caller callee ≡ None) × (first_doubt ys m f caller callee ≡ None)
 doubts_both [] ys m f caller callee e = (refl, e)
 doubts_both (x ∷ xs) ys m f caller callee e =
     let p = or_none (doubt_in x m f caller callee) _ e in
     let r = doubts_both xs ys m f caller callee p.1 in
     (ap (λ d. or_else d (first_doubt xs m f caller callee)) p.0 ∙ r.0, r.1)
 
-if_doubt : (b : Bool) (w : World) (m : List ℕ) (f : Function) (caller callee : List Event) → T b → first_doubt (world_if b w) m f caller callee ≡ None → doubt_in w m f caller callee ≡ None
+if_doubt : (b : Bool) (w : SymbolWorld) (m : List ℕ) (f : Function) (caller callee : List Event) → T b → first_doubt (world_if b w) m f caller callee ≡ None → doubt_in w m f caller callee ≡ None
 if_doubt true w m f caller callee h e = (or_none (doubt_in w m f caller callee) None e).0
 if_doubt false w m f caller callee h e = absurd h
 
@@ -108,7 +108,7 @@ module _ (arguments : List Value) (whole : Option Value) where
   at = value_at arguments whole
 
   -- a world that is the reply's
-  record IsWorld (w : World) : Type 0 where
+  record IsWorld (w : SymbolWorld) : Type 0 where
     pub world : (e : Bool) (v : Symbol) (u : Value) → w.error ≡ Some e → w.whole ≡ Some v → Denotes at v u → (p : Option Value) × (u ≡ result_value e p) × Both (Denotes at) w.load p
     pub known : (e : Bool) (v : Symbol) → w.error ≡ Some e → w.whole ≡ Some v → (u : Value) × Denotes at v u
     pub nonzero : (s : Source) (t : Plain) (u : Value) (x : Word) → w.abi ≡ Abi.Preview1 → w.error ≡ Some true → w.load ≡ Some (atom s t) → AtomIs at s t u → direct_words t u ≡ Some (x ∷ []) → T (nat_eq x.bits 0) → ⊥
@@ -175,7 +175,7 @@ module _ (arguments : List Value) (whole : Option Value) where
     abbrev any : SymbolMemory → Type 0
     any m = Unit {0}
 
-    module _ (w : World) (is : IsWorld w) (free : AreFree memory addresses) where
+    module _ (w : SymbolWorld) (is : IsWorld w) (free : AreFree memory addresses) where
       back : (ts : List Tree) (v : Option Value) → results ≡ ts → whole ≡ v → T (is_reply ts v) → T (all_fit ts) → (o : Outcome Symbol SymbolWord SymbolMemory) (o' : Outcome Value Word Memory) → T (gives_back abi w ts (reply_from ts) o) → MemoryIs at addresses memory o.call.at_return o'.call.at_return → Each (WordIs at addresses memory) o.call.words o'.call.words → Each (WordIs at addresses memory) o.call.callee_words o'.call.callee_words →
           Simulates (symbols w) cells (Denotes at) (λ t. Denotes at) (WordIs at addresses memory) (MemoryIs at addresses memory) any → ReturnsOf cells cell_meaning abi ts v o'
       back [] None i j h fit o o' t r g k H = nil_follows at addresses memory w any H o.call.callee_words o'.call.callee_words k t
@@ -247,7 +247,7 @@ module _ (m name : List ℕ) (abi : Abi) (params results : List Tree) (caller ca
   abbrev g : Function
   g = record { abi = abi; name = name; params = params; results = results }
 
-  in_its_world : (ts : List Tree) (whole : Option Value) → results ≡ ts → (arguments : List Value) → T (is_reply ts whole) → (T (zero_under abi ts whole) → ⊥) → T (all_fit ts) → first_doubt (worlds_of abi ts) m g caller callee ≡ None → (w : World) × IsWorld arguments whole w × (doubt_in w m g caller callee ≡ None)
+  in_its_world : (ts : List Tree) (whole : Option Value) → results ≡ ts → (arguments : List Value) → T (is_reply ts whole) → (T (zero_under abi ts whole) → ⊥) → T (all_fit ts) → first_doubt (worlds_of abi ts) m g caller callee ≡ None → (w : SymbolWorld) × IsWorld arguments whole w × (doubt_in w m g caller callee ≡ None)
   in_its_world [] whole i arguments h z fit none = (unknown_world abi None, is_unknown arguments whole abi None, (or_none (doubt_in (unknown_world abi None) m g caller callee) None none).0)
   in_its_world (t ∷ u ∷ ts) whole i arguments h z fit none = absurd h
   in_its_world (t ∷ []) None i arguments h z fit none = absurd h
@@ -256,7 +256,7 @@ module _ (m name : List ℕ) (abi : Abi) (params results : List Tree) (caller ca
       first_of : (o : Option Symbol) (cs : Arms) → first_doubt (worlds_by abi o (Some cs)) m g caller callee ≡ None → (doubt_in (known_world abi o cs false) m g caller callee ≡ None) × (first_doubt (world_if (nat_le 2 (length (arm_list cs))) (known_world abi o cs true)) m g caller callee ≡ None) × (first_doubt (world_if (nat_le 3 (length (arm_list cs))) (unknown_world abi o)) m g caller callee ≡ None)
       first_of o cs e = let p = or_none (doubt_in (known_world abi o cs false) m g caller callee) _ e in let q = doubts_both (world_if (nat_le 2 (length (arm_list cs))) (known_world abi o cs true)) (world_if (nat_le 3 (length (arm_list cs))) (unknown_world abi o)) m g caller callee p.1 in (p.0, q.0, q.1)
 
-      picked : (cs : Arms) → result_cases t ≡ Some cs → T (fits (plain t)) → T (arms_fit (plain_arms cs)) → (v : Value) → Case cs v → T (is_value (plain t) v) → (T (zero_under abi (t ∷ []) (Some v)) → ⊥) → first_doubt (worlds_by abi (reply_from (t ∷ [])) (Some cs)) m g caller callee ≡ None → (w : World) × IsWorld arguments (Some v) w × (doubt_in w m g caller callee ≡ None)
+      picked : (cs : Arms) → result_cases t ≡ Some cs → T (fits (plain t)) → T (arms_fit (plain_arms cs)) → (v : Value) → Case cs v → T (is_value (plain t) v) → (T (zero_under abi (t ∷ []) (Some v)) → ⊥) → first_doubt (worlds_by abi (reply_from (t ∷ [])) (Some cs)) m g caller callee ≡ None → (w : SymbolWorld) × IsWorld arguments (Some v) w × (doubt_in w m g caller callee ≡ None)
       picked cs e f af v (first p pay) is z none =
           let o = reply_from (t ∷ []) in let d = first_of o cs none in
           (known_world abi o cs false, is_case arguments (Some (result_value false p)) abi t cs false p e refl is f af pay z, d.0)
@@ -267,7 +267,7 @@ module _ (m name : List ℕ) (abi : Abi) (params results : List Tree) (caller ca
           let o = reply_from (t ∷ []) in let d = first_of o cs none in
           (unknown_world abi o, is_unknown arguments (Some u) abi o, if_doubt _ (unknown_world abi o) m g caller callee three d.2)
 
-      go : (c : Option Arms) → result_cases t ≡ c → first_doubt (worlds_by abi (reply_from (t ∷ [])) c) m g caller callee ≡ None → (w : World) × IsWorld arguments (Some v) w × (doubt_in w m g caller callee ≡ None)
+      go : (c : Option Arms) → result_cases t ≡ c → first_doubt (worlds_by abi (reply_from (t ∷ [])) c) m g caller callee ≡ None → (w : SymbolWorld) × IsWorld arguments (Some v) w × (doubt_in w m g caller callee ≡ None)
       go None e none = let o = reply_from (t ∷ []) in (unknown_world abi o, is_unknown arguments (Some v) abi o, (or_none (doubt_in (unknown_world abi o) m g caller callee) None none).0)
       go (Some cs) e none =
           let q = cases_variant t cs e in

@@ -13,10 +13,10 @@ use Rattle.witx_machine.specs.declared.surface.WasmType.{WasmType}
 use Rattle.witx_machine.specs.Words.{same_type, builtin_word_type, repr_word_type, word_type, same_types, Scalar, number_of, pointer, const_pointer, handle_of, flags_of, enum_of, is_for, when}
 use Rattle.witx_machine.specs.Functions.{ok_of, err_of, result_cases}
 use Rattle.witx_machine.specs.Signature.{param_words}
-use Rattle.witx_symbols.specs.Symbols.{Source, argument, payload, reply, part, Symbol, Symbols, atom, tuple, made, bare_made, no_symbols, symbol, SymbolWord, word_of_symbol, list_address, list_length, given, zero_word, one_word, is_of, are_of, atom_is, symbol_from, parts_from, listed, symbols_of, same_source, same_symbol, same_members, same_option, same_symbols}
-use Rattle.witx_symbols.specs.Symbolic.{SymbolCell, SymbolMemory, World, symbols, has_kind, lower_symbol, lift_word, list_words, list_of_words, parts_of, give_symbol, symbol_at, get_symbol, put_in, replaced, picks_in, chooses_in, payload_tells, result_in, same_case, made_of, payload_is, payload_from, word_has_type}
+use Rattle.witx_symbols.specs.Symbols.{Source, argument, payload, reply, part, Symbol, Symbols, atom, tuple, made, bare_made, no_symbols, symbol, SymbolWord, word_of_symbol, list_address, list_length, given, zero_word, one_word, is_of, are_of, atom_is, symbol_from, parts_from, symbols_listed, symbols_of, same_source, same_symbol, same_members, same_option, same_symbols}
+use Rattle.witx_symbols.specs.Symbolic.{SymbolCell, SymbolMemory, SymbolWorld, symbols, has_kind, lower_symbol, lift_word, symbol_list_words, list_of_words, symbol_parts, give_symbol, symbol_at, get_symbol, put_in, replaced, picks_in, chooses_in, payload_tells, result_in, same_case, made_of, payload_is, payload_from, word_has_type}
 use Rattle.witx_symbols.specs.Verdicts.{direct_are, is_word_of}
-use Rattle.witx_symbols.specs.Meaning.{Stands, symbol_meaning}
+use Rattle.witx_symbols.specs.Meaning.{StandsInCell, symbol_meaning}
 use Rattle.witx_machine.proofs.Scalars.{truth, true_of, when_true, both_true, left_true, right_true, same_type_self, same_types_is}
 use Rattle.witx_machine.proofs.Alikes.{AlikeOption}
 use Rattle.witx_machine.proofs.Laws.{Laws, Lowers, AreMembers, PayloadIs, named_payload}
@@ -168,28 +168,28 @@ scalar_words (enum_of n) t v e h =
         clash : true ≡ false → ⊥
         clash e = cc
 
-pub list_back : (t : Plain) (v : Symbol) → Is (Plain.list_of t) v → (a : SymbolWord) × (l : SymbolWord) × (list_words v ≡ Some (a, l)) × (list_of_words a l ≡ Some v) × T (word_has_type WasmType.I32 a) × T (word_has_type WasmType.I32 l) × T (direct_are (Plain.list_of t) v (a ∷ l ∷ []))
+pub list_back : (t : Plain) (v : Symbol) → Is (Plain.list_of t) v → (a : SymbolWord) × (l : SymbolWord) × (symbol_list_words v ≡ Some (a, l)) × (list_of_words a l ≡ Some v) × T (word_has_type WasmType.I32 a) × T (word_has_type WasmType.I32 l) × T (direct_are (Plain.list_of t) v (a ∷ l ∷ []))
 list_back t v h = go v (atom_by (Plain.list_of t) v h)
   where
-    go : (v : Symbol) → Atom (Plain.list_of t) v → (a : SymbolWord) × (l : SymbolWord) × (list_words v ≡ Some (a, l)) × (list_of_words a l ≡ Some v) × T (word_has_type WasmType.I32 a) × T (word_has_type WasmType.I32 l) × T (direct_are (Plain.list_of t) v (a ∷ l ∷ []))
+    go : (v : Symbol) → Atom (Plain.list_of t) v → (a : SymbolWord) × (l : SymbolWord) × (symbol_list_words v ≡ Some (a, l)) × (list_of_words a l ≡ Some v) × T (word_has_type WasmType.I32 a) × T (word_has_type WasmType.I32 l) × T (direct_are (Plain.list_of t) v (a ∷ l ∷ []))
     go v (atom_of s) =
         let u = atom s (Plain.list_of t) in
         (list_address u, list_length u, refl, when_true _ _ (symbol_refl u), tt, tt, both_true _ _ (symbol_refl u) (symbol_refl u))
 
-members_are : (ms : Fields) (us : Symbols) → T (are_of ms us) → (field_count ms ≡ length (listed us)) × AreMembers Is ms (listed us)
+members_are : (ms : Fields) (us : Symbols) → T (are_of ms us) → (field_count ms ≡ length (symbols_listed us)) × AreMembers Is ms (symbols_listed us)
 members_are Fields.no_fields no_symbols h = (refl, tt)
 members_are Fields.no_fields (symbol u us) h = absurd h
 members_are (Fields.field n t ms) no_symbols h = absurd h
-members_are (Fields.field n t ms) (symbol u us) h = let r = members_are ms us (right_true (is_of t u) _ h) in let e : field_count ms + 1 ≡ suc (length (listed us)) = let p = r.0 in omega arith in (e, (left_true (is_of t u) _ h, r.1))
+members_are (Fields.field n t ms) (symbol u us) h = let r = members_are ms us (right_true (is_of t u) _ h) in let e : field_count ms + 1 ≡ suc (length (symbols_listed us)) = let p = r.0 in omega arith in (e, (left_true (is_of t u) _ h, r.1))
 
-symbols_again : (us : Symbols) → symbols_of (listed us) ≡ us
+symbols_again : (us : Symbols) → symbols_of (symbols_listed us) ≡ us
 symbols_again no_symbols = refl
 symbols_again (symbol u us) = ap (symbol u) (symbols_again us)
 
-pub tuple_back : (ms : Fields) (v : Symbol) → Is (Plain.record_of RecordKind.Tuple ms) v → (vs : List Symbol) × (parts_of (field_count ms) v ≡ Some vs) × (tuple (symbols_of vs) ≡ v) × AreMembers Is ms vs
+pub tuple_back : (ms : Fields) (v : Symbol) → Is (Plain.record_of RecordKind.Tuple ms) v → (vs : List Symbol) × (symbol_parts (field_count ms) v ≡ Some vs) × (tuple (symbols_of vs) ≡ v) × AreMembers Is ms vs
 tuple_back ms (tuple us) h =
     let r = members_are ms us h in
-    (listed us, when_true _ _ (subst (λ n. T (nat_eq (field_count ms) n)) r.0 (eqb_refl (field_count ms))), ap tuple (symbols_again us), r.1)
+    (symbols_listed us, when_true _ _ (subst (λ n. T (nat_eq (field_count ms) n)) r.0 (eqb_refl (field_count ms))), ap tuple (symbols_again us), r.1)
 tuple_back ms (atom s u) h = absurd h
 tuple_back ms (made i v) h = absurd h
 tuple_back ms (bare_made i) h = absurd h
@@ -201,7 +201,7 @@ pub record Keeps (m m' : SymbolMemory) : Type 0 where
 abbrev pub New : SymbolMemory → SymbolWord → Type 0
 New m w = (k : ℕ) × (w ≡ given k) × (slice_get m.made k ≡ None)
 
-pub kept_stands : (m m' : SymbolMemory) (w : SymbolWord) (P : SymbolCell → Type 0) → Keeps m m' → Stands m w P → Stands m' w P
+pub kept_stands : (m m' : SymbolMemory) (w : SymbolWord) (P : SymbolCell → Type 0) → Keeps m m' → StandsInCell m w P → StandsInCell m' w P
 kept_stands m m' w P g h = (h.0, h.1, h.2, g.kept h.0 h.2 h.3, h.4)
 
 pub none_some : {A : Type 0} {x : A} {o : Option A} → o ≡ None → o ≡ Some x → ⊥
@@ -270,13 +270,13 @@ pub gave : (t : Tree) (v : Option Symbol) (n : ℕ) (cells : List SymbolCell) (l
 gave t v n cells zero room = absurd (omega arith)
 gave t v n cells (suc l) room = (record { made = cells ++ (t, v) ∷ []; left = l }, refl, last_got cells (t, v), record { kept = λ k c e. before_end cells (t, v) c k e }, omega arith)
 
-abbrev pub Sets : World → SymbolMemory → SymbolMemory → Tree → SymbolWord → Symbol → Type 0
+abbrev pub Sets : SymbolWorld → SymbolMemory → SymbolMemory → Tree → SymbolWord → Symbol → Type 0
 Sets w base m t x v =
     (m' : SymbolMemory) × ((symbols w).set t x v m ≡ Some m') × (get_symbol t x m' ≡ Some v) × symbol_meaning.holds m' x v × Keeps base m' ×
     ((u : SymbolWord) → symbol_meaning.given m u → symbol_meaning.given m' u) × ((u : SymbolWord) (q : Tree) → u ≢ x → symbol_meaning.made_for m u q → symbol_meaning.made_for m' u q) ×
     ((u : SymbolWord) (y : Symbol) → u ≢ x → symbol_meaning.holds m u y → symbol_meaning.holds m' u y) × ((q : Tree) (u : SymbolWord) (y : Symbol) → u ≢ x → get_symbol q u m ≡ Some y → get_symbol q u m' ≡ Some y)
 
-sets_at : (w : World) (base m : SymbolMemory) (t : Tree) (k : ℕ) (v : Symbol) (c : SymbolCell) → Keeps base m → slice_get base.made k ≡ None → slice_get m.made k ≡ Some c → plain c.0 ≡ plain t → Is (plain t) v → Sets w base m t (given k) v
+sets_at : (w : SymbolWorld) (base m : SymbolMemory) (t : Tree) (k : ℕ) (v : Symbol) (c : SymbolCell) → Keeps base m → slice_get base.made k ≡ None → slice_get m.made k ≡ Some c → plain c.0 ≡ plain t → Is (plain t) v → Sets w base m t (given k) v
 sets_at w base m t k v c keeps none found made_t is =
     let alike_t : T (same_plain (plain c.0) (plain t)) = subst (λ q. T (same_plain q (plain t))) (sym made_t) (same_plain_self (plain t)) in
     let new : SymbolCell = (c.0, Some v) in
@@ -296,14 +296,14 @@ sets_at w base m t k v c keeps none found made_t is =
     other : (cells : List SymbolCell) (j : ℕ) (d : SymbolCell) → slice_get cells k ≡ None → slice_get cells j ≡ Some d → slice_get (replaced k (c.0, Some v) m.made) j ≡ slice_get m.made j
     other cells j d none e = replaced_other k j (c.0, Some v) m.made (λ p. none_some none (subst (λ j. slice_get cells j ≡ Some d) p e))
 
-    given_kept : (u : SymbolWord) (g : Stands m u (λ c. Unit {0})) (b : Bool) → nat_eq g.0 k ≡ b → Stands (record { made = replaced k (c.0, Some v) m.made; left = m.left }) u (λ c. Unit {0})
+    given_kept : (u : SymbolWord) (g : StandsInCell m u (λ c. Unit {0})) (b : Bool) → nat_eq g.0 k ≡ b → StandsInCell (record { made = replaced k (c.0, Some v) m.made; left = m.left }) u (λ c. Unit {0})
     given_kept u g true e = (g.0, g.1, (c.0, Some v), subst (λ j. slice_get (replaced k (c.0, Some v) m.made) j ≡ Some (c.0, Some v)) (sym (eqb→eq g.0 k (subst T (sym e) tt))) (replaced_own k (c.0, Some v) c m.made found), tt)
     given_kept u g false e = (g.0, g.1, g.2, replaced_other k g.0 (c.0, Some v) m.made (λ p. same_not (subst (λ j. nat_eq g.0 j ≡ false) (sym p) e)) ∙ g.3, tt)
       where
         same_not : nat_eq g.0 g.0 ≡ false → ⊥
         same_not q = subst T q (eqb_refl g.0)
 
-pub sets : (w : World) (base m : SymbolMemory) (made_t t : Tree) (x : SymbolWord) (v : Symbol) → plain made_t ≡ plain t → Keeps base m → New base x → symbol_meaning.made_for m x made_t → Is (plain t) v → Sets w base m t x v
+pub sets : (w : SymbolWorld) (base m : SymbolMemory) (made_t t : Tree) (x : SymbolWord) (v : Symbol) → plain made_t ≡ plain t → Keeps base m → New base x → symbol_meaning.made_for m x made_t → Is (plain t) v → Sets w base m t x v
 sets w base m made_t t x v alike keeps new stands is =
     let k = new.0 in
     let same : stands.0 ≡ k = same_given (sym stands.1 ∙ new.1) in
@@ -311,24 +311,24 @@ sets w base m made_t t x v alike keeps new stands is =
     subst (λ x. Sets w base m t x v) (sym new.1) (sets_at w base m t k v stands.2 keeps new.2 found (ap plain stands.4 ∙ alike) is)
 
 -- the reply in a world: under Preview1 it is known which case it is, where it is one of two
-abbrev pub Fits : World → Tree → Type 0
+abbrev pub Fits : SymbolWorld → Tree → Type 0
 Fits w t = (cs : Arms) → result_cases t ≡ Some cs → (e : Bool) × (w.error ≡ Some e) × (w.load ≡ payload_from (cond e (err_of cs) (ok_of cs)))
 
-abbrev pub FitsUnder : Abi → World → Tree → Type 0
+abbrev pub FitsUnder : Abi → SymbolWorld → Tree → Type 0
 FitsUnder Abi.Preview1 w t = (w.abi ≡ Abi.Preview1) × Fits w t
 FitsUnder Abi.Stored w t = Unit {0}
 
-abbrev pub Returned : World → Plain → Symbol → Type 0
+abbrev pub Returned : SymbolWorld → Plain → Symbol → Type 0
 Returned w t v = (w.abi ≡ Abi.Preview1) × (w.error ≡ Some true) × (w.load ≡ Some v)
 
-abbrev PicksAny : World → Option Tree → Option Tree → Bool → Option Symbol → Symbol → Type 0
+abbrev PicksAny : SymbolWorld → Option Tree → Option Tree → Bool → Option Symbol → Symbol → Type 0
 PicksAny w ok err e p v = (ok' err' : Option Tree) → AlikeOption ok ok' → AlikeOption err err' → (symbols w).picks ok' err' v ≡ Some (e, named_payload (cond e err' ok') p)
 
-abbrev pub Came : World → Option Tree → Option Tree → Symbol → Type 0
+abbrev pub Came : SymbolWorld → Option Tree → Option Tree → Symbol → Type 0
 Came w ok err v =
     (e : Bool) × (p : Option Symbol) × ((symbols w).result e p ≡ v) × ((symbols w).chooses ((symbols w).case_word e) ≡ Some e) × PayloadIs (λ u q. Is u q × cond e (Returned w u q) (Unit {0})) (cond e err ok) p × PicksAny w ok err e p v
 
-pub payload_there : (w : World) (e : Bool) (t : Option Tree) → w.abi ≡ Abi.Preview1 → w.error ≡ Some e → w.load ≡ payload_from t → PayloadIs (λ u q. Is u q × cond e (Returned w u q) (Unit {0})) t (payload_from t)
+pub payload_there : (w : SymbolWorld) (e : Bool) (t : Option Tree) → w.abi ≡ Abi.Preview1 → w.error ≡ Some e → w.load ≡ payload_from t → PayloadIs (λ u q. Is u q × cond e (Returned w u q) (Unit {0})) t (payload_from t)
 payload_there w e None a i l = tt
 payload_there w e (Some u) a i l = (from_is (plain u) payload, back e i)
   where
@@ -347,7 +347,7 @@ pub either : (e : Bool) (ok err ok' err' : Option Tree) → AlikeOption ok ok' �
 either true ok err ok' err' a b = b
 either false ok err ok' err' a b = a
 
-unfoldable pub came : (w : World) (ok err : Option Tree) (v : Symbol) (e : Bool) → w.abi ≡ Abi.Preview1 → w.whole ≡ Some v → w.error ≡ Some e → w.load ≡ payload_from (cond e err ok) → Came w ok err v
+unfoldable pub came : (w : SymbolWorld) (ok err : Option Tree) (v : Symbol) (e : Bool) → w.abi ≡ Abi.Preview1 → w.whole ≡ Some v → w.error ≡ Some e → w.load ≡ payload_from (cond e err ok) → Came w ok err v
 came w ok err v e abi whole is load =
     let p = payload_from (cond e err ok) in (
       e,
@@ -384,7 +384,7 @@ direct_one (Plain.const_pointer_to t) v x h = h
 direct_one (Plain.record_of k ms) v x h = h
 direct_one (Plain.variant_of r cs) v x h = h
 
-pub error_word : (w : World) (t : Plain) (v : Symbol) (x : SymbolWord) → Returned w t v → T (word_has_type WasmType.I32 x) → T (direct_are t v (x ∷ [])) → (symbols w).chooses x ≡ Some true
+pub error_word : (w : SymbolWorld) (t : Plain) (v : Symbol) (x : SymbolWord) → Returned w t v → T (word_has_type WasmType.I32 x) → T (direct_are t v (x ∷ [])) → (symbols w).chooses x ≡ Some true
 error_word w t v x r is h = ap (λ e. chooses_in e w x) r.1 ∙ go x is (direct_one t v x h)
   where
     go : (x : SymbolWord) → T (word_has_type WasmType.I32 x) → T (is_word_of (param_words t) v x) → chooses_in (Some true) w x ≡ Some true
@@ -459,7 +459,7 @@ got_alike m t q x v e h = sym (go x) ∙ h
     go zero_word = refl
     go one_word = refl
 
-unfoldable pub symbol_laws : (w : World) → Laws (symbols w) symbol_meaning
+unfoldable pub symbol_laws : (w : SymbolWorld) → Laws (symbols w) symbol_meaning
 symbol_laws w = record {
   Is = Is;
   Replies = λ abi t v. (w.whole ≡ Some v) × Is (plain t) v × FitsUnder abi w t;

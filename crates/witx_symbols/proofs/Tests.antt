@@ -11,7 +11,7 @@ use Rattle.witx_machine.specs.Machine.{is_nil}
 use Rattle.witx_machine.specs.Run.{Outcome}
 use Rattle.witx_machine.specs.Passage.{last_words, PassesWords, PointerWords, ParamWords, HoldAll, HoldParts, ok_values, ReturnsCase, ReturnsPicked, ReturnsBy, ReturnsUnder, ReturnsOf}
 use Rattle.witx_symbols.specs.Symbols.{Symbol, SymbolWord, word_of_symbol, list_address, list_length, given, zero_word, one_word, same_option}
-use Rattle.witx_symbols.specs.Symbolic.{SymbolCell, SymbolMemory, World, symbols, picks_in}
+use Rattle.witx_symbols.specs.Symbolic.{SymbolCell, SymbolMemory, SymbolWorld, symbols, picks_in}
 use Rattle.witx_symbols.specs.Verdicts.{direct_are, cell_holds, cell_is_for, holds_symbol, is_made_for, param_are, pointers_are, passes, hold_all, hold_parts, ok_parts, is_case_word, returns_case, returns_picked, returns_by, returns_under, gives_back}
 use Rattle.witx_symbols.specs.Meaning.{symbol_meaning, TestsTell}
 use Rattle.witx_machine.proofs.Scalars.{truth, true_of, both_true, left_true, right_true}
@@ -40,7 +40,7 @@ drop_first {A} a b n e = ap (λ n. drop n (a ++ b)) e ∙ go a b
     go [] b = none b
     go (x ∷ a) b = go a b
 
-module _ (w : World) where
+module _ (w : SymbolWorld) where
   -- where the things hold, so do the tests
   held : (m : SymbolMemory) (x : SymbolWord) (v : Symbol) → symbol_meaning.holds m x v → T (holds_symbol m x v)
   held m x v h = subst (λ x. T (holds_symbol m x v)) (sym h.1) (subst (λ o. T (cell_holds v o)) (sym h.3) (subst (λ o. T (same_option o (Some v))) (sym h.4) (symbol_refl v)))

@@ -4,14 +4,14 @@ use Rattle.std.proofs.lemmas.Bool.{eq-eqb, eqb-true}
 use Rattle.witx_ast.specs.declared.types.RecordKind.{RecordKind}
 use Rattle.witx_ast.specs.Plain.{Plain}
 use Rattle.witx_machine.specs.Words.{when}
-use Rattle.witx_symbols.specs.Symbols.{Source, Symbol, atom, tuple, made, bare_made, list_address, list_length, listed, symbol_from}
-use Rattle.witx_symbols.specs.Symbolic.{list_words, parts_of}
+use Rattle.witx_symbols.specs.Symbols.{Source, Symbol, atom, tuple, made, bare_made, list_address, list_length, symbols_listed, symbol_from}
+use Rattle.witx_symbols.specs.Symbolic.{symbol_list_words, symbol_parts}
 use Rattle.witx_symbols.specs.SymbolViews.{symbols_read}
 use Rattle.witx_symbols.specs.WordViews.{Shared, shared_of, shared_symbols}
-use Rattle.witx_symbols.specs.Typing.{is_list_type, is_list_symbol}
+use Rattle.witx_symbols.specs.Typing.{is_listed_type, is_list_symbol}
 use Rattle.witx_symbols.proofs.KindLemmas.{kind_rules}
 
-pub words-list : (v : Symbol) → is_list_symbol v ≡ true → list_words v ≡ Some (list_address v, list_length v)
+pub words-list : (v : Symbol) → is_list_symbol v ≡ true → symbol_list_words v ≡ Some (list_address v, list_length v)
 words-list (atom s (Plain.list_of t)) e = refl
 words-list (atom s (Plain.builtin b)) e = absurd (clash e)
   where
@@ -50,7 +50,7 @@ words-list (bare_made i) e = absurd (clash e)
     clash : false ≡ true → ⊥
     clash e = cc
 
-pub words-none : (v : Symbol) → is_list_symbol v ≡ false → list_words v ≡ None
+pub words-none : (v : Symbol) → is_list_symbol v ≡ false → symbol_list_words v ≡ None
 words-none (atom s (Plain.list_of t)) e = absurd (clash e)
   where
     clash : true ≡ false → ⊥
@@ -65,7 +65,7 @@ words-none (tuple vs) e = refl
 words-none (made i v) e = refl
 words-none (bare_made i) e = refl
 
-pub from-list : (t : Plain) (s : Source) → is_list_symbol (symbol_from t s) ≡ is_list_type t
+pub from-list : (t : Plain) (s : Source) → is_list_symbol (symbol_from t s) ≡ is_listed_type t
 from-list (Plain.record_of RecordKind.Tuple ms) s = refl
 from-list (Plain.record_of (RecordKind.Bitflags r) ms) s = refl
 from-list (Plain.record_of RecordKind.Other ms) s = refl
@@ -76,7 +76,7 @@ from-list (Plain.const_pointer_to t) s = refl
 from-list (Plain.list_of t) s = refl
 from-list (Plain.variant_of r cs) s = refl
 
-pub listed-read : (vs : List Shared) → listed (symbols_read vs) ≡ shared_symbols vs
+pub listed-read : (vs : List Shared) → symbols_listed (symbols_read vs) ≡ shared_symbols vs
 listed-read [] = refl
 listed-read (v ∷ vs) = ap (λ l. shared_of v ∷ l) (listed-read vs)
 
@@ -84,12 +84,12 @@ pub shared-length : (vs : List Shared) → length (shared_symbols vs) ≡ length
 shared-length [] = refl
 shared-length (v ∷ vs) = ap suc (shared-length vs)
 
-pub parts-all : (n : ℕ) (vs : List Shared) → length vs ≡ n → parts_of n (tuple (symbols_read vs)) ≡ Some (shared_symbols vs)
+pub parts-all : (n : ℕ) (vs : List Shared) → length vs ≡ n → symbol_parts n (tuple (symbols_read vs)) ≡ Some (shared_symbols vs)
 parts-all n vs e =
     ap (λ l. when (nat_eq n (length l)) (Some l)) (listed-read vs)
     ∙ ap (λ b. when b (Some (shared_symbols vs))) (eq-eqb n (length (shared_symbols vs)) (sym (shared-length vs ∙ e)))
 
-pub parts-none : (n : ℕ) (vs : List Shared) → length vs ≢ n → parts_of n (tuple (symbols_read vs)) ≡ None
+pub parts-none : (n : ℕ) (vs : List Shared) → length vs ≢ n → symbol_parts n (tuple (symbols_read vs)) ≡ None
 parts-none n vs ne = ap (λ l. when (nat_eq n (length l)) (Some l)) (listed-read vs) ∙ ap (λ k. when (nat_eq n k) (Some (shared_symbols vs))) (shared-length vs) ∙ go (nat_eq n (length vs)) refl
   where
     go : (b : Bool) → nat_eq n (length vs) ≡ b → when b (Some (shared_symbols vs)) ≡ None

@@ -9,7 +9,7 @@ use Rattle.witx_ast.specs.declared.types.Variant.{Variant, out-Variant}
 use Rattle.witx_ast.specs.Tree.{Tree, Arm, arm, arms_of, arm_list}
 use Rattle.witx_ast.specs.Views.{tree_of, case_arm}
 use Rattle.witx_instructions.specs.Views.{variant_arms}
-use Rattle.witx_symbols.specs.Symbolic.{World, unknown_world, world_if, worlds_of}
+use Rattle.witx_symbols.specs.Symbolic.{SymbolWorld, unknown_world, world_if, worlds_of}
 use Rattle.witx_symbols.specs.WordViews.{world_of}
 use Rattle.witx_symbols.specs.WorldViews.{worlds_read}
 use Rattle.witx_symbols.specs.declared.world.World as declared_world
@@ -36,10 +36,10 @@ pub cases-long : (v : Variant) → length (arm_list (variant_arms v)) ≡ length
 cases-long v = arms-long (map case_arm (out-Variant v).cases) ∙ length-map (out-Variant v).cases case_arm
 
 -- one world more, where there are so many cases
-pub world-more : (n k : ℕ) (w : World) → n ≤ k → world_if (nat_le n k) w ≡ w ∷ []
+pub world-more : (n k : ℕ) (w : SymbolWorld) → n ≤ k → world_if (nat_le n k) w ≡ w ∷ []
 world-more n k w l = ap (λ b. world_if b w) (le-leb n k l)
 
-pub world-none : (n k : ℕ) (w : World) → k < n → world_if (nat_le n k) w ≡ []
+pub world-none : (n k : ℕ) (w : SymbolWorld) → k < n → world_if (nat_le n k) w ≡ []
 world-none n k w l = ap (λ b. world_if b w) (lt-leb n k l)
 
 -- the first result

@@ -16,7 +16,7 @@ use Rattle.witx_machine.specs.Cells.{Cells, Memory, get, cells, list_of_values, 
 use Rattle.witx_machine.specs.Faithful.{direct_words, are_arguments, is_reply}
 use Rattle.witx_machine.specs.Positions.{Spot, in_caller, in_callee, numbered, spotted_run}
 use Rattle.witx_symbols.specs.Symbols.{Source, argument, payload, reply, part, Symbol, SymbolWord, atom, symbol_from, parts_from, same_symbols}
-use Rattle.witx_symbols.specs.Symbolic.{SymbolMemory, World, symbols, reply_from}
+use Rattle.witx_symbols.specs.Symbolic.{SymbolMemory, SymbolWorld, symbols, reply_from}
 use Rattle.witx_symbols.specs.Verdicts.{arguments_from}
 use Rattle.witx_machine.proofs.Scalars.{left_true, right_true}
 use Rattle.witx_machine.proofs.All.{all_fit}
@@ -78,7 +78,7 @@ module _ (arguments : List Value) (whole : Option Value) where
           parts_denote ms s (j + 1) us (right_true (is_value t u) _ is) (right_true (fits t) _ f) (λ k. let y : j + 1 + k ≡ j + suc k = omega arith in ap (λ j. at (part s j)) y ∙ h (suc k)),
         )
 
-  module _ (addresses : List ℕ) (first : Cells) (distinct : (j k a : ℕ) → slice_get addresses j ≡ Some a → slice_get addresses k ≡ Some a → j ≡ k) (positive : (k a : ℕ) → slice_get addresses k ≡ Some a → 0 < a) (free : (k a : ℕ) → slice_get addresses k ≡ Some a → get first a ≡ None) (w : World)
+  module _ (addresses : List ℕ) (first : Cells) (distinct : (j k a : ℕ) → slice_get addresses j ≡ Some a → slice_get addresses k ≡ Some a → j ≡ k) (positive : (k a : ℕ) → slice_get addresses k ≡ Some a → 0 < a) (free : (k a : ℕ) → slice_get addresses k ≡ Some a → get first a ≡ None) (w : SymbolWorld)
       (world : (e : Bool) (v : Symbol) (u : Value) → w.error ≡ Some e → w.whole ≡ Some v → Denotes at v u → (p : Option Value) × (u ≡ result_value e p) × Both (Denotes at) w.load p)
       (known : (e : Bool) (v : Symbol) → w.error ≡ Some e → w.whole ≡ Some v → (u : Value) × Denotes at v u)
       (nonzero : (s : Source) (t : Plain) (u : Value) (x : Word) → w.abi ≡ Abi.Preview1 → w.error ≡ Some true → w.load ≡ Some (atom s t) → AtomIs at s t u → direct_words t u ≡ Some (x ∷ []) → T (nat_eq x.bits 0) → ⊥) where

@@ -6,29 +6,29 @@ use Rattle.witx_ast.specs.Tree.{Tree}
 use Rattle.witx_machine.specs.Run.{Outcome}
 use Rattle.witx_machine.specs.Passage.{Meaning, PassesWords, ReturnsOf}
 use Rattle.witx_symbols.specs.Symbols.{Symbol, SymbolWord, given}
-use Rattle.witx_symbols.specs.Symbolic.{SymbolCell, SymbolMemory, World, symbols}
+use Rattle.witx_symbols.specs.Symbolic.{SymbolCell, SymbolMemory, SymbolWorld, symbols}
 use Rattle.witx_symbols.specs.Verdicts.{direct_are, passes, gives_back}
 
 -- the word is an address given, and this holds of what stands there
-abbrev pub Stands : SymbolMemory → SymbolWord → (SymbolCell → Type 0) → Type 0
-Stands m w P = (k : ℕ) × (w ≡ given k) × (c : SymbolCell) × (slice_get m.made k ≡ Some c) × P c
+abbrev pub StandsInCell : SymbolMemory → SymbolWord → (SymbolCell → Type 0) → Type 0
+StandsInCell m w P = (k : ℕ) × (w ≡ given k) × (c : SymbolCell) × (slice_get m.made k ≡ Some c) × P c
 
 abbrev pub symbol_meaning : Meaning Symbol SymbolWord SymbolMemory
 symbol_meaning = record {
   direct = λ t v ws. T (direct_are t v ws);
-  given = λ m w. Stands m w (λ c. Unit {0});
-  holds = λ m w v. Stands m w (λ c. c.1 ≡ Some v);
-  made_for = λ m w t. Stands m w (λ c. c.0 ≡ t);
+  given = λ m w. StandsInCell m w (λ c. Unit {0});
+  holds = λ m w v. StandsInCell m w (λ c. c.1 ≡ Some v);
+  made_for = λ m w t. StandsInCell m w (λ c. c.0 ≡ t);
 }
 
-abbrev pub Tells : Bool → Type 0 → Type 0
-Tells b P = (IsTrue b → P) × (P → IsTrue b)
+abbrev pub TellsWhether : Bool → Type 0 → Type 0
+TellsWhether b P = (IsTrue b → P) × (P → IsTrue b)
 
 -- in each world the tests hold exactly where the words pass, and where they return
 abbrev pub TestsTell : Type 0
 TestsTell =
-    (w : World) →
+    (w : SymbolWorld) →
     ((m : SymbolMemory) (pointers types : List Tree) (vs : List Symbol) (ws : List SymbolWord) →
-    Tells (passes m pointers types vs ws) (PassesWords (symbols w) symbol_meaning m pointers types vs ws)) ×
+    TellsWhether (passes m pointers types vs ws) (PassesWords (symbols w) symbol_meaning m pointers types vs ws)) ×
     ((abi : Abi) (results : List Tree) (reply : Option Symbol) (o : Outcome Symbol SymbolWord SymbolMemory) →
-    Tells (gives_back abi w results reply o) (ReturnsOf (symbols w) symbol_meaning abi results reply o))
+    TellsWhether (gives_back abi w results reply o) (ReturnsOf (symbols w) symbol_meaning abi results reply o))

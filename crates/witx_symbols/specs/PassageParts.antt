@@ -10,7 +10,7 @@ use Rattle.witx_machine.specs.Words.{when}
 use Rattle.witx_machine.specs.Passage.{last_words}
 use Rattle.witx_machine.specs.Run.{Outcome}
 use Rattle.witx_symbols.specs.Symbols.{Symbol, SymbolWord, list_address, list_length, same_symbol}
-use Rattle.witx_symbols.specs.Symbolic.{SymbolMemory, World, picks_in}
+use Rattle.witx_symbols.specs.Symbolic.{SymbolMemory, SymbolWorld, picks_in}
 use Rattle.witx_symbols.specs.Verdicts.{param_are, is_word_of, is_case_word, hold_parts, ok_parts, returns_picked}
 
 -- a list's address and length, and no other word
@@ -38,7 +38,7 @@ err_returns None p m ws = false
 err_returns (Some t) p m ws = param_are m (plain t) p ws
 
 -- a reply that is a variant with a payload
-abbrev pub cases_return : World → Arms → Symbol → Outcome Symbol SymbolWord SymbolMemory → Bool
+abbrev pub cases_return : SymbolWorld → Arms → Symbol → Outcome Symbol SymbolWord SymbolMemory → Bool
 cases_return w cs v o =
     returns_picked (ok_of cs) (err_of cs) (last_words (length (ok_pointers (ok_of cs))) o.call.words)
     (picks_in w.error w (ok_of cs) (err_of cs) v) o.call.at_return o.call.callee_words

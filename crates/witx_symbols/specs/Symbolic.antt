@@ -9,7 +9,7 @@ use Rattle.witx_machine.specs.declared.surface.WasmType.{WasmType}
 use Rattle.witx_machine.specs.Words.{same_type, Scalar, pointer, const_pointer, word_type, type_for, is_for, when}
 use Rattle.witx_machine.specs.Functions.{Function, by_address, name_of, ok_of, err_of, result_cases}
 use Rattle.witx_machine.specs.Machine.{Domain}
-use Rattle.witx_symbols.specs.Symbols.{payload, reply, Symbol, SymbolWord, atom, tuple, made, bare_made, word_of_symbol, list_address, list_length, given, zero_word, one_word, listed, symbols_of, same_symbol, same_option, symbol_from, is_of}
+use Rattle.witx_symbols.specs.Symbols.{payload, reply, Symbol, SymbolWord, atom, tuple, made, bare_made, word_of_symbol, list_address, list_length, given, zero_word, one_word, symbols_listed, symbols_of, same_symbol, same_option, symbol_from, is_of}
 
 -- a type has the conversion: it is the builtin, a pointer, or alike to the named type, which is of the kind
 abbrev pub has_kind : Scalar → Plain → Bool
@@ -31,17 +31,17 @@ abbrev pub lift_word : Scalar → SymbolWord → Option Symbol
 lift_word x (word_of_symbol v w) = when (same_type w (word_type x) && converts x v) (Some v)
 lift_word x _ = None
 
-abbrev pub list_words : Symbol → Option (SymbolWord × SymbolWord)
-list_words (atom s (Plain.list_of t)) = Some (list_address (atom s (Plain.list_of t)), list_length (atom s (Plain.list_of t)))
-list_words _ = None
+abbrev pub symbol_list_words : Symbol → Option (SymbolWord × SymbolWord)
+symbol_list_words (atom s (Plain.list_of t)) = Some (list_address (atom s (Plain.list_of t)), list_length (atom s (Plain.list_of t)))
+symbol_list_words _ = None
 
 abbrev pub list_of_words : SymbolWord → SymbolWord → Option Symbol
 list_of_words (list_address v) (list_length u) = when (same_symbol v u) (Some v)
 list_of_words _ _ = None
 
-abbrev pub parts_of : ℕ → Symbol → Option (List Symbol)
-parts_of n (tuple vs) = when (nat_eq n (length (listed vs))) (Some (listed vs))
-parts_of n _ = None
+abbrev pub symbol_parts : ℕ → Symbol → Option (List Symbol)
+symbol_parts n (tuple vs) = when (nat_eq n (length (symbols_listed vs))) (Some (symbols_listed vs))
+symbol_parts n _ = None
 
 -- an address that was given: the named type for which it was made, and a symbol or none
 abbrev pub SymbolCell : Type 0
@@ -78,7 +78,7 @@ set_symbol t (given k) v m = put_in t v k m (slice_get m.made k)
 set_symbol t _ v m = None
 
 -- A WORLD: the ABI; the reply; which case it is, true for the second, if it is known to be one of the first two; and its payload
-pub record World : Type 0 where
+pub record SymbolWorld : Type 0 where
   pub abi : Abi
   pub whole : Option Symbol
   pub error : Option Bool
@@ -91,7 +91,7 @@ payload_is None (Some p) = None
 payload_is (Some t) None = None
 
 -- only the reply has a case, and only where the world knows it
-abbrev pub picks_in : Option Bool → World → Option Tree → Option Tree → Symbol → Option (Bool × Option (Symbol × Option Tree))
+abbrev pub picks_in : Option Bool → SymbolWorld → Option Tree → Option Tree → Symbol → Option (Bool × Option (Symbol × Option Tree))
 picks_in None w ok err v = None
 picks_in (Some e) w ok err v = when (same_option w.whole (Some v)) (option_map (λ p. (e, p)) (payload_is (cond e err ok) w.load))
 
@@ -101,7 +101,7 @@ payload_tells Abi.Preview1 = true
 payload_tells Abi.Stored = false
 
 -- where the reply is the first case the word 0 stands for it; where it is the second the word 1, an address, or the payload's word
-abbrev pub chooses_in : Option Bool → World → SymbolWord → Option Bool
+abbrev pub chooses_in : Option Bool → SymbolWorld → SymbolWord → Option Bool
 chooses_in (Some false) w zero_word = Some false
 chooses_in (Some true) w one_word = Some true
 chooses_in (Some true) w (given k) = Some true
@@ -118,7 +118,7 @@ same_case true true = true
 same_case false false = true
 same_case _ _ = false
 
-abbrev pub result_in : World → Bool → Option Symbol → Option Symbol → Option Bool → Symbol
+abbrev pub result_in : SymbolWorld → Bool → Option Symbol → Option Symbol → Option Bool → Symbol
 result_in w e p (Some r) (Some known) = cond (same_case e known && same_option w.load p) r (made_of (cond e 1 0) p)
 result_in w e p _ _ = made_of (cond e 1 0) p
 
@@ -127,14 +127,14 @@ word_has_type t (word_of_symbol v w) = same_type w t
 word_has_type t _ = same_type WasmType.I32 t
 
 -- THE SYMBOLIC MACHINE is the machine with these operations
-abbrev pub symbols : World → Domain Symbol SymbolWord SymbolMemory
+abbrev pub symbols : SymbolWorld → Domain Symbol SymbolWord SymbolMemory
 symbols w = record {
   lower = lower_symbol;
   lift = lift_word;
-  list_words = list_words;
+  list_words = symbol_list_words;
   list_value = list_of_words;
   tuple = λ vs. tuple (symbols_of vs);
-  parts = parts_of;
+  parts = symbol_parts;
   give = λ t m. give_symbol t None m.made m.left;
   put = λ t v m. when (by_address (plain t)) (give_symbol t (Some v) m.made m.left);
   get = get_symbol;
@@ -155,25 +155,25 @@ reply_from (t ∷ ts) = Some (symbol_from (plain t) reply)
 abbrev pub payload_from : Option Tree → Option Symbol
 payload_from t = option_map (λ t. symbol_from (plain t) payload) t
 
-abbrev pub unknown_world : Abi → Option Symbol → World
+abbrev pub unknown_world : Abi → Option Symbol → SymbolWorld
 unknown_world abi whole = record { abi = abi; whole = whole; error = None; load = None }
 
-abbrev pub known_world : Abi → Option Symbol → Arms → Bool → World
+abbrev pub known_world : Abi → Option Symbol → Arms → Bool → SymbolWorld
 known_world abi whole cs e = record { abi = abi; whole = whole; error = Some e; load = payload_from (cond e (err_of cs) (ok_of cs)) }
 
-abbrev pub world_if : Bool → World → List World
+abbrev pub world_if : Bool → SymbolWorld → List SymbolWorld
 world_if true w = w ∷ []
 world_if false w = []
 
-abbrev pub worlds_by : Abi → Option Symbol → Option Arms → List World
+abbrev pub worlds_by : Abi → Option Symbol → Option Arms → List SymbolWorld
 worlds_by abi whole None = unknown_world abi whole ∷ []
 worlds_by abi whole (Some cs) =
     known_world abi whole cs false
     ∷ (world_if (nat_le 2 (length (arm_list cs))) (known_world abi whole cs true) ++ world_if (nat_le 3 (length (arm_list cs))) (unknown_world abi whole))
 
-abbrev pub worlds_of : Abi → List Tree → List World
+abbrev pub worlds_of : Abi → List Tree → List SymbolWorld
 worlds_of abi [] = worlds_by abi None None
 worlds_of abi (t ∷ ts) = worlds_by abi (reply_from (t ∷ ts)) (result_cases t)
 
-abbrev pub worlds : Function → List World
+abbrev pub worlds : Function → List SymbolWorld
 worlds f = worlds_of f.abi f.results

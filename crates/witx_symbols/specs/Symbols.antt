@@ -36,9 +36,9 @@ pub data SymbolWord : Type 0 where
   zero_word : SymbolWord
   one_word : SymbolWord
 
-abbrev pub listed : Symbols → List Symbol
-listed no_symbols = []
-listed (symbol v vs) = v ∷ listed vs
+abbrev pub symbols_listed : Symbols → List Symbol
+symbols_listed no_symbols = []
+symbols_listed (symbol v vs) = v ∷ symbols_listed vs
 
 abbrev pub symbols_of : List Symbol → Symbols
 symbols_of [] = no_symbols

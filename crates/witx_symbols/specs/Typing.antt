@@ -11,9 +11,9 @@ abbrev pub is_tuple_type : Plain → Bool
 is_tuple_type (Plain.record_of k ms) = is_tuple_kind k
 is_tuple_type _ = false
 
-abbrev pub is_list_type : Plain → Bool
-is_list_type (Plain.list_of t) = true
-is_list_type _ = false
+abbrev pub is_listed_type : Plain → Bool
+is_listed_type (Plain.list_of t) = true
+is_listed_type _ = false
 
 abbrev pub is_pointer_type : Plain → Bool
 is_pointer_type (Plain.pointer_to t) = true
@@ -39,5 +39,5 @@ is_enum_type _ = false
 
 -- a symbol of a list type
 abbrev pub is_list_symbol : Symbol → Bool
-is_list_symbol (atom s t) = is_list_type t
+is_list_symbol (atom s t) = is_listed_type t
 is_list_symbol _ = false

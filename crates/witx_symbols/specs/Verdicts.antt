@@ -20,7 +20,7 @@ use Rattle.witx_machine.specs.Passage.{last_words}
 use Rattle.witx_symbols.specs.declared.surface.Doubt.{Doubt}
 use Rattle.witx_symbols.specs.declared.surface.Verdict.{Verdict}
 use Rattle.witx_symbols.specs.Symbols.{argument, Symbol, SymbolWord, word_of_symbol, list_address, list_length, given, zero_word, one_word, same_symbol, same_option, same_symbols, symbol_from}
-use Rattle.witx_symbols.specs.Symbolic.{SymbolCell, SymbolMemory, World, symbols, worlds, parts_of, picks_in, reply_from}
+use Rattle.witx_symbols.specs.Symbolic.{SymbolCell, SymbolMemory, SymbolWorld, symbols, worlds, symbol_parts, picks_in, reply_from}
 
 -- PASSES, of symbols: the words of a call going in
 abbrev pub is_word_of : List WasmType → Symbol → SymbolWord → Bool
@@ -79,7 +79,7 @@ hold_parts m ws None = false
 hold_parts m ws (Some vs) = hold_all m ws vs
 
 abbrev pub ok_parts : Bool → ℕ → Symbol → Option (List Symbol)
-ok_parts true n v = parts_of n v
+ok_parts true n v = symbol_parts n v
 ok_parts false n v = Some (v ∷ [])
 
 abbrev pub is_case_word : Bool → List SymbolWord → Bool
@@ -100,7 +100,7 @@ abbrev pub returns_picked : (ok err : Option Tree) → (pointers : List SymbolWo
 returns_picked ok err pointers None m ws = false
 returns_picked ok err pointers (Some c) m ws = returns_case ok err pointers c.0 c.1 m ws
 
-abbrev pub returns_by : World → Option Arms → Tree → Symbol → Outcome Symbol SymbolWord SymbolMemory → Bool
+abbrev pub returns_by : SymbolWorld → Option Arms → Tree → Symbol → Outcome Symbol SymbolWord SymbolMemory → Bool
 returns_by w None t v o = direct_are (plain t) v o.call.callee_words
 returns_by w (Some cs) t v o =
     returns_picked (ok_of cs) (err_of cs) (last_words (length (pointers_by (Some cs))) o.call.words)
@@ -109,11 +109,11 @@ returns_by w (Some cs) t v o =
 abbrev pub returns_whole : Symbol → Outcome Symbol SymbolWord SymbolMemory → Bool
 returns_whole v o = is_nil o.call.callee_words && hold_all o.call.at_return (last_words 1 o.call.words) (v ∷ [])
 
-abbrev pub returns_under : Abi → World → Tree → Symbol → Outcome Symbol SymbolWord SymbolMemory → Bool
+abbrev pub returns_under : Abi → SymbolWorld → Tree → Symbol → Outcome Symbol SymbolWord SymbolMemory → Bool
 returns_under Abi.Preview1 w t v o = returns_by w (result_cases t) t v o
 returns_under Abi.Stored w t v o = returns_whole v o
 
-abbrev pub gives_back : Abi → World → List Tree → Option Symbol → Outcome Symbol SymbolWord SymbolMemory → Bool
+abbrev pub gives_back : Abi → SymbolWorld → List Tree → Option Symbol → Outcome Symbol SymbolWord SymbolMemory → Bool
 gives_back abi w [] None o = is_nil o.call.callee_words
 gives_back abi w (t ∷ []) (Some v) o = returns_under abi w t v o
 gives_back abi w _ _ o = false
@@ -136,7 +136,7 @@ or_else None d = d
 or_else (Some d) e = Some d
 
 -- a run names the event that has no rule; so the third clause can't come
-abbrev pub judged : World → Function → List Symbol → Option Symbol → Tried Spot (Outcome Symbol SymbolWord SymbolMemory) → Option Doubt
+abbrev pub judged : SymbolWorld → Function → List Symbol → Option Symbol → Tried Spot (Outcome Symbol SymbolWord SymbolMemory) → Option Doubt
 judged w f arguments whole (stuck_at (in_caller i)) = Some (Doubt.Caller i)
 judged w f arguments whole (stuck_at (in_callee i)) = Some (Doubt.Callee i)
 judged w f arguments whole no_rule = Some (Doubt.Caller 0)
@@ -147,12 +147,12 @@ judged w f arguments whole (went o) =
     (unless (are_values (values_in o.back) (option_to_list whole)) Doubt.Reply None)))
 
 -- in one world; as many addresses can be given as there are events, as in a faithful pair's runs
-abbrev pub doubt_in : World → List ℕ → Function → (caller callee : List Event) → Option Doubt
+abbrev pub doubt_in : SymbolWorld → List ℕ → Function → (caller callee : List Event) → Option Doubt
 doubt_in w m f caller callee =
     judged w f (arguments_from 0 f.params) (reply_from f.results)
     (spotted_run (symbols w) m f caller callee (arguments_from 0 f.params) (reply_from f.results) (record { made = []; left = length caller + length callee }))
 
-abbrev pub first_doubt : List World → List ℕ → Function → (caller callee : List Event) → Option Doubt
+abbrev pub first_doubt : List SymbolWorld → List ℕ → Function → (caller callee : List Event) → Option Doubt
 first_doubt [] m f caller callee = None
 first_doubt (w ∷ ws) m f caller callee = or_else (doubt_in w m f caller callee) (first_doubt ws m f caller callee)
 
@@ -180,5 +180,5 @@ verdict m f caller callee = verdict_of (doubt m f caller callee)
 -- a run that doesn't end names the event at which it got stuck, so that the doubt of a run without a place never comes
 abbrev pub RunsNamePlaces : Type 0
 RunsNamePlaces =
-    (w : World) (m : List ℕ) (f : Function) (caller callee : List Event) (arguments : List Symbol) (whole : Option Symbol) (memory : SymbolMemory) →
+    (w : SymbolWorld) (m : List ℕ) (f : Function) (caller callee : List Event) (arguments : List Symbol) (whole : Option Symbol) (memory : SymbolMemory) →
     spotted_run (symbols w) m f caller callee arguments whole memory ≢ no_rule

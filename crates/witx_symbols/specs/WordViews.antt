@@ -34,13 +34,13 @@ option_of v = option_map shared_of v
 abbrev pub shared_symbols : List Shared → List symbols.Symbol
 shared_symbols vs = map shared_of vs
 
-abbrev pub word_of : declared_word.Word → SymbolWord
-word_of (word.Of s t) = symbols.word_of_symbol (shared_of s) t
-word_of (word.Address s) = symbols.list_address (shared_of s)
-word_of (word.Length s) = symbols.list_length (shared_of s)
-word_of (word.Given k) = symbols.given k
-word_of word.Zero = symbols.zero_word
-word_of word.One = symbols.one_word
+abbrev pub word_seen : declared_word.Word → SymbolWord
+word_seen (word.Of s t) = symbols.word_of_symbol (shared_of s) t
+word_seen (word.Address s) = symbols.list_address (shared_of s)
+word_seen (word.Length s) = symbols.list_length (shared_of s)
+word_seen (word.Given k) = symbols.given k
+word_seen word.Zero = symbols.zero_word
+word_seen word.One = symbols.one_word
 
 abbrev pub cell_of : declared_cell.Cell → SymbolCell
 cell_of c = (named_tree c.made_for.value, option_of c.content)
@@ -48,7 +48,7 @@ cell_of c = (named_tree c.made_for.value, option_of c.content)
 abbrev pub memory_of : declared_cells.Cells → SymbolMemory
 memory_of m = record { made = map cell_of m.cells.items; left = m.left }
 
-abbrev pub world_of : declared_world.World → symbolic.World
+abbrev pub world_of : declared_world.World → symbolic.SymbolWorld
 world_of w = record { abi = w.abi; whole = option_of w.whole; error = w.error; load = option_of w.load }
 
 -- a cell takes a symbol under a type

@@ -3,17 +3,17 @@ use Rattle.std.specs.Prelude.{◌≡◌, List, [], ◌∷◌, map, Bool, Option,
 use Rattle.witx_ast.specs.declared.function.Abi.{Abi}
 use Rattle.witx_ast.specs.Tree.{Tree}
 use Rattle.witx_symbols.specs.Symbols.{Symbol}
-use Rattle.witx_symbols.specs.Symbolic.{World, payload_from}
+use Rattle.witx_symbols.specs.Symbolic.{SymbolWorld, payload_from}
 use Rattle.witx_symbols.specs.WordViews.{world_of}
 use Rattle.witx_symbols.specs.declared.world.World as declared_world
 
-abbrev pub worlds_read : List declared_world.World → List World
+abbrev pub worlds_read : List declared_world.World → List SymbolWorld
 worlds_read ws = map world_of ws
 
-abbrev pub world_known : Abi → Symbol → Bool → Option Tree → World
+abbrev pub world_known : Abi → Symbol → Bool → Option Tree → SymbolWorld
 world_known abi whole e payload = record { abi = abi; whole = Some whole; error = Some e; load = payload_from payload }
 
 -- worlds of this reply
-abbrev pub AreOf : Option Symbol → List World → Type 0
+abbrev pub AreOf : Option Symbol → List SymbolWorld → Type 0
 AreOf reply [] = Unit {0}
 AreOf reply (w ∷ ws) = (w.whole ≡ reply) × AreOf reply ws

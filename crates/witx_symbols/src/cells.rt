@@ -8,7 +8,7 @@ ghost use Rattle.witx_symbols.specs.Symbols.{given};
 ghost use Rattle.witx_symbols.specs.Symbolic.{give_symbol, symbol_at, get_symbol, put_in, set_symbol};
 ghost use Rattle.witx_symbols.specs.Verdicts.{holds_symbol};
 ghost use Rattle.witx_symbols.specs.SymbolViews.{symbol_of};
-ghost use Rattle.witx_symbols.specs.WordViews.{takes_symbol, word_of, shared_of, option_of, cell_of, memory_of};
+ghost use Rattle.witx_symbols.specs.WordViews.{takes_symbol, word_seen, shared_of, option_of, cell_of, memory_of};
 
 use crate::kinds::is_by_address;
 use crate::symbol::Symbol;
@@ -68,7 +68,7 @@ impl Cells {
         ty: &Rc<NamedType>,
         content: Option<Rc<Symbol>>,
     ) -> Result<Option<Word>, OutOfMemory>
-        ensures { IfOk result (λ word. option_map (λ w. (word_of w, memory_of self.new)) word ≡
+        ensures { IfOk result (λ word. option_map (λ w. (word_seen w, memory_of self.new)) word ≡
             give_symbol (named_tree ty.now.value) (option_of content) (memory_of self.old).made (memory_of self.old).left) }
     {
         match self.give_number(ty, content)? {
@@ -104,7 +104,7 @@ impl Cells {
         ty: &Rc<NamedType>,
         symbol: Rc<Symbol>,
     ) -> Result<Option<Word>, OutOfMemory>
-        ensures { IfOk result (λ word. option_map (λ w. (word_of w, memory_of self.new)) word ≡
+        ensures { IfOk result (λ word. option_map (λ w. (word_seen w, memory_of self.new)) word ≡
             put_symbol (named_tree ty.now.value) (shared_of symbol) (memory_of self.old)) }
     {
         if is_by_address(&ty.tref) {
@@ -132,7 +132,7 @@ impl Cells {
     /// address, or nothing stands there.
     #[tactic(auto, using(crate::proofs::CellLemmas::cell_rules))]
     pub fn get(&self, ty: &NamedType, word: &Word) -> Result<Option<Rc<Symbol>>, OutOfMemory>
-        ensures { IfOk result (λ symbol. option_of symbol ≡ get_symbol (named_tree ty.now) (word_of word.now) (memory_of self.now)) }
+        ensures { IfOk result (λ symbol. option_of symbol ≡ get_symbol (named_tree ty.now) (word_seen word.now) (memory_of self.now)) }
     {
         match word {
             Word::Given(k) => match self.cells.get(*k) {
@@ -151,7 +151,7 @@ impl Cells {
     /// it did; else nothing changes.
     #[tactic(auto, using(crate::proofs::CellLemmas::cell_rules))]
     pub fn set(&mut self, ty: &NamedType, word: &Word, symbol: Rc<Symbol>) -> bool
-        ensures stored { when result (Some (memory_of self.new)) ≡ set_symbol (named_tree ty.now) (word_of word.now) (shared_of symbol) (memory_of self.old) }
+        ensures stored { when result (Some (memory_of self.new)) ≡ set_symbol (named_tree ty.now) (word_seen word.now) (shared_of symbol) (memory_of self.old) }
         ensures kept { result ≡ false → self.new ≡ self.old }
     {
         match word {
@@ -167,7 +167,7 @@ impl Cells {
     /// Whether the word is an address that was given, at which the symbol stands.
     #[tactic(auto, using(crate::proofs::CellLemmas::cell_rules))]
     pub(crate) fn holds(&self, word: &Word, symbol: &Symbol) -> bool
-        ensures { result ≡ holds_symbol (memory_of self.now) (word_of word.now) (symbol_of symbol.now) }
+        ensures { result ≡ holds_symbol (memory_of self.now) (word_seen word.now) (symbol_of symbol.now) }
     {
         match word {
             Word::Given(k) => match self.cells.get(*k) {

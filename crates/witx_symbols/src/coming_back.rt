@@ -8,11 +8,11 @@ ghost use Rattle.witx_machine.specs.Passage.{last_words};
 ghost use Rattle.witx_machine.specs.Signature.{ok_pointers};
 ghost use Rattle.witx_instructions.specs.Views.{param_types, payload_tree, variant_arms};
 ghost use Rattle.witx_symbols.specs.Verdicts.{gives_back, returns_under, returns_by, returns_whole, returns_case, hold_all, hold_parts, ok_parts, is_case_word};
-ghost use Rattle.witx_symbols.specs.Symbolic.{parts_of as symbol_parts};
+ghost use Rattle.witx_symbols.specs.Symbolic.{symbol_parts};
 ghost use Rattle.witx_symbols.specs.PassageParts.{nothing_returns, cases_return, ok_returns, err_returns};
 ghost use Rattle.witx_symbols.specs.OutcomeViews.{outcome_of, words_of};
 ghost use Rattle.witx_symbols.specs.SymbolViews.{symbol_of};
-ghost use Rattle.witx_symbols.specs.WordViews.{memory_of, option_of, payload_pair, shared_symbols, word_of, world_of};
+ghost use Rattle.witx_symbols.specs.WordViews.{memory_of, option_of, payload_pair, shared_symbols, word_seen, world_of};
 
 use crate::cells::Cells;
 use crate::going_in::{direct_are, holds_one, param_are};
@@ -183,7 +183,7 @@ fn is_case_word(error: bool, words: &[Word]) -> bool
 
 #[tactic(auto, using(crate::proofs::ReturnLemmas::return_rules))]
 fn stands_for(error: bool, word: &Word) -> bool
-    ensures { result ≡ is_case_word error (word_of word.now ∷ []) }
+    ensures { result ≡ is_case_word error (word_seen word.now ∷ []) }
 {
     match word {
         Word::Zero => !error,

@@ -4,7 +4,7 @@ ghost use Rattle.std.specs.Prelude.{◌≡◌, IfOk};
 ghost use Rattle.witx_symbols.specs.Symbolic.{SymbolMemory, symbols, result_in};
 ghost use Rattle.witx_symbols.specs.Symbols as symbol_words;
 ghost use Rattle.witx_symbols.specs.Symbols.{SymbolWord, tuple, symbols_of};
-ghost use Rattle.witx_symbols.specs.WordViews.{shared_of, option_of, shared_symbols, word_of, memory_of, world_of};
+ghost use Rattle.witx_symbols.specs.WordViews.{shared_of, option_of, shared_symbols, word_seen, memory_of, world_of};
 
 use crate::cells::Cells;
 use crate::symbol::Symbol;
@@ -39,7 +39,7 @@ impl Domain for Symbolic<'_> {
 
     ghost value_of = { shared_of };
 
-    ghost word_of = { word_of };
+    ghost word_of = { word_seen };
 
     ghost memory_of = { memory_of };
 

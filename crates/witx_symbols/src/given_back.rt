@@ -3,7 +3,7 @@
 ghost use Rattle.std.specs.Prelude.{◌≡◌, ◌∷◌, [], option_to_list};
 ghost use Rattle.witx_machine.specs.Run.{values_in};
 ghost use Rattle.witx_symbols.specs.Verdicts.{are_values};
-ghost use Rattle.witx_symbols.specs.OutcomeViews.{item_of, items_of};
+ghost use Rattle.witx_symbols.specs.OutcomeViews.{symbol_item, symbol_items};
 ghost use Rattle.witx_symbols.specs.SymbolViews.{symbol_of};
 ghost use Rattle.witx_symbols.specs.WordViews.{option_of};
 
@@ -14,7 +14,7 @@ use std::rc::Rc;
 /// Whether what the caller gave back is the reply alone, or nothing where there is none.
 #[tactic(auto, using(crate::proofs::JudgeLemmas::judge_rules))]
 pub fn is_reply(back: &[Item], reply: &Option<Rc<Symbol>>) -> bool
-    ensures { result ≡ are_values (values_in (items_of back.now)) (option_to_list (option_of reply.now)) }
+    ensures { result ≡ are_values (values_in (symbol_items back.now)) (option_to_list (option_of reply.now)) }
 {
     match reply {
         Some(reply) => is_alone(back, reply),
@@ -24,7 +24,7 @@ pub fn is_reply(back: &[Item], reply: &Option<Rc<Symbol>>) -> bool
 
 #[tactic(auto, using(crate::proofs::JudgeLemmas::judge_rules))]
 fn is_alone(back: &[Item], reply: &Symbol) -> bool
-    ensures { result ≡ are_values (values_in (items_of back.now)) (symbol_of reply.now ∷ []) }
+    ensures { result ≡ are_values (values_in (symbol_items back.now)) (symbol_of reply.now ∷ []) }
 {
     match back {
         [item] => is_value(item, reply),
@@ -34,7 +34,7 @@ fn is_alone(back: &[Item], reply: &Symbol) -> bool
 
 #[tactic(auto, using(crate::proofs::JudgeLemmas::judge_rules))]
 fn is_value(item: &Item, reply: &Symbol) -> bool
-    ensures { result ≡ are_values (values_in (item_of item.now ∷ [])) (symbol_of reply.now ∷ []) }
+    ensures { result ≡ are_values (values_in (symbol_item item.now ∷ [])) (symbol_of reply.now ∷ []) }
 {
     match item {
         Item::Value { value, name: _ } => same(value, reply),

@@ -8,7 +8,7 @@ ghost use Rattle.witx_symbols.specs.Verdicts.{param_are, direct_are, hold_all, i
 ghost use Rattle.witx_symbols.specs.PassageParts.{words_behind, list_are, one_is};
 ghost use Rattle.witx_symbols.specs.OutcomeViews.{words_of};
 ghost use Rattle.witx_symbols.specs.SymbolViews.{symbol_of};
-ghost use Rattle.witx_symbols.specs.WordViews.{memory_of, word_of};
+ghost use Rattle.witx_symbols.specs.WordViews.{memory_of, word_seen};
 
 use crate::cells::Cells;
 use crate::kinds::{has_one_word, is_by_address, is_list};
@@ -93,7 +93,7 @@ fn list_are(list: &Symbol, words: &[Word]) -> bool
 
 #[tactic(auto, using(crate::proofs::PassLemmas::pass_rules))]
 fn are_of_list(list: &Symbol, address: &Word, length: &Word) -> bool
-    ensures { result ≡ list_are (symbol_of list.now) (word_of address.now ∷ word_of length.now ∷ []) }
+    ensures { result ≡ list_are (symbol_of list.now) (word_seen address.now ∷ word_seen length.now ∷ []) }
 {
     match (address, length) {
         (Word::Address(one), Word::Length(other)) => same(list, one) && same(list, other),
@@ -113,7 +113,7 @@ fn one_is(ty: &TypeRef, symbol: &Symbol, words: &[Word]) -> bool
 
 #[tactic(auto, using(crate::proofs::PassLemmas::pass_rules))]
 fn is_word_of(ty: &TypeRef, symbol: &Symbol, word: &Word) -> bool
-    ensures { result ≡ is_word_of (param_words (plain (tree_of ty.now))) (symbol_of symbol.now) (word_of word.now) }
+    ensures { result ≡ is_word_of (param_words (plain (tree_of ty.now))) (symbol_of symbol.now) (word_seen word.now) }
 {
     match word {
         Word::Of {

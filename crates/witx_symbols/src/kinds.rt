@@ -11,7 +11,7 @@ ghost use Rattle.witx_machine.specs.Words.{same_types};
 ghost use Rattle.witx_symbols.specs.Symbolic.{has_kind, converts};
 ghost use Rattle.witx_symbols.specs.SymbolViews.{symbol_of};
 ghost use Rattle.witx_run.specs.Views.{scalar_of};
-ghost use Rattle.witx_symbols.specs.Typing.{is_list_type, is_pointer_type, is_const_pointer_type, is_handle_type, is_flags_type, is_enum_type};
+ghost use Rattle.witx_symbols.specs.Typing.{is_listed_type, is_pointer_type, is_const_pointer_type, is_handle_type, is_flags_type, is_enum_type};
 
 use crate::symbol::Symbol;
 use crate::types::alike;
@@ -120,14 +120,14 @@ fn is_word_of_record(word: WasmType, members: &RecordDatatype) -> bool
 /// Whether a type is a list, names looked through.
 #[tactic(auto, using(crate::proofs::KindLemmas::kind_rules))]
 pub(crate) fn is_list(ty: &TypeRef) -> bool
-    ensures { result ≡ is_list_type (plain (tree_of ty.now)) }
+    ensures { result ≡ is_listed_type (plain (tree_of ty.now)) }
 {
     is_list_datatype(ty.type_())
 }
 
 #[tactic(auto, using(crate::proofs::KindLemmas::kind_rules))]
 fn is_list_datatype(datatype: &Datatype) -> bool
-    ensures { result ≡ is_list_type (plain (datatype_tree datatype.now)) }
+    ensures { result ≡ is_listed_type (plain (datatype_tree datatype.now)) }
 {
     matches!(datatype, Datatype::List(_))
 }

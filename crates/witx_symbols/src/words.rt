@@ -1,14 +1,14 @@
 //! What stands for a word, and the conversions between symbols and words.
 
 ghost use Rattle.std.specs.Prelude.{◌≡◌, IfOk, option_map};
-ghost use Rattle.witx_symbols.specs.Symbolic.{lower_symbol, lift_word, list_words, list_of_words, parts_of, word_has_type};
+ghost use Rattle.witx_symbols.specs.Symbolic.{lower_symbol, lift_word, symbol_list_words, list_of_words, symbol_parts, word_has_type};
 ghost use Rattle.witx_ast.specs.Plain.{plain};
 ghost use Rattle.witx_ast.specs.Views.{datatype_tree, members_plain};
 ghost use Rattle.witx_symbols.specs.Symbols.{tuple, symbol_from, parts_from};
 ghost use Rattle.witx_symbols.specs.SymbolViews.{source_of, symbol_of, symbols_read};
 ghost use Rattle.witx_symbols.specs.Typing.{is_list_symbol};
 ghost use Rattle.witx_run.specs.Views.{scalar_of};
-ghost use Rattle.witx_symbols.specs.WordViews.{word_of, shared_of, option_of, shared_symbols};
+ghost use Rattle.witx_symbols.specs.WordViews.{word_seen, shared_of, option_of, shared_symbols};
 
 use crate::from::parts_from;
 use crate::kinds::{converts, is_list};
@@ -41,7 +41,7 @@ impl Word {
     /// Whether the word is of a type.
     #[tactic(auto, using(crate::proofs::WordLemmas::word_rules))]
     pub fn has_type(&self, ty: WasmType) -> bool
-        ensures { result ≡ word_has_type ty (word_of self.now) }
+        ensures { result ≡ word_has_type ty (word_seen self.now) }
     {
         match self {
             Word::Of { symbol: _, ty: own } => same_type(*own, ty),
@@ -54,7 +54,7 @@ impl Word {
     /// The word once more.
     #[tactic(auto, using(crate::proofs::WordLemmas::word_rules))]
     pub(crate) fn again(&self) -> Result<Word, OutOfMemory>
-        ensures { IfOk result (λ w. word_of w ≡ word_of self.now) }
+        ensures { IfOk result (λ w. word_seen w ≡ word_seen self.now) }
     {
         match self {
             Word::Of { symbol, ty } => Ok(Word::Of {
@@ -73,7 +73,7 @@ impl Word {
 /// The one word of a symbol by a conversion; none where its type doesn't have it.
 #[tactic(auto, using(crate::proofs::WordLemmas::word_rules))]
 pub fn lower(conversion: &Conversion<'_>, symbol: &Rc<Symbol>) -> Result<Option<Word>, OutOfMemory>
-    ensures { IfOk result (λ word. option_map word_of word ≡ lower_symbol (scalar_of conversion.now) (shared_of symbol.now)) }
+    ensures { IfOk result (λ word. option_map word_seen word ≡ lower_symbol (scalar_of conversion.now) (shared_of symbol.now)) }
 {
     if converts(conversion, symbol) {
         Ok(Some(Word::Of {
@@ -88,7 +88,7 @@ pub fn lower(conversion: &Conversion<'_>, symbol: &Rc<Symbol>) -> Result<Option<
 /// The symbol whose word it is, by a conversion that its type has; else none.
 #[tactic(auto, using(crate::proofs::WordLemmas::word_rules))]
 pub fn lift(conversion: &Conversion<'_>, word: &Word) -> Result<Option<Rc<Symbol>>, OutOfMemory>
-    ensures { IfOk result (λ symbol. option_of symbol ≡ lift_word (scalar_of conversion.now) (word_of word.now)) }
+    ensures { IfOk result (λ symbol. option_of symbol ≡ lift_word (scalar_of conversion.now) (word_seen word.now)) }
 {
     match word {
         Word::Of { symbol, ty } => {
@@ -105,7 +105,7 @@ pub fn lift(conversion: &Conversion<'_>, word: &Word) -> Result<Option<Rc<Symbol
 /// The address and the length of a symbol of a list type; none of another symbol.
 #[tactic(auto, using(crate::proofs::WordLemmas::word_rules))]
 pub fn list_words(symbol: &Rc<Symbol>) -> Result<Option<(Word, Word)>, OutOfMemory>
-    ensures { IfOk result (λ words. option_map (λ p. (word_of p.0, word_of p.1)) words ≡ list_words (shared_of symbol.now)) }
+    ensures { IfOk result (λ words. option_map (λ p. (word_seen p.0, word_seen p.1)) words ≡ symbol_list_words (shared_of symbol.now)) }
 {
     if is_a_list(symbol) {
         let address = Word::Address(Rc::clone(symbol)?);
@@ -133,7 +133,7 @@ fn is_a_list(symbol: &Symbol) -> bool
 /// The list of this address and this length, where they are its own; else none.
 #[tactic(auto, using(crate::proofs::WordLemmas::word_rules))]
 pub fn list_of_words(address: &Word, length: &Word) -> Result<Option<Rc<Symbol>>, OutOfMemory>
-    ensures { IfOk result (λ symbol. option_of symbol ≡ list_of_words (word_of address.now) (word_of length.now)) }
+    ensures { IfOk result (λ symbol. option_of symbol ≡ list_of_words (word_seen address.now) (word_seen length.now)) }
 {
     match (address, length) {
         (Word::Address(list), Word::Length(other)) => {
@@ -154,7 +154,7 @@ pub fn parts_of(
     count: usize,
     symbol: &Symbol,
 ) -> Result<Option<Vec<Rc<Symbol>>>, OutOfMemory>
-    ensures { IfOk result (λ parts. option_map (λ vs. shared_symbols vs.items) parts ≡ parts_of count (symbol_of symbol.now)) }
+    ensures { IfOk result (λ parts. option_map (λ vs. shared_symbols vs.items) parts ≡ symbol_parts count (symbol_of symbol.now)) }
 {
     match symbol {
         Symbol::Tuple(parts) => copied_parts(alloc, count, parts.as_slice()),
@@ -173,7 +173,7 @@ fn copied_parts(
     count: usize,
     parts: &[Rc<Symbol>],
 ) -> Result<Option<Vec<Rc<Symbol>>>, OutOfMemory>
-    ensures { IfOk result (λ copied. option_map (λ vs. shared_symbols vs.items) copied ≡ parts_of count (tuple (symbols_read parts.now))) }
+    ensures { IfOk result (λ copied. option_map (λ vs. shared_symbols vs.items) copied ≡ symbol_parts count (tuple (symbols_read parts.now))) }
 {
     if parts.len() == count {
         Ok(Some(copies(alloc, parts)?))
@@ -202,7 +202,7 @@ fn whole_parts(
     datatype: &Datatype,
 ) -> Result<Option<Vec<Rc<Symbol>>>, OutOfMemory>
     ensures { IfOk result (λ parts. option_map (λ vs. shared_symbols vs.items) parts
-        ≡ parts_of count (symbol_from (plain (datatype_tree datatype.now)) (source_of source.now.value))) }
+        ≡ symbol_parts count (symbol_from (plain (datatype_tree datatype.now)) (source_of source.now.value))) }
 {
     match datatype {
         Datatype::Record(record) => {
@@ -229,7 +229,7 @@ fn member_parts(
     members: &[RecordMember],
 ) -> Result<Option<Vec<Rc<Symbol>>>, OutOfMemory>
     ensures { IfOk result (λ parts. option_map (λ vs. shared_symbols vs.items) parts
-        ≡ parts_of count (tuple (parts_from (members_plain members.now) (source_of source.now.value) 0))) }
+        ≡ symbol_parts count (tuple (parts_from (members_plain members.now) (source_of source.now.value) 0))) }
 {
     if members.len() == count {
         Ok(Some(parts_from(alloc, members, source)?))

@@ -6,7 +6,7 @@ ghost use Rattle.witx_symbols.specs.Symbols.{same_option};
 ghost use Rattle.witx_symbols.specs.Symbolic.{payload_is, picks_in, chooses_in, made_of, result_in};
 ghost use Rattle.witx_symbols.specs.SymbolViews.{symbol_of};
 ghost use Rattle.witx_run.specs.Views.{type_tree};
-ghost use Rattle.witx_symbols.specs.WordViews.{word_of, shared_of, option_of, world_of, picked_of, payload_pair, is_case_of};
+ghost use Rattle.witx_symbols.specs.WordViews.{word_seen, shared_of, option_of, world_of, picked_of, payload_pair, is_case_of};
 
 use crate::symbol::{Symbol, same};
 use crate::typing::is_of;
@@ -63,7 +63,7 @@ impl World {
     /// Whether a word stands for the second case, or for the first; neither where it tells nothing.
     #[tactic(auto, using(crate::proofs::WordLemmas::word_rules))]
     pub fn chooses(&self, word: &Word) -> Option<bool>
-        ensures { result ≡ chooses_in self.now.error (world_of self.now) (word_of word.now) }
+        ensures { result ≡ chooses_in self.now.error (world_of self.now) (word_seen word.now) }
     {
         match self.error {
             Some(true) => {
@@ -83,7 +83,7 @@ impl World {
 
     #[tactic(auto, using(crate::proofs::WordLemmas::word_rules))]
     fn tells_error(&self, word: &Word) -> bool
-        ensures { when result (Some true) ≡ chooses_in (Some true) (world_of self.now) (word_of word.now) }
+        ensures { when result (Some true) ≡ chooses_in (Some true) (world_of self.now) (word_seen word.now) }
     {
         match word {
             Word::One | Word::Given(_) => true,

@@ -4,7 +4,7 @@ use Rattle.std.specs.Prelude.{All, slice_range}
 use Rattle.witx_grammar.specs.Grammar.{Derives}
 use Rattle.witx_grammar.specs.declared.table.Symbol.TheVariants.{Nonterminal}
 use Rattle.witx_grammar.specs.declared.table.Step.{Step}
-use Rattle.witx_lex.specs.Slices.{Spells, StandsAt}
+use Rattle.witx_lex.specs.Slices.{SpellsToken, StandsAt}
 use Rattle.witx_lex.specs.Tokens.{Token, id, int, quoted, Lexed}
 use Rattle.witx_values.specs.Language as general
 use Rattle.witx_values.proofs.Keeping.{AllAre, Keeps, TokensAre, made_keeps, derived_keeps}
@@ -154,7 +154,7 @@ identifier_stands : (text x : List ℕ) (l : Lexed) → StandsAt text l → l.to
 identifier_stands text x l s e = record {
   ordered = s.ordered;
   inside = s.inside;
-  spelled = subst (λ (t : Token). Spells (slice_range text l.start l.end) t) e s.spelled;
+  spelled = subst (λ (t : Token). SpellsToken (slice_range text l.start l.end) t) e s.spelled;
 }
 
 all_stand : (text : List ℕ) (ts : List Lexed) → All (StandsAt text) ts → NamesOfTokens (StandsInText text) any_text ts

@@ -1,7 +1,7 @@
 -- Each identifier of a document meets one claim, each quoted text another, and each record has a field; and which bytes of the text an identifier is: those of its place, behind their $.
 use Rattle.std.specs.Prelude.{◌≡◌, ℕ, ◌≤◌, List, [], ◌∷◌, length, slice_range}
 use Rattle.witx_lex.specs.Characters.{dollar}
-use Rattle.witx_syntax_tree.specs.Trees.{Name, Member, TypeTree, ident, builtin, string, boolean, handle, list_of, pointer_to, const_pointer_to, tuple_of, enum_of, flags_of, record_of, union_of, variant_of, expected, Maybe, absent, present, Types, no_types, one_type, Fields, no_fields, one_field, UnionFields, no_union_fields, one_union_field, Cases, no_cases, one_case, DeclTree, memory, function, NotedDecl, ItemTree, uses, typename, module_of, constant, Document}
+use Rattle.witx_syntax_tree.specs.Trees.{Name, Member, TypeTree, ident, builtin, string, boolean, handle, list_of, pointer_to, const_pointer_to, tuple_of, enum_of, flags_of, record_of, union_of, variant_of, expected, Maybe, absent, present, Types, no_types, one_type, Fields, no_fields, one_field, UnionFields, no_union_fields, one_union_field, Cases, no_cases, one_case, DeclTree, memory, function, NotedDecl, FormTree, uses, typename, module_of, constant, Document}
 
 -- the identifier is written in the text where its place says
 pub record StandsInText (text : List ℕ) (n : Name) : Type 0 where
@@ -63,7 +63,7 @@ abbrev pub NamesOfDecls : (Name → Type 0) → (List ℕ → Type 0) → List N
 NamesOfDecls P Q [] = Unit {0}
 NamesOfDecls P Q (d ∷ ds) = NamesOfDecl P Q d.decl × NamesOfDecls P Q ds
 
-abbrev pub NamesOfItem : (Name → Type 0) → (List ℕ → Type 0) → ItemTree → Type 0
+abbrev pub NamesOfItem : (Name → Type 0) → (List ℕ → Type 0) → FormTree → Type 0
 NamesOfItem P Q (uses t) = Q t
 NamesOfItem P Q (typename n t) = P n × NamesOfType P Q t
 NamesOfItem P Q (module_of n ds) = P n × NamesOfDecls P Q ds

@@ -13,7 +13,7 @@ use Rattle.witx_language.specs.declared.error.ParseFault.{ParseFault}
 use Rattle.witx_language.specs.declared.error.SyntaxError.{SyntaxError}
 use Rattle.witx_language.specs.declared.error.SyntaxError.TheVariants.{Parse, OutOfMemory}
 use Rattle.witx_language.specs.Actions.{the_language}
-use Rattle.witx_language.specs.FaultPlaces.{Told, fault_view, told_at}
+use Rattle.witx_language.specs.FaultPlaces.{Told, fault_view, fault_told_at}
 use Rattle.witx_language.specs.Messages.{message_of, lexical_message}
 use Rattle.witx_language.specs.Values.{Val, some_items}
 use Rattle.witx_syntax_tree.specs.Trees.{Document}
@@ -33,8 +33,8 @@ Reads text d = HasValue the_language Text text (some_items d)
 -- a fault is told by its message and its place
 abbrev pub telling : Telling TokenKind Told
 telling = record {
-  lexical = (λ text kind offset. told_at text (lexical_message kind) offset);
-  unexpected = (λ text expected here offset. told_at text (message_of expected here) offset);
+  lexical = (λ text kind offset. fault_told_at text (lexical_message kind) offset);
+  unexpected = (λ text expected here offset. fault_told_at text (message_of expected here) offset);
 }
 
 -- this is the fault of the text: its lexical fault, or else that of its tokens

@@ -11,7 +11,7 @@ use Rattle.witx_comments.specs.contracts.comment.CommentSyntaxPartialEq.TheImpl 
 use Rattle.witx_syntax_tree.specs.Trees.{Maybe, Name}
 use Rattle.witx_syntax_tree.specs.Same.{same_type}
 use Rattle.witx_base.specs.SameBytes.{false-true}
-use Rattle.witx_syntax_tree.specs.SameLaws.{builtin-to, builtin-self, type-to, type-from}
+use Rattle.witx_syntax_tree.specs.SameLaws.{syntax-builtin-to, syntax-builtin-self, type-to, type-from}
 use Rattle.witx_syntax_tree.specs.Unplaced.{unplaced, unplaced_maybe, unplaced_name, unplaced_decl, unplaced_item, unplaced_document}
 use Rattle.witx_syntax_tree.specs.Views.{CaseView, FieldView, type_view, optional_view, field_view, case_view, decl_view, declaration_view, item_view, document_view}
 use Rattle.witx_syntax_tree.specs.Compared.{Compares, documented_reading, field_reading, case_reading, constant_reading}
@@ -160,7 +160,7 @@ pub comments-compare : Compares comments.ghosts.eq (λ original made. comments_v
 comments-compare = compares _ _ _ comments-decide (λ original made h. h)
 
 pub builtins-decide : (a b : BuiltinSyntax) → Decides (builtins.ghosts.eq a b) (a ≡ b)
-builtins-decide a b = (builtin-to a b, λ e. rw e (builtin-self b))
+builtins-decide a b = (syntax-builtin-to a b, λ e. rw e (syntax-builtin-self b))
 
 pub handles-decide : (a b : HandleSyntax) → Decides (handles.ghosts.eq a b) (a ≡ b)
 handles-decide a b = search rules

@@ -4,7 +4,7 @@ use Rattle.std.proofs.Common.{rules, ap, sym, ◌∙◌}
 use Rattle.std.specs.Bool.{Decides}
 use Rattle.std.specs.Cmp.Lexicographic.{pointwise}
 use mathlib.Core.Bool.{beq}
-use Rattle.witx_syntax_tree.specs.Trees.{QuotedText, Fields, DeclTree, ItemTree}
+use Rattle.witx_syntax_tree.specs.Trees.{QuotedText, Fields, DeclTree, FormTree}
 use Rattle.witx_base.specs.SameBytes.{same_bytes, both, false-true, bytes-to, bytes-self}
 use Rattle.witx_syntax_tree.specs.SameLaws.{comments-to, comments-self, type-to, type-from, fields-to, fields-self, fields-unplaced}
 use Rattle.witx_syntax_tree.specs.Unplaced.{unplaced, unplaced_name, unplaced_fields, unplaced_decl, unplaced_noted_decl, unplaced_item, unplaced_noted_item, unplaced_document}
@@ -163,7 +163,7 @@ declaration-decides _ _ = (λ h. absurd (false-true h), λ e. cc)
 
 pub item-decides : (x y : TopLevelSyntax) → Decides (tops.ghosts.eq x y) (unplaced_item (item_view x) ≡ unplaced_item (item_view y))
 item-decides (top.Decl d) (top.Decl e) = declaration-decides d e
-item-decides (top.Use t) (top.Use u) = decide-as _ _ _ (text-decides t u) (λ e. ap ItemTree.uses e) (λ e. cc)
+item-decides (top.Use t) (top.Use u) = decide-as _ _ _ (text-decides t u) (λ e. ap FormTree.uses e) (λ e. cc)
 item-decides (top.Use t) (top.Decl (declaration.Typename u)) = (λ h. absurd (false-true h), λ e. cc)
 item-decides (top.Use t) (top.Decl (declaration.Module n)) = (λ h. absurd (false-true h), λ e. cc)
 item-decides (top.Use t) (top.Decl (declaration.Const d)) = (λ h. absurd (false-true h), λ e. cc)

@@ -21,17 +21,17 @@ pub comments-self : (xs : Comments) → same_comments xs xs ≡ true
 comments-self [] = refl
 comments-self (x ∷ xs) = rw (bytes-self x, comments-self xs) refl
 
-pub builtin-to : (b c : BuiltinSyntax) → builtins.ghosts.eq b c ≡ true → b ≡ c
-builtin-to b c h = search rules
+pub syntax-builtin-to : (b c : BuiltinSyntax) → builtins.ghosts.eq b c ≡ true → b ≡ c
+syntax-builtin-to b c h = search rules
 
-pub builtin-self : (b : BuiltinSyntax) → builtins.ghosts.eq b b ≡ true
-builtin-self b = search rules
+pub syntax-builtin-self : (b : BuiltinSyntax) → builtins.ghosts.eq b b ≡ true
+syntax-builtin-self b = search rules
 
-pub repr-to : (r q : Option BuiltinSyntax) → option_eq builtins.ghosts.eq r q ≡ true → r ≡ q
-repr-to r q h = search rules
+pub syntax-repr-to : (r q : Option BuiltinSyntax) → option_eq builtins.ghosts.eq r q ≡ true → r ≡ q
+syntax-repr-to r q h = search rules
 
-pub repr-self : (r : Option BuiltinSyntax) → option_eq builtins.ghosts.eq r r ≡ true
-repr-self r = search rules
+pub syntax-repr-self : (r : Option BuiltinSyntax) → option_eq builtins.ghosts.eq r r ≡ true
+syntax-repr-self r = search rules
 
 pub name-to : (n m : Name) → same_name n m ≡ true → unplaced_name n ≡ unplaced_name m
 name-to n m h = let a = bytes-to n.name m.name h in cc
@@ -55,7 +55,7 @@ members-unplaced _ _ = refl
 mutual
   pub type-to : (x y : TypeTree) → same_type x y ≡ true → unplaced x ≡ unplaced y
   type-to (TypeTree.ident n) (TypeTree.ident m) h = ap TypeTree.ident (name-to n m h)
-  type-to (TypeTree.builtin b) (TypeTree.builtin c) h = ap TypeTree.builtin (builtin-to b c h)
+  type-to (TypeTree.builtin b) (TypeTree.builtin c) h = ap TypeTree.builtin (syntax-builtin-to b c h)
   type-to TypeTree.string TypeTree.string h = refl
   type-to TypeTree.boolean TypeTree.boolean h = refl
   type-to TypeTree.handle TypeTree.handle h = refl
@@ -64,9 +64,9 @@ mutual
   type-to (TypeTree.const_pointer_to t) (TypeTree.const_pointer_to u) h = ap TypeTree.const_pointer_to (type-to t u h)
   type-to (TypeTree.tuple_of ts) (TypeTree.tuple_of us) h = ap TypeTree.tuple_of (types-to ts us h)
   type-to (TypeTree.enum_of r ms) (TypeTree.enum_of q ns) h =
-      let p = both _ _ h in let a = repr-to r q p.0 in let b = members-to ms ns p.1 in cc
+      let p = both _ _ h in let a = syntax-repr-to r q p.0 in let b = members-to ms ns p.1 in cc
   type-to (TypeTree.flags_of r ms) (TypeTree.flags_of q ns) h =
-      let p = both _ _ h in let a = repr-to r q p.0 in let b = members-to ms ns p.1 in cc
+      let p = both _ _ h in let a = syntax-repr-to r q p.0 in let b = members-to ms ns p.1 in cc
   type-to (TypeTree.record_of fs) (TypeTree.record_of gs) h = ap TypeTree.record_of (fields-to fs gs h)
   type-to (TypeTree.union_of t fs) (TypeTree.union_of u gs) h =
       let p = both _ _ h in let a = maybe-to t u p.0 in let b = union-fields-to fs gs p.1 in cc
@@ -111,7 +111,7 @@ mutual
 mutual
   pub type-self : (x : TypeTree) → same_type x x ≡ true
   type-self (TypeTree.ident n) = bytes-self n.name
-  type-self (TypeTree.builtin b) = builtin-self b
+  type-self (TypeTree.builtin b) = syntax-builtin-self b
   type-self TypeTree.string = refl
   type-self TypeTree.boolean = refl
   type-self TypeTree.handle = refl
@@ -119,8 +119,8 @@ mutual
   type-self (TypeTree.pointer_to t) = type-self t
   type-self (TypeTree.const_pointer_to t) = type-self t
   type-self (TypeTree.tuple_of ts) = types-self ts
-  type-self (TypeTree.enum_of r ms) = rw (repr-self r, members-self ms) refl
-  type-self (TypeTree.flags_of r ms) = rw (repr-self r, members-self ms) refl
+  type-self (TypeTree.enum_of r ms) = rw (syntax-repr-self r, members-self ms) refl
+  type-self (TypeTree.flags_of r ms) = rw (syntax-repr-self r, members-self ms) refl
   type-self (TypeTree.record_of fs) = fields-self fs
   type-self (TypeTree.union_of t fs) = rw (maybe-self t, union-fields-self fs) refl
   type-self (TypeTree.variant_of t cs) = rw (maybe-self t, cases-self cs) refl

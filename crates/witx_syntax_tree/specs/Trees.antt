@@ -70,15 +70,15 @@ pub record NotedDecl : Type 0 where
   pub decl : DeclTree
 
 -- a top-level form; a constant has comments of its own
-pub data ItemTree : Type 0 where
-  uses : List ℕ → ItemTree
-  typename : Name → TypeTree → ItemTree
-  module_of : Name → List NotedDecl → ItemTree
-  constant : Comments → Name → Name → ℕ → ItemTree
+pub data FormTree : Type 0 where
+  uses : List ℕ → FormTree
+  typename : Name → TypeTree → FormTree
+  module_of : Name → List NotedDecl → FormTree
+  constant : Comments → Name → Name → ℕ → FormTree
 
 pub record NotedItem : Type 0 where
   pub comments : Comments
-  pub item : ItemTree
+  pub item : FormTree
 
 -- a text: its top-level forms in order
 abbrev pub Document : Type 0

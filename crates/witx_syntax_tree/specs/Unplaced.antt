@@ -1,6 +1,6 @@
 -- Trees of a text without their places, which is what equality compares: each name stands at the beginning of the text.
 use Rattle.std.specs.Prelude.{map}
-use Rattle.witx_syntax_tree.specs.Trees.{Name, QuotedText, Member, TypeTree, Maybe, Types, Fields, UnionFields, Cases, DeclTree, NotedDecl, ItemTree, NotedItem, Document}
+use Rattle.witx_syntax_tree.specs.Trees.{Name, QuotedText, Member, TypeTree, Maybe, Types, Fields, UnionFields, Cases, DeclTree, NotedDecl, FormTree, NotedItem, Document}
 
 abbrev pub unplaced_name : Name → Name
 unplaced_name n = record { name = n.name; start = 0; end = 0 }
@@ -56,11 +56,11 @@ unplaced_decl (DeclTree.function q ps rs noreturn stored) = DeclTree.function (u
 abbrev pub unplaced_noted_decl : NotedDecl → NotedDecl
 unplaced_noted_decl d = record { comments = d.comments; decl = unplaced_decl d.decl }
 
-abbrev pub unplaced_item : ItemTree → ItemTree
-unplaced_item (ItemTree.uses t) = ItemTree.uses t
-unplaced_item (ItemTree.typename n t) = ItemTree.typename (unplaced_name n) (unplaced t)
-unplaced_item (ItemTree.module_of n ds) = ItemTree.module_of (unplaced_name n) (map unplaced_noted_decl ds)
-unplaced_item (ItemTree.constant c t n v) = ItemTree.constant c (unplaced_name t) (unplaced_name n) v
+abbrev pub unplaced_item : FormTree → FormTree
+unplaced_item (FormTree.uses t) = FormTree.uses t
+unplaced_item (FormTree.typename n t) = FormTree.typename (unplaced_name n) (unplaced t)
+unplaced_item (FormTree.module_of n ds) = FormTree.module_of (unplaced_name n) (map unplaced_noted_decl ds)
+unplaced_item (FormTree.constant c t n v) = FormTree.constant c (unplaced_name t) (unplaced_name n) v
 
 abbrev pub unplaced_noted_item : NotedItem → NotedItem
 unplaced_noted_item i = record { comments = i.comments; item = unplaced_item i.item }

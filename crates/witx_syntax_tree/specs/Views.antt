@@ -15,7 +15,7 @@ use Rattle.witx_syntax_tree.specs.declared.tree.TopLevelSyntax.{TopLevelSyntax}
 use Rattle.witx_syntax_tree.specs.declared.tree.TopLevelSyntax.TheVariants as top
 use Rattle.witx_syntax_tree.specs.declared.tree.TopLevelDocument.{TopLevelDocument}
 use Rattle.witx_comments.specs.Comments.{comments_view}
-use Rattle.witx_syntax_tree.specs.Trees.{Name, Member, TypeTree, ident, builtin, string, boolean, handle, list_of, pointer_to, const_pointer_to, tuple_of, enum_of, flags_of, record_of, union_of, variant_of, expected, Maybe, absent, present, Types, no_types, one_type, Fields, no_fields, one_field, UnionFields, no_union_fields, one_union_field, Cases, no_cases, one_case, DeclTree, memory, function, NotedDecl, ItemTree, uses, typename, module_of, constant, NotedItem, Document}
+use Rattle.witx_syntax_tree.specs.Trees.{Name, Member, TypeTree, ident, builtin, string, boolean, handle, list_of, pointer_to, const_pointer_to, tuple_of, enum_of, flags_of, record_of, union_of, variant_of, expected, Maybe, absent, present, Types, no_types, one_type, Fields, no_fields, one_field, UnionFields, no_union_fields, one_union_field, Cases, no_cases, one_case, DeclTree, memory, function, NotedDecl, FormTree, uses, typename, module_of, constant, NotedItem, Document}
 
 abbrev pub name_view : IdSyntax → Name
 name_view i = record { name = i.name.now; start = i.span.start; end = i.span.end }
@@ -36,9 +36,9 @@ abbrev pub types_of : List TypeTree → Types
 types_of [] = no_types
 types_of (t ∷ ts) = one_type t (types_of ts)
 
-abbrev pub fields_of : List (Documented FieldView) → Fields
-fields_of [] = no_fields
-fields_of (d ∷ ds) = one_field (comments_view d.comments) d.item.name d.item.type_ (fields_of ds)
+abbrev pub syntax_fields_of : List (Documented FieldView) → Fields
+syntax_fields_of [] = no_fields
+syntax_fields_of (d ∷ ds) = one_field (comments_view d.comments) d.item.name d.item.type_ (syntax_fields_of ds)
 
 abbrev pub union_fields_of : List (Documented TypeTree) → UnionFields
 union_fields_of [] = no_union_fields
@@ -74,8 +74,8 @@ type_step (TypedefSyntax-F.Ident i) = ident (name_view i)
 type_step TypedefSyntax-F.String = string
 type_step TypedefSyntax-F.Bool = boolean
 
-abbrev pub case_step : CaseSyntax-F TypeTree CaseView TypeTree FieldView TypeTree TypeTree TypeTree TypeTree → CaseView
-case_step c = record { name = name_view c.name; ty = maybe_of c.ty }
+abbrev pub syntax_case_step : CaseSyntax-F TypeTree CaseView TypeTree FieldView TypeTree TypeTree TypeTree TypeTree → CaseView
+syntax_case_step c = record { name = name_view c.name; ty = maybe_of c.ty }
 
 abbrev pub expected_step : ExpectedSyntax-F TypeTree CaseView TypeTree FieldView TypeTree TypeTree TypeTree TypeTree → TypeTree
 expected_step e = expected (maybe_boxed e.ok) (maybe_boxed e.err)
@@ -83,8 +83,8 @@ expected_step e = expected (maybe_boxed e.ok) (maybe_boxed e.err)
 abbrev pub field_step : FieldSyntax-F TypeTree CaseView TypeTree FieldView TypeTree TypeTree TypeTree TypeTree → FieldView
 field_step f = record { name = name_view f.name; type_ = f.type_ }
 
-abbrev pub record_step : RecordSyntax-F TypeTree CaseView TypeTree FieldView TypeTree TypeTree TypeTree TypeTree → TypeTree
-record_step r = record_of (fields_of r.fields)
+abbrev pub syntax_record_step : RecordSyntax-F TypeTree CaseView TypeTree FieldView TypeTree TypeTree TypeTree TypeTree → TypeTree
+syntax_record_step r = record_of (syntax_fields_of r.fields)
 
 abbrev pub tuple_step : TupleSyntax-F TypeTree CaseView TypeTree FieldView TypeTree TypeTree TypeTree TypeTree → TypeTree
 tuple_step t = tuple_of (types_of t.types)
@@ -92,17 +92,17 @@ tuple_step t = tuple_of (types_of t.types)
 abbrev pub union_step : UnionSyntax-F TypeTree CaseView TypeTree FieldView TypeTree TypeTree TypeTree TypeTree → TypeTree
 union_step u = union_of (maybe_boxed u.tag) (union_fields_of u.fields)
 
-abbrev pub variant_step : VariantSyntax-F TypeTree CaseView TypeTree FieldView TypeTree TypeTree TypeTree TypeTree → TypeTree
-variant_step v = variant_of (maybe_boxed v.tag) (cases_of v.cases)
+abbrev pub syntax_variant_step : VariantSyntax-F TypeTree CaseView TypeTree FieldView TypeTree TypeTree TypeTree TypeTree → TypeTree
+syntax_variant_step v = variant_of (maybe_boxed v.tag) (cases_of v.cases)
 
 unfoldable pub type_view : TypedefSyntax → TypeTree
-type_view = fold-TypedefSyntax TypeTree CaseView TypeTree FieldView TypeTree TypeTree TypeTree TypeTree type_step case_step expected_step field_step record_step tuple_step union_step variant_step
+type_view = fold-TypedefSyntax TypeTree CaseView TypeTree FieldView TypeTree TypeTree TypeTree TypeTree type_step syntax_case_step expected_step field_step syntax_record_step tuple_step union_step syntax_variant_step
 
 unfoldable pub case_view : CaseSyntax → CaseView
-case_view = fold-CaseSyntax TypeTree CaseView TypeTree FieldView TypeTree TypeTree TypeTree TypeTree type_step case_step expected_step field_step record_step tuple_step union_step variant_step
+case_view = fold-CaseSyntax TypeTree CaseView TypeTree FieldView TypeTree TypeTree TypeTree TypeTree type_step syntax_case_step expected_step field_step syntax_record_step tuple_step union_step syntax_variant_step
 
 unfoldable pub field_view : FieldSyntax → FieldView
-field_view = fold-FieldSyntax TypeTree CaseView TypeTree FieldView TypeTree TypeTree TypeTree TypeTree type_step case_step expected_step field_step record_step tuple_step union_step variant_step
+field_view = fold-FieldSyntax TypeTree CaseView TypeTree FieldView TypeTree TypeTree TypeTree TypeTree type_step syntax_case_step expected_step field_step syntax_record_step tuple_step union_step syntax_variant_step
 
 abbrev pub boxed_view : Option (Box TypedefSyntax) → Maybe
 boxed_view None = absent
@@ -125,7 +125,7 @@ abbrev pub types_view : List TypedefSyntax → Types
 types_view ts = types_of (map type_view ts)
 
 abbrev pub fields_view : List (Documented FieldSyntax) → Fields
-fields_view fs = fields_of (map noted_field fs)
+fields_view fs = syntax_fields_of (map noted_field fs)
 
 abbrev pub union_fields_view : List (Documented TypedefSyntax) → UnionFields
 union_fields_view fs = union_fields_of (map noted_type fs)
@@ -140,12 +140,12 @@ decl_view (module_decl.Func f) = function (record { text = f.export; start = f.e
 abbrev pub noted_decl : Documented ModuleDeclSyntax → NotedDecl
 noted_decl d = record { comments = comments_view d.comments; decl = decl_view d.item }
 
-abbrev pub declaration_view : DeclSyntax → ItemTree
+abbrev pub declaration_view : DeclSyntax → FormTree
 declaration_view (decl.Typename t) = typename (name_view t.ident) (type_view t.def)
 declaration_view (decl.Module m) = module_of (name_view m.name) (map noted_decl m.decls)
 declaration_view (decl.Const d) = constant (comments_view d.comments) (name_view d.item.ty) (name_view d.item.name) d.item.value
 
-abbrev pub item_view : TopLevelSyntax → ItemTree
+abbrev pub item_view : TopLevelSyntax → FormTree
 item_view (top.Decl d) = declaration_view d
 item_view (top.Use t) = uses t
 

@@ -16,31 +16,31 @@ use Rattle.witx_ast.specs.Tree.{Field}
 use Rattle.witx_ast.specs.Values.{Value}
 use Rattle.witx_machine.specs.Faithful.{are_arguments, is_reply, zero_error}
 use Rattle.witx_machine.specs.Functions.{Function, function_of}
-use Rattle.witx_machine.specs.Lowerable.{first_place, unlowerable, unlowerable_result}
+use Rattle.witx_machine.specs.Lowerable.{earlier_place, unlowerable, unlowerable_result}
 use Rattle.witx_machine.specs.declared.surface.Place.{Place}
 use Rattle.witx_instructions.specs.Views.{called, event_of}
 use Rattle.witx_adapt.proofs.Fitting.{FunctionsFit, called-same, lowered-none, none-here, none-later}
 use Rattle.witx_adapt.specs.Adaptable.{first_unlowered, unlowered}
 use Rattle.witx_adapt.specs.Entries.{Entry, IsFaithful, Owned, entry_for, entry_of}
 use Rattle.witx_adapt.specs.declared.adapted.AdaptedFunc.{AdaptedFunc}
-use Rattle.witx_bytes.specs.Follow.{TakeWritable}
+use Rattle.witx_bytes.specs.Follow.{TakesAreWritable}
 use Rattle.witx_bytes.specs.Seen.{seen}
 use Rattle.witx_bytes.specs.declared.value.Value as program
 use Rattle.witx_run.specs.Views.{reply_of}
 use Rattle.witx_call.specs.CallSeen.{seen_of, CallSeen}
 use Rattle.witx_invoke.specs.Invoking.{AllocatesWritable, CanRun, IsAnswer}
 use Rattle.witx_call.specs.Ranges.{addresses}
-use Rattle.witx_call.specs.Lines.{FirstFault, types_of}
+use Rattle.witx_call.specs.Lines.{FirstFault, line_types}
 use Rattle.witx_invoke.specs.Runs.{ComesTo, NoRoom}
 use Rattle.witx_call.specs.declared.call_seen.Invoked.{Invoked}
 use Rattle.witx_commands.specs.Stops.{StopsWith}
 use Rattle.witx_commands.specs.declared.refusal.Stop.{Stop}
 use Rattle.witx_commands.proofs.Refusing.{memory-stops, stops-as}
 use Rattle.witx_tools.specs.Callable.{AreFor, IsCallable}
-use Rattle.witx_tools.specs.Calls.{CallFails, GivesValues, Handed, HandedFails, IsCallText, IsHandedText, IsNamedText, LineFails, NamedFails, absent_report, first_named, has_names, line_report}
+use Rattle.witx_tools.specs.Calls.{CallFails, GivesValues, HandedValues, HandedFails, IsCallText, IsHandedText, IsNamedText, LineFails, NamedFails, absent_report, first_named, has_function_names, line_report}
 use Rattle.witx_tools.specs.InvokeTexts.{call_text}
 use Rattle.witx_tools.proofs.Ranges.{IsWithin, all-within}
-use Rattle.witx_commands.specs.Words.{Names}
+use Rattle.witx_commands.specs.Words.{FunctionNames}
 
 -- ---- the first function with the names
 
@@ -77,25 +77,25 @@ module _ (q : Entry → Bool) where
     found-at i f p is =
         let h = position-Some passes fs i f p in first-passes fs i f h.0 h.1 h.2 ∙ ap (λ (f : AdaptedFunc). Some (entry_of f)) (sym is)
 
-pub absent-named : (fs : List AdaptedFunc) (n : Names) (values : List ℕ) (s : Stop) → None ≡ position (λ f. has_names n (entry_of f)) fs
+pub absent-named : (fs : List AdaptedFunc) (n : FunctionNames) (values : List ℕ) (s : Stop) → None ≡ position (λ f. has_function_names n (entry_of f)) fs
     → StopsWith (λ report. report ≡ absent_report n) s → StopsWith (NamedFails n (first_named n (map entry_of fs)) values) s
 unfolding NamedFails
 absent-named fs n values s p k =
-    let none : first_named n (map entry_of fs) ≡ None = found-none (has_names n) fs (sym p) in
+    let none : first_named n (map entry_of fs) ≡ None = found-none (has_function_names n) fs (sym p) in
     let told : StopsWith (NamedFails n None values) s = stops-as (λ report. report ≡ absent_report n) (NamedFails n None values) (λ report r. r) s k in
     subst (λ e. StopsWith (NamedFails n e values) s) (sym none) told
 
-pub named-fails : (fs : List AdaptedFunc) (n : Names) (values : List ℕ) (i : ℕ) (f : AdaptedFunc) (s : Stop) → Some i ≡ position (λ f. has_names n (entry_of f)) fs
+pub named-fails : (fs : List AdaptedFunc) (n : FunctionNames) (values : List ℕ) (i : ℕ) (f : AdaptedFunc) (s : Stop) → Some i ≡ position (λ f. has_function_names n (entry_of f)) fs
     → f ≡ get_or fs i f → StopsWith (CallFails (entry_of f) values) s → StopsWith (NamedFails n (first_named n (map entry_of fs)) values) s
 unfolding NamedFails
 named-fails fs n values i f s p is k =
-    let some : first_named n (map entry_of fs) ≡ Some (entry_of f) = found-at (has_names n) fs i f (sym p) is in
+    let some : first_named n (map entry_of fs) ≡ Some (entry_of f) = found-at (has_function_names n) fs i f (sym p) is in
     let told : StopsWith (NamedFails n (Some (entry_of f)) values) s = stops-as (CallFails (entry_of f) values) (NamedFails n (Some (entry_of f)) values) (λ report r. r) s k in
     subst (λ e. StopsWith (NamedFails n e values) s) (sym some) told
 
-pub named-told : (fs : List AdaptedFunc) (n : Names) (values text : List ℕ) (i : ℕ) (f : AdaptedFunc) → Some i ≡ position (λ f. has_names n (entry_of f)) fs
+pub named-told : (fs : List AdaptedFunc) (n : FunctionNames) (values text : List ℕ) (i : ℕ) (f : AdaptedFunc) → Some i ≡ position (λ f. has_function_names n (entry_of f)) fs
     → f ≡ get_or fs i f → IsCallText (entry_of f) values text → IsNamedText n (map entry_of fs) values text
-named-told fs n values text i f p is k = record { entry = entry_of f; named = found-at (has_names n) fs i f (sym p) is; called = k }
+named-told fs n values text i f p is k = record { entry = entry_of f; named = found-at (has_function_names n) fs i f (sym p) is; called = k }
 
 -- ---- entries can be called
 
@@ -105,7 +105,7 @@ record CanBeCalled (e : Entry) : Type 0 where
   writable : (arguments : List Value) (reply : Option Value)
       → AllocatesWritable e.owned.owner.name (function_of e.owned.func) e.lowered.caller e.lowered.callee arguments reply
 
-no-place : (o : Option ℕ) (result : Option Place) → first_place o result ≡ None → result ≡ None
+no-place : (o : Option ℕ) (result : Option Place) → earlier_place o result ≡ None → result ≡ None
 no-place None result h = h
 no-place (Some i) result h = cc
 
@@ -117,7 +117,7 @@ few-results p h = by p.func.results (no-place _ _ h)
     by (r ∷ []) e = omega arith
     by (r ∷ u ∷ rs) e = cc
 
-entry-callable : TakeWritable → (p : Owned) → IsTrue (function_fits p.func) → unlowered p ≡ None → CanBeCalled (entry_for p)
+entry-callable : TakesAreWritable → (p : Owned) → IsTrue (function_fits p.func) → unlowered p ≡ None → CanBeCalled (entry_for p)
 entry-callable law p h u = record {
   single = few-results p (lowered-none p u);
   fits = h;
@@ -136,7 +136,7 @@ as-callable f k faithful = record {
 none-callable : All IsCallable []
 none-callable k d l = absurd (omega (arith, l))
 
-pub entries-callable : TakeWritable → (fs : List AdaptedFunc) (ps : List Owned) → map entry_of fs ≡ map entry_for ps → FunctionsFit ps → first_unlowered ps ≡ None
+pub entries-callable : TakesAreWritable → (fs : List AdaptedFunc) (ps : List Owned) → map entry_of fs ≡ map entry_for ps → FunctionsFit ps → first_unlowered ps ≡ None
     → All IsFaithful fs → All IsCallable fs
 entries-callable law [] ps e h u k = none-callable
 entries-callable law (f ∷ fs) [] e h u k = cc
@@ -150,10 +150,10 @@ entries-callable law (f ∷ fs) (p ∷ ps) e h u k =
 -- ---- values
 
 pub line-fails : (f : AdaptedFunc) (func : InterfaceFunc) (values : List ℕ) (line : ℕ) (s : Stop) → func ≡ f.func.value
-    → FirstFault 1 (types_of (function_of (func_tree func))) values line → StopsWith (λ report. report ≡ line_report line) s → StopsWith (LineFails (entry_of f) values) s
+    → FirstFault 1 (line_types (function_of (func_tree func))) values line → StopsWith (λ report. report ≡ line_report line) s → StopsWith (LineFails (entry_of f) values) s
 unfolding LineFails
 line-fails f func values line s e h k =
-    let fault = subst (λ func. FirstFault 1 (types_of (function_of (func_tree func))) values line) e h in
+    let fault = subst (λ func. FirstFault 1 (line_types (function_of (func_tree func))) values line) e h in
     stops-as (λ report. report ≡ line_report line) (LineFails (entry_of f) values) (λ report r. (line, fault, r)) s k
 
 pub callable-fits : (f : AdaptedFunc) → IsCallable f → function_fits (func_tree f.func.value) ≡ true
@@ -180,14 +180,14 @@ pub entry-line : (e : Entry) (values : List ℕ) (s : Stop) → StopsWith (LineF
 unfolding CallFails
 entry-line e values s k = stops-as (LineFails e values) (CallFails e values) (λ report r. inl r) s k
 
-pub entry-handed : (e : Entry) (values : List ℕ) (h : Handed) (s : Stop) → GivesValues e values h → StopsWith (HandedFails e h) s → StopsWith (CallFails e values) s
+pub entry-handed : (e : Entry) (values : List ℕ) (h : HandedValues) (s : Stop) → GivesValues e values h → StopsWith (HandedFails e h) s → StopsWith (CallFails e values) s
 unfolding CallFails
 entry-handed e values h s g k = stops-as (HandedFails e h) (CallFails e values) (λ report r. inr (h, g, r)) s k
 
-pub entry-told : (e : Entry) (values text : List ℕ) (h : Handed) → GivesValues e values h → IsHandedText e h text → IsCallText e values text
+pub entry-told : (e : Entry) (values text : List ℕ) (h : HandedValues) → GivesValues e values h → IsHandedText e h text → IsCallText e values text
 entry-told e values text h g k = record { handed = h; given = g; answered = k }
 
-pub values-for : (f : AdaptedFunc) (values : List ℕ) (h : Handed) → GivesValues (entry_of f) values h → AreFor f h
+pub values-for : (f : AdaptedFunc) (values : List ℕ) (h : HandedValues) → GivesValues (entry_of f) values h → AreFor f h
 values-for f values h g = record {
   arguments = subst (λ k. IsTrue (are_arguments k.params h.arguments)) (called-same f.func.value) g.accepted;
   reply = subst (λ k. IsTrue (is_reply k.results h.reply)) (called-same f.func.value) g.replied;
@@ -205,7 +205,7 @@ reply-seen (Some v) = refl
 pub reply-same : (o : Option (Bor program.Value)) (r : Option program.Value) → option_map (λ v. v.now) o ≡ r → reply_of seen o ≡ option_map seen r
 reply-same o r e = reply-seen o ∙ ap (option_map seen) e
 
-module _ (f : AdaptedFunc) (h : Handed) (reply : Option Value) (same : reply ≡ h.reply) where
+module _ (f : AdaptedFunc) (h : HandedValues) (reply : Option Value) (same : reply ≡ h.reply) where
   abbrev Run : Function → Option Value → Type 0
   Run g r = CanRun f.module.value.name g (map event_of f.caller.events) (map event_of f.callee.events) h.arguments r
 

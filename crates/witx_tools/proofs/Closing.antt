@@ -20,12 +20,12 @@ use Rattle.witx_scope.specs.DeclarationForms.{DeclForm, constant_form, module_fo
 use Rattle.witx_scope.specs.Declarations.{Past, accepted, decl_tree, nothing_before}
 use Rattle.witx_scope.specs.Modules.{decl_meant, item_meant}
 use Rattle.witx_scope.specs.Names.{Here, sense_tree}
-use Rattle.witx_scope.specs.Positions.{Outcome, Taken, after, introducer, is_name, made_module, made_type, own_sense, refused, sense_after}
+use Rattle.witx_scope.specs.Positions.{DeclarationOutcome, TakenName, after, introducer, is_same_name, made_module, made_type, own_sense, refused, sense_after}
 use Rattle.witx_scope.specs.Trees.{fields_meant}
 use Rattle.witx_order.specs.Items.{Declared}
 use Rattle.witx_walk.specs.Meaning.{definitions_from, definitions_of, form_accepted, form_definitions, form_of, past_from, past_with, places_of, definitions_with}
 use Rattle.witx_walk.specs.Readings.{OneReading}
-use Rattle.witx_commands.specs.Adapting.{IsParsed, Parses}
+use Rattle.witx_commands.specs.Adapting.{IsParsedDocument, Parses}
 use Rattle.witx_commands.proofs.Introduced.{Alike, alike-more, alike-same, defined_as, taken_as, type_made}
 
 -- ---- what a name denotes stands before
@@ -48,12 +48,12 @@ own-stands : (before : List DefinitionTree) (own : Bool) → NamesStand before (
 own-stands before true = tt
 own-stands before false = tt
 
-taken-stands : (before : List DefinitionTree) (q : List ℕ) (own : Bool) (o : Option Taken) → taken_as o ≡ defined_as (found (by_name introduced before) q)
+taken-stands : (before : List DefinitionTree) (q : List ℕ) (own : Bool) (o : Option TakenName) → taken_as o ≡ defined_as (found (by_name introduced before) q)
     → NamesStand before (sense_tree (sense_after o own))
 taken-stands before q own None e = own-stands before own
 taken-stands before q own (Some t) e = by t.outcome e
   where
-    by : (outcome : Outcome) → Some (type_made outcome) ≡ defined_as (found (by_name introduced before) q)
+    by : (outcome : DeclarationOutcome) → Some (type_made outcome) ≡ defined_as (found (by_name introduced before) q)
         → NamesStand before (sense_tree (sense_after (Some (record { name = t.name; place = t.place; outcome = outcome })) own))
     by refused e = tt
     by (made_type u) e = definition-stands before q u (found (by_name introduced before) q) refl e
@@ -64,7 +64,7 @@ Stand before h = (q : List ℕ) → NamesStand before (sense_tree (h.sense q))
 
 inside-stands : (past : Past) (ds : List DefinitionTree) (place : ℕ → Location) (n : syntax.Name) → Alike past.taken ds → Stand ds (after past.taken place n)
 unfolding Stand
-inside-stands past ds place n h q = taken-stands ds q (is_name q n.name) (introducer past.taken q) (h q)
+inside-stands past ds place n h q = taken-stands ds q (is_same_name q n.name) (introducer past.taken q) (h q)
 
 -- ---- the items of a module
 
@@ -126,6 +126,6 @@ declared-closed declared = (behind-all nothing_before [] declared nothing-behind
 
 -- WHAT FILES MEAN IS CLOSED
 pub parsed-closed : OneReading → (files : Files) (handed : List Path) (ds : List DefinitionTree) → Parses files handed (Ok ds) → IsClosed ds
-unfolding IsParsed
+unfolding IsParsedDocument
 parsed-closed one files handed ds p =
     let answer = p files [] one.0 refl refl one.1.0 in subst IsClosed (sym answer.1.1.1) (declared-closed answer.1.0)

@@ -2,7 +2,7 @@
 use Rattle.std.specs.Prelude.{◌≡◌, ◌⊎◌, ℕ, List, [], ◌∷◌, true, Option, Some, None, Ok}
 use Rattle.std.proofs.Common.{refl, subst, inl, inr}
 use Rattle.witx_base.specs.Paths.{Path, path_of}
-use Rattle.witx_files.specs.Files.{Files, held}
+use Rattle.witx_files.specs.Files.{Files, text_in}
 use Rattle.witx_bundle.specs.Bundles.{IsRead}
 use Rattle.witx_ast.specs.Definitions.{DefinitionTree}
 use Rattle.witx_walk.specs.Readings.{OneReading}
@@ -21,9 +21,9 @@ use Rattle.witx_commands.specs.Laws.{ValidIsNotRefused}
 use Rattle.witx_commands.specs.Reports.{AdaptingFails, CommandRefuses, MappingFails}
 use Rattle.witx_commands.specs.Causes.{CanMap}
 use Rattle.witx_commands.specs.Words as asked
-use Rattle.witx_commands.specs.Words.{Asked, Names, OwnFile, TwoFiles, paths_of}
+use Rattle.witx_commands.specs.Words.{Asked, FunctionNames, OwnFile, TwoFiles, paths_of}
 use Rattle.witx_commands.proofs.Exclusion.{parses-same, same-files}
-use Rattle.witx_tools.specs.Calls.{CallFails, CanCall, IsCallText, NamedFails, entries_of, first_named, has_names}
+use Rattle.witx_tools.specs.Calls.{CallFails, CanCall, IsCallText, NamedFails, entries_of, first_named, has_function_names}
 use Rattle.witx_tools.specs.ImportTexts.{IsBadList}
 use Rattle.witx_tools.specs.ToolCauses.{CallReads, CallRefuses, CanAdaptAll, HoldsOwn, IsOwnValid, IsToolOutput, IsToolText, IsValidForTool, LacksOwn, ListFails, ListReads, ListingFails, ListingReads, OneIsUnadapted, OwnRefuses, ToolRefuses, adapted_files, own_path}
 use Rattle.witx_tools.specs.ToolLaws.{ValidIsNotRefusedByTools}
@@ -33,17 +33,17 @@ use Rattle.witx_tools.proofs.Handing.{call-excluded, found-fits}
 
 -- a text that lists imports has no fault
 abbrev pub ListsHaveNoFault : Type 0
-ListsHaveNoFault = (text : List ℕ) (d : List WasmImport) (place : list.Place) → list.Reads text d → list.IsFaultOf text place → ⊥
+ListsHaveNoFault = (text : List ℕ) (d : List WasmImport) (place : list.LineColumn) → list.Lists text d → list.IsBadAt text place → ⊥
 
 module _ (valid : ValidIsNotRefused) (no_fault : ListsHaveNoFault) (no_unfit : TracesLeaveNoneUnfit) (one_reading : OneReading) (one_line : AtMostOneLine)
     (bytes : List ℕ) (files others : Files)
     (here : IsRead bytes (Ok files)) (there : IsRead bytes (Ok others)) where
-  same-held : (path : Path) → held files path ≡ held others path
+  same-held : (path : Path) → text_in files path ≡ text_in others path
   same-held path = same-files bytes files others here there path
 
   own-excluded : (own : Option Path) (report : List ℕ) → HoldsOwn own others → LacksOwn own files report → ⊥
   own-excluded None report v h = h
-  own-excluded (Some path) report (text, k) (lacks, r) = let same : held files path ≡ held others path = same-held path in cc
+  own-excluded (Some path) report (text, k) (lacks, r) = let same : text_in files path ≡ text_in others path = same-held path in cc
 
   adapt-excluded : (words : List (List ℕ)) (report : List ℕ) → CanAdapt others (paths_of words) → AdaptingFails files (paths_of words) report → ⊥
   unfolding CommandRefuses
@@ -61,9 +61,9 @@ module _ (valid : ValidIsNotRefused) (no_fault : ListsHaveNoFault) (no_unfit : T
   list-excluded : (path : Path) (imports : List WasmImport) (report : List ℕ) → ListReads others path imports → ListFails files path report → ⊥
   unfolding IsBadList
   list-excluded path imports report (text, k, reads) (other, h, (place, fault, r)) =
-      let same : held files path ≡ held others path = same-held path in
+      let same : text_in files path ≡ text_in others path = same-held path in
       let equal : other ≡ text = cc in
-      no_fault text imports place reads (subst (λ t. list.IsFaultOf t place) equal fault)
+      no_fault text imports place reads (subst (λ t. list.IsBadAt t place) equal fault)
 
   -- the files of both readings mean the same document
   same-document : (handed : List Path) (ds es : List DefinitionTree) → Parses others handed (Ok ds) → Parses files handed (Ok es) → es ≡ ds
@@ -76,27 +76,27 @@ module _ (valid : ValidIsNotRefused) (no_fault : ListsHaveNoFault) (no_unfit : T
       → ListingFails files own report → ⊥
   unfolding IsUnfitListing
   listing-excluded own ds sides report (listing, (k, p), gives) (es, text, (h, q), (number, unfit, r)) =
-      let same : held files (path_of own.file) ≡ held others (path_of own.file) = same-held (path_of own.file) in
+      let same : text_in files (path_of own.file) ≡ text_in others (path_of own.file) = same-held (path_of own.file) in
       let equal : text ≡ listing = cc in
       let document : es ≡ ds = same-document (paths_of own.paths) ds es p q in
       no_unfit (listed_for ds) listing number sides gives
       (subst (λ t. IsUnfit (listed_for ds) t number) equal (subst (λ xs. IsUnfit (listed_for xs) text number) document unfit))
 
-  named-excluded : (n : Names) (values : List ℕ) (e : Entry) (o : Option Entry) (report : List ℕ) → function_fits e.owned.func ≡ true → CanCall e values → o ≡ Some e
+  named-excluded : (n : FunctionNames) (values : List ℕ) (e : Entry) (o : Option Entry) (report : List ℕ) → function_fits e.owned.func ≡ true → CanCall e values → o ≡ Some e
       → NamedFails n o values report → ⊥
   unfolding NamedFails
   named-excluded n values e None report fit can same h = cc
   named-excluded n values e (Some x) report fit can same h =
       let here : x ≡ e = cc in call-excluded one_line e fit values report can (subst (λ e. CallFails e values report) here h)
 
-  refused-excluded : (n : Names) (own : OwnFile) (report : List ℕ) → CanAdaptAll others (own.paths ∷ []) → CallReads others n own → CallRefuses files n own report → ⊥
+  refused-excluded : (n : FunctionNames) (own : OwnFile) (report : List ℕ) → CanAdaptAll others (own.paths ∷ []) → CallReads others n own → CallRefuses files n own report → ⊥
   refused-excluded n own report ((bs, r, able), rest) (ds, values, (k, p), e, named, can) (es, text, (h, q), fails) =
-      let same : held files (path_of own.file) ≡ held others (path_of own.file) = same-held (path_of own.file) in
+      let same : text_in files (path_of own.file) ≡ text_in others (path_of own.file) = same-held (path_of own.file) in
       let equal : text ≡ values = cc in
       let document : es ≡ ds = same-document (paths_of own.paths) ds es p q in
       let adapted : bs ≡ ds = one-document (paths_of own.paths) ds bs p r in
       let closed : IsClosed ds = parsed-closed one_reading others (paths_of own.paths) ds p in
-      let fit = found-fits (has_names n) (all_functions ds) e (functions-fit ds closed (subst (λ xs. first_misfit xs ≡ None) adapted able.fits)) named in
+      let fit = found-fits (has_function_names n) (all_functions ds) e (functions-fit ds closed (subst (λ xs. first_misfit xs ≡ None) adapted able.fits)) named in
       let fails_there = subst (λ xs. NamedFails n (first_named n (entries_of xs)) text report) document fails in
       named-excluded n values e (first_named n (entries_of ds)) report fit can named
       (subst (λ t. NamedFails n (first_named n (entries_of ds)) t report) equal fails_there)
@@ -131,7 +131,7 @@ call-valid e values text c = record { handed = c.handed; given = c.given; kept =
 text-valid : (c : Asked) (files : Files) (text : List ℕ) → IsToolText c files text → IsOwnValid c files
 text-valid (asked.shim two) files text (new, old, both, modules, e, k) = (new, old, both, modules, e)
 text-valid (asked.verify own) files text (ds, sides, reads, k) = (ds, sides, reads)
-text-valid (asked.invoke n own) files text (ds, values, held, told) = (ds, values, held, told.entry, told.named, call-valid told.entry values text told.called)
+text-valid (asked.invoke n own) files text (ds, values, text_in, told) = (ds, values, text_in, told.entry, told.named, call-valid told.entry values text told.called)
 text-valid (asked.imports own) files text h = (h.0, h.1)
 text-valid _ files text h = absurd h
 

@@ -15,8 +15,8 @@ use Rattle.witx_machine.specs.Functions.{Function, function_of}
 use Rattle.witx_adapt.proofs.Fitting.{FunctionsFit}
 use Rattle.witx_adapt.specs.Entries.{Entry, Owned, entry_for}
 use Rattle.witx_invoke.specs.Laws.{AtMostOneLine}
-use Rattle.witx_call.specs.Lines.{FirstFault, Gives, IsLine, lines_text, types_of, values_given}
-use Rattle.witx_tools.specs.Calls.{CallFails, CanCall, GivesValues, Handed, HandedFails, LacksRoom, LineFails, called_function}
+use Rattle.witx_call.specs.Lines.{FirstFault, Gives, IsValueLine, lines_text, line_types, values_given}
+use Rattle.witx_tools.specs.Calls.{CallFails, CanCall, GivesValues, HandedValues, HandedFails, LacksRoom, LineFails, called_function}
 
 -- ---- lines of values
 
@@ -30,11 +30,11 @@ EachIs (t ∷ ts) (v ∷ vs) = IsTrue (is_value (plain t) v) × EachIs ts vs
 EachIs [] (v ∷ vs) = ⊥
 EachIs (t ∷ ts) [] = ⊥
 
-first-line : (t : Tree) (v : Value) (vs : List Value) → IsTrue (is_value (plain t) v) → IsLine t (lines_text (v ∷ vs)) v (lines_text vs)
+first-line : (t : Tree) (v : Value) (vs : List Value) → IsTrue (is_value (plain t) v) → IsValueLine t (lines_text (v ∷ vs)) v (lines_text vs)
 first-line t v vs h = record { value = h; spelled = refl }
 
 module _ (law : AtMostOneLine) where
-  one-line : (t : Tree) (text : List ℕ) (v w : Value) (rest more : List ℕ) → fits (plain t) ≡ true → IsLine t text v rest → IsLine t text w more → (v ≡ w) × (rest ≡ more)
+  one-line : (t : Tree) (text : List ℕ) (v w : Value) (rest more : List ℕ) → fits (plain t) ≡ true → IsValueLine t text v rest → IsValueLine t text w more → (v ≡ w) × (rest ≡ more)
   one-line t text v w rest more f l m = law t text v w rest more f l m
 
   -- the same text is of the same values
@@ -45,7 +45,7 @@ module _ (law : AtMostOneLine) where
   same-values (t ∷ ts) [] ws f h k e = absurd h
   same-values (t ∷ ts) (v ∷ vs) [] f h k e = absurd k
   same-values (t ∷ ts) (v ∷ vs) (w ∷ ws) f h k e =
-      let here = subst (λ text. IsLine t text w (lines_text ws)) (sym e) (first-line t w ws k.0) in
+      let here = subst (λ text. IsValueLine t text w (lines_text ws)) (sym e) (first-line t w ws k.0) in
       let one = one-line t (lines_text (v ∷ vs)) v w (lines_text vs) (lines_text ws) f.0 (first-line t v vs h.0) here in
       let head : v ≡ w = one.0 in
       let tail : vs ≡ ws = same-values ts vs ws f.1 h.1 k.1 one.1 in
@@ -94,12 +94,12 @@ each-append : (ts us : List Tree) → EachFits ts → EachFits us → EachFits (
 each-append [] us h k = k
 each-append (t ∷ ts) us h k = (h.0, each-append ts us h.1 k)
 
-types-fit : (f : FunctionTree) → function_fits f ≡ true → EachFits (types_of (function_of f))
+types-fit : (f : FunctionTree) → function_fits f ≡ true → EachFits (line_types (function_of f))
 types-fit f h =
     let k = both (types_fit f.params) (types_fit f.results) h in
     each-append (map (λ p. p.tree) f.params) (map (λ p. p.tree) f.results) (each-field f.params k.0) (each-field f.results k.1)
 
-given-each : (f : Function) (text : List ℕ) (vs : List Value) (reply : Option Value) → Gives f text vs reply → EachIs (types_of f) (values_given vs reply)
+given-each : (f : Function) (text : List ℕ) (vs : List Value) (reply : Option Value) → Gives f text vs reply → EachIs (line_types f) (values_given vs reply)
 given-each f text vs reply g = each-given f.params f.results vs reply (each-argument f.params vs g.accepted) g.replied
 
 -- arguments are as many as the types of the parameters
@@ -132,20 +132,20 @@ module _ (law : AtMostOneLine) (e : Entry) (fit : function_fits e.owned.func ≡
   abbrev f : Function
   f = called_function e
 
-  line-excluded : (h : Handed) (report : List ℕ) → GivesValues e values h → LineFails e values report → ⊥
+  line-excluded : (h : HandedValues) (report : List ℕ) → GivesValues e values h → LineFails e values report → ⊥
   unfolding LineFails
   line-excluded h report g (n, fault, told) =
-      no-fault law 1 (types_of f) (values_given h.arguments h.reply) n (types-fit e.owned.func fit) (given-each f values h.arguments h.reply g)
-      (subst (λ text. FirstFault 1 (types_of f) text n) g.spelled fault)
+      no-fault law 1 (line_types f) (values_given h.arguments h.reply) n (types-fit e.owned.func fit) (given-each f values h.arguments h.reply g)
+      (subst (λ text. FirstFault 1 (line_types f) text n) g.spelled fault)
 
-  one-handed : (h k : Handed) → GivesValues e values h → GivesValues e values k → (h.arguments ≡ k.arguments) × (h.reply ≡ k.reply)
+  one-handed : (h k : HandedValues) → GivesValues e values h → GivesValues e values k → (h.arguments ≡ k.arguments) × (h.reply ≡ k.reply)
   one-handed h k g c =
       same-given f.params f.results h.arguments k.arguments h.reply k.reply (each-argument f.params h.arguments g.accepted)
       (each-argument f.params k.arguments c.accepted) g.replied c.replied
-      (same-values law (types_of f) (values_given h.arguments h.reply) (values_given k.arguments k.reply) (types-fit e.owned.func fit)
+      (same-values law (line_types f) (values_given h.arguments h.reply) (values_given k.arguments k.reply) (types-fit e.owned.func fit)
       (given-each f values h.arguments h.reply g) (given-each f values k.arguments k.reply c) (sym g.spelled ∙ c.spelled))
 
-  handed-excluded : (can : CanCall e values) (h : Handed) (report : List ℕ) → GivesValues e values h → HandedFails e h report → ⊥
+  handed-excluded : (can : CanCall e values) (h : HandedValues) (report : List ℕ) → GivesValues e values h → HandedFails e h report → ⊥
   unfolding HandedFails
   handed-excluded can h report g (inl (lost, told)) =
       let same : h.reply ≡ can.handed.reply = (one-handed h can.handed g can.given).1 in

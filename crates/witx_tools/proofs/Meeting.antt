@@ -17,7 +17,7 @@ use Rattle.witx_adapt.specs.Adaptable.{IsAdaptable, first_unlowered, unlowered}
 use Rattle.witx_adapt.specs.Entries.{Entry, IsFaithful, Owned, all_functions, entry_for, entry_of}
 use Rattle.witx_adapt.specs.declared.adapted.Adapted.{Adapted}
 use Rattle.witx_adapt.specs.declared.adapted.AdaptedFunc.{AdaptedFunc}
-use Rattle.witx_bytes.specs.Follow.{TakeWritable}
+use Rattle.witx_bytes.specs.Follow.{TakesAreWritable}
 use Rattle.witx_bytes.specs.Seen.{seen}
 use Rattle.witx_bytes.specs.declared.value.Value as program
 use Rattle.witx_call.specs.Lines.{Gives}
@@ -71,7 +71,7 @@ entries-lowered (f ∷ fs) (p ∷ ps) e u =
     All-cons IsLowered f fs (as-lowered f (subst IsLoweredEntry same (lowered-none p (none-here (unlowered p) (first_unlowered ps) u))))
     (entries-lowered fs ps rest (none-later (unlowered p) (first_unlowered ps) u))
 
-pub all-callable : TakeWritable → (a : Adapted) → IsClosed (defined a) → map entry_of a.functions ≡ map entry_for (all_functions (defined a)) → All IsFaithful a.functions
+pub all-callable : TakesAreWritable → (a : Adapted) → IsClosed (defined a) → map entry_of a.functions ≡ map entry_for (all_functions (defined a)) → All IsFaithful a.functions
     → IsAdaptable (defined a) → All IsCallable a.functions
 all-callable law a c e f k = entries-callable law a.functions (all_functions (defined a)) e (functions-fit (defined a) c k.fits) k.lowerable f
 

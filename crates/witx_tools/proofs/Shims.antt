@@ -6,12 +6,12 @@ use Rattle.std.specs.List.{flat_map}
 use Rattle.witx_ast.specs.Functions.{FunctionTree}
 use Rattle.witx_ast.specs.Items.{func_called, funcs_of}
 use Rattle.witx_ast.specs.Definitions.{DefinitionTree, ModuleTree, module_called}
-use Rattle.witx_compat.specs.Polyfills.{MappedFunction, MappedModule, all_of, as_module, function_answer, function_mapped, function_or_none, module_answer, new_or_none, one_more, pair_answer, polyfill_answer}
+use Rattle.witx_compat.specs.Polyfills.{MappedFunction, MappedModule, all_or_refusal, as_mapped_module, function_answer, function_mapped, function_or_none, module_answer, new_or_none, mapped_then, pair_answer, polyfill_answer}
 use Rattle.witx_compat.specs.Polyfills as polyfill
 use Rattle.witx_compat.specs.Views.{function_view, module_view}
 use Rattle.witx_compat.specs.declared.functions.FuncPolyfill.{FuncPolyfill}
 use Rattle.witx_compat.specs.declared.modules.ModulePolyfill.{ModulePolyfill}
-use Rattle.witx_shim.specs.Refusals.{Refusal}
+use Rattle.witx_shim.specs.Refusals.{ShimRefusal}
 use Rattle.witx_tools.specs.ShimTexts.{passing_line, refusal_line}
 use Rattle.witx_tools.specs.MappedBy.{AreMapped, IsMapped}
 
@@ -37,29 +37,29 @@ each-all P (x ∷ xs) h zero d l = h.0
 each-all P (x ∷ xs) h (suc k) d l = each-all P xs h.1 k d (omega (arith, l))
 
 -- each of what all_of answers is answered for one of the list, so what each answer for one of these has all have
-module _ {A B : Type 0} (f : A → Result B polyfill.Refusal) (Q : A → Type 0) (P : B → Type 0) (each : (x : A) (y : B) → Q x → f x ≡ Ok y → P y) where
-  one-has : (x : A) (xs : List A) (r : Result B polyfill.Refusal) (rs : Result (List B) polyfill.Refusal) (ys : List B) → Q x → f x ≡ r
-      → ((zs : List B) → rs ≡ Ok zs → Each P zs) → one_more r rs ≡ Ok ys → Each P ys
+module _ {A B : Type 0} (f : A → Result B polyfill.PolyfillRefusal) (Q : A → Type 0) (P : B → Type 0) (each : (x : A) (y : B) → Q x → f x ≡ Ok y → P y) where
+  one-has : (x : A) (xs : List A) (r : Result B polyfill.PolyfillRefusal) (rs : Result (List B) polyfill.PolyfillRefusal) (ys : List B) → Q x → f x ≡ r
+      → ((zs : List B) → rs ≡ Ok zs → Each P zs) → mapped_then r rs ≡ Ok ys → Each P ys
   one-has x xs (Ok y) (Ok zs) [] i e h k = cc
   one-has x xs (Ok y) (Ok zs) (w ∷ ws) i e h k = subst (Each P) (the-list k) (each x y i e, h zs refl)
     where
-      the-list : one_more (Ok y) (Ok zs) ≡ Ok (w ∷ ws) → y ∷ zs ≡ w ∷ ws
+      the-list : mapped_then (Ok y) (Ok zs) ≡ Ok (w ∷ ws) → y ∷ zs ≡ w ∷ ws
       the-list q = cc
   one-has x xs (Ok y) (Err why) ys i e h k = cc
   one-has x xs (Err why) rs ys i e h k = cc
 
-  pub each-has : (xs : List A) (ys : List B) → Each Q xs → all_of f xs ≡ Ok ys → Each P ys
+  pub each-has : (xs : List A) (ys : List B) → Each Q xs → all_or_refusal f xs ≡ Ok ys → Each P ys
   each-has [] [] i e = tt
   each-has [] (y ∷ ys) i e = cc
-  each-has (x ∷ xs) ys i e = one-has x xs (f x) (all_of f xs) ys i.0 refl (λ zs q. each-has xs zs i.1 q) e
+  each-has (x ∷ xs) ys i e = one-has x xs (f x) (all_or_refusal f xs) ys i.0 refl (λ zs q. each-has xs zs i.1 q) e
 
 pub anything : {A : Type 0} (xs : List A) → Each (λ _. Unit {0}) xs
 anything [] = tt
 anything (x ∷ xs) = (tt, anything xs)
 
 -- whatever stands in the list
-all-have : {A B : Type 0} (f : A → Result B polyfill.Refusal) (P : B → Type 0) → ((x : A) (y : B) → f x ≡ Ok y → P y)
-    → (xs : List A) (ys : List B) → all_of f xs ≡ Ok ys → Each P ys
+all-have : {A B : Type 0} (f : A → Result B polyfill.PolyfillRefusal) (P : B → Type 0) → ((x : A) (y : B) → f x ≡ Ok y → P y)
+    → (xs : List A) (ys : List B) → all_or_refusal f xs ≡ Ok ys → Each P ys
 all-have f P each xs ys e = each-has f (λ _. Unit {0}) P (λ x y i q. each x y q) xs ys (anything xs) e
 
 -- a mapped function, by what its lists are
@@ -79,17 +79,17 @@ found-mapped new old (Some g) f e = subst IsMappedView (the-function e) refl
 function-mapped : (new : ModuleTree) (old : FunctionTree) (f : MappedFunction) → function_answer new old ≡ Ok f → IsMappedView f
 function-mapped new old f e = found-mapped new old (func_called new.items old.name) f e
 
-as-mapped : (new old : ModuleTree) (r : Result (List MappedFunction) polyfill.Refusal) (m : MappedModule) → ((fs : List MappedFunction) → r ≡ Ok fs → Each IsMappedView fs)
-    → as_module new old r ≡ Ok m → AreMappedViews m
+as-mapped : (new old : ModuleTree) (r : Result (List MappedFunction) polyfill.PolyfillRefusal) (m : MappedModule) → ((fs : List MappedFunction) → r ≡ Ok fs → Each IsMappedView fs)
+    → as_mapped_module new old r ≡ Ok m → AreMappedViews m
 as-mapped new old (Err why) m h e = cc
 as-mapped new old (Ok fs) m h e = subst AreMappedViews (the-module e) (h fs refl)
   where
-    the-module : as_module new old (Ok fs) ≡ Ok m → record { new = new; old = old; functions = fs } ≡ m
+    the-module : as_mapped_module new old (Ok fs) ≡ Ok m → record { new = new; old = old; functions = fs } ≡ m
     the-module q = cc
 
 module-mapped : (new old : ModuleTree) (m : MappedModule) → module_answer new old ≡ Ok m → AreMappedViews m
 module-mapped new old m e =
-    as-mapped new old (all_of (function_answer new) (funcs_of old.items)) m
+    as-mapped new old (all_or_refusal (function_answer new) (funcs_of old.items)) m
     (all-have (function_answer new) IsMappedView (function-mapped new) (funcs_of old.items)) e
 
 pair-mapped : (names : List ℕ × List ℕ) (new old : Option ModuleTree) (m : MappedModule) → new_or_none names.0 names.1 new old ≡ Ok m → AreMappedViews m
@@ -118,7 +118,7 @@ pub answers-mapped : (new old : List DefinitionTree) (pairs : List (List ℕ × 
 answers-mapped new old pairs ms e = each-all AreMapped ms (modules-mapped ms (views-mapped new old pairs (map module_view ms) e))
 
 -- what is told where there is no shim
-pub refused-line : {U E : Type 0} (r : Result U E) (f : MappedFunction) (why : Option Refusal) (old new : List ℕ)
-    → OnOk r ((x : Refusal) × (why ≡ Some x) × (new ≡ old ++ refusal_line x)) → OnOk r (new ≡ old ++ passing_line f why)
+pub refused-line : {U E : Type 0} (r : Result U E) (f : MappedFunction) (why : Option ShimRefusal) (old new : List ℕ)
+    → OnOk r ((x : ShimRefusal) × (why ≡ Some x) × (new ≡ old ++ refusal_line x)) → OnOk r (new ≡ old ++ passing_line f why)
 refused-line (Ok u) f why old new (x, e, n) = n ∙ ap (λ w. old ++ passing_line f w) (sym e)
 refused-line (Err e) f why old new h = tt

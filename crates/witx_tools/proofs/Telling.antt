@@ -3,7 +3,7 @@ use Rattle.std.specs.Prelude.{◌≡◌, ◌⊎◌, ℕ, List, [], ◌∷◌, Al
 use Rattle.std.proofs.Common.{refl, sym, ◌∙◌, subst, inl, inr, arith}
 use Rattle.witx_base.specs.Paths.{Path, path_of}
 use Rattle.witx_files.specs.Answers.{IsText}
-use Rattle.witx_files.specs.Files.{Files, held}
+use Rattle.witx_files.specs.Files.{Files, text_in}
 use Rattle.witx_files.specs.declared.fault.IoError.TheVariants.{Fault}
 use Rattle.witx_files.specs.declared.fault.IoFault.{IoFault}
 use Rattle.witx_files.specs.declared.fault.IoFault.TheVariants as io_fault
@@ -14,16 +14,16 @@ use Rattle.witx_adapt.proofs.Fitting.{functions-fit}
 use Rattle.witx_adapt.specs.Entries.{Entry, all_functions, entry_of}
 use Rattle.witx_adapt.specs.declared.adapted.Adapted.{Adapted}
 use Rattle.witx_adapt.specs.declared.adapted.AdaptedFunc.{AdaptedFunc}
-use Rattle.witx_bytes.specs.Follow.{TakeWritable}
+use Rattle.witx_bytes.specs.Follow.{TakesAreWritable}
 use Rattle.witx_traces.specs.Passages.{sides_of}
-use Rattle.witx_traces.specs.Refusals.{Refuses}
+use Rattle.witx_traces.specs.Refusals.{RefusesLines}
 use Rattle.witx_traces.specs.Traces.{GivesTraces, Listed, listed}
 use Rattle.witx_traces.specs.declared.reading.TracePair.{TracePair}
 use Rattle.witx_traces.specs.declared.reading.TracesError.TheVariants as traces_error
 use Rattle.witx_compat.specs.Polyfills.{polyfill_answer}
 use Rattle.witx_compat.specs.Views.{module_view}
 use Rattle.witx_compat.specs.declared.modules.ModulePolyfill.{ModulePolyfill}
-use Rattle.witx_imports.specs.Faults.{offered}
+use Rattle.witx_imports.specs.Faults.{offered_import}
 use Rattle.witx_imports.specs.Reads as list
 use Rattle.witx_imports.specs.declared.import.WasmImport.{WasmImport}
 use Rattle.witx_commands.specs.Adapting.{IsAdapted, Parses, defined}
@@ -32,7 +32,7 @@ use Rattle.witx_commands.specs.Mappings.{IsAbsentReport, mapping_of}
 use Rattle.witx_commands.specs.Reports.{AdaptingFails, IsTextReport}
 use Rattle.witx_commands.specs.Stops.{StopsWith}
 use Rattle.witx_commands.specs.Words as asked
-use Rattle.witx_commands.specs.Words.{Names, OwnFile, TwoFiles, paths_of}
+use Rattle.witx_commands.specs.Words.{FunctionNames, OwnFile, TwoFiles, paths_of}
 use Rattle.witx_commands.specs.declared.refusal.Stop.{Stop}
 use Rattle.witx_commands.proofs.Refusing.{memory-stops, stops-as}
 use Rattle.witx_tools.specs.Callable.{IsCallable}
@@ -144,8 +144,8 @@ abbrev own-of : List ℕ → List (List ℕ) → OwnFile
 own-of file paths = record { file = file; paths = paths }
 
 pub own-held : (files : Files) (file : List ℕ) (path : Path) (text : List ℕ) → path ≡ path_of file
-    → held files path ≡ Some text → held files (path_of file) ≡ Some text
-own-held files file path text e h = subst (λ p. held files p ≡ Some text) e h
+    → text_in files path ≡ Some text → text_in files (path_of file) ≡ Some text
+own-held files file path text e h = subst (λ p. text_in files p ≡ Some text) e h
 
 pub own-document : (files mid : Files) (handed : List Path) (a : Adapted) → mid ≡ files
     → Parses mid handed (Ok (defined a)) → Parses files handed (Ok (defined a))
@@ -159,7 +159,7 @@ lacking-stops files own path s e k =
     (subst (λ p. StopsWith (LacksOwn (Some p) files) s) e k)
 
 pub unadapted-stops : (files mid : Files) (own : OwnFile) (path : Path) (text : List ℕ) (s : Stop) → path ≡ path_of own.file
-    → mid ≡ files → held files path ≡ Some text → StopsWith (AdaptingFails mid (paths_of own.paths)) s
+    → mid ≡ files → text_in files path ≡ Some text → StopsWith (AdaptingFails mid (paths_of own.paths)) s
     → StopsWith (OpeningFails files own) s
 unfolding OpeningFails
 unadapted-stops files mid own path text s e f h k =
@@ -189,7 +189,7 @@ opening R files own s k =
 
 -- it has its file and its document, and refuses by itself
 refusing : (R Q : List ℕ → Type 0) (files : Files) (own : OwnFile) (text : List ℕ) (a : Adapted) (s : Stop)
-    → held files (path_of own.file) ≡ Some text → Parses files (paths_of own.paths) (Ok (defined a)) → IsAdapted a
+    → text_in files (path_of own.file) ≡ Some text → Parses files (paths_of own.paths) (Ok (defined a)) → IsAdapted a
     → ((report : List ℕ) → Q report → R report) → StopsWith Q s → StopsWith (Refused R files own) s
 refusing R Q files own text a s h p q why k =
     stops-as Q (Refused R files own)
@@ -197,12 +197,12 @@ refusing R Q files own text a s h p q why k =
 
 -- ---- imports
 
-bad-told : (path : Path) (text : List ℕ) (place : list.Place) (report : List ℕ) → list.IsFaultOf text place
+bad-told : (path : Path) (text : List ℕ) (place : list.LineColumn) (report : List ℕ) → list.IsBadAt text place
     → report ≡ bad_report path place → IsBadList path text report
 unfolding IsBadList
 bad-told path text place report h r = (place, h, r)
 
-pub bad-stops : (path : Path) (text : List ℕ) (place : list.Place) (s : Stop) → list.IsFaultOf text place
+pub bad-stops : (path : Path) (text : List ℕ) (place : list.LineColumn) (s : Stop) → list.IsBadAt text place
     → StopsWith (λ report. report ≡ bad_report path place) s → StopsWith (IsBadList path text) s
 bad-stops path text place s h k =
     stops-as (λ report. report ≡ bad_report path place) (IsBadList path text) (λ report r. bad-told path text place report h r) s k
@@ -215,7 +215,7 @@ unfolding ToolRefuses
 list-opening files own s k = opening (OwnRefuses (asked.imports own) files) files own s k
 
 pub list-stops : (files : Files) (file : List ℕ) (paths : List (List ℕ)) (path : Path) (text : List ℕ) (a : Adapted) (s : Stop)
-    → path ≡ path_of file → held files (path_of file) ≡ Some text → Parses files (paths_of paths) (Ok (defined a))
+    → path ≡ path_of file → text_in files (path_of file) ≡ Some text → Parses files (paths_of paths) (Ok (defined a))
     → IsAdapted a → StopsWith (IsBadList path text) s → StopsWith (ToolRefuses (asked.imports (own-of file paths)) files) s
 unfolding ToolRefuses
 list-stops files file paths path text a s e h p q k =
@@ -224,8 +224,8 @@ list-stops files file paths path text a s e h p q k =
     (λ report r. (text, h, r)) (subst (λ p. StopsWith (IsBadList p text) s) e k)
 
 pub faults-told : (files : Files) (file : List ℕ) (paths : List (List ℕ)) (text told made : List ℕ) (a : Adapted)
-    (imports : List WasmImport) → held files (path_of file) ≡ Some text → Parses files (paths_of paths) (Ok (defined a))
-    → IsAdapted a → list.Reads text imports → told ≡ faults_text (map offered a.functions) imports → made ≡ told
+    (imports : List WasmImport) → text_in files (path_of file) ≡ Some text → Parses files (paths_of paths) (Ok (defined a))
+    → IsAdapted a → list.Lists text imports → told ≡ faults_text (map offered_import a.functions) imports → made ≡ told
     → IsToolOutput (asked.imports (own-of file paths)) files made
 unfolding IsToolOutput
 faults-told files file paths text told made a imports h p q r k m =
@@ -235,20 +235,20 @@ pub ruleset import_rules = (memory-stops, list-opening, list-stops, faults-told)
 
 -- ---- calls
 
-pub all-callable : OneReading → TakeWritable → (files : Files) (handed : List Path) (a : Adapted) (fs : List AdaptedFunc)
+pub all-callable : OneReading → TakesAreWritable → (files : Files) (handed : List Path) (a : Adapted) (fs : List AdaptedFunc)
     → fs ≡ a.functions → Parses files handed (Ok (defined a)) → IsAdapted a → All IsCallable fs
 all-callable one law files handed a fs e p k =
     subst (All IsCallable) (sym e)
     (entries-callable law a.functions (all_functions (defined a)) k.functions
     (functions-fit (defined a) (parsed-closed one files handed (defined a) p) k.adaptable.fits) k.adaptable.lowerable k.faithful)
 
-pub values-opening : (files : Files) (n : Names) (own : OwnFile) (s : Stop) → StopsWith (OpeningFails files own) s
+pub values-opening : (files : Files) (n : FunctionNames) (own : OwnFile) (s : Stop) → StopsWith (OpeningFails files own) s
     → StopsWith (ToolRefuses (asked.invoke n own) files) s
 unfolding ToolRefuses
 values-opening files n own s k = opening (OwnRefuses (asked.invoke n own) files) files own s k
 
-pub call-stops : (files : Files) (n : Names) (file : List ℕ) (paths : List (List ℕ)) (text : List ℕ) (a : Adapted) (s : Stop)
-    → held files (path_of file) ≡ Some text → Parses files (paths_of paths) (Ok (defined a)) → IsAdapted a
+pub call-stops : (files : Files) (n : FunctionNames) (file : List ℕ) (paths : List (List ℕ)) (text : List ℕ) (a : Adapted) (s : Stop)
+    → text_in files (path_of file) ≡ Some text → Parses files (paths_of paths) (Ok (defined a)) → IsAdapted a
     → StopsWith (NamedFails n (first_named n (map entry_of a.functions)) text) s
     → StopsWith (ToolRefuses (asked.invoke n (own-of file paths)) files) s
 unfolding ToolRefuses
@@ -258,8 +258,8 @@ call-stops files n file paths text a s h p q k =
     refusing (OwnRefuses (asked.invoke n own) files) (fails (entries_of (defined a))) files own text a s h p q
     (λ report r. (defined a, text, (h, p), r)) (subst (λ es. StopsWith (fails es) s) q.functions k)
 
-pub call-told : (files : Files) (n : Names) (file : List ℕ) (paths : List (List ℕ)) (text told made : List ℕ) (a : Adapted)
-    → held files (path_of file) ≡ Some text → Parses files (paths_of paths) (Ok (defined a)) → IsAdapted a
+pub call-told : (files : Files) (n : FunctionNames) (file : List ℕ) (paths : List (List ℕ)) (text told made : List ℕ) (a : Adapted)
+    → text_in files (path_of file) ≡ Some text → Parses files (paths_of paths) (Ok (defined a)) → IsAdapted a
     → IsNamedText n (map entry_of a.functions) text told → made ≡ told
     → IsToolOutput (asked.invoke n (own-of file paths)) files made
 unfolding IsToolOutput
@@ -274,12 +274,12 @@ pub ruleset call_rules = (memory-stops, values-opening, call-stops, call-told)
 
 -- ---- verdicts
 
-unfit-told : (shown : Listed) (text : List ℕ) (line : ℕ) (report : List ℕ) → Refuses shown text (traces_error.Line line)
+unfit-told : (shown : Listed) (text : List ℕ) (line : ℕ) (report : List ℕ) → RefusesLines shown text (traces_error.Line line)
     → report ≡ unfit_report line → IsUnfitListing shown text report
 unfolding IsUnfitListing
 unfit-told shown text line report h r = (line, h, r)
 
-pub unfit-stops : (shown : Listed) (text : List ℕ) (line : ℕ) (s : Stop) → Refuses shown text (traces_error.Line line)
+pub unfit-stops : (shown : Listed) (text : List ℕ) (line : ℕ) (s : Stop) → RefusesLines shown text (traces_error.Line line)
     → StopsWith (λ report. report ≡ unfit_report line) s → StopsWith (IsUnfitListing shown text) s
 unfit-stops shown text line s h k =
     stops-as (λ report. report ≡ unfit_report line) (IsUnfitListing shown text)
@@ -293,7 +293,7 @@ unfolding ToolRefuses
 listing-opening files own s k = opening (OwnRefuses (asked.verify own) files) files own s k
 
 pub listing-stops : (files : Files) (file : List ℕ) (paths : List (List ℕ)) (text : List ℕ) (a : Adapted) (s : Stop)
-    → ReadAsTrees → held files (path_of file) ≡ Some text → Parses files (paths_of paths) (Ok (defined a)) → IsAdapted a
+    → ReadAsTrees → text_in files (path_of file) ≡ Some text → Parses files (paths_of paths) (Ok (defined a)) → IsAdapted a
     → StopsWith (IsUnfitListing (listed a) text) s → StopsWith (ToolRefuses (asked.verify (own-of file paths)) files) s
 unfolding ToolRefuses
 listing-stops files file paths text a s law h p q k =
@@ -302,7 +302,7 @@ listing-stops files file paths text a s law h p q k =
     (λ report r. (defined a, text, (h, p), r)) (subst (λ l. StopsWith (IsUnfitListing l text) s) (listed-for law a q) k)
 
 pub verdicts-told : (files : Files) (file : List ℕ) (paths : List (List ℕ)) (text told made : List ℕ) (a : Adapted)
-    (pairs : List TracePair) → ReadAsTrees → held files (path_of file) ≡ Some text
+    (pairs : List TracePair) → ReadAsTrees → text_in files (path_of file) ≡ Some text
     → Parses files (paths_of paths) (Ok (defined a)) → IsAdapted a → GivesTraces (listed a) text (map sides_of pairs)
     → told ≡ verdicts_text (map owned_of a.functions) (map sides_of pairs) → made ≡ told
     → IsToolOutput (asked.verify (own-of file paths)) files made

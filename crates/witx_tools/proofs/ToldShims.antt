@@ -27,23 +27,23 @@ use Rattle.witx_adapt.proofs.Fitting.{lowered-none, none-here, none-later}
 use Rattle.witx_adapt.specs.Adaptable.{IsAdaptable, first_unlowered, unlowered}
 use Rattle.witx_adapt.specs.Entries.{Owned, all_functions, module_functions, owned_item}
 use Rattle.witx_compat.proofs.Tables.{key-bytes}
-use Rattle.witx_compat.specs.Polyfills.{MappedFunction, MappedModule, all_of, function_answer, function_mapped, function_or_none, is_fully_compatible, module_answer, new_or_none, pair_answer, polyfill_answer}
+use Rattle.witx_compat.specs.Polyfills.{MappedFunction, MappedModule, all_or_refusal, function_answer, function_mapped, function_or_none, is_fully_compatible, module_answer, new_or_none, pair_answer, polyfill_answer}
 use Rattle.witx_compat.specs.Polyfills as polyfill
 use Rattle.witx_scope.specs.Checks.{field_checks, type_checks}
 use Rattle.witx_scope.specs.DeclarationForms.{DeclForm, constant_form, module_form, typename_form}
 use Rattle.witx_scope.specs.Declarations.{Past, decl_checks, decl_tree, nothing_before}
 use Rattle.witx_scope.specs.Faults.{Check, first_fault}
 use Rattle.witx_scope.specs.Modules.{decl_meant, item_checks, item_meant, items_checks, with_name}
-use Rattle.witx_scope.specs.Names.{Here, Marks, new_mark}
-use Rattle.witx_scope.specs.Positions.{after, is_name}
+use Rattle.witx_scope.specs.Names.{Here, NameMarks, new_mark}
+use Rattle.witx_scope.specs.Positions.{after, is_same_name}
 use Rattle.witx_scope.specs.Trees.{fields_meant}
 use Rattle.witx_order.specs.Fronts.{AreSound}
 use Rattle.witx_order.specs.Items.{Declared}
 use Rattle.witx_walk.specs.Meaning.{definitions_from, definitions_with, form_definitions, form_fault, form_of, past_of, past_with, places_of, world}
-use Rattle.witx_walk.specs.Readings.{OneReading, Reading}
+use Rattle.witx_walk.specs.Readings.{OneReading, FileReading}
 use Rattle.witx_walk.proofs.Declarations.{past-more}
-use Rattle.witx_shim.specs.Refusals.{Refusal, first_of, new_unlowerable, not_compatible, old_unlowerable, other_abi, refusal_of, repeated, repeated_after, repeated_param, unless}
-use Rattle.witx_commands.specs.Adapting.{IsParsed, Parses}
+use Rattle.witx_shim.specs.Refusals.{ShimRefusal, first_refusal_of, new_unlowerable, not_compatible, old_unlowerable, other_abi, refusal_of, repeated, repeated_after, repeated_param, refusal_unless}
+use Rattle.witx_commands.specs.Adapting.{IsParsedDocument, Parses}
 use Rattle.witx_tools.specs.ToolLaws.{IsToldShim, ShimsTellTwoRefusals}
 use Rattle.witx_tools.proofs.Shims.{Each, anything, each-all, each-has}
 
@@ -74,28 +74,28 @@ map-none f (Some x) h = cc
 -- ---- the names of fields in one scope
 
 -- a name that isn't marked isn't among these
-Covers : Marks → List (List ℕ) → Type 0
+Covers : NameMarks → List (List ℕ) → Type 0
 Covers marks names = (n : List ℕ) → found marks n ≡ None → list_any (λ b. same_bytes b n) names ≡ false
 
 not-marked : (b : Bool) (s : ℕ) (o : Option ℕ) → cond b (Some s) o ≡ None → (b ≡ false) × (o ≡ None)
 not-marked true s o e = cc
 not-marked false s o e = (refl, e)
 
-other-name : (b : Bool) (m n : List ℕ) → same_bytes m n ≡ b → is_name n m ≡ false → same_bytes m n ≡ false
+other-name : (b : Bool) (m n : List ℕ) → same_bytes m n ≡ b → is_same_name n m ≡ false → same_bytes m n ≡ false
 other-name false m n e k = e
 other-name true m n e k =
     let same : m ≡ n = same-is m n (key-bytes m n ∙ e) in
-    let here : is_name m m ≡ true = ap (λ q. is_name m q) same ∙ (key-bytes m n ∙ e) in
-    let there : is_name m m ≡ false = ap (λ q. is_name q m) same ∙ k in
+    let here : is_same_name m m ≡ true = ap (λ q. is_same_name m q) same ∙ (key-bytes m n ∙ e) in
+    let there : is_same_name m m ≡ false = ap (λ q. is_same_name q m) same ∙ k in
     cc
 
 or-none : (a b : Bool) → a ≡ false → b ≡ false → (a || (b || false)) ≡ false
 or-none a b h k = rw (h, k) refl
 
-covers-more : (marks : Marks) (names : List (List ℕ)) (m : List ℕ) (s : ℕ) → Covers marks names → Covers ((m, s) ∷ marks) (names ++ m ∷ [])
+covers-more : (marks : NameMarks) (names : List (List ℕ)) (m : List ℕ) (s : ℕ) → Covers marks names → Covers ((m, s) ∷ marks) (names ++ m ∷ [])
 unfolding Covers
 covers-more marks names m s h n e =
-    let apart = not-marked (is_name n m) s (found marks n) e in
+    let apart = not-marked (is_same_name n m) s (found marks n) e in
     list_any-append (λ b. same_bytes b n) names (m ∷ [])
     ∙ or-none (list_any (λ b. same_bytes b n) names) (same_bytes m n) (h n apart.1) (other-name (same_bytes m n) m n refl apart.0)
 
@@ -103,7 +103,7 @@ not-before : (b : Bool) (n : List ℕ) (o : Option (List ℕ)) → b ≡ false �
 not-before true n o h k = cc
 not-before false n o h k = k
 
-fields-apart : (h : Here) (marks : Marks) (names : List (List ℕ)) (fs : syntax.Fields) → Covers marks names → first_fault (field_checks h marks fs) ≡ None
+fields-apart : (h : Here) (marks : NameMarks) (names : List (List ℕ)) (fs : syntax.Fields) → Covers marks names → first_fault (field_checks h marks fs) ≡ None
     → repeated_after names (map (λ (p : Field). p.called) (fields_meant h fs)) ≡ None
 unfolding Covers
 fields-apart h marks names syntax.no_fields c e = refl
@@ -148,12 +148,12 @@ each-as P Q f (x ∷ xs) h = (f x h.0, each-as P Q f xs h.1)
 abbrev HasOwnNames : FunctionTree → Type 0
 HasOwnNames f = repeated_param f.params ≡ None
 
-item-apart : (h : Here) (before : Marks) (comments : Comments) (d : syntax.DeclTree) → first_fault (item_checks h before d) ≡ None → ItemHas HasOwnNames (decl_meant h comments d)
+item-apart : (h : Here) (before : NameMarks) (comments : Comments) (d : syntax.DeclTree) → first_fault (item_checks h before d) ≡ None → ItemHas HasOwnNames (decl_meant h comments d)
 item-apart h before comments (syntax.memory name) e = tt
 item-apart h before comments (syntax.function name params results noreturn stored) e =
     fields-apart h [] [] params nothing-covered (none-first (field_checks h [] params) _ (hold-behind (new_mark h before name.text name.start) _ e))
 
-items-apart : (h : Here) (before : Marks) (items : List syntax.NotedDecl) → first_fault (items_checks h before items) ≡ None → Each (ItemHas HasOwnNames) (map (item_meant h) items)
+items-apart : (h : Here) (before : NameMarks) (items : List syntax.NotedDecl) → first_fault (items_checks h before items) ≡ None → Each (ItemHas HasOwnNames) (map (item_meant h) items)
 items-apart h before [] e = tt
 items-apart h before (d ∷ ds) e = (
   item-apart h before d.comments d.decl (none-first (item_checks h before d.decl) (items_checks h (with_name d.decl before) ds) e),
@@ -172,7 +172,7 @@ one-apart past place comments None e = tt
 one-apart past place comments (Some form) e = (form-apart past place comments form e, tt)
 
 -- declarations without a fault, behind others
-module _ (files : Files) (reading : Reading) where
+module _ (files : Files) (reading : FileReading) where
   sound-apart : (before rest : List Declared) → AreSound (world files [] reading) before rest → AllHave HasOwnNames (definitions_from (past_of before) rest)
   sound-apart before [] s = tt
   sound-apart before (δ ∷ rest) s =
@@ -181,7 +181,7 @@ module _ (files : Files) (reading : Reading) where
       (subst (λ past. AllHave HasOwnNames (definitions_from past rest)) (past-more nothing_before before δ) (sound-apart (before ++ δ ∷ []) rest s.1))
 
 parsed-apart : OneReading → (files : Files) (handed : List Path) (ds : List DefinitionTree) → Parses files handed (Ok ds) → AllHave HasOwnNames ds
-unfolding IsParsed
+unfolding IsParsedDocument
 parsed-apart one files handed ds p =
     let answer = p files [] one.0 refl refl one.1.0 in
     subst (AllHave HasOwnNames) (sym answer.1.1.1) (sound-apart files one.0 [] answer.1.0 answer.1.1.0.1.1)
@@ -228,7 +228,7 @@ module _ {T : Type 0} (name_of : T → Option (List ℕ)) (P : T → Type 0) whe
   found-step : (o : Option (List ℕ)) (s t : T) (rest : List (List ℕ × T)) (q : List ℕ) → P s
       → found (cons_option (option_map (λ (n : List ℕ). (n, s)) o) rest) q ≡ Some t → (found rest q ≡ Some t → P t) → P t
   found-step None s t rest q p e more = more e
-  found-step (Some n) s t rest q p e more = found-cond (is_name q n) s t (found rest q) p e more
+  found-step (Some n) s t rest q p e more = found-cond (is_same_name q n) s t (found rest q) p e more
 
   found-has : (ts : List T) (q : List ℕ) (t : T) → Each P ts → found (by_name name_of ts) q ≡ Some t → P t
   found-has [] q t h e = absurd (cc)
@@ -273,17 +273,17 @@ module _ (P : FunctionTree → Type 0) where
       the-function : function_or_none new old (Some g) ≡ Ok f → function_mapped g old ≡ f
       the-function q = cc
 
-  mapped-has : (new old : ModuleTree) (r : Result (List MappedFunction) polyfill.Refusal) (m : MappedModule) → ((fs : List MappedFunction) → r ≡ Ok fs → Each (BothHave P) fs)
-      → polyfill.as_module new old r ≡ Ok m → ModuleHas P m
+  mapped-has : (new old : ModuleTree) (r : Result (List MappedFunction) polyfill.PolyfillRefusal) (m : MappedModule) → ((fs : List MappedFunction) → r ≡ Ok fs → Each (BothHave P) fs)
+      → polyfill.as_mapped_module new old r ≡ Ok m → ModuleHas P m
   mapped-has new old (Err why) m h e = absurd (cc)
   mapped-has new old (Ok fs) m h e = subst (ModuleHas P) (the-module e) (h fs refl)
     where
-      the-module : polyfill.as_module new old (Ok fs) ≡ Ok m → record { new = new; old = old; functions = fs } ≡ m
+      the-module : polyfill.as_mapped_module new old (Ok fs) ≡ Ok m → record { new = new; old = old; functions = fs } ≡ m
       the-module q = cc
 
   modules-have : (new old : ModuleTree) (m : MappedModule) → Each (ItemHas P) new.items → Each (ItemHas P) old.items → module_answer new old ≡ Ok m → ModuleHas P m
   modules-have new old m h k e =
-      mapped-has new old (all_of (function_answer new) (funcs_of old.items)) m
+      mapped-has new old (all_or_refusal (function_answer new) (funcs_of old.items)) m
       (λ fs q. each-has (function_answer new) P (BothHave P)
       (λ f g p r. function-has new f (func_called new.items f.name) g (λ x s. func-has new.items f.name x h s) p r)
       (funcs_of old.items) fs (funcs-have old.items k) q)
@@ -305,9 +305,9 @@ module _ (P : FunctionTree → Type 0) where
 
 -- ---- the refusals that are left
 
-abbrev first_told : (olds news : Option (List ℕ)) (compatible same : Bool) (old new : Option Place) → Option Refusal
+abbrev first_told : (olds news : Option (List ℕ)) (compatible same : Bool) (old new : Option Place) → Option ShimRefusal
 first_told olds news compatible same old new =
-    first_of (option_map repeated olds ∷ option_map repeated news ∷ unless compatible not_compatible ∷ unless same other_abi
+    first_refusal_of (option_map repeated olds ∷ option_map repeated news ∷ refusal_unless compatible not_compatible ∷ refusal_unless same other_abi
     ∷ option_map old_unlowerable old ∷ option_map new_unlowerable new ∷ [])
 
 two-left : (compatible same : Bool) → IsToldShim (first_told None None compatible same None None)

@@ -11,7 +11,7 @@ use Rattle.witx_adapt.specs.declared.adapted.AdaptedFunc.{AdaptedFunc}
 use Rattle.witx_bytes.specs.Seen.{seen}
 use Rattle.witx_invoke.specs.Invoking.{AllocatesWritable}
 use Rattle.witx_invoke.specs.declared.given.GivenValues.{GivenValues}
-use Rattle.witx_tools.specs.Calls.{Handed}
+use Rattle.witx_tools.specs.Calls.{HandedValues}
 
 -- whatever values it is called with
 pub record IsCallable (f : AdaptedFunc) : Type 0 where
@@ -23,9 +23,9 @@ pub record IsCallable (f : AdaptedFunc) : Type 0 where
       (map event_of f.callee.events) arguments reply
 
 -- values are of its types
-pub record AreFor (f : AdaptedFunc) (h : Handed) : Type 0 where
+pub record AreFor (f : AdaptedFunc) (h : HandedValues) : Type 0 where
   pub arguments : IsTrue (are_arguments (called f.func.value).params h.arguments)
   pub reply : IsTrue (is_reply (called f.func.value).results h.reply)
 
-abbrev pub handed_of : GivenValues → Handed
+abbrev pub handed_of : GivenValues → HandedValues
 handed_of g = record { arguments = map seen g.args; reply = option_map seen g.reply }

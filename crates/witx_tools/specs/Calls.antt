@@ -10,20 +10,20 @@ use Rattle.witx_ast.specs.Values.{Value}
 use Rattle.witx_machine.specs.Faithful.{zero_error}
 use Rattle.witx_machine.specs.Functions.{Function, function_of}
 use Rattle.witx_adapt.specs.Entries.{Entry, all_functions, entry_for}
-use Rattle.witx_call.specs.Lines.{FirstFault, Gives, types_of}
+use Rattle.witx_call.specs.Lines.{FirstFault, Gives, line_types}
 use Rattle.witx_call.specs.CallSeen.{CallSeen}
 use Rattle.witx_invoke.specs.Runs.{ComesTo, NoRoom}
-use Rattle.witx_commands.specs.Words.{Names}
+use Rattle.witx_commands.specs.Words.{FunctionNames}
 use Rattle.witx_tools.specs.InvokeTexts.{call_text}
 
 -- ---- the function
 
-abbrev pub has_names : Names → Entry → Bool
-has_names n e = same_text e.owned.owner.name n.owner && same_text e.owned.func.name n.function
+abbrev pub has_function_names : FunctionNames → Entry → Bool
+has_function_names n e = same_text e.owned.owner.name n.owner && same_text e.owned.func.name n.function
 
 -- the first that has them
-abbrev pub first_named : Names → List Entry → Option Entry
-first_named n es = find (has_names n) es
+abbrev pub first_named : FunctionNames → List Entry → Option Entry
+first_named n es = find (has_function_names n) es
 
 -- the entries of a document
 abbrev pub entries_of : List DefinitionTree → List Entry
@@ -35,34 +35,34 @@ abbrev pub called_function : Entry → Function
 called_function e = function_of e.owned.func
 
 -- the values of a call
-pub record Handed : Type 0 where
+pub record HandedValues : Type 0 where
   pub arguments : List Value
   pub reply : Option Value
 
 -- the lines of a text are these values of the function
-abbrev pub GivesValues : Entry → List ℕ → Handed → Type 0
+abbrev pub GivesValues : Entry → List ℕ → HandedValues → Type 0
 GivesValues e values h = Gives (called_function e) values h.arguments h.reply
 
 -- the reply is an error whose one word is 0, and can't come back
-abbrev pub is_lost : Entry → Handed → Bool
+abbrev pub is_lost : Entry → HandedValues → Bool
 is_lost e h = zero_error (called_function e) h.reply
 
-abbrev pub LacksRoom : Entry → Handed → Type 0
+abbrev pub LacksRoom : Entry → HandedValues → Type 0
 LacksRoom e h = NoRoom e.owned.owner.name (called_function e) e.lowered.caller e.lowered.callee h.arguments h.reply
 
 -- THE CALL CAN BE MADE: the lines give values whose reply can come back, and there is room
 pub record CanCall (e : Entry) (values : List ℕ) : Type 0 where
-  pub handed : Handed
+  pub handed : HandedValues
   pub given : GivesValues e values handed
   pub kept : IsFalse (is_lost e handed)
   pub room : ¬ (LacksRoom e handed)
 
-abbrev pub CallComesTo : Entry → Handed → CallSeen → Type 0
+abbrev pub CallComesTo : Entry → HandedValues → CallSeen → Type 0
 CallComesTo e h seen = ComesTo e.owned.owner.name (called_function e)
     e.lowered.caller e.lowered.callee h.arguments h.reply seen
 
 -- the call with these values can be made, and this is the text of what it comes to
-pub record IsHandedText (e : Entry) (h : Handed) (text : List ℕ) : Type 0 where
+pub record IsHandedText (e : Entry) (h : HandedValues) (text : List ℕ) : Type 0 where
   pub kept : IsFalse (is_lost e h)
   pub room : ¬ (LacksRoom e h)
   pub seen : CallSeen
@@ -71,19 +71,19 @@ pub record IsHandedText (e : Entry) (h : Handed) (text : List ℕ) : Type 0 wher
 
 -- with the values that the lines give
 pub record IsCallText (e : Entry) (values text : List ℕ) : Type 0 where
-  pub handed : Handed
+  pub handed : HandedValues
   pub given : GivesValues e values handed
   pub answered : IsHandedText e handed text
 
 -- THE TEXT OF THE CALL of the function with the names
-pub record IsNamedText (n : Names) (es : List Entry) (values text : List ℕ) : Type 0 where
+pub record IsNamedText (n : FunctionNames) (es : List Entry) (values text : List ℕ) : Type 0 where
   pub entry : Entry
   pub named : first_named n es ≡ Some entry
   pub called : IsCallText entry values text
 
 -- ---- why there is none
 
-abbrev pub absent_report : Names → List ℕ
+abbrev pub absent_report : FunctionNames → List ℕ
 absent_report n = codes "no function `" ++ (n.function ++ (codes "` in module `" ++ (n.owner ++ codes "`")))
 
 abbrev pub line_report : ℕ → List ℕ
@@ -92,19 +92,19 @@ line_report line = codes "values: unexpected line " ++ decimal line
 -- a line is at fault, and this is the report of the first
 unfoldable pub LineFails : Entry → List ℕ → List ℕ → Type 0
 LineFails e values report =
-    (line : ℕ) × FirstFault 1 (types_of (called_function e)) values line × (report ≡ line_report line)
+    (line : ℕ) × FirstFault 1 (line_types (called_function e)) values line × (report ≡ line_report line)
 
 -- the reply can't come back; or it can, and there is no room
-unfoldable pub HandedFails : Entry → Handed → List ℕ → Type 0
+unfoldable pub HandedFails : Entry → HandedValues → List ℕ → Type 0
 HandedFails e h report =
     (IsTrue (is_lost e h) × (report ≡ codes "error word is 0"))
     ⊎ (IsFalse (is_lost e h) × LacksRoom e h × (report ≡ codes "out of room"))
 
 -- so it is with the values that the lines give
 unfoldable pub CallFails : Entry → List ℕ → List ℕ → Type 0
-CallFails e values report = LineFails e values report ⊎ ((h : Handed) × GivesValues e values h × HandedFails e h report)
+CallFails e values report = LineFails e values report ⊎ ((h : HandedValues) × GivesValues e values h × HandedFails e h report)
 
 -- THE REPORT of the function that was found, or of none
-unfoldable pub NamedFails : Names → Option Entry → List ℕ → List ℕ → Type 0
+unfoldable pub NamedFails : FunctionNames → Option Entry → List ℕ → List ℕ → Type 0
 NamedFails n None values report = report ≡ absent_report n
 NamedFails n (Some e) values report = CallFails e values report

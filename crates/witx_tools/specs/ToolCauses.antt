@@ -2,7 +2,7 @@
 -- own is missing, else as `adapt` refuses the first document that can't be adapted, else by the tool's own refusals, a row for each.
 use Rattle.std.specs.Prelude.{◌≡◌, ◌⊎◌, ℕ, List, [], ◌∷◌, map, Option, Some, None, Ok}
 use Rattle.witx_base.specs.Paths.{Path, path_of}
-use Rattle.witx_files.specs.Files.{Files, held}
+use Rattle.witx_files.specs.Files.{Files, text_in}
 use Rattle.witx_files.specs.declared.fault.IoFault.TheVariants.{NotFound}
 use Rattle.witx_ast.specs.Definitions.{DefinitionTree}
 use Rattle.witx_compat.specs.Polyfills.{MappedModule, polyfill_answer}
@@ -10,7 +10,7 @@ use Rattle.witx_walk.specs.ErrorReports.{io_report}
 use Rattle.witx_adapt.specs.Entries.{Entry, all_functions}
 use Rattle.witx_adapt.specs.declared.adapted.Adapted.{Adapted}
 use Rattle.witx_traces.specs.Traces.{GivesTraces, Sides}
-use Rattle.witx_imports.specs.Faults.{offered}
+use Rattle.witx_imports.specs.Faults.{offered_import}
 use Rattle.witx_imports.specs.Reads as list
 use Rattle.witx_imports.specs.declared.import.WasmImport.{WasmImport}
 use Rattle.witx_commands.specs.Adapting.{IsAdapted, Parses, defined}
@@ -18,7 +18,7 @@ use Rattle.witx_commands.specs.Causes.{CanAdapt, CanMap}
 use Rattle.witx_commands.specs.Mappings.{MeansBoth, mapping_of}
 use Rattle.witx_commands.specs.Reports.{AdaptingFails, MappingFails}
 use Rattle.witx_commands.specs.Words as asked
-use Rattle.witx_commands.specs.Words.{Asked, Names, OwnFile, TwoFiles, paths_of}
+use Rattle.witx_commands.specs.Words.{Asked, FunctionNames, OwnFile, TwoFiles, paths_of}
 use Rattle.witx_tools.specs.Calls.{CanCall, IsNamedText, NamedFails, entries_of, first_named}
 use Rattle.witx_tools.specs.ImportTexts.{IsBadList, faults_text}
 use Rattle.witx_tools.specs.ShimTexts.{shims_text}
@@ -42,12 +42,12 @@ adapted_files _ = []
 -- the bundle holds a tool's own file, if it has one
 abbrev pub HoldsOwn : Option Path → Files → Type 0
 HoldsOwn None files = Unit {0}
-HoldsOwn (Some path) files = (text : List ℕ) × (held files path ≡ Some text)
+HoldsOwn (Some path) files = (text : List ℕ) × (text_in files path ≡ Some text)
 
 -- it doesn't, and this is the report
 abbrev pub LacksOwn : Option Path → Files → List ℕ → Type 0
 LacksOwn None files report = ⊥
-LacksOwn (Some path) files report = (held files path ≡ None) × (report ≡ io_report path NotFound)
+LacksOwn (Some path) files report = (text_in files path ≡ None) × (report ≡ io_report path NotFound)
 
 -- the files at the paths of each of these words can be adapted
 abbrev pub CanAdaptAll : Files → List (List (List ℕ)) → Type 0
@@ -68,7 +68,7 @@ OpeningFails files own report =
 
 -- the bundle holds this text, and the files behind it mean this document
 abbrev pub IsOwnText : Files → OwnFile → List ℕ → List DefinitionTree → Type 0
-IsOwnText files own text ds = (held files (path_of own.file) ≡ Some text) × Parses files (paths_of own.paths) (Ok ds)
+IsOwnText files own text ds = (text_in files (path_of own.file) ≡ Some text) × Parses files (paths_of own.paths) (Ok ds)
 
 -- the listing gives the functions of the document these traces
 abbrev pub ListingReads : Files → OwnFile → List DefinitionTree → List Sides → Type 0
@@ -82,24 +82,24 @@ ListingFails files own report =
     × IsUnfitListing (listed_for ds) listing report
 
 -- the function with these names can be called with these values
-abbrev pub CallReads : Files → Names → OwnFile → Type 0
+abbrev pub CallReads : Files → FunctionNames → OwnFile → Type 0
 CallReads files names own =
     (ds : List DefinitionTree) × (values : List ℕ) × IsOwnText files own values ds
     × (e : Entry) × (first_named names (entries_of ds) ≡ Some e) × CanCall e values
 
 -- there is no such call, and this is the report
-abbrev pub CallRefuses : Files → Names → OwnFile → List ℕ → Type 0
+abbrev pub CallRefuses : Files → FunctionNames → OwnFile → List ℕ → Type 0
 CallRefuses files names own report =
     (ds : List DefinitionTree) × (values : List ℕ) × IsOwnText files own values ds
     × NamedFails names (first_named names (entries_of ds)) values report
 
 -- the list of imports is read so
 abbrev pub ListReads : Files → Path → List WasmImport → Type 0
-ListReads files path imports = (text : List ℕ) × (held files path ≡ Some text) × list.Reads text imports
+ListReads files path imports = (text : List ℕ) × (text_in files path ≡ Some text) × list.Lists text imports
 
 -- the text at the path of the list is none, and this is the report
 abbrev pub ListFails : Files → Path → List ℕ → Type 0
-ListFails files path report = (text : List ℕ) × (held files path ≡ Some text) × IsBadList path text report
+ListFails files path report = (text : List ℕ) × (text_in files path ≡ Some text) × IsBadList path text report
 
 -- what a tool refuses by itself: a row for each tool
 abbrev pub OwnRefuses : Asked → Files → List ℕ → Type 0
@@ -131,7 +131,7 @@ AreVerdicts files own text =
     × (text ≡ verdicts_text (all_functions ds) sides)
 
 -- the call of the function with these names, with the values of the file
-abbrev pub IsCall : Files → Names → OwnFile → List ℕ → Type 0
+abbrev pub IsCall : Files → FunctionNames → OwnFile → List ℕ → Type 0
 IsCall files names own text =
     (ds : List DefinitionTree) × (values : List ℕ) × IsOwnText files own values ds
     × IsNamedText names (entries_of ds) values text
@@ -141,7 +141,7 @@ abbrev pub AreFaults : Files → OwnFile → List ℕ → Type 0
 AreFaults files own text =
     (imports : List WasmImport) × ListReads files (path_of own.file) imports
     × (a : Adapted) × Parses files (paths_of own.paths) (Ok (defined a)) × IsAdapted a
-    × (text ≡ faults_text (map offered a.functions) imports)
+    × (text ≡ faults_text (map offered_import a.functions) imports)
 
 -- the text of a tool: a row for each tool
 abbrev pub IsToolText : Asked → Files → List ℕ → Type 0

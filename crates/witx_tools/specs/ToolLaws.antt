@@ -8,7 +8,7 @@ use Rattle.witx_ast.specs.Definitions.{DefinitionTree}
 use Rattle.witx_adapt.specs.Adaptable.{IsAdaptable}
 use Rattle.witx_compat.specs.Polyfills.{MappedFunction, MappedModule, polyfill_answer}
 use Rattle.witx_shim.specs.Refusals as refusals
-use Rattle.witx_shim.specs.Refusals.{Refusal, refusal_of}
+use Rattle.witx_shim.specs.Refusals.{ShimRefusal, refusal_of}
 use Rattle.witx_commands.specs.Adapting.{Parses}
 use Rattle.witx_adapt.specs.declared.adapted.Adapted.{Adapted}
 use Rattle.witx_commands.specs.Runs.{IsRun, SinkSeen, task_of}
@@ -45,7 +45,7 @@ ValidIsNotRefusedByTools = (bytes : List ℕ) (files others : Files) → IsRead 
     → (c : Asked) (report : List ℕ) → IsValidForTool c others → ToolRefuses c files report → ⊥
 
 -- there is a shim, or one of the two refusals that are told of it: the functions aren't compatible, or their ABIs differ
-abbrev pub IsToldShim : Option Refusal → Type 0
+abbrev pub IsToldShim : Option ShimRefusal → Type 0
 IsToldShim None = Unit {0}
 IsToldShim (Some refusals.not_compatible) = Unit {0}
 IsToldShim (Some refusals.other_abi) = Unit {0}

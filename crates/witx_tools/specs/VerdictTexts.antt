@@ -7,7 +7,7 @@ use Rattle.witx_ast.specs.Definitions.{DefinitionTree}
 use Rattle.witx_machine.specs.Functions.{function_of}
 use Rattle.witx_layout.specs.Layouts.{all_layouts}
 use Rattle.witx_adapt.specs.Entries.{Entry, Owned, all_functions, entry_for, entry_of}
-use Rattle.witx_adapt.specs.Names.{quoted}
+use Rattle.witx_adapt.specs.Names.{in_quotes}
 use Rattle.witx_adapt.specs.declared.adapted.AdaptedFunc.{AdaptedFunc}
 use Rattle.witx_traces.specs.Traces as traces
 use Rattle.witx_traces.specs.Traces.{IsUnfit, Listed, Sides}
@@ -30,7 +30,7 @@ found_text Verdict.Yes = codes " yes\n"
 found_text (Verdict.No doubt) = codes " no " ++ doubt_text doubt ++ codes "\n"
 
 abbrev pub verdict_line : (name : List ℕ) → Verdict → List ℕ
-verdict_line name found = codes "func " ++ quoted name ++ found_text found
+verdict_line name found = codes "func " ++ in_quotes name ++ found_text found
 
 -- the line of a function of a module, with a caller's trace and a callee's
 abbrev pub judged_line : Owned → Sides → List ℕ

@@ -3,13 +3,13 @@
 ghost use Rattle.std.specs.Prelude.{◌≡◌, ◌++◌, IfErr, IfOk, OnOk, Ok, Some, codes, map, option_copied, option_map, string_bytes};
 ghost use Rattle.std.specs.Fmt.{decimal};
 ghost use Rattle.std.specs.List.{flat_map};
-ghost use Rattle.witx_files.specs.Files.{held};
-ghost use Rattle.witx_imports.specs.Faults.{offered};
-ghost use Rattle.witx_imports.specs.Reads.{Reads};
+ghost use Rattle.witx_files.specs.Files.{text_in};
+ghost use Rattle.witx_imports.specs.Faults.{offered_import};
+ghost use Rattle.witx_imports.specs.Reads.{Lists};
 ghost use Rattle.witx_commands.specs.Stops.{StopsWith};
 ghost use Rattle.witx_commands.specs.Words as asked;
 ghost use Rattle.witx_commands.specs.Words.{own_file};
-ghost use Rattle.witx_tools.specs.ImportTexts.{IsBadList, asked_text, bad_report, differs_line, expected_text, fault_line, faults_text, missing_line, names_text};
+ghost use Rattle.witx_tools.specs.ImportTexts.{IsBadList, asked_text, bad_report, differs_line, expected_text, fault_line, faults_text, lacking_line, names_text};
 ghost use Rattle.witx_tools.specs.ToolCauses.{ToolRefuses};
 ghost use Rattle.witx_tools.specs.ToolRuns.{ToolTells};
 
@@ -43,7 +43,7 @@ pub fn faults_of_files(alloc: Global, own: &OwnFile<'_>, files: &mut MockFs) -> 
 /// The imports that a text lists, or the end of a run whose text at this path is no list.
 #[tactic(auto, using(crate::proofs::Telling::list_rules))]
 fn listed_imports(alloc: Global, path: &WitxPath, list: &str) -> Result<WasmImports, Stop>
-    ensures imports { IfOk result (Reads list.now) }
+    ensures imports { IfOk result (Lists list.now) }
     ensures stopped { IfErr result (StopsWith (IsBadList path.now list.now)) }
 {
     match read_imports(alloc, list) {
@@ -74,7 +74,7 @@ fn bad_report(alloc: Global, path: &str, line: usize, column: usize) -> Result<T
 /// A line for each fault of the imports, held against an adapted document.
 #[tactic(auto, unfolding(crate::specs::ImportTexts::faults_text))]
 fn faults_text(alloc: Global, adapted: &Adapted, imports: &WasmImports) -> Result<Text, OutOfMemory>
-    ensures { IfOk result (λ text. text ≡ faults_text (map offered adapted.now.functions) imports.now) }
+    ensures { IfOk result (λ text. text ≡ faults_text (map offered_import adapted.now.functions) imports.now) }
 {
     let faults = check_imports(alloc, adapted, imports)?;
     let mut text = String::new(alloc);
@@ -96,7 +96,7 @@ fn put_faults(
     faults: &[ImportFault],
 ) -> Result<(), OutOfMemory>
     ensures { OnOk result (string_bytes text.new ≡ string_bytes text.old
-        ++ flat_map (fault_line (map offered functions.now) imports.now) faults.now) }
+        ++ flat_map (fault_line (map offered_import functions.now) imports.now) faults.now) }
 {
     for fault in faults {
         put_fault(text, functions, imports, fault)?;
@@ -114,7 +114,7 @@ fn put_fault(
     fault: &ImportFault,
 ) -> Result<(), AllocError>
     ensures { OnOk result (string_bytes text.new ≡ string_bytes text.old
-        ++ fault_line (map offered functions.now) imports.now fault.now) }
+        ++ fault_line (map offered_import functions.now) imports.now fault.now) }
 {
     match fault {
         ImportFault::Missing { index } => put_missing(text, imports.get(*index)),
@@ -125,7 +125,7 @@ fn put_fault(
 }
 
 fn put_missing(text: &mut String, import: Option<&WasmImport>) -> Result<(), AllocError>
-    ensures { OnOk result (string_bytes text.new ≡ string_bytes text.old ++ missing_line (option_copied import.entry)) }
+    ensures { OnOk result (string_bytes text.new ≡ string_bytes text.old ++ lacking_line (option_copied import.entry)) }
 {
     let Some(import) = import else {
         return Ok(());
@@ -141,7 +141,7 @@ fn put_differs(
     found: Option<&AdaptedFunc>,
 ) -> Result<(), AllocError>
     ensures { OnOk result (string_bytes text.new ≡ string_bytes text.old
-        ++ differs_line (option_copied import.entry) (option_map offered (option_copied found.entry))) }
+        ++ differs_line (option_copied import.entry) (option_map offered_import (option_copied found.entry))) }
 {
     match (import, found) {
         (Some(import), Some(entry)) => put_both(text, import, entry),
@@ -152,7 +152,7 @@ fn put_differs(
 /// The line of an import that differs from what an entry offers, with both signatures.
 fn put_both(text: &mut String, import: &WasmImport, entry: &AdaptedFunc) -> Result<(), AllocError>
     ensures { OnOk result (string_bytes text.new ≡ string_bytes text.old
-        ++ differs_line (Some import.now) (Some (offered entry.now))) }
+        ++ differs_line (Some import.now) (Some (offered_import entry.now))) }
 {
     text.push_str("differs ")?;
     put_asked(text, import)?;
@@ -171,7 +171,7 @@ fn put_asked(text: &mut String, import: &WasmImport) -> Result<(), AllocError>
 
 /// The signature that an entry offers.
 fn put_expected(text: &mut String, entry: &AdaptedFunc) -> Result<(), AllocError>
-    ensures { OnOk result (string_bytes text.new ≡ string_bytes text.old ++ expected_text (offered entry.now)) }
+    ensures { OnOk result (string_bytes text.new ≡ string_bytes text.old ++ expected_text (offered_import entry.now)) }
 {
     text.push_str(" expected ")?;
     put_signature(text, entry.params.as_slice(), entry.results.as_slice())

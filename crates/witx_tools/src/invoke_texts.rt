@@ -10,12 +10,12 @@ ghost use Rattle.witx_bytes.specs.Bytes.{held};
 ghost use Rattle.witx_bytes.specs.Seen.{seen};
 ghost use Rattle.witx_call.specs.CallSeen.{placed_of, seen_of};
 ghost use Rattle.witx_call.specs.ValueTexts.{value_text as text_of};
-ghost use Rattle.witx_call.specs.WordViews.{word_of};
+ghost use Rattle.witx_call.specs.WordViews.{word_view};
 ghost use Rattle.witx_commands.specs.Stops.{StopsWith};
 ghost use Rattle.witx_commands.specs.Words as asked;
-ghost use Rattle.witx_commands.specs.Words.{names_of, own_file};
+ghost use Rattle.witx_commands.specs.Words.{both_names, own_file};
 ghost use Rattle.witx_tools.specs.Callable.{AreFor, IsCallable, handed_of};
-ghost use Rattle.witx_tools.specs.Calls.{CallFails, GivesValues, HandedFails, IsCallText, IsHandedText, IsNamedText, LineFails, NamedFails, absent_report, first_named, has_names, line_report};
+ghost use Rattle.witx_tools.specs.Calls.{CallFails, GivesValues, HandedFails, IsCallText, IsHandedText, IsNamedText, LineFails, NamedFails, absent_report, first_named, has_function_names, line_report};
 ghost use Rattle.witx_tools.specs.InvokeTexts.{byte_text, call_text, note_line, range_line, returned_line, word_text, words_line};
 ghost use Rattle.witx_tools.specs.ToolCauses.{ToolRefuses};
 ghost use Rattle.witx_tools.specs.ToolRuns.{ToolTells};
@@ -44,9 +44,9 @@ pub fn call_of_files(
     own: &OwnFile<'_>,
     files: &mut MockFs,
 ) -> Result<Output, Stop>
-    ensures output { let names = names_of owner.now function.now in
+    ensures output { let names = both_names owner.now function.now in
         IfOk result (λ o. ToolTells (asked.invoke names (own_file own.now)) files.old o.text o.notes o.adapted) }
-    ensures stopped { let names = names_of owner.now function.now in
+    ensures stopped { let names = both_names owner.now function.now in
         IfErr result (StopsWith (ToolRefuses (asked.invoke names (own_file own.now)) files.old)) }
 {
     one_reading();
@@ -71,8 +71,8 @@ fn named_call(
     values: &str,
 ) -> Result<Text, Stop>
     requires { All IsCallable functions.now }
-    ensures text { IfOk result (IsNamedText (names_of owner.now function.now) (map entry_of functions.now) values.now) }
-    ensures stopped { let names = names_of owner.now function.now in
+    ensures text { IfOk result (IsNamedText (both_names owner.now function.now) (map entry_of functions.now) values.now) }
+    ensures stopped { let names = both_names owner.now function.now in
         IfErr result (StopsWith (NamedFails names (first_named names (map entry_of functions.now)) values.now)) }
 {
     let Some(number) = number_named(functions, owner, function) else {
@@ -83,7 +83,7 @@ fn named_call(
 
 /// The number of the first function with these names.
 fn number_named(functions: &[AdaptedFunc], owner: &str, function: &str) -> Option<usize>
-    ensures { result ≡ position (λ f. has_names (names_of owner.now function.now) (entry_of f)) functions.now }
+    ensures { result ≡ position (λ f. has_function_names (both_names owner.now function.now) (entry_of f)) functions.now }
 {
     functions
         .iter()
@@ -91,14 +91,14 @@ fn number_named(functions: &[AdaptedFunc], owner: &str, function: &str) -> Optio
 }
 
 fn has_names(entry: &AdaptedFunc, owner: &str, function: &str) -> bool
-    ensures { result ≡ has_names (names_of owner.now function.now) (entry_of entry.now) }
+    ensures { result ≡ has_function_names (both_names owner.now function.now) (entry_of entry.now) }
 {
     entry.module.name.is(owner) && entry.func.name.is(function)
 }
 
 /// The end of a run whose document has no such function.
 fn absent_stop(alloc: Global, owner: &str, function: &str) -> Stop
-    ensures { StopsWith (λ report. report ≡ absent_report (names_of owner.now function.now)) result }
+    ensures { StopsWith (λ report. report ≡ absent_report (both_names owner.now function.now)) result }
 {
     match absent_report(alloc, owner, function) {
         Ok(report) => Stop::Refused(Refusal::Command(report)),
@@ -107,7 +107,7 @@ fn absent_stop(alloc: Global, owner: &str, function: &str) -> Stop
 }
 
 fn absent_report(alloc: Global, owner: &str, function: &str) -> Result<Text, OutOfMemory>
-    ensures { IfOk result (λ report. report ≡ absent_report (names_of owner.now function.now)) }
+    ensures { IfOk result (λ report. report ≡ absent_report (both_names owner.now function.now)) }
 {
     Ok(Text::from_string(format!(in alloc; "no function `{function}` in module `{owner}`")?))
 }
@@ -214,7 +214,7 @@ fn put_call(alloc: Global, text: &mut String, invoked: &Invoked) -> Result<(), O
 /// Words behind what they are.
 fn put_words_line(text: &mut String, name: &str, words: &[Word]) -> Result<(), AllocError>
     ensures { OnOk result (string_bytes text.new ≡ string_bytes text.old
-        ++ words_line name.now (map word_of words.now)) }
+        ++ words_line name.now (map word_view words.now)) }
 {
     text.push_str(name)?;
     put_words(text, words)?;
@@ -224,7 +224,7 @@ fn put_words_line(text: &mut String, name: &str, words: &[Word]) -> Result<(), A
 #[tactic(auto, using(crate::proofs::Shims::viewed_rules))]
 fn put_words(text: &mut String, words: &[Word]) -> Result<(), AllocError>
     ensures { OnOk result (string_bytes text.new ≡ string_bytes text.old
-        ++ flat_map word_text (map word_of words.now)) }
+        ++ flat_map word_text (map word_view words.now)) }
 {
     for word in words {
         put_word(text, *word)?;
@@ -233,7 +233,7 @@ fn put_words(text: &mut String, words: &[Word]) -> Result<(), AllocError>
 }
 
 fn put_word(text: &mut String, word: Word) -> Result<(), AllocError>
-    ensures { OnOk result (string_bytes text.new ≡ string_bytes text.old ++ word_text (word_of word)) }
+    ensures { OnOk result (string_bytes text.new ≡ string_bytes text.old ++ word_text (word_view word)) }
 {
     text.push_str(" ")?;
     text.push_str(type_name(word.ty))?;

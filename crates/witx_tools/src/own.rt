@@ -2,7 +2,7 @@
 
 ghost use Rattle.std.specs.Prelude.{◌≡◌, IfErr, IfOk, OnOk, Ok, Some};
 ghost use Rattle.witx_base.specs.Paths.{path_of};
-ghost use Rattle.witx_files.specs.Files.{held};
+ghost use Rattle.witx_files.specs.Files.{text_in};
 ghost use Rattle.witx_files.specs.declared.fault.IoFault.{IoFault};
 ghost use Rattle.witx_walk.specs.ErrorReports.{io_report};
 ghost use Rattle.witx_commands.specs.Adapting.{IsAdapted, Parses, defined};
@@ -44,7 +44,7 @@ pub struct Opened {
 #[tactic(auto, using(crate::proofs::Telling::opening_rules))]
 pub fn opened_file(alloc: Global, own: &OwnFile<'_>, files: &mut MockFs) -> Result<Opened, Stop>
     ensures path { IfOk result (λ o. o.path ≡ path_of own.now.file.now) }
-    ensures held { IfOk result (λ o. held files.old (path_of own.now.file.now) ≡ Some o.text) }
+    ensures held { IfOk result (λ o. text_in files.old (path_of own.now.file.now) ≡ Some o.text) }
     ensures document { IfOk result (λ o. Parses files.old (paths_of own.now.paths.now) (Ok (defined o.adapted))) }
     ensures parts { IfOk result (λ o. IsAdapted o.adapted) }
     ensures stopped { IfErr result (StopsWith (OpeningFails files.old (own_file own.now))) }
@@ -62,7 +62,7 @@ pub fn opened_file(alloc: Global, own: &OwnFile<'_>, files: &mut MockFs) -> Resu
 /// The text of a tool's own file, or the end of a run whose bundle lacks it.
 #[tactic(auto, using(crate::proofs::Telling::own_rules))]
 fn own_text(alloc: Global, path: &WitxPath, files: &mut MockFs) -> Result<Text, Stop>
-    ensures held { IfOk result (λ text. held files.old path.now ≡ Some text) }
+    ensures held { IfOk result (λ text. text_in files.old path.now ≡ Some text) }
     ensures stopped { IfErr result (StopsWith (LacksOwn (Some path.now) files.old)) }
     ensures kept { OnOk result (files.new ≡ files.old) }
 {

@@ -1,7 +1,7 @@
 //! The program's top call, over all commands.
 
 ghost use Rattle.std.specs.Prelude.{◌≡◌};
-ghost use Rattle.witx_commands.specs.Runs.{IsPrepared, IsRun, run_input, seen};
+ghost use Rattle.witx_commands.specs.Runs.{IsPrepared, IsRun, run_input, sink_seen};
 ghost use Rattle.witx_commands.specs.Words.{IsBounded, asked_by};
 ghost use Rattle.witx_tools.specs.ToolRuns.{any_task, task_of_all};
 
@@ -34,7 +34,7 @@ pub fn run_all<S: Source, O: Sink, E: Sink>(
 ) -> Ran
     ensures { IsRun (run_input (task_of_all words.now) S.left S.faults S.reads source.old source.new)
         result.status result.adapted
-        (seen O.taken O.faults out.old out.new) (seen E.taken E.faults err.old err.new)
+        (sink_seen O.taken O.faults out.old out.new) (sink_seen E.taken E.faults err.old err.new)
         (source.new ≡ source.old) (out.new ≡ out.old) (err.new ≡ err.old) }
 {
     output_or_refusal();

@@ -4,7 +4,7 @@ ghost use Rattle.std.specs.Prelude.{◌≡◌, ◌++◌, All, IfErr, IfOk, OnOk,
 ghost use Rattle.std.specs.List.{flat_map};
 ghost use Rattle.witx_compat.specs.Views.{function_view, module_view};
 ghost use Rattle.witx_ast.specs.Functions.{func_tree};
-ghost use Rattle.witx_shim.specs.Refusals.{Refusal, Says, refusal_of};
+ghost use Rattle.witx_shim.specs.Refusals.{ShimRefusal, IsShimRefusal, refusal_of};
 ghost use Rattle.witx_commands.specs.Stops.{StopsWith};
 ghost use Rattle.witx_commands.specs.Words as asked;
 ghost use Rattle.witx_commands.specs.Words.{two_files};
@@ -154,7 +154,7 @@ fn put_number(text: &mut String, number: usize) -> Result<(), AllocError>
 
 /// Why there is no shim; there is no text of want of memory.
 fn put_refusal(text: &mut String, refusal: ShimError) -> Result<(), OutOfMemory>
-    ensures { (why : Option Refusal) → Says why refusal → OnOk result ((r : Refusal) × (why ≡ Some r)
+    ensures { (why : Option ShimRefusal) → IsShimRefusal why refusal → OnOk result ((r : ShimRefusal) × (why ≡ Some r)
         × (string_bytes text.new ≡ string_bytes text.old ++ refusal_line r)) }
 {
     match refusal {

@@ -6,9 +6,9 @@ use Rattle.witx_ast.specs.declared.function.Abi.{Abi}
 use Rattle.witx_ast.specs.Items.{ItemTree, import_of, func_of}
 use Rattle.witx_ast.specs.Definitions.{DefinitionTree, typename_of, module_of, constant_of}
 use Rattle.witx_layout.specs.declared.layout.SizeAlign.{SizeAlign}
-use Rattle.witx_adapt.specs.Names.{quoted, signature}
+use Rattle.witx_adapt.specs.Names.{in_quotes, signature}
 use Rattle.witx_adapt.specs.Lines.{event_lines}
-use Rattle.witx_adapt.specs.Listings.{constant_line, module_line, import_line, func_line, func_lines, stored_mark, typename_lines, item_lines, func_count, definition_lines}
+use Rattle.witx_adapt.specs.Listings.{constant_line, module_line, import_line, listed_func_line, func_lines, stored_mark, listed_typename_lines, item_lines, func_count, listed_definition_lines}
 use Rattle.witx_traces.specs.Traces.{Listed, Offered, Sides, HasEachEntry, function_number, listing_with, with_sides}
 use Rattle.witx_traces.specs.Passages.{AreFixed, Draft, IsFixed, IsLast, Passage, nothing_put, pair_text, passages_of, put, put_definitions, put_func, put_items}
 use Rattle.witx_traces.proofs.OneTrace.{func-flat, sides-behind, whole-list, with_events}
@@ -48,10 +48,10 @@ woven-end (q ∷ ps) (u ∷ us) p s last e = ap (pair_text q u) (woven-end ps us
 
 -- the lines of a function, as its head and its two sides
 func-lines : (name : List ℕ) (abi : Abi) (f : Offered) (s : Sides) (front : List ℕ)
-    → pair_text (record { fixed = front ++ (func_line name abi f.lowered.params f.lowered.results ++ codes "caller\n"); function = f }) s []
+    → pair_text (record { fixed = front ++ (listed_func_line name abi f.lowered.params f.lowered.results ++ codes "caller\n"); function = f }) s []
     ≡ front ++ func_lines name abi (with_events f.lowered s)
 func-lines name abi f s front =
-    let head = func_line name abi f.lowered.params f.lowered.results in
+    let head = listed_func_line name abi f.lowered.params f.lowered.results in
     let behind = event_lines s.caller ++ (codes "callee\n" ++ (event_lines s.callee ++ [])) in
     append_assoc front (head ++ codes "caller\n") behind
     ∙ ap (λ z. front ++ z) (append_assoc head (codes "caller\n") behind ∙ (sym (func-flat name abi f.lowered s []) ∙ append-nil (func_lines name abi (with_events f.lowered s))))
@@ -59,7 +59,7 @@ func-lines name abi f s front =
 func-worth : (name : List ℕ) (abi : Abi) (f : Offered) (fs : List Offered) (s : Sides) (d : Draft) (us : List Sides) → length us ≡ length d.done
     → worth (put_func name abi (f ∷ fs) d) (us ++ s ∷ []) ≡ worth d us ++ func_lines name abi (with_events f.lowered s)
 func-worth name abi f fs s d us e =
-    woven-end d.done us (record { fixed = d.text ++ (func_line name abi f.lowered.params f.lowered.results ++ codes "caller\n"); function = f }) s [] e
+    woven-end d.done us (record { fixed = d.text ++ (listed_func_line name abi f.lowered.params f.lowered.results ++ codes "caller\n"); function = f }) s [] e
     ∙ (ap (woven d.done us) (func-lines name abi f s d.text) ∙ woven-more d.done us d.text (func_lines name abi (with_events f.lowered s)))
 
 -- ---- all functions
@@ -113,8 +113,8 @@ func-becomes : (name : List ℕ) (abi : Abi) (f : Offered) (fs : List Offered) (
     → Becomes d (put_func name abi (f ∷ fs) d) us (s ∷ []) (f ∷ []) (func_lines name abi (with_events f.lowered s))
 func-becomes name abi f fs s d us e = record {
   text = func-worth name abi f fs s d us e;
-  count = same-length us d.done s (record { fixed = d.text ++ (func_line name abi f.lowered.params f.lowered.results ++ codes "caller\n"); function = f }) e;
-  named = functions-end d.done (record { fixed = d.text ++ (func_line name abi f.lowered.params f.lowered.results ++ codes "caller\n"); function = f });
+  count = same-length us d.done s (record { fixed = d.text ++ (listed_func_line name abi f.lowered.params f.lowered.results ++ codes "caller\n"); function = f }) e;
+  named = functions-end d.done (record { fixed = d.text ++ (listed_func_line name abi f.lowered.params f.lowered.results ++ codes "caller\n"); function = f });
 }
 
 take-none : {A : Type 0} (n : ℕ) → take {A = A} n [] ≡ []
@@ -157,13 +157,13 @@ drop-length (suc n) [] l = absurd (omega (arith, l))
 drop-length (suc n) (x ∷ xs) l = let more = drop-length n xs (omega (arith, l)) in omega (arith, more)
 
 definitions-become : (ds : List DefinitionTree) (fs : List Offered) (ss us : List Sides) (ls : List SizeAlign) (d : Draft) → length fs ≡ length ss → function_number ds ≤ length fs → length us ≡ length d.done
-    → Becomes d (put_definitions ds fs ls d) us (take (function_number ds) ss) (take (function_number ds) fs) (definition_lines ds (with_sides fs ss) ls)
+    → Becomes d (put_definitions ds fs ls d) us (take (function_number ds) ss) (take (function_number ds) fs) (listed_definition_lines ds (with_sides fs ss) ls)
 definitions-become [] fs ss us ls d same enough e = none-new d us e
 definitions-become (typename_of name t docs ∷ ds) fs ss us ls d same enough e =
-    put-first d (put_definitions ds fs (drop 1 ls) (put (typename_lines name ls) d)) us (take (function_number ds) ss) (take (function_number ds) fs) (typename_lines name ls) (definition_lines ds (with_sides fs ss) (drop 1 ls))
-    (definitions-become ds fs ss us (drop 1 ls) (put (typename_lines name ls) d) same enough e)
+    put-first d (put_definitions ds fs (drop 1 ls) (put (listed_typename_lines name ls) d)) us (take (function_number ds) ss) (take (function_number ds) fs) (listed_typename_lines name ls) (listed_definition_lines ds (with_sides fs ss) (drop 1 ls))
+    (definitions-become ds fs ss us (drop 1 ls) (put (listed_typename_lines name ls) d) same enough e)
 definitions-become (constant_of c ∷ ds) fs ss us ls d same enough e =
-    put-first d (put_definitions ds fs ls (put (constant_line c) d)) us (take (function_number ds) ss) (take (function_number ds) fs) (constant_line c) (definition_lines ds (with_sides fs ss) ls)
+    put-first d (put_definitions ds fs ls (put (constant_line c) d)) us (take (function_number ds) ss) (take (function_number ds) fs) (constant_line c) (listed_definition_lines ds (with_sides fs ss) ls)
     (definitions-become ds fs ss us ls (put (constant_line c) d) same enough e)
 definitions-become (module_of m ∷ ds) fs ss us ls d same enough e =
     let n = func_count m.items in
@@ -173,10 +173,10 @@ definitions-become (module_of m ∷ ds) fs ss us ls d same enough e =
     let fl = drop-length n fs (omega (arith, enough)) in
     let sl = drop-length n ss (omega (arith, enough, same)) in
     let more = definitions-become ds (drop n fs) (drop n ss) (us ++ take n ss) ls inner (omega (arith, fl, sl, same)) (omega (arith, fl, enough)) here.count in
-    let both = then-more d inner (put_definitions ds (drop n fs) ls inner) us (take n ss) (take k (drop n ss)) (take n fs) (take k (drop n fs)) (module_line m.name ++ item_lines m.items (with_sides fs ss)) (definition_lines ds (with_sides (drop n fs) (drop n ss)) ls) here more in
-    subst (λ z. Becomes d (put_definitions ds (drop n fs) ls inner) us (take (n + k) ss) (take (n + k) fs) ((module_line m.name ++ item_lines m.items (with_sides fs ss)) ++ definition_lines ds z ls)) (sym (sides-behind n fs ss))
-    (subst (λ z. Becomes d (put_definitions ds (drop n fs) ls inner) us z (take (n + k) fs) ((module_line m.name ++ item_lines m.items (with_sides fs ss)) ++ definition_lines ds (with_sides (drop n fs) (drop n ss)) ls)) (sym (take-both n k ss))
-    (subst (λ z. Becomes d (put_definitions ds (drop n fs) ls inner) us (take n ss ++ take k (drop n ss)) z ((module_line m.name ++ item_lines m.items (with_sides fs ss)) ++ definition_lines ds (with_sides (drop n fs) (drop n ss)) ls)) (sym (take-both n k fs)) both))
+    let both = then-more d inner (put_definitions ds (drop n fs) ls inner) us (take n ss) (take k (drop n ss)) (take n fs) (take k (drop n fs)) (module_line m.name ++ item_lines m.items (with_sides fs ss)) (listed_definition_lines ds (with_sides (drop n fs) (drop n ss)) ls) here more in
+    subst (λ z. Becomes d (put_definitions ds (drop n fs) ls inner) us (take (n + k) ss) (take (n + k) fs) ((module_line m.name ++ item_lines m.items (with_sides fs ss)) ++ listed_definition_lines ds z ls)) (sym (sides-behind n fs ss))
+    (subst (λ z. Becomes d (put_definitions ds (drop n fs) ls inner) us z (take (n + k) fs) ((module_line m.name ++ item_lines m.items (with_sides fs ss)) ++ listed_definition_lines ds (with_sides (drop n fs) (drop n ss)) ls)) (sym (take-both n k ss))
+    (subst (λ z. Becomes d (put_definitions ds (drop n fs) ls inner) us (take n ss ++ take k (drop n ss)) z ((module_line m.name ++ item_lines m.items (with_sides fs ss)) ++ listed_definition_lines ds (with_sides (drop n fs) (drop n ss)) ls)) (sym (take-both n k fs)) both))
 
 whole-functions : (fs : List Offered) (n : ℕ) → n ≡ length fs → take n fs ≡ fs
 whole-functions [] zero e = refl
@@ -226,29 +226,29 @@ fixed-end (q ∷ ps) p f g = (f.0, fixed-end ps p f.1 g)
 put-draft : (x : List ℕ) (d : Draft) → IsLast x → IsDraft d → IsDraft (put x d)
 put-draft x d f h = record { fixed = h.fixed; last = last-both d.text x h.last f }
 
-head-fixed : (name : List ℕ) (abi : Abi) (f : Offered) → IsFixed (func_line name abi f.lowered.params f.lowered.results ++ codes "caller\n")
-head-fixed name abi f = (refl, ends-both (func_line name abi f.lowered.params f.lowered.results) (codes "caller\n") (ends-feed (codes "func " ++ quoted name ++ codes " " ++ signature f.lowered.params f.lowered.results ++ stored_mark abi)) refl)
+head-fixed : (name : List ℕ) (abi : Abi) (f : Offered) → IsFixed (listed_func_line name abi f.lowered.params f.lowered.results ++ codes "caller\n")
+head-fixed name abi f = (refl, ends-both (listed_func_line name abi f.lowered.params f.lowered.results) (codes "caller\n") (ends-feed (codes "func " ++ in_quotes name ++ codes " " ++ signature f.lowered.params f.lowered.results ++ stored_mark abi)) refl)
 
 func-draft : (name : List ℕ) (abi : Abi) (fs : List Offered) (d : Draft) → IsDraft d → IsDraft (put_func name abi fs d)
 func-draft name abi [] d h = h
 func-draft name abi (f ∷ fs) d h = record {
-  fixed = fixed-end d.done (record { fixed = d.text ++ (func_line name abi f.lowered.params f.lowered.results ++ codes "caller\n"); function = f }) h.fixed
-      (last-fixed d.text (func_line name abi f.lowered.params f.lowered.results ++ codes "caller\n") h.last (head-fixed name abi f));
+  fixed = fixed-end d.done (record { fixed = d.text ++ (listed_func_line name abi f.lowered.params f.lowered.results ++ codes "caller\n"); function = f }) h.fixed
+      (last-fixed d.text (listed_func_line name abi f.lowered.params f.lowered.results ++ codes "caller\n") h.last (head-fixed name abi f));
   last = (refl, refl);
 }
 
 items-draft : (items : List ItemTree) (fs : List Offered) (d : Draft) → IsDraft d → IsDraft (put_items items fs d)
 items-draft [] fs d h = h
-items-draft (import_of i ∷ items) fs d h = items-draft items fs (put (import_line i.name) d) (put-draft (import_line i.name) d (refl, ends-feed (codes "import " ++ quoted i.name ++ codes " memory")) h)
+items-draft (import_of i ∷ items) fs d h = items-draft items fs (put (import_line i.name) d) (put-draft (import_line i.name) d (refl, ends-feed (codes "import " ++ in_quotes i.name ++ codes " memory")) h)
 items-draft (func_of f ∷ items) fs d h = items-draft items (drop 1 fs) (put_func f.name f.abi fs d) (func-draft f.name f.abi fs d h)
 
-typename-last : (name : List ℕ) (ls : List SizeAlign) → IsLast (typename_lines name ls)
+typename-last : (name : List ℕ) (ls : List SizeAlign) → IsLast (listed_typename_lines name ls)
 typename-last name [] = (refl, refl)
 typename-last name (l ∷ ls) = (refl, ends-feed (codes "typename " ++ name ++ codes " size " ++ decimal l.size ++ codes " align " ++ decimal l.align))
 
 definitions-draft : (ds : List DefinitionTree) (fs : List Offered) (ls : List SizeAlign) (d : Draft) → IsDraft d → IsDraft (put_definitions ds fs ls d)
 definitions-draft [] fs ls d h = h
-definitions-draft (typename_of name t docs ∷ ds) fs ls d h = definitions-draft ds fs (drop 1 ls) (put (typename_lines name ls) d) (put-draft (typename_lines name ls) d (typename-last name ls) h)
+definitions-draft (typename_of name t docs ∷ ds) fs ls d h = definitions-draft ds fs (drop 1 ls) (put (listed_typename_lines name ls) d) (put-draft (listed_typename_lines name ls) d (typename-last name ls) h)
 definitions-draft (module_of m ∷ ds) fs ls d h =
     definitions-draft ds (drop (func_count m.items) fs) ls (put_items m.items fs (put (module_line m.name) d))
     (items-draft m.items fs (put (module_line m.name) d) (put-draft (module_line m.name) d (refl, ends-feed (codes "module " ++ m.name)) h))

@@ -12,16 +12,16 @@ use Rattle.witx_ast.specs.TypeNames.{type_text}
 use Rattle.witx_machine.specs.declared.surface.WasmType.{WasmType}
 use Rattle.witx_machine.specs.Events.{Step, Event, emit, space, finish}
 use Rattle.witx_adapt.specs.Lines.{event_text}
-use Rattle.witx_adapt.specs.Names.{quoted, signature}
+use Rattle.witx_adapt.specs.Names.{in_quotes, signature}
 use Rattle.witx_traces.specs.declared.line_words.PlainWord.{PlainWord}
 use Rattle.witx_traces.specs.declared.line_words.NumberWord.{NumberWord}
 use Rattle.witx_traces.specs.declared.line_words.NamedWord.{NamedWord}
 use Rattle.witx_traces.specs.declared.line_words.ShownWord.{ShownWord}
 use Rattle.witx_traces.specs.declared.line_words.LineWord.{LineWord}
-use Rattle.witx_traces.specs.LineParts.{Parts, plain, number, named, shown, wasm, interface, lower, room, finished, plain_event, number_step, named_step, shown_step, event_from, word_of, tail_of, block_end, CanSayParts, spelling, spelled, all_words, the_words, word_spelled, parts, with_tail, no_blank, HasParts, SaidBy, HasText, SaidByText, SaidByLine}
+use Rattle.witx_traces.specs.LineParts.{Parts, plain, number, named, shown, wasm, interface, lower, room, finished, plain_event, number_step, named_word_step, shown_step, event_from, line_word, tail_of, block_end, CanSayParts, word_spelling, spelled_line_word, all_words, the_line_words, word_spelled, parts, with_tail, no_blank, HasParts, SaidBy, HasText, SaidByText, SaidByLine}
 use Rattle.witx_traces.specs.LineReading.{IsBehind, NumberAt, NamesAt, QuotedAt, SignatureAt, PayloadsAt, payloads_tail, EndsFirst}
 use Rattle.witx_traces.specs.declared.candidates.KnownTypes.{KnownTypes}
-use Rattle.witx_traces.specs.ReadTypes.{PayloadAt, types_in}
+use Rattle.witx_traces.specs.ReadTypes.{PayloadAt, known_in}
 use Rattle.witx_traces.specs.Traces.{Types, CanSay, IsWord, IsPayload, EndsBeforeError, shown as shown_in, shown_payload}
 use Rattle.witx_traces.proofs.LineWords.{from-parts, text-parts, can-parts, spells, word-unbroken}
 use Rattle.witx_traces.proofs.OneEvent.{tails-same, said-parts, plain-shape, number-shape, named-shape, shown-shape, wasm-shape, interface-shape, lower-shape, room-shape, finished-shape, cut, number-unbroken, lower-texts, ends-first}
@@ -77,7 +77,7 @@ parts-number NumberWord.TupleLift n = refl
 parts-number NumberWord.TupleLower n = refl
 parts-number NumberWord.Return n = refl
 
-parts-named : (w : NamedWord) (t : Tree) → parts (emit (named_step w t)) ≡ named w t
+parts-named : (w : NamedWord) (t : Tree) → parts (emit (named_word_step w t)) ≡ named w t
 parts-named NamedWord.I32FromHandle t = refl
 parts-named NamedWord.I32FromBitflags t = refl
 parts-named NamedWord.I64FromBitflags t = refl
@@ -106,8 +106,8 @@ from-event (room k t) = refl
 from-event (finished v) = refl
 
 -- the event of parts that can be said
-has-parts : (types : Types) (p : Parts) (tail : Option (List ℕ)) → tail_of p ≡ tail → CanSayParts types p → HasParts types (word_of p) tail (event_from p)
-has-parts types p tail e can = record { word-is = ap word_of (from-event p); tail-is = ap tail_of (from-event p) ∙ e; can = subst (CanSayParts types) (sym (from-event p)) can }
+has-parts : (types : Types) (p : Parts) (tail : Option (List ℕ)) → tail_of p ≡ tail → CanSayParts types p → HasParts types (line_word p) tail (event_from p)
+has-parts types p tail e can = record { word-is = ap line_word (from-event p); tail-is = ap tail_of (from-event p) ∙ e; can = subst (CanSayParts types) (sym (from-event p)) can }
 
 -- what is known of the parts with that word
 told : (types : Types) (p q : Parts) (tail : Option (List ℕ)) → p ≡ q → tail_of p ≡ tail → CanSayParts types p → (tail_of q ≡ tail) × CanSayParts types q
@@ -157,7 +157,7 @@ number-unsaid types w tail none = record { none = λ e h. let s = number-shape w
 
 -- ---- types
 
-pub named-said : (types : Types) (w : NamedWord) (tail : List ℕ) (t : Tree) (s : Step) → Named types.typename → types.typename tail ≡ Some t → s ≡ named_step w t → SaidBy types (LineWord.Named w) (Some tail) (Some (emit s))
+pub named-said : (types : Types) (w : NamedWord) (tail : List ℕ) (t : Tree) (s : Step) → Named types.typename → types.typename tail ≡ Some t → s ≡ named_word_step w t → SaidBy types (LineWord.Named w) (Some tail) (Some (emit s))
 named-said types w tail t s own h e =
     let text = own tail t h in
     subst (λ x. HasParts types (LineWord.Named w) (Some tail) (emit x)) (sym e) (has-parts types (named w t) (Some tail) (ap Some text) (ap types.typename text ∙ h))
@@ -248,7 +248,7 @@ finished-unsaid types tail f g = record { none = λ e h. let s = finished-shape 
 pub wasm-said : (types : Types) (tail m n rest own : List ℕ) (ps rs : List WasmType) → NamesAt tail (Some (record { owner = m; name = n; rest = rest })) → rest ≡ 32 ∷ own → SignatureAt own (Some (ps, rs))
     → SaidBy types LineWord.CallWasm (Some tail) (Some (emit (Step.CallWasm m n ps rs)))
 wasm-said types tail m n rest own ps rs h e s =
-    has-parts types (wasm m n ps rs) (Some tail) (ap Some (ap (λ z. quoted m ++ 32 ∷ (quoted n ++ 32 ∷ z)) (sym s.same) ∙ (ap (λ z. quoted m ++ 32 ∷ (quoted n ++ z)) (sym e) ∙ sym h.same))) (h.owner-utf8, h.name-utf8)
+    has-parts types (wasm m n ps rs) (Some tail) (ap Some (ap (λ z. in_quotes m ++ 32 ∷ (in_quotes n ++ 32 ∷ z)) (sym s.same) ∙ (ap (λ z. in_quotes m ++ 32 ∷ (in_quotes n ++ z)) (sym e) ∙ sym h.same))) (h.owner-utf8, h.name-utf8)
 
 record Called (types : Types) (tail : List ℕ) : Type 0 where
   owner : List ℕ
@@ -257,7 +257,7 @@ record Called (types : Types) (tail : List ℕ) : Type 0 where
   results : List WasmType
   owner-is : IsUtf8 owner
   name-is : IsUtf8 name
-  same : quoted owner ++ 32 ∷ (quoted name ++ 32 ∷ signature params results) ≡ tail
+  same : in_quotes owner ++ 32 ∷ (in_quotes name ++ 32 ∷ signature params results) ≡ tail
 
 called : (types : Types) (tail : List ℕ) (e : Event) → HasParts types LineWord.CallWasm (Some tail) e → Called types tail
 called types tail e h =
@@ -272,7 +272,7 @@ cons-same : (a : ℕ) (xs ys : List ℕ) → a ∷ xs ≡ a ∷ ys → xs ≡ ys
 cons-same a xs ys e = cc
 
 -- what stands behind the two names
-behind-names : (tail m n rest k l z : List ℕ) → IsUtf8 m → IsUtf8 n → IsUtf8 k → IsUtf8 l → tail ≡ quoted m ++ 32 ∷ (quoted n ++ rest) → quoted k ++ 32 ∷ (quoted l ++ z) ≡ tail → rest ≡ z
+behind-names : (tail m n rest k l z : List ℕ) → IsUtf8 m → IsUtf8 n → IsUtf8 k → IsUtf8 l → tail ≡ in_quotes m ++ 32 ∷ (in_quotes n ++ rest) → in_quotes k ++ 32 ∷ (in_quotes l ++ z) ≡ tail → rest ≡ z
 behind-names tail m n rest k l z f g p q e same =
     let one = quoted-same m k _ _ f p (sym e ∙ sym same) in
     (quoted-same n l rest z g q (cons-same 32 _ _ one.1)).1
@@ -294,20 +294,20 @@ wasm-unsigned types tail m n rest own h is none = record {
 pub interface-said : (types : Types) (tail m n : List ℕ) (ps rs : List Tree) → NamesAt tail (Some (record { owner = m; name = n; rest = [] })) → ps ≡ types.params → rs ≡ types.results
     → SaidBy types LineWord.CallInterface (Some tail) (Some (emit (Step.CallInterface m n ps rs)))
 interface-said types tail m n ps rs h e f =
-    has-parts types (interface m n ps rs) (Some tail) (ap Some (ap (λ z. quoted m ++ 32 ∷ z) (sym (append-nil (quoted n))) ∙ sym h.same)) (h.owner-utf8, h.name-utf8, e, f)
+    has-parts types (interface m n ps rs) (Some tail) (ap Some (ap (λ z. in_quotes m ++ 32 ∷ z) (sym (append-nil (in_quotes n))) ∙ sym h.same)) (h.owner-utf8, h.name-utf8, e, f)
 
 record Asked (types : Types) (tail : List ℕ) : Type 0 where
   owner : List ℕ
   name : List ℕ
   owner-is : IsUtf8 owner
   name-is : IsUtf8 name
-  same : quoted owner ++ 32 ∷ (quoted name ++ []) ≡ tail
+  same : in_quotes owner ++ 32 ∷ (in_quotes name ++ []) ≡ tail
 
 asked : (types : Types) (tail : List ℕ) (e : Event) → HasParts types LineWord.CallInterface (Some tail) e → Asked types tail
 asked types tail e h =
     let s = interface-shape (parts e) h.word-is in
     let t = told types (parts e) (interface s.0 s.1 s.2 s.3) (Some tail) s.4 h.tail-is h.can in
-    record { owner = s.0; name = s.1; owner-is = t.1.0; name-is = t.1.1; same = ap (λ z. quoted s.0 ++ 32 ∷ z) (append-nil (quoted s.1)) ∙ some-same _ _ t.0 }
+    record { owner = s.0; name = s.1; owner-is = t.1.0; name-is = t.1.1; same = ap (λ z. in_quotes s.0 ++ 32 ∷ z) (append-nil (in_quotes s.1)) ∙ some-same _ _ t.0 }
 
 pub interface-unnamed : (types : Types) (tail : List ℕ) → NamesAt tail None → SaidBy types LineWord.CallInterface (Some tail) None
 interface-unnamed types tail none = record { none = λ e h. let c = asked types tail e h in none.none (record { owner = c.owner; name = c.name; rest = [] }) (record { owner-utf8 = c.owner-is; name-utf8 = c.name-is; same = sym c.same }) }
@@ -356,31 +356,31 @@ lower-err-unknown types tail p h none = record { none = λ e s. let l = lowered 
 
 -- ---- words, texts, lines
 
-spelled-so : (ws : List LineWord) (text : List ℕ) (w : LineWord) → word_spelled (map spelled ws) text ≡ Some w → spelling w ≡ text
+spelled-so : (ws : List LineWord) (text : List ℕ) (w : LineWord) → word_spelled (map spelled_line_word ws) text ≡ Some w → word_spelling w ≡ text
 spelled-so [] text w e = absurd (cc)
-spelled-so (v ∷ ws) text w e = by (same_text (spelling v) text) refl e (spelled-so ws text w)
+spelled-so (v ∷ ws) text w e = by (same_text (word_spelling v) text) refl e (spelled-so ws text w)
   where
-    by : (t : Bool) → same_text (spelling v) text ≡ t → (if t then Some v else word_spelled (map spelled ws) text) ≡ Some w → (word_spelled (map spelled ws) text ≡ Some w → spelling w ≡ text) → spelling w ≡ text
-    by true f e more = ap spelling (sym (some-same v w e)) ∙ (same-equal (spelling v) text).0 f
+    by : (t : Bool) → same_text (word_spelling v) text ≡ t → (if t then Some v else word_spelled (map spelled_line_word ws) text) ≡ Some w → (word_spelled (map spelled_line_word ws) text ≡ Some w → word_spelling w ≡ text) → word_spelling w ≡ text
+    by true f e more = ap word_spelling (sym (some-same v w e)) ∙ (same-equal (word_spelling v) text).0 f
     by false f e more = more e
 
 -- the word and what stands behind it are those of the event
 halves : (types : Types) (word : List ℕ) (tail : Option (List ℕ)) (e : Event) → no_blank word ≡ true → HasText types (with_tail word tail) e
-    → (word_spelled the_words word ≡ Some (word_of (parts e))) × (tail_of (parts e) ≡ tail)
+    → (word_spelled the_line_words word ≡ Some (line_word (parts e))) × (tail_of (parts e) ≡ tail)
 halves types word tail e one h =
-    let same = tails-same (spelling (word_of (parts e))) word (tail_of (parts e)) tail (word-unbroken (word_of (parts e))) one h.same in
-    (ap (word_spelled the_words) (sym same.0) ∙ spells (word_of (parts e)), same.1)
+    let same = tails-same (word_spelling (line_word (parts e))) word (tail_of (parts e)) tail (word-unbroken (line_word (parts e))) one h.same in
+    (ap (word_spelled the_line_words) (sym same.0) ∙ spells (line_word (parts e)), same.1)
 
-pub by-word : (types : Types) (word : List ℕ) (tail : Option (List ℕ)) (w : LineWord) (o : Option Event) → no_blank word ≡ true → word_spelled the_words word ≡ Some w → SaidBy types w tail o
+pub by-word : (types : Types) (word : List ℕ) (tail : Option (List ℕ)) (w : LineWord) (o : Option Event) → no_blank word ≡ true → word_spelled the_line_words word ≡ Some w → SaidBy types w tail o
     → SaidByText types (with_tail word tail) o
 by-word types word tail w None one is none = record { none = λ e h. let s = halves types word tail e one h in none.none e (record { word-is = some-same _ _ (sym s.0 ∙ is); tail-is = s.1; can = h.can }) }
 by-word types word tail w (Some e) one is h = record {
-  same = ap (λ z. with_tail (spelling z) (tail_of (parts e))) h.word-is ∙ (ap (λ z. with_tail z (tail_of (parts e))) (spelled-so all_words word w is) ∙ ap (with_tail word) h.tail-is);
+  same = ap (λ z. with_tail (word_spelling z) (tail_of (parts e))) h.word-is ∙ (ap (λ z. with_tail z (tail_of (parts e))) (spelled-so all_words word w is) ∙ ap (with_tail word) h.tail-is);
   can = h.can;
 }
 
-pub no-word : (types : Types) (word : List ℕ) (tail : Option (List ℕ)) → no_blank word ≡ true → word_spelled the_words word ≡ None → SaidByText types (with_tail word tail) None
-no-word types word tail one is = record { none = λ e h. let wrong : None ≡ Some (word_of (parts e)) = sym is ∙ (halves types word tail e one h).0 in absurd (cc) }
+pub no-word : (types : Types) (word : List ℕ) (tail : Option (List ℕ)) → no_blank word ≡ true → word_spelled the_line_words word ≡ None → SaidByText types (with_tail word tail) None
+no-word types word tail one is = record { none = λ e h. let wrong : None ≡ Some (line_word (parts e)) = sym is ∙ (halves types word tail e one h).0 in absurd (cc) }
 
 blanks-same : (xs ys : List ℕ) → 32 ∷ 32 ∷ xs ≡ 32 ∷ 32 ∷ ys → xs ≡ ys
 blanks-same xs ys e = cc
@@ -423,28 +423,28 @@ printed text k l e = record { word = l; same = (same-equal (decimal k) text).0 e
 pub ruleset number_rules = (printed, number-said, number-unsaid)
 
 -- with the types as the program has them
-pub known-named-said : (k : KnownTypes) (w : NamedWord) (tail : List ℕ) (t u : Tree) (s : Step) → Some t ≡ (types_in k).typename tail → u ≡ t → s ≡ named_step w u → SaidBy (types_in k) (LineWord.Named w) (Some tail) (Some (emit s))
-known-named-said k w tail t u s h e is = named-said (types_in k) w tail t s (known-named k).typename (sym h) (is ∙ ap (named_step w) e)
+pub known-named-said : (k : KnownTypes) (w : NamedWord) (tail : List ℕ) (t u : Tree) (s : Step) → Some t ≡ (known_in k).typename tail → u ≡ t → s ≡ named_word_step w u → SaidBy (known_in k) (LineWord.Named w) (Some tail) (Some (emit s))
+known-named-said k w tail t u s h e is = named-said (known_in k) w tail t s (known-named k).typename (sym h) (is ∙ ap (named_word_step w) e)
 
-pub known-named-unsaid : (k : KnownTypes) (w : NamedWord) (tail : List ℕ) → None ≡ (types_in k).typename tail → SaidBy (types_in k) (LineWord.Named w) (Some tail) None
-known-named-unsaid k w tail h = named-unsaid (types_in k) w tail (sym h)
+pub known-named-unsaid : (k : KnownTypes) (w : NamedWord) (tail : List ℕ) → None ≡ (known_in k).typename tail → SaidBy (known_in k) (LineWord.Named w) (Some tail) None
+known-named-unsaid k w tail h = named-unsaid (known_in k) w tail (sym h)
 
 pub ruleset named_rules = (known-named-said, known-named-unsaid)
 
-pub known-shown-said : (k : KnownTypes) (w : ShownWord) (tail : List ℕ) (t : Tree) (s : Step) → Some t ≡ shown_in (types_in k) tail → s ≡ shown_step w t → SaidBy (types_in k) (LineWord.Shown w) (Some tail) (Some (emit s))
-known-shown-said k w tail t s h is = shown-said (types_in k) w tail t s (shown-named (types_in k) (known-named k)) (sym h) is
+pub known-shown-said : (k : KnownTypes) (w : ShownWord) (tail : List ℕ) (t : Tree) (s : Step) → Some t ≡ shown_in (known_in k) tail → s ≡ shown_step w t → SaidBy (known_in k) (LineWord.Shown w) (Some tail) (Some (emit s))
+known-shown-said k w tail t s h is = shown-said (known_in k) w tail t s (shown-named (known_in k) (known-named k)) (sym h) is
 
-pub known-shown-unsaid : (k : KnownTypes) (w : ShownWord) (tail : List ℕ) → None ≡ shown_in (types_in k) tail → SaidBy (types_in k) (LineWord.Shown w) (Some tail) None
-known-shown-unsaid k w tail h = shown-unsaid (types_in k) w tail (sym h)
+pub known-shown-unsaid : (k : KnownTypes) (w : ShownWord) (tail : List ℕ) → None ≡ shown_in (known_in k) tail → SaidBy (known_in k) (LineWord.Shown w) (Some tail) None
+known-shown-unsaid k w tail h = shown-unsaid (known_in k) w tail (sym h)
 
 pub ruleset shown_rules = (known-shown-said, known-shown-unsaid)
 
-pub known-room-said : (k : KnownTypes) (tail front name : List ℕ) (n : ℕ) (t u : Tree) → tail ≡ front ++ 32 ∷ name → NumberAt front (Some n) → Some t ≡ (types_in k).typename name → u ≡ t
-    → SaidBy (types_in k) LineWord.Space (Some tail) (Some (space n u))
-known-room-said k tail front name n t u e h f is = room-said (types_in k) tail front name n t u e h (known-named k).typename (sym f) is
+pub known-room-said : (k : KnownTypes) (tail front name : List ℕ) (n : ℕ) (t u : Tree) → tail ≡ front ++ 32 ∷ name → NumberAt front (Some n) → Some t ≡ (known_in k).typename name → u ≡ t
+    → SaidBy (known_in k) LineWord.Space (Some tail) (Some (space n u))
+known-room-said k tail front name n t u e h f is = room-said (known_in k) tail front name n t u e h (known-named k).typename (sym f) is
 
-pub known-room-unknown : (k : KnownTypes) (tail front name : List ℕ) → tail ≡ front ++ 32 ∷ name → no_blank front ≡ true → None ≡ (types_in k).typename name → SaidBy (types_in k) LineWord.Space (Some tail) None
-known-room-unknown k tail front name e one none = room-unknown (types_in k) tail front name e one (sym none)
+pub known-room-unknown : (k : KnownTypes) (tail front name : List ℕ) → tail ≡ front ++ 32 ∷ name → no_blank front ≡ true → None ≡ (known_in k).typename name → SaidBy (known_in k) LineWord.Space (Some tail) None
+known-room-unknown k tail front name e one none = room-unknown (known_in k) tail front name e one (sym none)
 
 pub ruleset room_rules = (known-room-said, known-room-unknown, room-whole, room-unnumbered)
 
@@ -466,19 +466,19 @@ pub names-there : (text rest start behind m n : List ℕ) → QuotedAt text (Som
 names-there text rest start behind m n f e g = record {
   owner-utf8 = f.utf8;
   name-utf8 = g.utf8;
-  same = f.same ∙ (ap (λ z. quoted m ++ z) e ∙ ap (λ z. quoted m ++ 32 ∷ z) g.same);
+  same = f.same ∙ (ap (λ z. in_quotes m ++ z) e ∙ ap (λ z. in_quotes m ++ 32 ∷ z) g.same);
 }
 
 pub no-owner : (text : List ℕ) → QuotedAt text None → NamesAt text None
-no-owner text none = record { none = λ p h. none.none (p.owner, 32 ∷ (quoted p.name ++ p.rest)) (record { utf8 = h.owner-utf8; same = h.same }) }
+no-owner text none = record { none = λ p h. none.none (p.owner, 32 ∷ (in_quotes p.name ++ p.rest)) (record { utf8 = h.owner-utf8; same = h.same }) }
 
 pub no-gap : (text m rest : List ℕ) → QuotedAt text (Some (m, rest)) → IsBehind (codes " ") rest None → NamesAt text None
-no-gap text m rest f none = record { none = λ p h. none.none (quoted p.name ++ p.rest) (quoted-same m p.owner rest (32 ∷ (quoted p.name ++ p.rest)) f.utf8 h.owner-utf8 (sym f.same ∙ h.same)).1 }
+no-gap text m rest f none = record { none = λ p h. none.none (in_quotes p.name ++ p.rest) (quoted-same m p.owner rest (32 ∷ (in_quotes p.name ++ p.rest)) f.utf8 h.owner-utf8 (sym f.same ∙ h.same)).1 }
 
 pub no-name : (text m rest start : List ℕ) → QuotedAt text (Some (m, rest)) → rest ≡ 32 ∷ start → QuotedAt start None → NamesAt text None
 no-name text m rest start f e none = record {
   none = λ p h.
-      let same : rest ≡ 32 ∷ (quoted p.name ++ p.rest) = (quoted-same m p.owner rest (32 ∷ (quoted p.name ++ p.rest)) f.utf8 h.owner-utf8 (sym f.same ∙ h.same)).1 in
+      let same : rest ≡ 32 ∷ (in_quotes p.name ++ p.rest) = (quoted-same m p.owner rest (32 ∷ (in_quotes p.name ++ p.rest)) f.utf8 h.owner-utf8 (sym f.same ∙ h.same)).1 in
       none.none (p.name, p.rest) (record { utf8 = h.name-utf8; same = cons-same 32 _ _ (sym e ∙ same) });
 }
 
@@ -498,11 +498,11 @@ payload-unsaid types text none = record { none = λ t h. by t h.payload h.same }
     by None f e = absurd (cc)
     by (Some t) f e = let wrong : None ≡ Some t = sym none ∙ (ap (shown_payload types) (sym (some-same _ _ e)) ∙ f) in absurd (cc)
 
-pub known-payload-said : (k : KnownTypes) (text : List ℕ) (t : Tree) → Some t ≡ shown_payload (types_in k) text → PayloadAt (types_in k) (Some text) (Some (Some t))
-known-payload-said k text t h = payload-said (types_in k) text t (payload-named (types_in k) (known-named k)) (sym h)
+pub known-payload-said : (k : KnownTypes) (text : List ℕ) (t : Tree) → Some t ≡ shown_payload (known_in k) text → PayloadAt (known_in k) (Some text) (Some (Some t))
+known-payload-said k text t h = payload-said (known_in k) text t (payload-named (known_in k) (known-named k)) (sym h)
 
-pub known-payload-unsaid : (k : KnownTypes) (text : List ℕ) → None ≡ shown_payload (types_in k) text → PayloadAt (types_in k) (Some text) None
-known-payload-unsaid k text h = payload-unsaid (types_in k) text (sym h)
+pub known-payload-unsaid : (k : KnownTypes) (text : List ℕ) → None ≡ shown_payload (known_in k) text → PayloadAt (known_in k) (Some text) None
+known-payload-unsaid k text h = payload-unsaid (known_in k) text (sym h)
 
 pub no-payload : (types : Types) → PayloadAt types None (Some None)
 no-payload types = record { payload = tt; same = refl }

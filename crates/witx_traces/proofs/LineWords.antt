@@ -6,14 +6,14 @@ use Rattle.witx_ast.specs.Tree.{Tree}
 use Rattle.witx_ast.specs.TypeNames.{type_text}
 use Rattle.witx_machine.specs.Events.{Step, Event, emit, space, push, finish}
 use Rattle.witx_adapt.specs.Lines.{event_text}
-use Rattle.witx_adapt.specs.Names.{quoted, signature}
+use Rattle.witx_adapt.specs.Names.{in_quotes, signature}
 use Rattle.witx_traces.specs.declared.line_words.PlainWord.{PlainWord}
 use Rattle.witx_traces.specs.declared.line_words.NumberWord.{NumberWord}
 use Rattle.witx_traces.specs.declared.line_words.NamedWord.{NamedWord}
 use Rattle.witx_traces.specs.declared.line_words.ShownWord.{ShownWord}
 use Rattle.witx_traces.specs.declared.line_words.LineWord.{LineWord}
 use Rattle.witx_traces.specs.Traces.{Types, CanSay}
-use Rattle.witx_traces.specs.LineParts.{plain_event, number_step, named_step, shown_step, spelling, the_words, word_spelled, Parts, plain, number, named, shown, wasm, interface, lower, room, finished, event_from, word_of, lower_tail, tail_of, CanSayParts, parts, with_tail, no_blank}
+use Rattle.witx_traces.specs.LineParts.{plain_event, number_step, named_word_step, shown_step, word_spelling, the_line_words, word_spelled, Parts, plain, number, named, shown, wasm, interface, lower, room, finished, event_from, line_word, lower_tail, tail_of, CanSayParts, parts, with_tail, no_blank}
 
 -- ---- each event has its parts
 
@@ -78,14 +78,14 @@ from-parts (finish v) = refl
 
 -- ---- its line is the word and what stands behind it
 
-number-text : (w : NumberWord) (n : ℕ) → event_text (emit (number_step w n)) ≡ with_tail (spelling (LineWord.Number w)) (tail_of (number w n))
+number-text : (w : NumberWord) (n : ℕ) → event_text (emit (number_step w n)) ≡ with_tail (word_spelling (LineWord.Number w)) (tail_of (number w n))
 number-text NumberWord.GetArg n = refl
 number-text NumberWord.ReturnPointerGet n = refl
 number-text NumberWord.TupleLift n = refl
 number-text NumberWord.TupleLower n = refl
 number-text NumberWord.Return n = refl
 
-named-text : (w : NamedWord) (t : Tree) → event_text (emit (named_step w t)) ≡ with_tail (spelling (LineWord.Named w)) (tail_of (named w t))
+named-text : (w : NamedWord) (t : Tree) → event_text (emit (named_word_step w t)) ≡ with_tail (word_spelling (LineWord.Named w)) (tail_of (named w t))
 named-text NamedWord.I32FromHandle t = refl
 named-text NamedWord.I32FromBitflags t = refl
 named-text NamedWord.I64FromBitflags t = refl
@@ -97,12 +97,12 @@ named-text NamedWord.Store t = refl
 named-text NamedWord.EnumLift t = refl
 named-text NamedWord.EnumLower t = refl
 
-shown-text : (w : ShownWord) (t : Tree) → event_text (emit (shown_step w t)) ≡ with_tail (spelling (LineWord.Shown w)) (tail_of (shown w t))
+shown-text : (w : ShownWord) (t : Tree) → event_text (emit (shown_step w t)) ≡ with_tail (word_spelling (LineWord.Shown w)) (tail_of (shown w t))
 shown-text ShownWord.ListFromPointerLength t = refl
 shown-text ShownWord.PointerFromI32 t = refl
 shown-text ShownWord.ConstPointerFromI32 t = refl
 
-lower-text : (ok err : Option Tree) → event_text (emit (Step.ResultLower ok err)) ≡ with_tail (spelling LineWord.ResultLower) (lower_tail ok err)
+lower-text : (ok err : Option Tree) → event_text (emit (Step.ResultLower ok err)) ≡ with_tail (word_spelling LineWord.ResultLower) (lower_tail ok err)
 lower-text None None = refl
 lower-text (Some t) None = ap (λ z. codes "result_lower ok " ++ z) (append-nil (type_text t))
 lower-text (Some t) (Some u) = refl
@@ -111,13 +111,13 @@ lower-text None (Some u) = refl
 four : (a b c d e : List ℕ) → (((a ++ b) ++ c) ++ d) ++ e ≡ a ++ (b ++ (c ++ (d ++ e)))
 four a b c d e = append_assoc ((a ++ b) ++ c) d e ∙ (append_assoc (a ++ b) c (d ++ e) ∙ append_assoc a b (c ++ (d ++ e)))
 
-pub text-parts : (p : Parts) → event_text (event_from p) ≡ with_tail (spelling (word_of p)) (tail_of p)
+pub text-parts : (p : Parts) → event_text (event_from p) ≡ with_tail (word_spelling (line_word p)) (tail_of p)
 text-parts (plain w) = refl
 text-parts (number w n) = number-text w n
 text-parts (named w t) = named-text w t
 text-parts (shown w t) = shown-text w t
-text-parts (wasm m n ps rs) = ap (λ z. codes "call_wasm " ++ z) (four (quoted m) (codes " ") (quoted n) (codes " ") (signature ps rs))
-text-parts (interface m n ps rs) = ap (λ z. codes "call_interface " ++ z) (append_assoc (quoted m) (codes " ") (quoted n))
+text-parts (wasm m n ps rs) = ap (λ z. codes "call_wasm " ++ z) (four (in_quotes m) (codes " ") (in_quotes n) (codes " ") (signature ps rs))
+text-parts (interface m n ps rs) = ap (λ z. codes "call_interface " ++ z) (append_assoc (in_quotes m) (codes " ") (in_quotes n))
 text-parts (lower ok err) = lower-text ok err
 text-parts (room k t) = refl
 text-parts (finished true) = refl
@@ -132,7 +132,7 @@ number-can types NumberWord.TupleLift n = refl
 number-can types NumberWord.TupleLower n = refl
 number-can types NumberWord.Return n = refl
 
-named-can : (types : Types) (w : NamedWord) (t : Tree) → CanSay types (emit (named_step w t)) ≡ CanSayParts types (named w t)
+named-can : (types : Types) (w : NamedWord) (t : Tree) → CanSay types (emit (named_word_step w t)) ≡ CanSayParts types (named w t)
 named-can types NamedWord.I32FromHandle t = refl
 named-can types NamedWord.I32FromBitflags t = refl
 named-can types NamedWord.I64FromBitflags t = refl
@@ -198,7 +198,7 @@ can-parts types (finished v) = refl
 
 -- ---- each word is found by its text, and has no blank
 
-pub spells : (w : LineWord) → word_spelled the_words (spelling w) ≡ Some w
+pub spells : (w : LineWord) → word_spelled the_line_words (word_spelling w) ≡ Some w
 unfolding same_text
 spells (LineWord.Number NumberWord.GetArg) = refl
 spells (LineWord.Plain PlainWord.AddrOf) = refl
@@ -258,7 +258,7 @@ spells LineWord.Space = refl
 spells (LineWord.Plain PlainWord.PushBlock) = refl
 spells LineWord.FinishBlock = refl
 
-pub word-unbroken : (w : LineWord) → no_blank (spelling w) ≡ true
+pub word-unbroken : (w : LineWord) → no_blank (word_spelling w) ≡ true
 word-unbroken (LineWord.Number NumberWord.GetArg) = refl
 word-unbroken (LineWord.Plain PlainWord.AddrOf) = refl
 word-unbroken (LineWord.Plain PlainWord.I32FromChar) = refl

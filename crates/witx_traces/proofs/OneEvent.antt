@@ -14,7 +14,7 @@ use Rattle.witx_ast.specs.TypeNames.{type_text}
 use Rattle.witx_machine.specs.declared.surface.WasmType.{WasmType}
 use Rattle.witx_machine.specs.Events.{Event}
 use Rattle.witx_adapt.specs.Lines.{event_text}
-use Rattle.witx_adapt.specs.Names.{quoted, signature, spaced, wasm_word, wasm_words}
+use Rattle.witx_adapt.specs.Names.{in_quotes, signature, spaced, wasm_word, wasm_words}
 use Rattle.witx_traces.specs.Traces.{Types, CanSay, Says, IsWord, IsPayload, EndsBeforeError, shown as shown_in, shown_payload}
 use Rattle.witx_traces.specs.LineReading.{EndsFirst, payloads_tail}
 use Rattle.witx_traces.proofs.PayloadTexts.{payloads-same}
@@ -24,7 +24,7 @@ use Rattle.witx_traces.specs.declared.line_words.NumberWord.{NumberWord}
 use Rattle.witx_traces.specs.declared.line_words.NamedWord.{NamedWord}
 use Rattle.witx_traces.specs.declared.line_words.ShownWord.{ShownWord}
 use Rattle.witx_traces.specs.declared.line_words.LineWord.{LineWord}
-use Rattle.witx_traces.specs.LineParts.{Parts, plain, number, named, shown, wasm, interface, lower, room, finished, event_from, word_of, tail_of, lower_tail, block_end, CanSayParts, spelling, the_words, word_spelled, parts, with_tail, no_blank}
+use Rattle.witx_traces.specs.LineParts.{Parts, plain, number, named, shown, wasm, interface, lower, room, finished, event_from, line_word, tail_of, lower_tail, block_end, CanSayParts, word_spelling, the_line_words, word_spelled, parts, with_tail, no_blank}
 use Rattle.witx_traces.proofs.LineWords.{from-parts, text-parts, can-parts, spells, word-unbroken}
 
 some-same : {A : Type 0} (x y : A) → Some x ≡ Some y → x ≡ y
@@ -140,7 +140,7 @@ signature-same ps rs qs ts e =
 
 -- ---- the parts with each word
 
-pub plain-shape : (v : PlainWord) (p : Parts) → word_of p ≡ LineWord.Plain v → p ≡ plain v
+pub plain-shape : (v : PlainWord) (p : Parts) → line_word p ≡ LineWord.Plain v → p ≡ plain v
 plain-shape v (plain w) e = let s : w ≡ v = cc in ap plain s
 plain-shape v (number w n) e = absurd (cc)
 plain-shape v (named w t) e = absurd (cc)
@@ -151,7 +151,7 @@ plain-shape v (lower ok err) e = absurd (cc)
 plain-shape v (room k t) e = absurd (cc)
 plain-shape v (finished b) e = absurd (cc)
 
-pub number-shape : (v : NumberWord) (p : Parts) → word_of p ≡ LineWord.Number v → (n : ℕ) × (p ≡ number v n)
+pub number-shape : (v : NumberWord) (p : Parts) → line_word p ≡ LineWord.Number v → (n : ℕ) × (p ≡ number v n)
 number-shape v (plain w) e = absurd (cc)
 number-shape v (number w n) e = let s : w ≡ v = cc in (n, ap (λ u. number u n) s)
 number-shape v (named w t) e = absurd (cc)
@@ -162,7 +162,7 @@ number-shape v (lower ok err) e = absurd (cc)
 number-shape v (room k t) e = absurd (cc)
 number-shape v (finished b) e = absurd (cc)
 
-pub named-shape : (v : NamedWord) (p : Parts) → word_of p ≡ LineWord.Named v → (t : Tree) × (p ≡ named v t)
+pub named-shape : (v : NamedWord) (p : Parts) → line_word p ≡ LineWord.Named v → (t : Tree) × (p ≡ named v t)
 named-shape v (plain w) e = absurd (cc)
 named-shape v (number w n) e = absurd (cc)
 named-shape v (named w t) e = let s : w ≡ v = cc in (t, ap (λ u. named u t) s)
@@ -173,7 +173,7 @@ named-shape v (lower ok err) e = absurd (cc)
 named-shape v (room k t) e = absurd (cc)
 named-shape v (finished b) e = absurd (cc)
 
-pub shown-shape : (v : ShownWord) (p : Parts) → word_of p ≡ LineWord.Shown v → (t : Tree) × (p ≡ shown v t)
+pub shown-shape : (v : ShownWord) (p : Parts) → line_word p ≡ LineWord.Shown v → (t : Tree) × (p ≡ shown v t)
 shown-shape v (plain w) e = absurd (cc)
 shown-shape v (number w n) e = absurd (cc)
 shown-shape v (named w t) e = absurd (cc)
@@ -184,7 +184,7 @@ shown-shape v (lower ok err) e = absurd (cc)
 shown-shape v (room k t) e = absurd (cc)
 shown-shape v (finished b) e = absurd (cc)
 
-pub wasm-shape : (p : Parts) → word_of p ≡ LineWord.CallWasm → (m : List ℕ) × (n : List ℕ) × (ps : List WasmType) × (rs : List WasmType) × (p ≡ wasm m n ps rs)
+pub wasm-shape : (p : Parts) → line_word p ≡ LineWord.CallWasm → (m : List ℕ) × (n : List ℕ) × (ps : List WasmType) × (rs : List WasmType) × (p ≡ wasm m n ps rs)
 wasm-shape (plain w) e = absurd (cc)
 wasm-shape (number w n) e = absurd (cc)
 wasm-shape (named w t) e = absurd (cc)
@@ -195,7 +195,7 @@ wasm-shape (lower ok err) e = absurd (cc)
 wasm-shape (room k t) e = absurd (cc)
 wasm-shape (finished b) e = absurd (cc)
 
-pub interface-shape : (p : Parts) → word_of p ≡ LineWord.CallInterface → (m : List ℕ) × (n : List ℕ) × (ps : List Tree) × (rs : List Tree) × (p ≡ interface m n ps rs)
+pub interface-shape : (p : Parts) → line_word p ≡ LineWord.CallInterface → (m : List ℕ) × (n : List ℕ) × (ps : List Tree) × (rs : List Tree) × (p ≡ interface m n ps rs)
 interface-shape (plain w) e = absurd (cc)
 interface-shape (number w n) e = absurd (cc)
 interface-shape (named w t) e = absurd (cc)
@@ -206,7 +206,7 @@ interface-shape (lower ok err) e = absurd (cc)
 interface-shape (room k t) e = absurd (cc)
 interface-shape (finished b) e = absurd (cc)
 
-pub lower-shape : (p : Parts) → word_of p ≡ LineWord.ResultLower → (ok : Option Tree) × (err : Option Tree) × (p ≡ lower ok err)
+pub lower-shape : (p : Parts) → line_word p ≡ LineWord.ResultLower → (ok : Option Tree) × (err : Option Tree) × (p ≡ lower ok err)
 lower-shape (plain w) e = absurd (cc)
 lower-shape (number w n) e = absurd (cc)
 lower-shape (named w t) e = absurd (cc)
@@ -217,7 +217,7 @@ lower-shape (lower ok err) e = (ok, err, refl)
 lower-shape (room k t) e = absurd (cc)
 lower-shape (finished b) e = absurd (cc)
 
-pub room-shape : (p : Parts) → word_of p ≡ LineWord.Space → (k : ℕ) × (t : Tree) × (p ≡ room k t)
+pub room-shape : (p : Parts) → line_word p ≡ LineWord.Space → (k : ℕ) × (t : Tree) × (p ≡ room k t)
 room-shape (plain w) e = absurd (cc)
 room-shape (number w n) e = absurd (cc)
 room-shape (named w t) e = absurd (cc)
@@ -228,7 +228,7 @@ room-shape (lower ok err) e = absurd (cc)
 room-shape (room k t) e = (k, t, refl)
 room-shape (finished b) e = absurd (cc)
 
-pub finished-shape : (p : Parts) → word_of p ≡ LineWord.FinishBlock → (v : Bool) × (p ≡ finished v)
+pub finished-shape : (p : Parts) → line_word p ≡ LineWord.FinishBlock → (v : Bool) × (p ≡ finished v)
 finished-shape (plain w) e = absurd (cc)
 finished-shape (number w n) e = absurd (cc)
 finished-shape (named w t) e = absurd (cc)
@@ -297,7 +297,7 @@ wasm-alike types m n ps rs k l qs ts f a =
 interface-alike : (types : Types) (m n : List ℕ) (ps rs : List Tree) (k l : List ℕ) (qs ts : List Tree) → CanSayParts types (interface m n ps rs) → AlikeParts types (interface m n ps rs) (interface k l qs ts) → interface m n ps rs ≡ interface k l qs ts
 interface-alike types m n ps rs k l qs ts f a =
     let one = quoted-same m k _ _ f.0 a.0.0 (some-same _ _ a.1) in
-    let two = quoted-same n l [] [] f.1 a.0.1 (append-nil (quoted n) ∙ (ap (drop 1) one.1 ∙ sym (append-nil (quoted l)))) in
+    let two = quoted-same n l [] [] f.1 a.0.1 (append-nil (in_quotes n) ∙ (ap (drop 1) one.1 ∙ sym (append-nil (in_quotes l)))) in
     ap (λ z. interface z n ps rs) one.0 ∙ (ap (λ z. interface k z ps rs) two.0 ∙ (ap (λ z. interface k l z rs) (f.2 ∙ sym a.0.2) ∙ ap (λ z. interface k l qs z) (f.3 ∙ sym a.0.3)))
 
 lower-alike : (types : Types) (ok err a b : Option Tree) → CanSayParts types (lower ok err) → AlikeParts types (lower ok err) (lower a b) → lower ok err ≡ lower a b
@@ -314,7 +314,7 @@ room-alike types k l t u f a =
 moved : (types : Types) (p q r : Parts) → q ≡ r → CanSayParts types q → tail_of p ≡ tail_of q → (AlikeParts types p r → p ≡ r) → p ≡ q
 moved types p q r e can same go = go (subst (CanSayParts types) e can, same ∙ ap tail_of e) ∙ sym e
 
-same-parts : (types : Types) (p q : Parts) → CanSayParts types p → CanSayParts types q → word_of p ≡ word_of q → tail_of p ≡ tail_of q → p ≡ q
+same-parts : (types : Types) (p q : Parts) → CanSayParts types p → CanSayParts types q → line_word p ≡ line_word q → tail_of p ≡ tail_of q → p ≡ q
 same-parts types (plain w) q f g e s = sym (plain-shape w q (sym e))
 same-parts types (number w n) q f g e s = let h = number-shape w q (sym e) in moved types (number w n) q (number w h.0) h.1 g s (number-alike types w n h.0 f)
 same-parts types (named w t) q f g e s = let h = named-shape w q (sym e) in moved types (named w t) q (named w h.0) h.1 g s (named-alike types w t h.0 f)
@@ -327,7 +327,7 @@ same-parts types (finished v) q f g e s = let h = finished-shape q (sym e) in ap
 
 -- ---- a line says at most one event
 
-pub said-parts : (types : Types) (text : List ℕ) (e : Event) → Says types text e → (with_tail (spelling (word_of (parts e))) (tail_of (parts e)) ≡ text) × CanSayParts types (parts e)
+pub said-parts : (types : Types) (text : List ℕ) (e : Event) → Says types text e → (with_tail (word_spelling (line_word (parts e))) (tail_of (parts e)) ≡ text) × CanSayParts types (parts e)
 said-parts types text e s = (
   sym (text-parts (parts e)) ∙ (ap event_text (from-parts e) ∙ s.0),
   subst (λ T. T) (can-parts types (parts e)) (subst (CanSay types) (sym (from-parts e)) s.1),
@@ -337,6 +337,6 @@ pub one-event : (types : Types) (text : List ℕ) (d e : Event) → Says types t
 one-event types text d e f g =
     let p = said-parts types text d f in
     let q = said-parts types text e g in
-    let halves = tails-same (spelling (word_of (parts d))) (spelling (word_of (parts e))) (tail_of (parts d)) (tail_of (parts e)) (word-unbroken (word_of (parts d))) (word-unbroken (word_of (parts e))) (p.0 ∙ sym q.0) in
-    let words : word_of (parts d) ≡ word_of (parts e) = some-same _ _ (sym (spells (word_of (parts d))) ∙ (ap (word_spelled the_words) halves.0 ∙ spells (word_of (parts e)))) in
+    let halves = tails-same (word_spelling (line_word (parts d))) (word_spelling (line_word (parts e))) (tail_of (parts d)) (tail_of (parts e)) (word-unbroken (line_word (parts d))) (word-unbroken (line_word (parts e))) (p.0 ∙ sym q.0) in
+    let words : line_word (parts d) ≡ line_word (parts e) = some-same _ _ (sym (spells (line_word (parts d))) ∙ (ap (word_spelled the_line_words) halves.0 ∙ spells (line_word (parts e)))) in
     sym (from-parts d) ∙ (ap event_from (same-parts types (parts d) (parts e) p.1 q.1 words halves.1) ∙ from-parts e)

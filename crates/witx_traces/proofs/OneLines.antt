@@ -11,7 +11,7 @@ use Rattle.std.proofs.lemmas.Fmt.{decimal_is_IsNumeral}
 use Rattle.std.proofs.lemmas.Str.Parse.{digit_from_value}
 use lib.Utf8.{encode}
 use Rattle.witx_ast.specs.TypeNames.{comma_joined}
-use Rattle.witx_adapt.specs.Names.{digit, escaped, quoted}
+use Rattle.witx_adapt.specs.Names.{digit, escaped, in_quotes}
 use Rattle.witx_traces.specs.Traces.{IsWord, one_line}
 
 -- each text is one line
@@ -103,7 +103,7 @@ all-escaped-one : (cs : List ℕ) → one_line (flat_map escaped cs) ≡ true
 all-escaped-one [] = refl
 all-escaped-one (c ∷ cs) = one-append (escaped c) (flat_map escaped cs) (escaped-one c) (all-escaped-one cs)
 
-pub quoted-one : (name : List ℕ) → one_line (quoted name) ≡ true
+pub quoted-one : (name : List ℕ) → one_line (in_quotes name) ≡ true
 quoted-one name = one-append (flat_map escaped (chars name)) (codes "\"") (all-escaped-one (chars name)) refl
 
 -- ---- texts with commas

@@ -9,9 +9,9 @@ use Rattle.witx_machine.specs.Events.{Event}
 use Rattle.witx_layout.specs.declared.layout.SizeAlign.{SizeAlign}
 use Rattle.witx_adapt.specs.Entries.{Lowered}
 use Rattle.witx_adapt.specs.Lines.{event_line, event_lines, event_text}
-use Rattle.witx_adapt.specs.Listings.{constant_line, module_line, import_line, func_line, func_lines, side_lines, typename_lines, item_lines, func_count, definition_lines}
+use Rattle.witx_adapt.specs.Listings.{constant_line, module_line, import_line, listed_func_line, func_lines, side_lines, listed_typename_lines, item_lines, func_count, listed_definition_lines}
 use Rattle.witx_traces.specs.Passages.{indented}
-use Rattle.witx_traces.specs.Traces.{Types, types_of, ended, IsLine, AreLines, Listed, Offered, Sides, FitFunctions, GivesTraces, with_sides, function_number, HasEachEntry}
+use Rattle.witx_traces.specs.Traces.{Types, known_of, ended, IsSayable, AreSayable, Listed, Offered, Sides, FitFunctions, GivesTraces, with_sides, function_number, HasEachEntry}
 use Rattle.witx_traces.proofs.OneEvent.{one-event}
 use Rattle.witx_traces.proofs.UnfitLines.{line-cut}
 
@@ -31,7 +31,7 @@ behind-same (x ∷ xs) ys zs e = behind-same xs ys zs (rest-of x x _ _ e)
 line-flat : (e : Event) (es : List Event) (r : List ℕ) → event_lines (e ∷ es) ++ r ≡ 32 ∷ 32 ∷ (ended (event_text e) ++ (event_lines es ++ r))
 line-flat e es r = append_assoc (event_line e) (event_lines es) r
 
-side-same : (types : Types) (es ds : List Event) (r t : List ℕ) → AllByRecursion (IsLine types) es → AllByRecursion (IsLine types) ds → indented r ≡ false → indented t ≡ false
+side-same : (types : Types) (es ds : List Event) (r t : List ℕ) → AllByRecursion (IsSayable types) es → AllByRecursion (IsSayable types) ds → indented r ≡ false → indented t ≡ false
     → event_lines es ++ r ≡ event_lines ds ++ t → (es ≡ ds) × (r ≡ t)
 side-same types [] [] r t f g p q e = (refl, e)
 side-same types [] (d ∷ ds) r t f g p q e = let wrong : false ≡ true = sym p ∙ ap indented e in absurd (cc)
@@ -49,17 +49,17 @@ with_events f s = record { params = f.params; results = f.results; caller = s.ca
 
 pub func-flat : (name : List ℕ) (abi : Abi) (f : Lowered) (s : Sides) (r : List ℕ)
     → func_lines name abi (with_events f s) ++ r
-    ≡ func_line name abi f.params f.results ++ (codes "caller\n" ++ (event_lines s.caller ++ (codes "callee\n" ++ (event_lines s.callee ++ r))))
+    ≡ listed_func_line name abi f.params f.results ++ (codes "caller\n" ++ (event_lines s.caller ++ (codes "callee\n" ++ (event_lines s.callee ++ r))))
 func-flat name abi f s r =
-    append_assoc (func_line name abi f.params f.results ++ side_lines (codes "caller") s.caller) (side_lines (codes "callee") s.callee) r
-    ∙ (append_assoc (func_line name abi f.params f.results) (side_lines (codes "caller") s.caller) (side_lines (codes "callee") s.callee ++ r)
-    ∙ ap (λ z. func_line name abi f.params f.results ++ z) (append_assoc (codes "caller\n") (event_lines s.caller) (side_lines (codes "callee") s.callee ++ r)
+    append_assoc (listed_func_line name abi f.params f.results ++ side_lines (codes "caller") s.caller) (side_lines (codes "callee") s.callee) r
+    ∙ (append_assoc (listed_func_line name abi f.params f.results) (side_lines (codes "caller") s.caller) (side_lines (codes "callee") s.callee ++ r)
+    ∙ ap (λ z. listed_func_line name abi f.params f.results ++ z) (append_assoc (codes "caller\n") (event_lines s.caller) (side_lines (codes "callee") s.callee ++ r)
     ∙ ap (λ z. codes "caller\n" ++ (event_lines s.caller ++ z)) (append_assoc (codes "callee\n") (event_lines s.callee) r)))
 
-func-same : (types : Types) (name : List ℕ) (abi : Abi) (f : Lowered) (s u : Sides) (r t : List ℕ) → AreLines types s → AreLines types u → indented r ≡ false → indented t ≡ false
+func-same : (types : Types) (name : List ℕ) (abi : Abi) (f : Lowered) (s u : Sides) (r t : List ℕ) → AreSayable types s → AreSayable types u → indented r ≡ false → indented t ≡ false
     → func_lines name abi (with_events f s) ++ r ≡ func_lines name abi (with_events f u) ++ t → (s ≡ u) × (r ≡ t)
 func-same types name abi f s u r t a b p q e =
-    let front = behind-same (codes "caller\n") _ _ (behind-same (func_line name abi f.params f.results) _ _ (sym (func-flat name abi f s r) ∙ (e ∙ func-flat name abi f u t))) in
+    let front = behind-same (codes "caller\n") _ _ (behind-same (listed_func_line name abi f.params f.results) _ _ (sym (func-flat name abi f s r) ∙ (e ∙ func-flat name abi f u t))) in
     let one = side-same types s.caller u.caller _ _ a.0 b.0 refl refl front in
     let two = side-same types s.callee u.callee r t a.1 b.1 p q (behind-same (codes "callee\n") _ _ one.1) in
     (ap (λ z. record { caller = z; callee = s.callee }) one.0 ∙ ap (λ z. record { caller = u.caller; callee = z }) two.0, two.1)
@@ -72,7 +72,7 @@ items-plain (import_of i ∷ items) fs r p = refl
 items-plain (func_of f ∷ items) [] r p = items-plain items [] r p
 items-plain (func_of f ∷ items) (l ∷ fs) r p = refl
 
-definitions-plain : (ds : List DefinitionTree) (fs : List Lowered) (ls : List SizeAlign) → indented (definition_lines ds fs ls) ≡ false
+definitions-plain : (ds : List DefinitionTree) (fs : List Lowered) (ls : List SizeAlign) → indented (listed_definition_lines ds fs ls) ≡ false
 definitions-plain [] fs ls = refl
 definitions-plain (typename_of name t docs ∷ ds) fs [] = definitions-plain ds fs []
 definitions-plain (typename_of name t docs ∷ ds) fs (l ∷ ls) = refl
@@ -98,7 +98,7 @@ items-same all (func_of f ∷ items) [] (s ∷ ss) us r t a b p q e = absurd a
 items-same all (func_of f ∷ items) (l ∷ fs) [] us r t a b p q e = absurd a
 items-same all (func_of f ∷ items) (l ∷ fs) (s ∷ ss) [] r t a b p q e = absurd b
 items-same all (func_of f ∷ items) (l ∷ fs) (s ∷ ss) (u ∷ us) r t a b p q e =
-    let here = func-same (types_of all l.function) f.name f.abi l.lowered s u (item_lines items (with_sides fs ss) ++ r) (item_lines items (with_sides fs us) ++ t) a.0 b.0
+    let here = func-same (known_of all l.function) f.name f.abi l.lowered s u (item_lines items (with_sides fs ss) ++ r) (item_lines items (with_sides fs us) ++ t) a.0 b.0
     (items-plain items (with_sides fs ss) r p) (items-plain items (with_sides fs us) t q)
     (sym (append_assoc (func_lines f.name f.abi (with_events l.lowered s)) (item_lines items (with_sides fs ss)) r)
     ∙ (e ∙ append_assoc (func_lines f.name f.abi (with_events l.lowered u)) (item_lines items (with_sides fs us)) t)) in
@@ -140,12 +140,12 @@ alike-both (suc n) k (s ∷ ss) (u ∷ us) f g = alike-more (suc n + k) (n + k) 
     tails x y xs ys e = cc
 
 definitions-same : (all ds : List DefinitionTree) (fs : List Offered) (ss us : List Sides) (ls : List SizeAlign) → FitFunctions all fs ss → FitFunctions all fs us
-    → definition_lines ds (with_sides fs ss) ls ≡ definition_lines ds (with_sides fs us) ls → Alike (function_number ds) ss us
+    → listed_definition_lines ds (with_sides fs ss) ls ≡ listed_definition_lines ds (with_sides fs us) ls → Alike (function_number ds) ss us
 definitions-same all [] fs ss us ls a b e = refl
-definitions-same all (typename_of name t docs ∷ ds) fs ss us ls a b e = definitions-same all ds fs ss us (drop 1 ls) a b (behind-same (typename_lines name ls) _ _ e)
+definitions-same all (typename_of name t docs ∷ ds) fs ss us ls a b e = definitions-same all ds fs ss us (drop 1 ls) a b (behind-same (listed_typename_lines name ls) _ _ e)
 definitions-same all (constant_of c ∷ ds) fs ss us ls a b e = definitions-same all ds fs ss us ls a b (behind-same (constant_line c) _ _ e)
 definitions-same all (module_of m ∷ ds) fs ss us ls a b e =
-    let rest : List Sides → List ℕ = λ sides. definition_lines ds (drop (func_count m.items) (with_sides fs sides)) ls in
+    let rest : List Sides → List ℕ = λ sides. listed_definition_lines ds (drop (func_count m.items) (with_sides fs sides)) ls in
     let flat : (sides : List Sides) → (module_line m.name ++ item_lines m.items (with_sides fs sides)) ++ rest sides ≡ module_line m.name ++ (item_lines m.items (with_sides fs sides) ++ rest sides)
     = λ sides. append_assoc (module_line m.name) (item_lines m.items (with_sides fs sides)) (rest sides) in
     let here = items-same all m.items fs ss us (rest ss) (rest us) a b
@@ -153,7 +153,7 @@ definitions-same all (module_of m ∷ ds) fs ss us ls a b e =
     (behind-same (module_line m.name) _ _ (sym (flat ss) ∙ (e ∙ flat us))) in
     let more = definitions-same all ds (drop (func_count m.items) fs) (drop (func_count m.items) ss) (drop (func_count m.items) us) ls
     (fits-behind all (func_count m.items) fs ss a) (fits-behind all (func_count m.items) fs us b)
-    (ap (λ z. definition_lines ds z ls) (sym (sides-behind (func_count m.items) fs ss)) ∙ (here.1 ∙ ap (λ z. definition_lines ds z ls) (sides-behind (func_count m.items) fs us))) in
+    (ap (λ z. listed_definition_lines ds z ls) (sym (sides-behind (func_count m.items) fs ss)) ∙ (here.1 ∙ ap (λ z. listed_definition_lines ds z ls) (sides-behind (func_count m.items) fs us))) in
     alike-both (func_count m.items) (function_number ds) ss us here.0 more
 
 -- ---- all of them

@@ -16,7 +16,7 @@ use Rattle.witx_ast.specs.Items.{item_tree}
 use Rattle.witx_ast.specs.Definitions.{definition_tree, module_tree}
 use Rattle.witx_layout.specs.declared.layout.SizeAlign.{SizeAlign}
 use Rattle.witx_adapt.specs.declared.adapted.AdaptedFunc.{AdaptedFunc}
-use Rattle.witx_adapt.specs.Listings.{func_count, import_line, typename_lines, module_line, constant_line}
+use Rattle.witx_adapt.specs.Listings.{func_count, import_line, listed_typename_lines, module_line, constant_line}
 use Rattle.witx_traces.specs.Passages.{Draft, Passage, put, put_func, put_items, put_definitions}
 use Rattle.witx_traces.specs.Traces.{Offered, offered}
 use Rattle.witx_traces.proofs.TypeReading.{pushed}
@@ -75,11 +75,11 @@ next-tree : (xs : List definition.Definition) (i : ℕ) (x y : definition.Defini
 next-tree xs i x y l p q = trees-drop definition_tree xs i x l p ∙ ap (λ z. definition_tree z ∷ map definition_tree (drop (i + 1) xs)) q
 
 pub typename-step : (xs : List definition.Definition) (i : ℕ) (x : definition.Definition) (r : Rc NamedType Global) (fs : List Offered) (ls ms : List SizeAlign) (done now total : Draft)
-    → i < length xs → x ≡ get_or xs i x → x ≡ definition_variant.Typename r → now ≡ put (typename_lines r.value.name ls) done → ms ≡ drop 1 ls
+    → i < length xs → x ≡ get_or xs i x → x ≡ definition_variant.Typename r → now ≡ put (listed_typename_lines r.value.name ls) done → ms ≡ drop 1 ls
     → put_definitions (map definition_tree (drop i xs)) fs ls done ≡ total → put_definitions (map definition_tree (drop (i + 1) xs)) fs ms now ≡ total
 typename-step xs i x r fs ls ms done now total l p q w d e =
     ap (put_definitions (map definition_tree (drop (i + 1) xs)) fs ms) w
-    ∙ (ap (λ ks. put_definitions (map definition_tree (drop (i + 1) xs)) fs ks (put (typename_lines r.value.name ls) done)) d
+    ∙ (ap (λ ks. put_definitions (map definition_tree (drop (i + 1) xs)) fs ks (put (listed_typename_lines r.value.name ls) done)) d
     ∙ (ap (λ ts. put_definitions ts fs ls done) (sym (next-tree xs i x (definition_variant.Typename r) l p q)) ∙ e))
 
 pub constant-step : (xs : List definition.Definition) (i : ℕ) (x : definition.Definition) (k : Constant) (fs : List Offered) (ls : List SizeAlign) (done now total : Draft)

@@ -6,7 +6,7 @@ use Rattle.std.specs.Str.{IsUtf8, chars, encode_utf8_all}
 use Rattle.std.proofs.lemmas.Bool.{leb-true}
 use Rattle.std.proofs.lemmas.Bool.Decides.{nat_tests}
 use Rattle.std.proofs.lemmas.Str.{encode_ascii, encode_same, encodes-chars}
-use Rattle.witx_adapt.specs.Names.{digit, escaped, quoted}
+use Rattle.witx_adapt.specs.Names.{digit, escaped, in_quotes}
 
 -- a quote or a backslash; a control character; what is escaped
 abbrev pub is_mark : ℕ → Bool
@@ -130,11 +130,11 @@ spelled-same (c ∷ cs) (d ∷ ds) r t e =
     let more = spelled-same cs ds r t here.1 in
     (ap (λ z. z ∷ cs) here.0 ∙ ap (λ z. d ∷ z) more.0, more.1)
 
-pub quoted-open : (name r : List ℕ) → quoted name ++ r ≡ 34 ∷ (flat_map escaped (chars name) ++ (34 ∷ r))
+pub quoted-open : (name r : List ℕ) → in_quotes name ++ r ≡ 34 ∷ (flat_map escaped (chars name) ++ (34 ∷ r))
 quoted-open name r = ap (λ z. 34 ∷ z) (append_assoc (flat_map escaped (chars name)) (34 ∷ []) r)
 
 -- a text begins with one quoted name alone
-pub quoted-same : (m n r t : List ℕ) → IsUtf8 m → IsUtf8 n → quoted m ++ r ≡ quoted n ++ t → (m ≡ n) × (r ≡ t)
+pub quoted-same : (m n r t : List ℕ) → IsUtf8 m → IsUtf8 n → in_quotes m ++ r ≡ in_quotes n ++ t → (m ≡ n) × (r ≡ t)
 quoted-same m n r t f g e =
     let same = spelled-same (chars m) (chars n) r t (rest-of 34 34 _ _ (sym (quoted-open m r) ∙ (e ∙ quoted-open n t))) in
     (sym (encodes-chars m f) ∙ (ap encode_utf8_all same.0 ∙ encodes-chars n g), same.1)

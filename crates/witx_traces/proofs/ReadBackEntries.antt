@@ -9,11 +9,11 @@ use Rattle.witx_machine.specs.Functions.{function_of}
 use Rattle.witx_instructions.specs.Views.{called}
 use Rattle.witx_adapt.specs.Adaptable.{first_unlowered, unlowered}
 use Rattle.witx_adapt.specs.Entries.{Entry, Owned, all_functions, entry_for, entry_of, lowered}
-use Rattle.witx_adapt.specs.Listings.{definition_lines, listing_text}
+use Rattle.witx_adapt.specs.Listings.{listed_definition_lines, listing_text}
 use Rattle.witx_adapt.specs.declared.adapted.Adapted.{Adapted}
 use Rattle.witx_adapt.specs.declared.adapted.AdaptedFunc.{AdaptedFunc}
 use Rattle.witx_adapt.proofs.Fitting.{called-same, lowered-none, none-here, none-later}
-use Rattle.witx_traces.specs.Traces.{GivesTraces, IsPayload, Sides, Types, listed, offered, own_sides, shown as shown_in, shown_payload, types_of}
+use Rattle.witx_traces.specs.Traces.{GivesTraces, IsPayload, Sides, Types, listed, offered, own_sides, shown as shown_in, shown_payload, known_of}
 use Rattle.witx_traces.specs.LineParts.{Parts, plain, number, named, shown, wasm, interface, lower, room, finished, event_from, parts}
 use Rattle.witx_traces.specs.ReadBack.{EventsStand, IsReadable, OwnListingsAreReadBack, OwnTracesAreReadBack, SidesStand, StandsForItself, event_read, or_itself, parts_read, read_as, sides_read}
 use Rattle.witx_traces.proofs.LineWords.{from-parts}
@@ -26,20 +26,20 @@ use Rattle.witx_traces.proofs.ReadBackListing.{AllTell, OfferedTells, fit-read, 
 -- ---- the entries of an adapted document
 
 EntryTells : List DefinitionTree → Entry → Type 0
-EntryTells ds e = Tells (types_of ds (function_of e.owned.func)) e.lowered.caller × Tells (types_of ds (function_of e.owned.func)) e.lowered.callee
+EntryTells ds e = Tells (known_of ds (function_of e.owned.func)) e.lowered.caller × Tells (known_of ds (function_of e.owned.func)) e.lowered.callee
 
 entry-tells : (ds : List DefinitionTree) → Document ds → (p : Owned) → OwnedIn ds p → unlowered p ≡ None → EntryTells ds (entry_for p)
 unfolding EntryTells
 entry-tells ds doc p h u =
     let f = function_of p.func in
     let s = owned-tells ds doc p h (lowered-none p u) in
-    (caller-tells (types_of ds f) p.owner.name f s, callee-tells (types_of ds f) p.owner.name f s)
+    (caller-tells (known_of ds f) p.owner.name f s, callee-tells (known_of ds f) p.owner.name f s)
 
 as-offered : (ds : List DefinitionTree) (f : AdaptedFunc) → EntryTells ds (entry_of f) → OfferedTells ds (offered f)
 unfolding EntryTells
 as-offered ds f h = record {
-  caller = subst (λ g. Tells (types_of ds g) (lowered f).caller) (called-same f.func.value) h.0;
-  callee = subst (λ g. Tells (types_of ds g) (lowered f).callee) (called-same f.func.value) h.1;
+  caller = subst (λ g. Tells (known_of ds g) (lowered f).caller) (called-same f.func.value) h.0;
+  callee = subst (λ g. Tells (known_of ds g) (lowered f).callee) (called-same f.func.value) h.1;
 }
 
 entries-tell : (ds : List DefinitionTree) → Document ds → (fs : List AdaptedFunc) (ps : List Owned) → map entry_of fs ≡ map entry_for ps → AllIn ds ps → first_unlowered ps ≡ None → AllTell ds (map offered fs)
@@ -68,7 +68,7 @@ unfolding listing_text
 own-read-back a h =
     let l = listed a in
     let tell = all-tell a h in
-    (ap (λ z. definition_lines l.definitions z l.layouts) (own-lowered a.functions) ∙ listing-read l.definitions l.functions l.layouts tell, fit-read l.definitions l.functions tell)
+    (ap (λ z. listed_definition_lines l.definitions z l.layouts) (own-lowered a.functions) ∙ listing-read l.definitions l.functions l.layouts tell, fit-read l.definitions l.functions tell)
 
 -- ---- where each type is what its text stands for
 
@@ -104,7 +104,7 @@ sides-same s t e f = ap (λ z. both-sides z s.callee) e ∙ ap (both-sides t.cal
 read-itself : (ds : List DefinitionTree) (fs : List AdaptedFunc) → AllByRecursion (SidesStand ds) (map offered fs) → map (sides_read ds) (map offered fs) ≡ map own_sides fs
 read-itself ds [] h = refl
 read-itself ds (f ∷ fs) h =
-    let types = types_of ds (called f.func.value) in
+    let types = known_of ds (called f.func.value) in
     ap (λ z. z ∷ map (sides_read ds) (map offered fs)) (sides-same (sides_read ds (offered f)) (own_sides f) (events-itself types (lowered f).caller h.0.0) (events-itself types (lowered f).callee h.0.1))
     ∙ ap (λ z. own_sides f ∷ z) (read-itself ds fs h.1)
 

@@ -13,7 +13,7 @@ use Rattle.witx_machine.specs.Events.{Step, Event, emit, finish}
 use Rattle.witx_machine.specs.Functions.{Function, has_payload, is_tuple}
 use Rattle.witx_machine.specs.Signature.{ok_pointers, param_words, pointers_at, return_pointers, signature_params, signature_results, words_of_params}
 use Rattle.witx_machine.specs.Lowerable.{can_be_param, can_be_err}
-use Rattle.witx_machine.specs.Traces.{block_of, callee_events, caller_events, err_lifted, err_lowered, get_args, lift_at, lift_cases, lift_params, lift_results, lift_step, load_all, lower_at, lower_builtin, lift_builtin, lower_cases, lower_params, lower_results, lower_step, make_spaces, ok_lifted, ok_lowered, store_all}
+use Rattle.witx_machine.specs.Traces.{block_events, callee_events, caller_events, err_lifted, err_lowered, get_args, lift_at, lift_cases, lift_params, lift_results, lift_step, load_all, lower_at, lower_builtin, lift_builtin, lower_cases, lower_params, lower_results, lower_step, make_spaces, ok_lifted, ok_lowered, store_all}
 use Rattle.witx_instructions.proofs.Sides.{err-param}
 use Rattle.witx_traces.specs.Traces.{EndsBeforeError, IsWord, Types, shown as shown_in, target}
 use Rattle.witx_traces.specs.LineParts.{parts}
@@ -29,7 +29,7 @@ tells-if : (types : Types) (b : Bool) (e : Event) → CanTell types (parts e) �
 tells-if types true e h = (h, tt)
 tells-if types false e h = tt
 
-block-tells : (types : Types) (es : List Event) (v : Bool) → Tells types es → Tells types (block_of es v)
+block-tells : (types : Types) (es : List Event) (v : Bool) → Tells types es → Tells types (block_events es v)
 block-tells types es v h = (tt, tells-both types es (finish v ∷ []) h (tt, tt))
 
 less-word : (m n : ℕ) → m ≤ n → IsWord n → IsWord m
@@ -232,9 +232,9 @@ err-lifted-tells types (Some t) e h = (tt, (lift-tells types t (err-param t e) h
 
 pub lift-cases-tell : (types : Types) (ok err : Option Tree) → IsWord (length (ok_pointers ok)) → PayloadsTell types ok err → Tells types (lift_cases ok err)
 lift-cases-tell types ok err w h =
-    tells-both types (block_of (ok_lifted ok) (is_some ok)) (block_of (err_lifted err) (is_some err) ++ emit Step.ResultLift ∷ [])
+    tells-both types (block_events (ok_lifted ok) (is_some ok)) (block_events (err_lifted err) (is_some err) ++ emit Step.ResultLift ∷ [])
     (block-tells types (ok_lifted ok) (is_some ok) (ok-lifted-tells types ok w h.pointers))
-    (tells-both types (block_of (err_lifted err) (is_some err)) (emit Step.ResultLift ∷ []) (block-tells types (err_lifted err) (is_some err) (err-lifted-tells types err h.can h.reads)) (tt, tt))
+    (tells-both types (block_events (err_lifted err) (is_some err)) (emit Step.ResultLift ∷ []) (block-tells types (err_lifted err) (is_some err) (err-lifted-tells types err h.can h.reads)) (tt, tt))
 
 ok-lowered-tells : (types : Types) (k : ℕ) (ok : Option Tree) → IsWord (k + length (ok_pointers ok)) → AllStand types (ok_pointers ok) → Tells types (ok_lowered k ok)
 ok-lowered-tells types k None w h = tt
@@ -251,9 +251,9 @@ err-lowered-tells types (Some t) e h = (tt, (lower-tells types t (err-param t e)
 
 pub lower-cases-tell : (types : Types) (ok err : Option Tree) (k : ℕ) → IsWord (k + length (ok_pointers ok)) → PayloadsTell types ok err → Tells types (lower_cases ok err k)
 lower-cases-tell types ok err k w h =
-    tells-both types (block_of (ok_lowered k ok) false) (block_of (err_lowered err) (is_some err) ++ emit (Step.ResultLower ok err) ∷ [])
+    tells-both types (block_events (ok_lowered k ok) false) (block_events (err_lowered err) (is_some err) ++ emit (Step.ResultLower ok err) ∷ [])
     (block-tells types (ok_lowered k ok) false (ok-lowered-tells types k ok w h.pointers))
-    (tells-both types (block_of (err_lowered err) (is_some err)) (emit (Step.ResultLower ok err) ∷ []) (block-tells types (err_lowered err) (is_some err) (err-lowered-tells types err h.can h.reads)) ((h.ok-stands, h.err-stands, h.ends), tt))
+    (tells-both types (block_events (err_lowered err) (is_some err)) (emit (Step.ResultLower ok err) ∷ []) (block-tells types (err_lowered err) (is_some err) (err-lowered-tells types err h.can h.reads)) ((h.ok-stands, h.err-stands, h.ends), tt))
 
 -- ---- both sides
 

@@ -9,8 +9,8 @@ use Rattle.witx_machine.specs.Functions.{Function}
 use Rattle.witx_layout.specs.declared.layout.SizeAlign.{SizeAlign}
 use Rattle.witx_adapt.specs.Entries.{Lowered}
 use Rattle.witx_adapt.specs.Lines.{event_lines}
-use Rattle.witx_adapt.specs.Listings.{constant_line, definition_lines, func_count, func_line, func_lines, import_line, item_lines, module_line, next_func_lines, typename_lines}
-use Rattle.witx_traces.specs.Traces.{FitFunctions, Offered, held_types, payload_types, types_of, with_sides}
+use Rattle.witx_adapt.specs.Listings.{constant_line, listed_definition_lines, func_count, listed_func_line, func_lines, import_line, item_lines, module_line, next_func_lines, listed_typename_lines}
+use Rattle.witx_traces.specs.Traces.{FitFunctions, Offered, held_types, payload_types, known_of, with_sides}
 use Rattle.witx_traces.specs.ReadBack.{sides_read}
 use Rattle.witx_traces.proofs.TypeReading.{AreNamed, first-named, typename-named}
 use Rattle.witx_traces.proofs.ReadBackParts.{Tells, lines-read, texts-read}
@@ -31,10 +31,10 @@ AllSame (f ∷ fs) (g ∷ gs) = SameLines f g × AllSame fs gs
 
 func-same : (name : List ℕ) (abi : Abi) (f g : Lowered) → SameLines f g → func_lines name abi f ≡ func_lines name abi g
 func-same name abi f g s =
-    ap (λ z. func_line name abi z f.results ++ (codes "caller\n" ++ event_lines f.caller) ++ (codes "callee\n" ++ event_lines f.callee)) s.params
-    ∙ (ap (λ z. func_line name abi g.params z ++ (codes "caller\n" ++ event_lines f.caller) ++ (codes "callee\n" ++ event_lines f.callee)) s.results
-    ∙ (ap (λ z. func_line name abi g.params g.results ++ (codes "caller\n" ++ z) ++ (codes "callee\n" ++ event_lines f.callee)) s.caller
-    ∙ ap (λ z. func_line name abi g.params g.results ++ (codes "caller\n" ++ event_lines g.caller) ++ (codes "callee\n" ++ z)) s.callee))
+    ap (λ z. listed_func_line name abi z f.results ++ (codes "caller\n" ++ event_lines f.caller) ++ (codes "callee\n" ++ event_lines f.callee)) s.params
+    ∙ (ap (λ z. listed_func_line name abi g.params z ++ (codes "caller\n" ++ event_lines f.caller) ++ (codes "callee\n" ++ event_lines f.callee)) s.results
+    ∙ (ap (λ z. listed_func_line name abi g.params g.results ++ (codes "caller\n" ++ z) ++ (codes "callee\n" ++ event_lines f.callee)) s.caller
+    ∙ ap (λ z. listed_func_line name abi g.params g.results ++ (codes "caller\n" ++ event_lines g.caller) ++ (codes "callee\n" ++ z)) s.callee))
 
 next-same : (name : List ℕ) (abi : Abi) (fs gs : List Lowered) → AllSame fs gs → next_func_lines name abi fs ≡ next_func_lines name abi gs
 unfolding AllSame
@@ -57,23 +57,23 @@ items-same (import_of i ∷ items) fs gs s = ap (λ z. import_line i.name ++ z) 
 items-same (func_of f ∷ items) fs gs s =
     ap (λ z. z ++ item_lines items (drop 1 fs)) (next-same f.name f.abi fs gs s) ∙ ap (λ z. next_func_lines f.name f.abi gs ++ z) (items-same items (drop 1 fs) (drop 1 gs) (drop-same 1 fs gs s))
 
-lines-same : (ds : List DefinitionTree) (fs gs : List Lowered) (ls : List SizeAlign) → AllSame fs gs → definition_lines ds fs ls ≡ definition_lines ds gs ls
+lines-same : (ds : List DefinitionTree) (fs gs : List Lowered) (ls : List SizeAlign) → AllSame fs gs → listed_definition_lines ds fs ls ≡ listed_definition_lines ds gs ls
 lines-same [] fs gs ls s = refl
-lines-same (typename_of name t docs ∷ ds) fs gs ls s = ap (λ z. typename_lines name ls ++ z) (lines-same ds fs gs (drop 1 ls) s)
+lines-same (typename_of name t docs ∷ ds) fs gs ls s = ap (λ z. listed_typename_lines name ls ++ z) (lines-same ds fs gs (drop 1 ls) s)
 lines-same (module_of m ∷ ds) fs gs ls s =
-    ap (λ z. (module_line m.name ++ z) ++ definition_lines ds (drop (func_count m.items) fs) ls) (items-same m.items fs gs s)
+    ap (λ z. (module_line m.name ++ z) ++ listed_definition_lines ds (drop (func_count m.items) fs) ls) (items-same m.items fs gs s)
     ∙ ap (λ z. (module_line m.name ++ item_lines m.items gs) ++ z) (lines-same ds (drop (func_count m.items) fs) (drop (func_count m.items) gs) ls (drop-same (func_count m.items) fs gs s))
 lines-same (constant_of c ∷ ds) fs gs ls s = ap (λ z. constant_line c ++ z) (lines-same ds fs gs ls s)
 
 -- ---- what is read back
 
-types-named : (ds : List DefinitionTree) (f : Function) → AreNamed (types_of ds f)
+types-named : (ds : List DefinitionTree) (f : Function) → AreNamed (known_of ds f)
 types-named ds f = record { typename = typename-named ds; held = first-named (held_types f); payload = first-named (payload_types f) }
 
 -- both sides of a function
 pub record OfferedTells (ds : List DefinitionTree) (f : Offered) : Type 0 where
-  pub caller : Tells (types_of ds f.function) f.lowered.caller
-  pub callee : Tells (types_of ds f.function) f.lowered.callee
+  pub caller : Tells (known_of ds f.function) f.lowered.caller
+  pub callee : Tells (known_of ds f.function) f.lowered.callee
 
 abbrev pub AllTell : List DefinitionTree → List Offered → Type 0
 AllTell ds fs = AllByRecursion (OfferedTells ds) fs
@@ -81,7 +81,7 @@ AllTell ds fs = AllByRecursion (OfferedTells ds) fs
 pub fit-read : (ds : List DefinitionTree) (fs : List Offered) → AllTell ds fs → FitFunctions ds fs (map (sides_read ds) fs)
 fit-read ds [] h = tt
 fit-read ds (f ∷ fs) h =
-    let types = types_of ds f.function in
+    let types = known_of ds f.function in
     let named = types-named ds f.function in
     ((lines-read types named f.lowered.caller h.0.caller, lines-read types named f.lowered.callee h.0.callee), fit-read ds fs h.1)
 
@@ -89,7 +89,7 @@ same-read : (ds : List DefinitionTree) (fs : List Offered) → AllTell ds fs →
 unfolding AllSame
 same-read ds [] h = tt
 same-read ds (f ∷ fs) h =
-    let types = types_of ds f.function in
+    let types = known_of ds f.function in
     let named = types-named ds f.function in (
       record {
         params = refl;
@@ -100,5 +100,5 @@ same-read ds (f ∷ fs) h =
       same-read ds fs h.1,
     )
 
-pub listing-read : (ds : List DefinitionTree) (fs : List Offered) (ls : List SizeAlign) → AllTell ds fs → definition_lines ds (map (λ f. f.lowered) fs) ls ≡ definition_lines ds (with_sides fs (map (sides_read ds) fs)) ls
+pub listing-read : (ds : List DefinitionTree) (fs : List Offered) (ls : List SizeAlign) → AllTell ds fs → listed_definition_lines ds (map (λ f. f.lowered) fs) ls ≡ listed_definition_lines ds (with_sides fs (map (sides_read ds) fs)) ls
 listing-read ds fs ls h = lines-same ds (map (λ f. f.lowered) fs) (with_sides fs (map (sides_read ds) fs)) ls (same-read ds fs h)

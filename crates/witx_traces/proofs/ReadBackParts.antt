@@ -11,10 +11,10 @@ use Rattle.witx_ast.specs.TypeNames.{type_text}
 use Rattle.witx_machine.specs.declared.surface.WasmType.{WasmType}
 use Rattle.witx_machine.specs.Events.{Event}
 use Rattle.witx_adapt.specs.Lines.{event_line, event_lines, event_text}
-use Rattle.witx_adapt.specs.Names.{quoted, signature, spaced, wasm_word, wasm_words}
+use Rattle.witx_adapt.specs.Names.{in_quotes, signature, spaced, wasm_word, wasm_words}
 use Rattle.witx_traces.specs.declared.line_words.LineWord.{LineWord}
-use Rattle.witx_traces.specs.Traces.{Types, EndsBeforeError, IsLine, IsPayload, IsWord, one_line, shown as shown_in, shown_payload}
-use Rattle.witx_traces.specs.LineParts.{Parts, plain, number, named, shown, wasm, interface, lower, room, finished, event_from, word_of, lower_tail, tail_of, spelling, the_words, word_spelled, CanSayParts, parts, with_tail}
+use Rattle.witx_traces.specs.Traces.{Types, EndsBeforeError, IsSayable, IsPayload, IsWord, one_line, shown as shown_in, shown_payload}
+use Rattle.witx_traces.specs.LineParts.{Parts, plain, number, named, shown, wasm, interface, lower, room, finished, event_from, line_word, lower_tail, tail_of, word_spelling, the_line_words, word_spelled, CanSayParts, parts, with_tail}
 use Rattle.witx_traces.specs.ReadBack.{event_read, or_itself, parts_read, read_as}
 use Rattle.witx_traces.proofs.LineWords.{from-parts, text-parts, can-parts, spells}
 use Rattle.witx_traces.proofs.TypeReading.{Named, AreNamed, shown-named, payload-named}
@@ -75,7 +75,7 @@ lower-tails a b c d e f = lower-texts a b ∙ (ap (λ z. payloads_tail z (option
 
 -- ---- the parts that come back
 
-word-read : (types : Types) (p : Parts) → word_of (parts_read types p) ≡ word_of p
+word-read : (types : Types) (p : Parts) → line_word (parts_read types p) ≡ line_word p
 word-read types (plain w) = refl
 word-read types (number w n) = refl
 word-read types (named w t) = refl
@@ -145,9 +145,9 @@ tail-one types (number w n) h = number-one n h
 tail-one types (named w t) h = h.one
 tail-one types (shown w t) h = h.one
 tail-one types (wasm m n ps rs) h =
-    one-append (quoted m) (codes " " ++ (quoted n ++ (codes " " ++ signature ps rs))) (quoted-one m)
-    (one-append (quoted n) (codes " " ++ signature ps rs) (quoted-one n) (signature-one ps rs))
-tail-one types (interface m n ps rs) h = one-append (quoted m) (codes " " ++ quoted n) (quoted-one m) (quoted-one n)
+    one-append (in_quotes m) (codes " " ++ (in_quotes n ++ (codes " " ++ signature ps rs))) (quoted-one m)
+    (one-append (in_quotes n) (codes " " ++ signature ps rs) (quoted-one n) (signature-one ps rs))
+tail-one types (interface m n ps rs) h = one-append (in_quotes m) (codes " " ++ in_quotes n) (quoted-one m) (quoted-one n)
 tail-one types (lower ok err) h = payloads-one types ok err h.0 h.1
 tail-one types (room k t) h = one-append (decimal k) (codes " " ++ type_text t) (number-one k h.0) h.1.one
 tail-one types (finished true) h = refl
@@ -158,7 +158,7 @@ all_one : List (LineWord × List ℕ) → Bool
 all_one [] = true
 all_one (p ∷ ps) = one_line p.1 && all_one ps
 
-spelled-one : all_one the_words ≡ true
+spelled-one : all_one the_line_words ≡ true
 unfolding all_one
 spelled-one = refl
 
@@ -179,8 +179,8 @@ among-one (p ∷ ps) text w a h =
     let both = both-true (one_line p.1) (all_one ps) a in
     by-spelling p (word_spelled ps text) text w (same_text p.1 text) refl both.0 (among-one ps text w both.1) h
 
-word-one : (w : LineWord) → one_line (spelling w) ≡ true
-word-one w = among-one the_words (spelling w) w spelled-one (spells w)
+word-one : (w : LineWord) → one_line (word_spelling w) ≡ true
+word-one w = among-one the_line_words (word_spelling w) w spelled-one (spells w)
 
 line-one : (word : List ℕ) (tail : Option (List ℕ)) → one_line word ≡ true → OneTail tail → one_line (with_tail word tail) ≡ true
 line-one word None e h = e
@@ -189,19 +189,19 @@ line-one word (Some tail) e h = one-append word (32 ∷ tail) e h
 -- ---- an event, and events
 
 pub record IsReadBack (types : Types) (e : Event) : Type 0 where
-  pub line : IsLine types (event_read types e)
+  pub line : IsSayable types (event_read types e)
   pub same : event_text (event_read types e) ≡ event_text e
 
 pub read-back : (types : Types) → AreNamed types → (e : Event) → CanTell types (parts e) → IsReadBack types e
 read-back types a e h =
     let p = parts e in
     let q = parts_read types p in
-    let text : event_text (event_from q) ≡ with_tail (spelling (word_of p)) (tail_of p) =
-    text-parts q ∙ (ap (λ w. with_tail (spelling w) (tail_of q)) (word-read types p) ∙ ap (with_tail (spelling (word_of p))) (tail-read types a p h)) in
+    let text : event_text (event_from q) ≡ with_tail (word_spelling (line_word p)) (tail_of p) =
+    text-parts q ∙ (ap (λ w. with_tail (word_spelling w) (tail_of q)) (word-read types p) ∙ ap (with_tail (word_spelling (line_word p))) (tail-read types a p h)) in
     record {
       line = (
         subst (λ T. T) (sym (can-parts types q)) (can-read types a p h),
-        ap one_line text ∙ line-one (spelling (word_of p)) (tail_of p) (word-one (word_of p)) (tail-one types p h),
+        ap one_line text ∙ line-one (word_spelling (line_word p)) (tail_of p) (word-one (line_word p)) (tail-one types p h),
       );
       same = text ∙ (sym (text-parts p) ∙ ap event_text (from-parts e));
     }
@@ -210,7 +210,7 @@ read-back types a e h =
 abbrev pub Tells : Types → List Event → Type 0
 Tells types es = AllByRecursion (λ e. CanTell types (parts e)) es
 
-pub lines-read : (types : Types) → AreNamed types → (es : List Event) → Tells types es → AllByRecursion (IsLine types) (map (event_read types) es)
+pub lines-read : (types : Types) → AreNamed types → (es : List Event) → Tells types es → AllByRecursion (IsSayable types) (map (event_read types) es)
 lines-read types a [] h = tt
 lines-read types a (e ∷ es) h = ((read-back types a e h.0).line, lines-read types a es h.1)
 

@@ -20,14 +20,14 @@ use Rattle.witx_machine.specs.declared.surface.Place.{Place}
 use Rattle.witx_machine.specs.declared.surface.WasmType.{WasmType}
 use Rattle.witx_machine.specs.Functions.{Function, err_of, function_of, member_types, ok_of, result_cases, tuple_types}
 use Rattle.witx_machine.specs.Signature.{before_rest, ok_pointers, pointers_by, pointers_under, result_word, return_pointers, signature_params, words_back, words_of_params}
-use Rattle.witx_machine.specs.Lowerable.{all_names, can_be_ok, can_be_param, can_be_result, first_place, unlowerable, unlowerable_result}
+use Rattle.witx_machine.specs.Lowerable.{all_names, can_be_ok, can_be_param, can_be_result, earlier_place, unlowerable, unlowerable_result}
 use Rattle.witx_machine.specs.Traces.{lift_by, lift_under, lower_by, lower_under}
 use Rattle.witx_instructions.proofs.PointerTypes.{ok-members, ok-named, ok-single, ok-tuple}
 use Rattle.witx_instructions.proofs.Sides.{result-err, result-ok, word-param}
 use Rattle.witx_adapt.specs.Entries.{Owned, all_functions, owned_functions, owned_item}
 use Rattle.witx_traces.specs.LineParts.{no_blank}
-use Rattle.witx_traces.specs.Traces.{EndsBeforeError, IsWord, err_types, first_shown, held_types, ok_types, payload_types, shown as shown_in, target, types_of}
-use Rattle.witx_traces.specs.ReadBack.{AreHeld, ItemsAreHeld}
+use Rattle.witx_traces.specs.Traces.{EndsBeforeError, IsWord, err_types, first_shown, held_types, ok_types, payload_types, shown as shown_in, target, known_of}
+use Rattle.witx_traces.specs.ReadBack.{AreTypesHeld, ItemsAreHeld}
 use Rattle.witx_traces.proofs.OkTexts.{EachNoBlank, name-ends, tuple-ends}
 use Rattle.witx_traces.proofs.ReadBackParts.{PayloadStands, Stands, Tells, both-true}
 use Rattle.witx_traces.proofs.ReadBackEvents.{AllStand, CanBeParam, ErrReads, NameStands, PayloadsTell, Readable, SidesTell, lift-cases-tell, load-all-tells, lower-cases-tell, step-tells, store-all-tells}
@@ -37,7 +37,7 @@ can-back : (b : Bool) → cond b None (Some (Place.Result 0)) ≡ None → b ≡
 can-back true e = refl
 can-back false e = absurd (cc)
 
-none-first : (o : Option ℕ) (r : Option Place) → first_place o r ≡ None → (o ≡ None) × (r ≡ None)
+none-first : (o : Option ℕ) (r : Option Place) → earlier_place o r ≡ None → (o ≡ None) × (r ≡ None)
 none-first None r h = (refl, h)
 none-first (Some i) r h = absurd (cc)
 
@@ -85,7 +85,7 @@ module _ (ds : List DefinitionTree) (doc : Document ds) (f : Function) where
   text-unbroken (Tree.record_of k ms) e s = absurd (cc)
   text-unbroken (Tree.variant_of r cs) e s = absurd (cc)
 
-  name-stands : (t : Tree) → NamesStand ds t → NameStands (types_of ds f) t
+  name-stands : (t : Tree) → NamesStand ds t → NameStands (known_of ds f) t
   name-stands (Tree.named n t d) s = named-stands (Tree.named n t d) refl s
   name-stands (Tree.builtin b) s = tt
   name-stands Tree.handle s = tt
@@ -95,22 +95,22 @@ module _ (ds : List DefinitionTree) (doc : Document ds) (f : Function) where
   name-stands (Tree.record_of k ms) s = tt
   name-stands (Tree.variant_of r cs) s = tt
 
-  held-stands : (x : Tree) → NamesStand ds x → Among x (held_types f) → Stands (shown_in (types_of ds f)) x
+  held-stands : (x : Tree) → NamesStand ds x → Among x (held_types f) → Stands (shown_in (known_of ds f)) x
   held-stands x s a =
       let h = or-found (typename_called ds) (first_shown (held_types f)) x (typename_called ds (type_text x)) refl (first-among x (held_types f) a) in
       record { for = h.for; is = h.is; one = type-one ds doc.unbroken x s }
 
-  payload-stands : (o : Option Tree) → OptionStands ds o → ((x : Tree) → o ≡ Some x → Among x (payload_types f)) → PayloadStands (types_of ds f) o
+  payload-stands : (o : Option Tree) → OptionStands ds o → ((x : Tree) → o ≡ Some x → Among x (payload_types f)) → PayloadStands (known_of ds f) o
   payload-stands None s a = tt
   payload-stands (Some x) s a =
-      let h = or-first (first_shown (payload_types f)) (shown_in (types_of ds f)) x (first-among x (payload_types f) (a x refl)) in
+      let h = or-first (first_shown (payload_types f)) (shown_in (known_of ds f)) x (first-among x (payload_types f) (a x refl)) in
       record { for = h.for; is = h.is; one = type-one ds doc.unbroken x s }
 
-  readable : (t : Tree) → NamesStand ds t → ((x : Tree) → Among x (target t) → Among x (held_types f)) → Readable (types_of ds f) t
+  readable : (t : Tree) → NamesStand ds t → ((x : Tree) → Among x (target t) → Among x (held_types f)) → Readable (known_of ds f) t
   readable t s held =
-      (name-stands t s, all-among (Stands (shown_in (types_of ds f))) (target t) (λ x a. held-stands x (target-stands ds t x (behind-stands ds doc.behind-stand t s) a) (held x a)))
+      (name-stands t s, all-among (Stands (shown_in (known_of ds f))) (target t) (λ x a. held-stands x (target-stands ds t x (behind-stands ds doc.behind-stand t s) a) (held x a)))
 
-  err-reads : (o : Option Tree) → OptionStands ds o → ((t : Tree) → o ≡ Some t → (x : Tree) → Among x (target t) → Among x (held_types f)) → ErrReads (types_of ds f) o
+  err-reads : (o : Option Tree) → OptionStands ds o → ((t : Tree) → o ≡ Some t → (x : Tree) → Among x (target t) → Among x (held_types f)) → ErrReads (known_of ds f) o
   err-reads None s held = tt
   err-reads (Some t) s held = readable t s (held t refl)
 
@@ -132,22 +132,22 @@ module _ (ds : List DefinitionTree) (doc : Document ds) (f : Function) where
       among-left x (flat_map target f.params ++ flat_map target f.results ++ flat_map target (flat_map err_types f.results)) (payload_types f)
       (among-right x (flat_map target f.params ++ flat_map target f.results) (flat_map target (flat_map err_types f.results)) a)
 
-  params-read : AllByRecursion (NamesStand ds) f.params → AllByRecursion (Readable (types_of ds f)) f.params
+  params-read : AllByRecursion (NamesStand ds) f.params → AllByRecursion (Readable (known_of ds f)) f.params
   params-read s =
-      all-among (Readable (types_of ds f)) f.params
+      all-among (Readable (known_of ds f)) f.params
       (λ t a. readable t (among-all (NamesStand ds) t f.params s a) (λ x b. param-held x (among-flat target x t f.params b a)))
 
   -- ---- the ok type
 
-  names-stand : (ts : List Tree) → all_names ts ≡ true → AllByRecursion (NamesStand ds) ts → AllStand (types_of ds f) ts
+  names-stand : (ts : List Tree) → all_names ts ≡ true → AllByRecursion (NamesStand ds) ts → AllStand (known_of ds f) ts
   names-stand [] e s = tt
   names-stand (t ∷ ts) e s = let b = both-true (is_named t) (all_names ts) e in (named-stands t b.0 s.0, names-stand ts b.1 s.1)
 
-  pointers-by-tuple : (t : Tree) (q : Option (List Tree)) → tuple_types t ≡ q → NamesStand ds t → can_be_ok (Some t) ≡ true → AllStand (types_of ds f) (ok_pointers (Some t))
-  pointers-by-tuple t None e s h = subst (AllStand (types_of ds f)) (sym (ok-single t e)) (named-stands t (ok-named t e h) s, tt)
-  pointers-by-tuple t (Some ts) e s h = subst (AllStand (types_of ds f)) (sym (ok-tuple t ts e)) (names-stand ts (ok-members t ts e h) (tuple-stands ds t ts (behind-stands ds doc.behind-stand t s) e))
+  pointers-by-tuple : (t : Tree) (q : Option (List Tree)) → tuple_types t ≡ q → NamesStand ds t → can_be_ok (Some t) ≡ true → AllStand (known_of ds f) (ok_pointers (Some t))
+  pointers-by-tuple t None e s h = subst (AllStand (known_of ds f)) (sym (ok-single t e)) (named-stands t (ok-named t e h) s, tt)
+  pointers-by-tuple t (Some ts) e s h = subst (AllStand (known_of ds f)) (sym (ok-tuple t ts e)) (names-stand ts (ok-members t ts e h) (tuple-stands ds t ts (behind-stands ds doc.behind-stand t s) e))
 
-  ok-pointers-stand : (o : Option Tree) → OptionStands ds o → can_be_ok o ≡ true → AllStand (types_of ds f) (ok_pointers o)
+  ok-pointers-stand : (o : Option Tree) → OptionStands ds o → can_be_ok o ≡ true → AllStand (known_of ds f) (ok_pointers o)
   ok-pointers-stand None s h = tt
   ok-pointers-stand (Some t) s h = pointers-by-tuple t (tuple_types t) refl s h
 
@@ -170,7 +170,7 @@ module _ (ds : List DefinitionTree) (doc : Document ds) (f : Function) where
 
   -- ---- a result with cases
 
-  payloads-tell : (t : Tree) (cs : Arms) → f.results ≡ t ∷ [] → NamesStand ds t → can_be_result Abi.Preview1 t ≡ true → result_cases t ≡ Some cs → PayloadsTell (types_of ds f) (ok_of cs) (err_of cs)
+  payloads-tell : (t : Tree) (cs : Arms) → f.results ≡ t ∷ [] → NamesStand ds t → can_be_result Abi.Preview1 t ≡ true → result_cases t ≡ Some cs → PayloadsTell (known_of ds f) (ok_of cs) (err_of cs)
   payloads-tell t cs e s h c =
       let stand = cases-stand ds t cs (behind-stands ds doc.behind-stand t s) c in
       let among : Among t f.results = subst (Among t) (sym e) (inl refl) in
@@ -186,30 +186,30 @@ module _ (ds : List DefinitionTree) (doc : Document ds) (f : Function) where
   -- ---- results
 
   record ResultsTell (abi : Abi) (ts : List Tree) (k : ℕ) : Type 0 where
-    pointers : AllStand (types_of ds f) (pointers_under abi ts)
-    lift : Tells (types_of ds f) (lift_under abi ts)
-    lower : Tells (types_of ds f) (lower_under abi k ts)
+    pointers : AllStand (known_of ds f) (pointers_under abi ts)
+    lift : Tells (known_of ds f) (lift_under abi ts)
+    lower : Tells (known_of ds f) (lower_under abi k ts)
     few : length ts ≤ 1
     back : length (words_back abi ts) ≤ 1
 
   record CasesTell (t : Tree) (o : Option Arms) (k : ℕ) : Type 0 where
-    pointers : AllStand (types_of ds f) (pointers_by o ++ [])
-    lift : Tells (types_of ds f) (lift_by o t)
-    lower : Tells (types_of ds f) (lower_by o k t)
+    pointers : AllStand (known_of ds f) (pointers_by o ++ [])
+    lift : Tells (known_of ds f) (lift_by o t)
+    lower : Tells (known_of ds f) (lower_by o k t)
 
   cases-tell : (t : Tree) (o : Option Arms) (k : ℕ) → result_cases t ≡ o → f.results ≡ t ∷ [] → NamesStand ds t → can_be_result Abi.Preview1 t ≡ true → IsWord (k + length (pointers_by o ++ [])) → CasesTell t o k
   cases-tell t None k c e s h w =
       let among : Among t f.results = subst (Among t) (sym e) (inl refl) in
-      let both = step-tells (types_of ds f) t (word-param t h c) (readable t s (λ x a. result-held x (among-flat target x t f.results a among))) in
+      let both = step-tells (known_of ds f) t (word-param t h c) (readable t s (λ x a. result-held x (among-flat target x t f.results a among))) in
       record { pointers = tt; lift = both.0; lower = both.1 }
   cases-tell t (Some cs) k c e s h w =
       let tell = payloads-tell t cs e s h c in
       let same = append-nil (ok_pointers (ok_of cs)) in
       let all : IsWord (k + length (ok_pointers (ok_of cs))) = subst (λ z. IsWord (k + length z)) same w in
       record {
-        pointers = subst (AllStand (types_of ds f)) (sym same) tell.pointers;
-        lift = lift-cases-tell (types_of ds f) (ok_of cs) (err_of cs) (fewer k (length (ok_pointers (ok_of cs))) all) tell;
-        lower = lower-cases-tell (types_of ds f) (ok_of cs) (err_of cs) k all tell;
+        pointers = subst (AllStand (known_of ds f)) (sym same) tell.pointers;
+        lift = lift-cases-tell (known_of ds f) (ok_of cs) (err_of cs) (fewer k (length (ok_pointers (ok_of cs))) all) tell;
+        lower = lower-cases-tell (known_of ds f) (ok_of cs) (err_of cs) k all tell;
       }
 
   one-back : (o : Option WasmType) → length (before_rest o []) ≤ 1
@@ -227,8 +227,8 @@ module _ (ds : List DefinitionTree) (doc : Document ds) (f : Function) where
       let stand = named-stands t (can-back (can_be_result Abi.Stored t) h) s.0 in
       record {
         pointers = (stand, tt);
-        lift = load-all-tells (types_of ds f) 0 (t ∷ []) (one-is-word) (stand, tt);
-        lower = store-all-tells (types_of ds f) k (t ∷ []) w (stand, tt);
+        lift = load-all-tells (known_of ds f) 0 (t ∷ []) (one-is-word) (stand, tt);
+        lower = store-all-tells (known_of ds f) k (t ∷ []) w (stand, tt);
         few = omega arith;
         back = omega arith;
       }
@@ -244,7 +244,7 @@ module _ (ds : List DefinitionTree) (doc : Document ds) (f : Function) where
     owner : IsUtf8 m
     name : IsUtf8 f.name
 
-  sides-tell : (m : List ℕ) → FunctionIn m → SidesTell (types_of ds f) m f
+  sides-tell : (m : List ℕ) → FunctionIn m → SidesTell (known_of ds f) m f
   sides-tell m h =
       let none = none-first (position (λ t. not (can_be_param t)) f.params) (unlowerable_result f.abi f.results) h.can in
       let count = length-append (words_of_params f.params) (map (λ t. WasmType.I32) (return_pointers f)) ∙ ap (λ n. length (words_of_params f.params) + n) (length-map (return_pointers f) (λ t. WasmType.I32)) in
@@ -289,19 +289,19 @@ items-in m before rest (func_of f ∷ items) u s h = (
   items-in m before rest items u s.2 h.2,
 )
 
-definition-in : (before rest : List DefinitionTree) (d : DefinitionTree) (ds : List DefinitionTree) → AllNamesStand before d → AreHeld (d ∷ ds) → AllIn (before ++ rest) (owned_functions d) × AreHeld ds
+definition-in : (before rest : List DefinitionTree) (d : DefinitionTree) (ds : List DefinitionTree) → AllNamesStand before d → AreTypesHeld (d ∷ ds) → AllIn (before ++ rest) (owned_functions d) × AreTypesHeld ds
 definition-in before rest (typename_of n t docs) ds s h = (tt, h)
 definition-in before rest (module_of m) ds s h = (items-in m before rest m.items h.0 s h.1, h.2)
 definition-in before rest (constant_of c) ds s h = (tt, h)
 
-functions-in : (before ds all : List DefinitionTree) → ClosedAfter before ds → AreHeld ds → before ++ ds ≡ all → AllIn all (all_functions ds)
+functions-in : (before ds all : List DefinitionTree) → ClosedAfter before ds → AreTypesHeld ds → before ++ ds ≡ all → AllIn all (all_functions ds)
 functions-in before [] all c h e = tt
 functions-in before (d ∷ ds) all c h e =
     let here = definition-in before (d ∷ ds) d ds c.0 h in
     all-both all (owned_functions d) (all_functions ds) (subst (λ z. AllIn z (owned_functions d)) e here.0) (functions-in (before ++ d ∷ []) ds all c.1 here.1 (append_assoc before (d ∷ []) ds ∙ e))
 
-pub all-in : (ds : List DefinitionTree) → IsClosed ds → AreHeld ds → AllIn ds (all_functions ds)
+pub all-in : (ds : List DefinitionTree) → IsClosed ds → AreTypesHeld ds → AllIn ds (all_functions ds)
 all-in ds c h = functions-in [] ds ds c h refl
 
-pub owned-tells : (ds : List DefinitionTree) → Document ds → (p : Owned) → OwnedIn ds p → unlowerable (function_of p.func) ≡ None → SidesTell (types_of ds (function_of p.func)) p.owner.name (function_of p.func)
+pub owned-tells : (ds : List DefinitionTree) → Document ds → (p : Owned) → OwnedIn ds p → unlowerable (function_of p.func) ≡ None → SidesTell (known_of ds (function_of p.func)) p.owner.name (function_of p.func)
 owned-tells ds doc p h e = sides-tell ds doc (function_of p.func) p.owner.name (record { params = h.params; results = h.results; can = e; words = h.words; owner = h.owner; name = h.name })

@@ -11,12 +11,12 @@ use Rattle.witx_machine.specs.Events.{Event}
 use Rattle.witx_adapt.specs.Lines.{event_line, event_lines, event_text}
 use Rattle.witx_traces.specs.Answers.{Never}
 use Rattle.witx_traces.specs.LineParts.{HasLine}
-use Rattle.witx_traces.specs.Traces.{AreLines, IsLine, Sides, Types, types_of, ended, one_line}
+use Rattle.witx_traces.specs.Traces.{AreSayable, IsSayable, Sides, Types, known_of, ended, one_line}
 use Rattle.witx_traces.specs.declared.passages.Passage as code_passage
 use Rattle.witx_traces.specs.declared.reading.Stopped.{Stopped}
 use Rattle.witx_traces.specs.declared.reading.Stopped.TheVariants as stopped_variant
-use Rattle.witx_traces.specs.Refusals.{Tells}
-use Rattle.witx_traces.specs.Passages.{AreFixed, IsCutAt, LacksLine, IsFixed, IsLast, IsPlain, Passage, ReadPairs, Stretch, StopsAt, closed, events_of, feeds, indented, pair_text, passage_of, stretches}
+use Rattle.witx_traces.specs.Refusals.{TellsOfStop}
+use Rattle.witx_traces.specs.Passages.{AreFixed, IsCutAt, LacksWantedLine, IsFixed, IsLast, BeginPlainly, Passage, ReadPairs, Stretch, StopsAt, is_ended, events_of, feeds, indented, pair_text, passage_of, stretches}
 use Rattle.witx_traces.proofs.Stopping.{no-feed, stops-after, stops-behind, stops-event, stops-fixed, stops-last, stops-past, stops-unended, stops-unsaid}
 use Rattle.witx_traces.proofs.TypeReading.{pushed}
 use Rattle.witx_traces.proofs.UnfitLines.{ends-both, ends-feed, line-cut}
@@ -25,7 +25,7 @@ use Rattle.witx_traces.proofs.UnfitLines.{ends-both, ends-feed, line-cut}
 
 -- what is wanted behind is found behind
 abbrev pub WantedOn : List ℕ → List ℕ → List ℕ → List ℕ → Type 0
-WantedOn lines text wanted rest = (front : List ℕ) × (lines ≡ front ++ wanted) × (text ≡ front ++ rest) × (closed front ≡ true)
+WantedOn lines text wanted rest = (front : List ℕ) × (lines ≡ front ++ wanted) × (text ≡ front ++ rest) × (is_ended front ≡ true)
 
 pub wanted-first : (lines text : List ℕ) → WantedOn lines text lines text
 wanted-first lines text = ([], refl, refl, refl)
@@ -38,13 +38,13 @@ wanted-more lines text wanted rest line more behind (front, e, f, g) p q = (
   ends-both front (ended line) g (ends-feed line),
 )
 
-closed-behind : (front wanted : List ℕ) → closed (front ++ wanted) ≡ true → closed front ≡ true → closed wanted ≡ true
+closed-behind : (front wanted : List ℕ) → is_ended (front ++ wanted) ≡ true → is_ended front ≡ true → is_ended wanted ≡ true
 closed-behind [] wanted e f = e
 closed-behind (b ∷ []) [] e f = refl
 closed-behind (b ∷ []) (w ∷ ws) e f = e
 closed-behind (b ∷ c ∷ cs) wanted e f = closed-behind (c ∷ cs) wanted e f
 
-no-feed-last : (b : ℕ) (bs : List ℕ) → closed (b ∷ bs) ≡ true → one_line (b ∷ bs) ≡ true → ⊥
+no-feed-last : (b : ℕ) (bs : List ℕ) → is_ended (b ∷ bs) ≡ true → one_line (b ∷ bs) ≡ true → ⊥
 no-feed-last b [] e f = by (b == 10) e f
   where
     by : (t : Bool) → t ≡ true → (if t then false else true) ≡ true → ⊥
@@ -56,17 +56,17 @@ no-feed-last b (c ∷ cs) e f = by (b == 10) f (no-feed-last c cs e)
     by true f next = absurd (cc)
     by false f next = next f
 
-closed-one : (wanted : List ℕ) → closed wanted ≡ true → one_line wanted ≡ true → [] ≡ wanted
+closed-one : (wanted : List ℕ) → is_ended wanted ≡ true → one_line wanted ≡ true → [] ≡ wanted
 closed-one [] e f = refl
 closed-one (b ∷ bs) e f = absurd (no-feed-last b bs e f)
 
-pub wanted-last : (lines text wanted rest : List ℕ) → WantedOn lines text wanted rest → closed lines ≡ true → one_line wanted ≡ true → text ≡ lines ++ rest
+pub wanted-last : (lines text wanted rest : List ℕ) → WantedOn lines text wanted rest → is_ended lines ≡ true → one_line wanted ≡ true → text ≡ lines ++ rest
 wanted-last lines text wanted rest (front, e, f, g) h one =
-    let none = closed-one wanted (closed-behind front wanted (ap closed (sym e) ∙ h) g) one in
+    let none = closed-one wanted (closed-behind front wanted (ap is_ended (sym e) ∙ h) g) one in
     f ∙ ap (λ z. z ++ rest) (sym (e ∙ (ap (λ z. front ++ z) (sym none) ∙ append-nil front)))
 
 -- another line stands there, or none
-pub wanted-cut : (lines text wanted rest line more at : List ℕ) → WantedOn lines text wanted rest → wanted ≡ ended line ++ more → one_line line ≡ true → LacksLine line rest at → IsCutAt lines text at
+pub wanted-cut : (lines text wanted rest line more at : List ℕ) → WantedOn lines text wanted rest → wanted ≡ ended line ++ more → one_line line ≡ true → LacksWantedLine line rest at → IsCutAt lines text at
 wanted-cut lines text wanted rest line more at (front, e, f, g) p one h = record {
   front = front;
   wanted = line;
@@ -78,7 +78,7 @@ wanted-cut lines text wanted rest line more at (front, e, f, g) p one h = record
   other = λ behind is. h.other.none behind (sym h.same ∙ is);
 }
 
-pub wanted-tells : (lines text wanted rest line more : List ℕ) (e : Stopped) → WantedOn lines text wanted rest → wanted ≡ ended line ++ more → one_line line ≡ true → Tells (LacksLine line rest) e → Tells (IsCutAt lines text) e
+pub wanted-tells : (lines text wanted rest line more : List ℕ) (e : Stopped) → WantedOn lines text wanted rest → wanted ≡ ended line ++ more → one_line line ≡ true → TellsOfStop (LacksWantedLine line rest) e → TellsOfStop (IsCutAt lines text) e
 wanted-tells lines text wanted rest line more (stopped_variant.At r) h p one t = wanted-cut lines text wanted rest line more r.now h p one t
 wanted-tells lines text wanted rest line more stopped_variant.OutOfMemory h p one t = tt
 
@@ -89,10 +89,10 @@ shorter-line text line more e =
 
 pub ruleset lines_rules = (shorter-line, wanted-first, wanted-more, wanted-last, wanted-tells)
 
-pub lacks-missing : (text wanted : List ℕ) → one_line text ≡ true → LacksLine wanted text text
+pub lacks-missing : (text wanted : List ℕ) → one_line text ≡ true → LacksWantedLine wanted text text
 lacks-missing text wanted one = record { same = refl; other = record { none = λ more e. no-feed wanted more (ap one_line (sym e) ∙ one) } }
 
-pub lacks-other : (text line behind wanted : List ℕ) → text ≡ ended line ++ behind → one_line line ≡ true → one_line wanted ≡ true → same_text line wanted ≡ false → LacksLine wanted text text
+pub lacks-other : (text line behind wanted : List ℕ) → text ≡ ended line ++ behind → one_line line ≡ true → one_line wanted ≡ true → same_text line wanted ≡ false → LacksWantedLine wanted text text
 lacks-other text line behind wanted e one want other = record {
   same = refl;
   other = record {
@@ -116,7 +116,7 @@ pub cut-last : (last text rest : List ℕ) → IsCutAt last text rest → StopsA
 cut-last last text rest h = stops-last last h.front h.wanted h.behind text rest h.same h.closed-front h.one h.whole h.other
 
 -- what is told of a refusal, said otherwise
-pub tells-moved : (P Q : List ℕ → Type 0) (e : Stopped) → Tells P e → ((rest : List ℕ) → P rest → Q rest) → Tells Q e
+pub tells-moved : (P Q : List ℕ → Type 0) (e : Stopped) → TellsOfStop P e → ((rest : List ℕ) → P rest → Q rest) → TellsOfStop Q e
 tells-moved P Q (stopped_variant.At r) h f = f r.now h
 tells-moved P Q stopped_variant.OutOfMemory h f = tt
 
@@ -125,10 +125,10 @@ tells-moved P Q stopped_variant.OutOfMemory h f = tt
 pub event-there : (types : Types) (line text behind : List ℕ) (e : Event) → HasLine types line e → text ≡ ended line ++ behind → text ≡ event_line e ++ behind
 event-there types line text behind e h is = is ∙ ap (λ z. ended z ++ behind) (sym h.same)
 
-pub event-line : (types : Types) (line : List ℕ) (e : Event) → HasLine types line e → one_line line ≡ true → IsLine types e
+pub event-line : (types : Types) (line : List ℕ) (e : Event) → HasLine types line e → one_line line ≡ true → IsSayable types e
 event-line types line e h one = (h.can, ap one_line h.same ∙ one)
 
-pub event-unsaid : (types : Types) (ss : List Stretch) (last line text more : List ℕ) → IsPlain ss last → one_line line ≡ true → text ≡ ended line ++ more → indented text ≡ true → Never (HasLine types line)
+pub event-unsaid : (types : Types) (ss : List Stretch) (last line text more : List ℕ) → BeginPlainly ss last → one_line line ≡ true → text ≡ ended line ++ more → indented text ≡ true → Never (HasLine types line)
     → StopsAt (events_of types ∷ ss) last text text
 event-unsaid types ss last line text more plain one whole blank none = stops-unsaid types ss last line text more plain one whole blank (λ e can same. none.none e (record { can = can; same = same }))
 
@@ -140,29 +140,29 @@ pub ruleset event_rules = (event-there, event-line, event-unsaid, event-unended)
 -- whatever holds of the events behind, with those so far it holds of all
 pub record EventsOn (types : Types) (text : List ℕ) (done : List Event) (rest : List ℕ) : Type 0 where
   pub text-is : (more : List Event) (end : List ℕ) → rest ≡ event_lines more ++ end → text ≡ event_lines (done ++ more) ++ end
-  pub lines : (more : List Event) → AllByRecursion (IsLine types) more → AllByRecursion (IsLine types) (done ++ more)
-  pub stops : (ss : List Stretch) (last at : List ℕ) → IsPlain ss last → StopsAt (events_of types ∷ ss) last rest at → StopsAt (events_of types ∷ ss) last text at
+  pub lines : (more : List Event) → AllByRecursion (IsSayable types) more → AllByRecursion (IsSayable types) (done ++ more)
+  pub stops : (ss : List Stretch) (last at : List ℕ) → BeginPlainly ss last → StopsAt (events_of types ∷ ss) last rest at → StopsAt (events_of types ∷ ss) last text at
 
 pub events-first : (types : Types) (text : List ℕ) → EventsOn types text [] text
 events-first types text = record { text-is = λ more end e. e; lines = λ more f. f; stops = λ ss last at plain h. h }
 
-pub events-more : (types : Types) (text rest behind : List ℕ) (done now : List Event) (e : Event) → EventsOn types text done rest → rest ≡ event_line e ++ behind → IsLine types e → now ≡ done ++ e ∷ [] → EventsOn types text now behind
+pub events-more : (types : Types) (text rest behind : List ℕ) (done now : List Event) (e : Event) → EventsOn types text done rest → rest ≡ event_line e ++ behind → IsSayable types e → now ≡ done ++ e ∷ [] → EventsOn types text now behind
 events-more types text rest behind done now e h is f p =
     let flat : (more : List Event) → now ++ more ≡ done ++ (e ∷ more) = λ more. ap (λ z. z ++ more) p ∙ append_assoc done (e ∷ []) more in
     record {
       text-is = λ more end q. h.text-is (e ∷ more) end (is ∙ (ap (λ z. event_line e ++ z) q ∙ sym (append_assoc (event_line e) (event_lines more) end))) ∙ ap (λ z. event_lines z ++ end) (sym (flat more));
-      lines = λ more g. subst (AllByRecursion (IsLine types)) (sym (flat more)) (h.lines (e ∷ more) (f, g));
+      lines = λ more g. subst (AllByRecursion (IsSayable types)) (sym (flat more)) (h.lines (e ∷ more) (f, g));
       stops = λ ss last at plain g. h.stops ss last at plain (stops-event types ss last e rest behind at plain f is g);
     }
 
 pub events-text : (types : Types) (text rest : List ℕ) (done : List Event) → EventsOn types text done rest → text ≡ event_lines done ++ rest
 events-text types text rest done h = h.text-is [] rest refl ∙ ap (λ z. event_lines z ++ rest) (append-nil done)
 
-pub events-lines : (types : Types) (text rest : List ℕ) (done : List Event) → EventsOn types text done rest → AllByRecursion (IsLine types) done
-events-lines types text rest done h = subst (AllByRecursion (IsLine types)) (append-nil done) (h.lines [] tt)
+pub events-lines : (types : Types) (text rest : List ℕ) (done : List Event) → EventsOn types text done rest → AllByRecursion (IsSayable types) done
+events-lines types text rest done h = subst (AllByRecursion (IsSayable types)) (append-nil done) (h.lines [] tt)
 
 pub events-stop : (types : Types) (text rest : List ℕ) (done : List Event) → EventsOn types text done rest → indented rest ≡ false
-    → (ss : List Stretch) (last at : List ℕ) → IsPlain ss last → StopsAt ss last rest at → StopsAt (events_of types ∷ ss) last text at
+    → (ss : List Stretch) (last at : List ℕ) → BeginPlainly ss last → StopsAt ss last rest at → StopsAt (events_of types ∷ ss) last text at
 events-stop types text rest done h plain ss last at p g = h.stops ss last at p (stops-after types ss last rest at plain g)
 
 pub shorter-event : (text rest : List ℕ) (e : Event) → text ≡ event_line e ++ rest → length rest < length text
@@ -172,11 +172,11 @@ pub ruleset events_rules = (shorter-event, pushed, events-first, events-more, ev
 
 -- ---- sides
 
-fixed-closed : (fixed : List ℕ) → IsFixed fixed → closed fixed ≡ true
+fixed-closed : (fixed : List ℕ) → IsFixed fixed → is_ended fixed ≡ true
 fixed-closed [] f = absurd f
 fixed-closed (b ∷ bs) f = f.1
 
-pub is-closed : (fixed : List ℕ) → IsFixed fixed → closed fixed ≡ true
+pub is-closed : (fixed : List ℕ) → IsFixed fixed → is_ended fixed ≡ true
 is-closed fixed f = fixed-closed fixed f
 
 pub side-stop : (fixed : List ℕ) (types : Types) (ss : List Stretch) (last text behind at : List ℕ) → IsFixed fixed → text ≡ fixed ++ behind → StopsAt (events_of types ∷ ss) last behind at
@@ -191,49 +191,49 @@ plain-fixed : (fixed : List ℕ) (rest : List ℕ) → IsFixed fixed → indente
 plain-fixed [] rest f = absurd f
 plain-fixed (b ∷ bs) rest f = f.0
 
-pub plain-stretch : (s : Stretch) (ss : List Stretch) (last : List ℕ) → IsFixed s.fixed → IsPlain (s ∷ ss) last
+pub plain-stretch : (s : Stretch) (ss : List Stretch) (last : List ℕ) → IsFixed s.fixed → BeginPlainly (s ∷ ss) last
 plain-stretch s ss last f = λ text h. ap indented h.3 ∙ plain-fixed s.fixed (event_lines h.0 ++ h.1) f
 
-pub plain-passages : (ds : List DefinitionTree) (ps : List Passage) (last : List ℕ) → AreFixed ps → IsLast last → IsPlain (stretches ds ps) last
+pub plain-passages : (ds : List DefinitionTree) (ps : List Passage) (last : List ℕ) → AreFixed ps → IsLast last → BeginPlainly (stretches ds ps) last
 plain-passages ds [] last f g = λ text h. ap indented h ∙ g.0
-plain-passages ds (p ∷ ps) last f g = plain-stretch (record { fixed = p.fixed; types = types_of ds p.function.function }) (record { fixed = codes "callee\n"; types = types_of ds p.function.function } ∷ stretches ds ps) last f.0
+plain-passages ds (p ∷ ps) last f g = plain-stretch (record { fixed = p.fixed; types = known_of ds p.function.function }) (record { fixed = codes "callee\n"; types = known_of ds p.function.function } ∷ stretches ds ps) last f.0
 
 pub callee-fixed : IsFixed (codes "callee\n")
 callee-fixed = (refl, refl)
 
 -- a refusal that is handed on
-pub handed-on : {A : Type 0} (Q : List ℕ → Type 0) (r : Result A Stopped) (e : Stopped) → IsErrAnd r (λ d. d ≡ e) → Tells Q e → IfErr r (Tells Q)
+pub handed-on : {A : Type 0} (Q : List ℕ → Type 0) (r : Result A Stopped) (e : Stopped) → IsErrAnd r (λ d. d ≡ e) → TellsOfStop Q e → IfErr r (TellsOfStop Q)
 handed-on Q (Ok x) e is h = tt
-handed-on Q (Err d) e is h = subst (Tells Q) (sym is) h
+handed-on Q (Err d) e is h = subst (TellsOfStop Q) (sym is) h
 
 abbrev pub side_of : List ℕ → Types → Stretch
 side_of fixed types = record { fixed = fixed; types = types }
 
 -- both sides of a function, with the types as they were made
-both-sides : (ds : List DefinitionTree) (p : Passage) (types : Types) (ps : List Passage) (P : List Stretch → Type 0) → types ≡ types_of ds p.function.function
+both-sides : (ds : List DefinitionTree) (p : Passage) (types : Types) (ps : List Passage) (P : List Stretch → Type 0) → types ≡ known_of ds p.function.function
     → P (side_of p.fixed types ∷ side_of (codes "callee\n") types ∷ stretches ds ps) → P (stretches ds (p ∷ ps))
 both-sides ds p types ps P e h = subst (λ z. P (side_of p.fixed z ∷ side_of (codes "callee\n") z ∷ stretches ds ps)) e h
 
-pub pair-caller : (ds : List DefinitionTree) (p : Passage) (types : Types) (text : List ℕ) (e : Stopped) → types ≡ types_of ds p.function.function
-    → ((ss : List Stretch) (last : List ℕ) → IsPlain ss last → Tells (StopsAt (side_of p.fixed types ∷ ss) last text) e)
-    → (ps : List Passage) (last : List ℕ) → IsPlain (stretches ds ps) last → Tells (StopsAt (stretches ds (p ∷ ps)) last text) e
+pub pair-caller : (ds : List DefinitionTree) (p : Passage) (types : Types) (text : List ℕ) (e : Stopped) → types ≡ known_of ds p.function.function
+    → ((ss : List Stretch) (last : List ℕ) → BeginPlainly ss last → TellsOfStop (StopsAt (side_of p.fixed types ∷ ss) last text) e)
+    → (ps : List Passage) (last : List ℕ) → BeginPlainly (stretches ds ps) last → TellsOfStop (StopsAt (stretches ds (p ∷ ps)) last text) e
 pair-caller ds p types text e same h ps last plain =
-    both-sides ds p types ps (λ ss. Tells (StopsAt ss last text) e) same
+    both-sides ds p types ps (λ ss. TellsOfStop (StopsAt ss last text) e) same
     (h (side_of (codes "callee\n") types ∷ stretches ds ps) last (plain-stretch (side_of (codes "callee\n") types) (stretches ds ps) last callee-fixed))
 
-pub pair-callee : (ds : List DefinitionTree) (p : Passage) (types : Types) (text mid : List ℕ) (e : Stopped) → types ≡ types_of ds p.function.function
-    → ((ss : List Stretch) (last at : List ℕ) → IsPlain ss last → StopsAt ss last mid at → StopsAt (side_of p.fixed types ∷ ss) last text at)
-    → ((ss : List Stretch) (last : List ℕ) → IsPlain ss last → Tells (StopsAt (side_of (codes "callee\n") types ∷ ss) last mid) e)
-    → (ps : List Passage) (last : List ℕ) → IsPlain (stretches ds ps) last → Tells (StopsAt (stretches ds (p ∷ ps)) last text) e
+pub pair-callee : (ds : List DefinitionTree) (p : Passage) (types : Types) (text mid : List ℕ) (e : Stopped) → types ≡ known_of ds p.function.function
+    → ((ss : List Stretch) (last at : List ℕ) → BeginPlainly ss last → StopsAt ss last mid at → StopsAt (side_of p.fixed types ∷ ss) last text at)
+    → ((ss : List Stretch) (last : List ℕ) → BeginPlainly ss last → TellsOfStop (StopsAt (side_of (codes "callee\n") types ∷ ss) last mid) e)
+    → (ps : List Passage) (last : List ℕ) → BeginPlainly (stretches ds ps) last → TellsOfStop (StopsAt (stretches ds (p ∷ ps)) last text) e
 pair-callee ds p types text mid e same first h ps last plain =
-    both-sides ds p types ps (λ ss. Tells (StopsAt ss last text) e) same
+    both-sides ds p types ps (λ ss. TellsOfStop (StopsAt ss last text) e) same
     (tells-moved (StopsAt (side_of (codes "callee\n") types ∷ stretches ds ps) last mid) (StopsAt (side_of p.fixed types ∷ side_of (codes "callee\n") types ∷ stretches ds ps) last text) e (h (stretches ds ps) last plain)
     (λ at s. first (side_of (codes "callee\n") types ∷ stretches ds ps) last at (plain-stretch (side_of (codes "callee\n") types) (stretches ds ps) last callee-fixed) s))
 
-pub pair-behind : (ds : List DefinitionTree) (p : Passage) (types : Types) (text mid rest : List ℕ) → types ≡ types_of ds p.function.function
-    → ((ss : List Stretch) (last at : List ℕ) → IsPlain ss last → StopsAt ss last mid at → StopsAt (side_of p.fixed types ∷ ss) last text at)
-    → ((ss : List Stretch) (last at : List ℕ) → IsPlain ss last → StopsAt ss last rest at → StopsAt (side_of (codes "callee\n") types ∷ ss) last mid at)
-    → (ps : List Passage) (last at : List ℕ) → IsPlain (stretches ds ps) last → StopsAt (stretches ds ps) last rest at → StopsAt (stretches ds (p ∷ ps)) last text at
+pub pair-behind : (ds : List DefinitionTree) (p : Passage) (types : Types) (text mid rest : List ℕ) → types ≡ known_of ds p.function.function
+    → ((ss : List Stretch) (last at : List ℕ) → BeginPlainly ss last → StopsAt ss last mid at → StopsAt (side_of p.fixed types ∷ ss) last text at)
+    → ((ss : List Stretch) (last at : List ℕ) → BeginPlainly ss last → StopsAt ss last rest at → StopsAt (side_of (codes "callee\n") types ∷ ss) last mid at)
+    → (ps : List Passage) (last at : List ℕ) → BeginPlainly (stretches ds ps) last → StopsAt (stretches ds ps) last rest at → StopsAt (stretches ds (p ∷ ps)) last text at
 pair-behind ds p types text mid rest same first second ps last at plain s =
     both-sides ds p types ps (λ ss. StopsAt ss last text at) same
     (first (side_of (codes "callee\n") types ∷ stretches ds ps) last at (plain-stretch (side_of (codes "callee\n") types) (stretches ds ps) last callee-fixed) (second (stretches ds ps) last at plain s))
@@ -243,7 +243,7 @@ pub answer-moved : {A : Type 0} {P Q : A → Type 0} (r : Result A Stopped) → 
 answer-moved (Ok x) h f = f x h
 answer-moved (Err e) h f = tt
 
-pub refusal-moved : {A : Type 0} (P Q : List ℕ → Type 0) (r : Result A Stopped) → IfErr r (Tells P) → ((rest : List ℕ) → P rest → Q rest) → IfErr r (Tells Q)
+pub refusal-moved : {A : Type 0} (P Q : List ℕ → Type 0) (r : Result A Stopped) → IfErr r (TellsOfStop P) → ((rest : List ℕ) → P rest → Q rest) → IfErr r (TellsOfStop Q)
 refusal-moved P Q (Ok x) h f = tt
 refusal-moved P Q (Err e) h f = tells-moved P Q e h f
 
@@ -259,8 +259,8 @@ pub pairs-first : (ds : List DefinitionTree) (all : List Passage) (text : List �
 pairs-first ds all text f = record { read = λ more end h. h; stops = λ last at g h. h; fixed = f }
 
 pub pairs-more : (ds : List DefinitionTree) (all : List Passage) (text : List ℕ) (done now : List Sides) (p : Passage) (left : List Passage) (rest behind : List ℕ) (s : Sides)
-    → PairsOn ds all text done (p ∷ left) rest → AreLines (types_of ds p.function.function) s → rest ≡ pair_text p s behind → now ≡ done ++ s ∷ []
-    → ((last at : List ℕ) → IsPlain (stretches ds left) last → StopsAt (stretches ds left) last behind at → StopsAt (stretches ds (p ∷ left)) last rest at)
+    → PairsOn ds all text done (p ∷ left) rest → AreSayable (known_of ds p.function.function) s → rest ≡ pair_text p s behind → now ≡ done ++ s ∷ []
+    → ((last at : List ℕ) → BeginPlainly (stretches ds left) last → StopsAt (stretches ds left) last behind at → StopsAt (stretches ds (p ∷ left)) last rest at)
     → PairsOn ds all text now left behind
 pairs-more ds all text done now p left rest behind s h f e q go = record {
   read = λ more end r. subst (λ z. ReadPairs ds all z text end) (sym (ap (λ z. z ++ more) q ∙ append_assoc done (s ∷ []) more)) (h.read (s ∷ more) end (f, (behind, e, r)));
@@ -269,8 +269,8 @@ pairs-more ds all text done now p left rest behind s h f e q go = record {
 }
 
 pub pairs-told : (ds : List DefinitionTree) (all : List Passage) (text : List ℕ) (done : List Sides) (p : Passage) (left : List Passage) (rest : List ℕ) (e : Stopped) → PairsOn ds all text done (p ∷ left) rest
-    → ((ps : List Passage) (last : List ℕ) → IsPlain (stretches ds ps) last → Tells (StopsAt (stretches ds (p ∷ ps)) last rest) e)
-    → (last : List ℕ) → IsLast last → Tells (StopsAt (stretches ds all) last text) e
+    → ((ps : List Passage) (last : List ℕ) → BeginPlainly (stretches ds ps) last → TellsOfStop (StopsAt (stretches ds (p ∷ ps)) last rest) e)
+    → (last : List ℕ) → IsLast last → TellsOfStop (StopsAt (stretches ds all) last text) e
 pairs-told ds all text done p left rest e h go last g =
     tells-moved (StopsAt (stretches ds (p ∷ left)) last rest) (StopsAt (stretches ds all) last text) e (go left last (plain-passages ds left last h.fixed.1 g)) (λ at s. h.stops last at g s)
 

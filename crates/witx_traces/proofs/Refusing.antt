@@ -6,7 +6,7 @@ use Rattle.std.proofs.lemmas.Bool.Decides.{nat_tests}
 use Rattle.witx_ast.specs.Definitions.{DefinitionTree}
 use Rattle.witx_adapt.specs.Lines.{event_lines}
 use Rattle.witx_traces.specs.Traces.{FitFunctions, GivesTraces, HasEachEntry, IsUnfit, Listed, Sides, ended, one_line}
-use Rattle.witx_traces.specs.Passages.{AreFixed, Has, IsLast, Passage, ReadPairs, StopsAt, closed, feeds, pair_text, passages_of, stretches}
+use Rattle.witx_traces.specs.Passages.{AreFixed, Has, IsLast, Passage, ReadPairs, StopsAt, is_ended, feeds, pair_text, passages_of, stretches}
 use Rattle.witx_traces.proofs.Drafting.{drafted-fixed, drafted-functions, drafted-last, drafted-text, woven}
 use Rattle.witx_traces.proofs.OneTrace.{each-side}
 use Rattle.witx_traces.proofs.UnfitLines.{one-more}
@@ -106,7 +106,7 @@ by-feed : (b c : ℕ) (bs : List ℕ) (t : Bool) → (b == 10) ≡ t → Lines (
 by-feed b c bs true e h = at-feed b (c ∷ bs) e h
 by-feed b c bs false e h = past b c bs h.lines e h.one h.same h.count
 
-split-lines : (text : List ℕ) → closed text ≡ true → Lines text
+split-lines : (text : List ℕ) → is_ended text ≡ true → Lines text
 split-lines [] e = record { lines = []; one = tt; same = refl; count = refl }
 split-lines (b ∷ []) e = at-feed b [] e (record { lines = []; one = tt; same = refl; count = refl })
 split-lines (b ∷ c ∷ bs) e = by-feed b c bs (b == 10) refl (split-lines (c ∷ bs) e)

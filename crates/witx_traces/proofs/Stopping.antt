@@ -3,8 +3,8 @@ use Rattle.std.proofs.Common.{◌≡◌, ℕ, List, [], ◌∷◌, ◌++◌, Boo
 use Rattle.std.specs.Prelude.{codes}
 use Rattle.witx_machine.specs.Events.{Event}
 use Rattle.witx_adapt.specs.Lines.{event_line, event_lines, event_text}
-use Rattle.witx_traces.specs.Traces.{Types, CanSay, IsLine, one_line, ended}
-use Rattle.witx_traces.specs.Passages.{Stretch, Has, Stops, StopsAt, closed, indented, IsPlain, events_of}
+use Rattle.witx_traces.specs.Traces.{Types, CanSay, IsSayable, one_line, ended}
+use Rattle.witx_traces.specs.Passages.{Stretch, Has, Stops, StopsAt, is_ended, indented, BeginPlainly, events_of}
 use Rattle.witx_traces.proofs.UnfitLines.{ends-both, ends-feed, line-cut}
 
 -- ---- texts
@@ -75,7 +75,7 @@ record Above (L : List ℕ → Type 0) (fixed : List ℕ) : Type 0 where
   some : L (fixed ++ more)
   behind : (text : List ℕ) → L text → (rest : List ℕ) × (text ≡ fixed ++ rest)
 
-stops-within : (L : List ℕ → Type 0) (fixed front wanted behind text rest : List ℕ) → Above L fixed → fixed ≡ front ++ (ended wanted ++ behind) → closed front ≡ true → one_line wanted ≡ true
+stops-within : (L : List ℕ → Type 0) (fixed front wanted behind text rest : List ℕ) → Above L fixed → fixed ≡ front ++ (ended wanted ++ behind) → is_ended front ≡ true → one_line wanted ≡ true
     → text ≡ front ++ rest → ((more : List ℕ) → rest ≡ ended wanted ++ more → ⊥) → Stops L text rest
 stops-within L fixed front wanted behind text rest above e lines one whole other =
     let flat : (z : List ℕ) → fixed ++ z ≡ front ++ (ended wanted ++ (behind ++ z)) =
@@ -97,7 +97,7 @@ stops-within L fixed front wanted behind text rest above e lines one whole other
     }
 
 -- within the fixed text of a stretch, or within the last one
-pub stops-fixed : (s : Stretch) (ss : List Stretch) (last front wanted behind text rest : List ℕ) → s.fixed ≡ front ++ (ended wanted ++ behind) → closed front ≡ true → one_line wanted ≡ true
+pub stops-fixed : (s : Stretch) (ss : List Stretch) (last front wanted behind text rest : List ℕ) → s.fixed ≡ front ++ (ended wanted ++ behind) → is_ended front ≡ true → one_line wanted ≡ true
     → text ≡ front ++ rest → ((more : List ℕ) → rest ≡ ended wanted ++ more → ⊥) → StopsAt (s ∷ ss) last text rest
 stops-fixed s ss last front wanted behind text rest e lines one whole other =
     let some = some-text (s ∷ ss) last in
@@ -105,7 +105,7 @@ stops-fixed s ss last front wanted behind text rest e lines one whole other =
     let above : Above (Has (s ∷ ss) last) s.fixed = record { more = more.text; some = ([], more.text, tt, refl, more.has); behind = λ x h. (event_lines h.0 ++ h.1, h.3) } in
     stops-within (Has (s ∷ ss) last) s.fixed front wanted behind text rest above e lines one whole other
 
-pub stops-last : (last front wanted behind text rest : List ℕ) → last ≡ front ++ (ended wanted ++ behind) → closed front ≡ true → one_line wanted ≡ true
+pub stops-last : (last front wanted behind text rest : List ℕ) → last ≡ front ++ (ended wanted ++ behind) → is_ended front ≡ true → one_line wanted ≡ true
     → text ≡ front ++ rest → ((more : List ℕ) → rest ≡ ended wanted ++ more → ⊥) → StopsAt [] last text rest
 stops-last last front wanted behind text rest e lines one whole other =
     let above : Above (Has [] last) last = record { more = []; some = append-nil last; behind = λ x h. ([], h ∙ sym (append-nil last)) } in
@@ -113,7 +113,7 @@ stops-last last front wanted behind text rest e lines one whole other =
 
 -- ---- behind the last fixed text
 
-pub stops-behind : (last text rest : List ℕ) → closed last ≡ true → text ≡ last ++ rest → (rest ≡ [] → ⊥) → StopsAt [] last text rest
+pub stops-behind : (last text rest : List ℕ) → is_ended last ≡ true → text ≡ last ++ rest → (rest ≡ [] → ⊥) → StopsAt [] last text rest
 stops-behind last text rest lines whole some =
     record {
       front = last;
@@ -127,7 +127,7 @@ stops-behind last text rest lines whole some =
 
 -- ---- behind the fixed text of a stretch
 
-pub stops-past : (s : Stretch) (ss : List Stretch) (last text behind rest : List ℕ) → closed s.fixed ≡ true → text ≡ s.fixed ++ behind → StopsAt (events_of s.types ∷ ss) last behind rest → StopsAt (s ∷ ss) last text rest
+pub stops-past : (s : Stretch) (ss : List Stretch) (last text behind rest : List ℕ) → is_ended s.fixed ≡ true → text ≡ s.fixed ++ behind → StopsAt (events_of s.types ∷ ss) last behind rest → StopsAt (s ∷ ss) last text rest
 stops-past s ss last text behind rest lines whole h =
     let past : (x : List ℕ) → Has (s ∷ ss) last (s.fixed ++ x) → Has (events_of s.types ∷ ss) last x = λ x has. (has.0, has.1, has.2, cancel s.fixed _ _ has.3, has.4) in
     let front-flat : (z : List ℕ) → (s.fixed ++ h.front) ++ z ≡ s.fixed ++ (h.front ++ z) = λ z. append_assoc s.fixed h.front z in
@@ -147,17 +147,17 @@ stops-past s ss last text behind rest lines whole h =
 lines-flat : (e : Event) (es : List Event) (m : List ℕ) → event_lines (e ∷ es) ++ m ≡ ended (codes "  " ++ event_text e) ++ (event_lines es ++ m)
 lines-flat e es m = append_assoc (event_line e) (event_lines es) m
 
-blank-line : (types : Types) (e : Event) → IsLine types e → one_line (codes "  " ++ event_text e) ≡ true
+blank-line : (types : Types) (e : Event) → IsSayable types e → one_line (codes "  " ++ event_text e) ≡ true
 blank-line types e f = f.1
 
 -- what follows an event's line
-behind-event : (types : Types) (ss : List Stretch) (last : List ℕ) (e : Event) (x : List ℕ) → IsLine types e → IsPlain ss last → Has (events_of types ∷ ss) last (event_line e ++ x) → Has (events_of types ∷ ss) last x
+behind-event : (types : Types) (ss : List Stretch) (last : List ℕ) (e : Event) (x : List ℕ) → IsSayable types e → BeginPlainly ss last → Has (events_of types ∷ ss) last (event_line e ++ x) → Has (events_of types ∷ ss) last x
 behind-event types ss last e x f plain ([], m, all, is, has) = let wrong : true ≡ false = ap indented is ∙ plain m has in absurd (cc)
 behind-event types ss last e x f plain (d ∷ es, m, all, is, has) =
     let same = line-cut (codes "  " ++ event_text e) (codes "  " ++ event_text d) x (event_lines es ++ m) (blank-line types e f) (blank-line types d all.0) (is ∙ lines-flat d es m) in
     (es, m, all.1, same.1, has)
 
-pub stops-event : (types : Types) (ss : List Stretch) (last : List ℕ) (e : Event) (text behind rest : List ℕ) → IsPlain ss last → IsLine types e → text ≡ event_line e ++ behind
+pub stops-event : (types : Types) (ss : List Stretch) (last : List ℕ) (e : Event) (text behind rest : List ℕ) → BeginPlainly ss last → IsSayable types e → text ≡ event_line e ++ behind
     → StopsAt (events_of types ∷ ss) last behind rest → StopsAt (events_of types ∷ ss) last text rest
 stops-event types ss last e text behind rest plain f whole h =
     let front-flat : (z : List ℕ) → (event_line e ++ h.front) ++ z ≡ event_line e ++ (h.front ++ z) = λ z. append_assoc (event_line e) h.front z in
@@ -193,7 +193,7 @@ stops-after types ss last text rest plain h =
     }
 
 -- a line that begins with a blank and says no event
-pub stops-unsaid : (types : Types) (ss : List Stretch) (last line text more : List ℕ) → IsPlain ss last → one_line line ≡ true → text ≡ ended line ++ more → indented text ≡ true
+pub stops-unsaid : (types : Types) (ss : List Stretch) (last line text more : List ℕ) → BeginPlainly ss last → one_line line ≡ true → text ≡ ended line ++ more → indented text ≡ true
     → ((e : Event) → CanSay types e → codes "  " ++ event_text e ≡ line → ⊥) → StopsAt (events_of types ∷ ss) last text text
 stops-unsaid types ss last line text more plain one whole blank none =
     let some = some-text (events_of types ∷ ss) last in

@@ -16,8 +16,8 @@ use Rattle.witx_ast.specs.Items.{func_of}
 use Rattle.witx_machine.specs.Events.{Step, Event, emit, space, push, finish}
 use Rattle.witx_machine.specs.Functions.{Function}
 use Rattle.witx_adapt.specs.Lines.{event_text, event_line, event_lines}
-use Rattle.witx_traces.specs.Traces.{held_types, types_of, shown, shown_payload, Types, Says, Sides, Listed, GivesTraces, IsUnfit, listing_with, IsLine, ended}
-use Rattle.witx_traces.specs.LineParts.{parts, word_of, tail_of, spelling, word_spelled, the_words}
+use Rattle.witx_traces.specs.Traces.{held_types, known_of, shown, shown_payload, Types, Says, Sides, Listed, GivesTraces, IsUnfit, listing_with, IsSayable, ended}
+use Rattle.witx_traces.specs.LineParts.{parts, line_word, tail_of, word_spelling, word_spelled, the_line_words}
 use Rattle.witx_traces.proofs.LineWords.{word-unbroken, spells}
 use Rattle.witx_traces.proofs.OneEvent.{first-of, said-parts, tails-same}
 use Rattle.witx_traces.proofs.UnfitLines.{line-cut}
@@ -56,7 +56,7 @@ err_target = refl
 
 -- of two types with one text the first one: `u8` is the pointer's target, and not that of the list behind it
 abbrev two_bytes : Types
-two_bytes = types_of [] (takes (Tree.pointer_to letter ∷ bytes ∷ []) [])
+two_bytes = known_of [] (takes (Tree.pointer_to letter ∷ bytes ∷ []) [])
 
 first_of_two : shown two_bytes (codes "u8") ≡ Some letter
 unfolding same_text
@@ -64,14 +64,14 @@ first_of_two = refl
 
 -- a typename comes before all others
 abbrev named_so : Types
-named_so = types_of (typename_of (codes "u8") buffer [] ∷ []) (takes (bytes ∷ []) [])
+named_so = known_of (typename_of (codes "u8") buffer [] ∷ []) (takes (bytes ∷ []) [])
 
 typename_first : shown named_so (codes "u8") ≡ Some (Tree.named (codes "u8") buffer [])
 typename_first = refl
 
 -- where a result is lowered its ok type comes before its err type, and both before the typenames
 abbrev alike_payloads : Types
-alike_payloads = types_of (typename_of (codes "e") byte [] ∷ []) (takes [] (outcome (Tree.named (codes "e") bytes []) (Tree.named (codes "e") letter []) ∷ []))
+alike_payloads = known_of (typename_of (codes "e") byte [] ∷ []) (takes [] (outcome (Tree.named (codes "e") bytes []) (Tree.named (codes "e") letter []) ∷ []))
 
 ok_first : shown_payload alike_payloads (codes "e") ≡ Some (Tree.named (codes "e") bytes [])
 unfolding same_text
@@ -179,19 +179,19 @@ missing_line = record {
 
 -- an unknown step is refused at its line, the fourth
 
-no_word : word_spelled the_words (codes "jump") ≡ None
+no_word : word_spelled the_line_words (codes "jump") ≡ None
 unfolding same_text
 no_word = refl
 
 jump_says_nothing : (types : Types) (e : Event) → Says types (codes "jump") e → ⊥
 jump_says_nothing types e s =
     let p = said-parts types (codes "jump") e s in
-    let halves = tails-same (spelling (word_of (parts e))) (codes "jump") (tail_of (parts e)) None (word-unbroken (word_of (parts e))) refl p.0 in
-    let wrong : Some (word_of (parts e)) ≡ None = sym (spells (word_of (parts e))) ∙ (ap (word_spelled the_words) halves.0 ∙ no_word) in
+    let halves = tails-same (word_spelling (line_word (parts e))) (codes "jump") (tail_of (parts e)) None (word-unbroken (line_word (parts e))) refl p.0 in
+    let wrong : Some (line_word (parts e)) ≡ None = sym (spells (line_word (parts e))) ∙ (ap (word_spelled the_line_words) halves.0 ∙ no_word) in
     absurd (cc)
 
 -- no side begins with that line
-no_jump : (types : Types) (es : List Event) (more behind : List ℕ) → AllByRecursion (IsLine types) es → codes "  jump\n" ++ more ≡ event_lines es ++ (codes "callee\n" ++ behind) → ⊥
+no_jump : (types : Types) (es : List Event) (more behind : List ℕ) → AllByRecursion (IsSayable types) es → codes "  jump\n" ++ more ≡ event_lines es ++ (codes "callee\n" ++ behind) → ⊥
 no_jump types [] more behind f e = let wrong : 32 ≡ 99 = first-of 32 99 _ _ e in omega (arith, wrong)
 no_jump types (d ∷ es) more behind f e =
     let flat : ended (codes "jump") ++ more ≡ ended (event_text d) ++ (event_lines es ++ (codes "callee\n" ++ behind))
@@ -205,7 +205,7 @@ no_front more [] gives = absurd gives.1
 no_front more (s ∷ t ∷ ss) gives = absurd gives.1.1
 no_front more (s ∷ []) gives =
     let sides : codes "  jump\n" ++ more ≡ ((event_lines s.caller ++ (codes "callee\n" ++ event_lines s.callee)) ++ []) ++ [] = ap (drop 34) gives.0 in
-    no_jump (types_of one_function.definitions (takes [] [])) s.caller more (event_lines s.callee) gives.1.0.0 (sides ∙ (append-nil _ ∙ append-nil _))
+    no_jump (known_of one_function.definitions (takes [] [])) s.caller more (event_lines s.callee) gives.1.0.0 (sides ∙ (append-nil _ ∙ append-nil _))
 
 jump_is_unfit : IsUnfit one_function (codes "module m\nfunc \"f\" () -> ()\ncaller\n  jump\n  return 0\ncallee\n") 4
 unfolding chars lib.Utf8.encode

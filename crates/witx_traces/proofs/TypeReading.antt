@@ -18,8 +18,8 @@ use Rattle.witx_ast.specs.declared.function.InterfaceFuncParam.{InterfaceFuncPar
 use Rattle.witx_ast.specs.declared.function.InterfaceFunc.{InterfaceFunc}
 use Rattle.witx_instructions.specs.Views.{called, param_types}
 use Rattle.witx_traces.specs.declared.candidates.KnownTypes.{KnownTypes}
-use Rattle.witx_traces.specs.ReadTypes.{candidate_type, types_in}
-use Rattle.witx_traces.specs.Traces.{Types, err_types, first_shown, held_types, ok_types, payload_types, target, types_of, shown, shown_payload}
+use Rattle.witx_traces.specs.ReadTypes.{candidate_type, known_in}
+use Rattle.witx_traces.specs.Traces.{Types, err_types, first_shown, held_types, ok_types, payload_types, target, known_of, shown, shown_payload}
 
 -- ---- a text that stands for a type is the type's own
 
@@ -66,8 +66,8 @@ shown-named types h n t e = or-named types.typename types.held n t (types.typena
 pub payload-named : (types : Types) → AreNamed types → Named (shown_payload types)
 payload-named types h n t e = or-named types.payload (shown types) n t (types.payload n) refl h.payload (shown-named types h) e
 
-pub known-named : (k : KnownTypes) → AreNamed (types_in k)
-unfolding types_in
+pub known-named : (k : KnownTypes) → AreNamed (known_in k)
+unfolding known_in
 known-named k = record {
   typename = typename-named (map definition_tree k.document.now.definitions);
   held = first-named (map candidate_type k.held.items);
@@ -76,8 +76,8 @@ known-named k = record {
 
 -- the types that are gathered are those of the function
 pub types-gathered : (k : KnownTypes) (f : InterfaceFunc) → map candidate_type k.held.items ≡ held_types (called f) → map candidate_type k.payloads.items ≡ payload_types (called f) → k.func.now ≡ f
-    → types_in k ≡ types_of (map definition_tree k.document.now.definitions) (called f)
-unfolding types_in
+    → known_in k ≡ known_of (map definition_tree k.document.now.definitions) (called f)
+unfolding known_in
 types-gathered k f h p e =
     ap (λ z. record { typename = typename_called (map definition_tree k.document.now.definitions); held = first_shown z; payload = first_shown (map candidate_type k.payloads.items); params = param_types k.func.now.params; results = param_types k.func.now.results }) h
     ∙ (ap (λ z. record { typename = typename_called (map definition_tree k.document.now.definitions); held = first_shown (held_types (called f)); payload = first_shown z; params = param_types k.func.now.params; results = param_types k.func.now.results }) p

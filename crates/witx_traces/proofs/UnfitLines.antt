@@ -10,10 +10,10 @@ use Rattle.witx_ast.specs.Definitions.{DefinitionTree, typename_of, module_of, c
 use Rattle.witx_machine.specs.Events.{Event}
 use Rattle.witx_layout.specs.declared.layout.SizeAlign.{SizeAlign}
 use Rattle.witx_adapt.specs.Entries.{Lowered}
-use Rattle.witx_adapt.specs.Names.{quoted, signature}
+use Rattle.witx_adapt.specs.Names.{in_quotes, signature}
 use Rattle.witx_adapt.specs.Lines.{event_line, event_lines, event_text}
-use Rattle.witx_adapt.specs.Listings.{constant_line, module_line, import_line, func_line, func_lines, side_lines, stored_mark, typename_lines, next_func_lines, item_lines, func_count, definition_lines}
-use Rattle.witx_traces.specs.Passages.{closed}
+use Rattle.witx_adapt.specs.Listings.{constant_line, module_line, import_line, listed_func_line, func_lines, side_lines, stored_mark, listed_typename_lines, next_func_lines, item_lines, func_count, listed_definition_lines}
+use Rattle.witx_traces.specs.Passages.{is_ended}
 use Rattle.witx_traces.specs.Traces.{one_line, ended, Listed, Sides, GivesTraces, CanBegin, IsUnfit, with_sides}
 
 -- ---- lines, one by one
@@ -92,25 +92,25 @@ one-unfit l text j k u v = equal-unless j k (not-less l text j k u v) (not-less 
 
 -- ---- a listing ends with a line feed, unless it has no line
 
-pub ends-feed : (xs : List ℕ) → closed (xs ++ (10 ∷ [])) ≡ true
+pub ends-feed : (xs : List ℕ) → is_ended (xs ++ (10 ∷ [])) ≡ true
 ends-feed [] = refl
 ends-feed (b ∷ []) = refl
 ends-feed (b ∷ c ∷ cs) = ends-feed (c ∷ cs)
 
-pub ends-more : (b : ℕ) (xs ys : List ℕ) → closed (b ∷ xs) ≡ true → closed ys ≡ true → closed (b ∷ (xs ++ ys)) ≡ true
+pub ends-more : (b : ℕ) (xs ys : List ℕ) → is_ended (b ∷ xs) ≡ true → is_ended ys ≡ true → is_ended (b ∷ (xs ++ ys)) ≡ true
 ends-more b [] [] e f = e
 ends-more b [] (y ∷ ys) e f = f
 ends-more b (x ∷ xs) ys e f = ends-more x xs ys e f
 
-pub ends-both : (xs ys : List ℕ) → closed xs ≡ true → closed ys ≡ true → closed (xs ++ ys) ≡ true
+pub ends-both : (xs ys : List ℕ) → is_ended xs ≡ true → is_ended ys ≡ true → is_ended (xs ++ ys) ≡ true
 ends-both [] ys e f = f
 ends-both (x ∷ xs) ys e f = ends-more x xs ys e f
 
-ends-cons : (b : ℕ) (xs : List ℕ) → closed (b ∷ xs) ≡ true → closed xs ≡ true
+ends-cons : (b : ℕ) (xs : List ℕ) → is_ended (b ∷ xs) ≡ true → is_ended xs ≡ true
 ends-cons b [] e = refl
 ends-cons b (x ∷ xs) e = e
 
-ends-behind : (xs ys : List ℕ) → closed (xs ++ ys) ≡ true → closed ys ≡ true
+ends-behind : (xs ys : List ℕ) → is_ended (xs ++ ys) ≡ true → is_ended ys ≡ true
 ends-behind [] ys e = e
 ends-behind (x ∷ xs) ys e = ends-behind xs ys (ends-cons x (xs ++ ys) e)
 
@@ -131,43 +131,43 @@ past : (b : ℕ) (text : List ℕ) (t : Bool) → (b == 10) ≡ t → FirstLine 
 past b text true e f = at-feed b text (feed-is b e)
 past b text false e f = record { line = b ∷ f.line; more = f.more; one = one-more b f.line e f.one; same = ap (λ z. b ∷ z) f.same }
 
-first-line : (b : ℕ) (text : List ℕ) → closed (b ∷ text) ≡ true → FirstLine (b ∷ text)
+first-line : (b : ℕ) (text : List ℕ) → is_ended (b ∷ text) ≡ true → FirstLine (b ∷ text)
 first-line b [] e = at-feed b [] (feed-is b e)
 first-line b (c ∷ text) e = past b (c ∷ text) (b == 10) refl (first-line c text e)
 
-events-end : (es : List Event) → closed (event_lines es) ≡ true
+events-end : (es : List Event) → is_ended (event_lines es) ≡ true
 events-end [] = refl
 events-end (e ∷ es) = ends-both (event_line e) (event_lines es) (ends-feed (codes "  " ++ event_text e)) (events-end es)
 
-side-ends : (side : List ℕ) (es : List Event) → closed (side_lines side es) ≡ true
+side-ends : (side : List ℕ) (es : List Event) → is_ended (side_lines side es) ≡ true
 side-ends side es = ends-both (side ++ codes "\n") (event_lines es) (ends-feed side) (events-end es)
 
-func-ends : (name : List ℕ) (abi : Abi) (f : Lowered) → closed (func_lines name abi f) ≡ true
-func-ends name abi f = ends-both (func_line name abi f.params f.results ++ side_lines (codes "caller") f.caller) (side_lines (codes "callee") f.callee)
-    (ends-both (func_line name abi f.params f.results) (side_lines (codes "caller") f.caller) (ends-feed (codes "func " ++ quoted name ++ codes " " ++ signature f.params f.results ++ stored_mark abi)) (side-ends (codes "caller") f.caller))
+func-ends : (name : List ℕ) (abi : Abi) (f : Lowered) → is_ended (func_lines name abi f) ≡ true
+func-ends name abi f = ends-both (listed_func_line name abi f.params f.results ++ side_lines (codes "caller") f.caller) (side_lines (codes "callee") f.callee)
+    (ends-both (listed_func_line name abi f.params f.results) (side_lines (codes "caller") f.caller) (ends-feed (codes "func " ++ in_quotes name ++ codes " " ++ signature f.params f.results ++ stored_mark abi)) (side-ends (codes "caller") f.caller))
     (side-ends (codes "callee") f.callee)
 
-next-ends : (name : List ℕ) (abi : Abi) (fs : List Lowered) → closed (next_func_lines name abi fs) ≡ true
+next-ends : (name : List ℕ) (abi : Abi) (fs : List Lowered) → is_ended (next_func_lines name abi fs) ≡ true
 next-ends name abi [] = refl
 next-ends name abi (f ∷ fs) = func-ends name abi f
 
-items-end : (items : List ItemTree) (fs : List Lowered) → closed (item_lines items fs) ≡ true
+items-end : (items : List ItemTree) (fs : List Lowered) → is_ended (item_lines items fs) ≡ true
 items-end [] fs = refl
-items-end (import_of i ∷ items) fs = ends-both (import_line i.name) (item_lines items fs) (ends-feed (codes "import " ++ quoted i.name ++ codes " memory")) (items-end items fs)
+items-end (import_of i ∷ items) fs = ends-both (import_line i.name) (item_lines items fs) (ends-feed (codes "import " ++ in_quotes i.name ++ codes " memory")) (items-end items fs)
 items-end (func_of f ∷ items) fs = ends-both (next_func_lines f.name f.abi fs) (item_lines items (drop 1 fs)) (next-ends f.name f.abi fs) (items-end items (drop 1 fs))
 
-typename-ends : (name : List ℕ) (ls : List SizeAlign) → closed (typename_lines name ls) ≡ true
+typename-ends : (name : List ℕ) (ls : List SizeAlign) → is_ended (listed_typename_lines name ls) ≡ true
 typename-ends name [] = refl
 typename-ends name (l ∷ ls) = ends-feed (codes "typename " ++ name ++ codes " size " ++ decimal l.size ++ codes " align " ++ decimal l.align)
 
-listing-ends : (ds : List DefinitionTree) (fs : List Lowered) (ls : List SizeAlign) → closed (definition_lines ds fs ls) ≡ true
+listing-ends : (ds : List DefinitionTree) (fs : List Lowered) (ls : List SizeAlign) → is_ended (listed_definition_lines ds fs ls) ≡ true
 listing-ends [] fs ls = refl
-listing-ends (typename_of name t docs ∷ ds) fs ls = ends-both (typename_lines name ls) (definition_lines ds fs (drop 1 ls)) (typename-ends name ls) (listing-ends ds fs (drop 1 ls))
+listing-ends (typename_of name t docs ∷ ds) fs ls = ends-both (listed_typename_lines name ls) (listed_definition_lines ds fs (drop 1 ls)) (typename-ends name ls) (listing-ends ds fs (drop 1 ls))
 listing-ends (module_of m ∷ ds) fs ls =
-    ends-both (module_line m.name ++ item_lines m.items fs) (definition_lines ds (drop (func_count m.items) fs) ls)
+    ends-both (module_line m.name ++ item_lines m.items fs) (listed_definition_lines ds (drop (func_count m.items) fs) ls)
     (ends-both (module_line m.name) (item_lines m.items fs) (ends-feed (codes "module " ++ m.name)) (items-end m.items fs))
     (listing-ends ds (drop (func_count m.items) fs) ls)
-listing-ends (constant_of c ∷ ds) fs ls = ends-both (constant_line c) (definition_lines ds fs ls) (ends-feed (codes "const " ++ c.ty ++ codes " " ++ c.name ++ codes " " ++ decimal c.value)) (listing-ends ds fs ls)
+listing-ends (constant_of c ∷ ds) fs ls = ends-both (constant_line c) (listed_definition_lines ds fs ls) (ends-feed (codes "const " ++ c.ty ++ codes " " ++ c.name ++ codes " " ++ decimal c.value)) (listing-ends ds fs ls)
 
 -- ---- traces leave no line unfit
 
@@ -175,8 +175,8 @@ nothing-left : (l : Listed) (text : List ℕ) (k : ℕ) (u : IsUnfit l text k) (
 nothing-left l text k u sides gives [] e = u.missing (sym e) sides gives
 nothing-left l text k u sides gives (b ∷ more) e =
     let whole-text : text ≡ flat_map ended u.before ++ (b ∷ more) = u.whole ∙ ap (λ z. flat_map ended u.before ++ z) (sym e) in
-    let ended-so : closed text ≡ true = ap closed gives.0 ∙ listing-ends l.definitions (with_sides l.functions sides) l.layouts in
-    let first = first-line b more (ends-behind (flat_map ended u.before) (b ∷ more) (ap closed (sym whole-text) ∙ ended-so)) in
+    let ended-so : is_ended text ≡ true = ap is_ended gives.0 ∙ listing-ends l.definitions (with_sides l.functions sides) l.layouts in
+    let first = first-line b more (ends-behind (flat_map ended u.before) (b ∷ more) (ap is_ended (sym whole-text) ∙ ended-so)) in
     let same : text ≡ (flat_map ended u.before ++ ended first.line) ++ first.more
     = whole-text ∙ (ap (λ z. flat_map ended u.before ++ z) first.same ∙ sym (append_assoc (flat_map ended u.before) (ended first.line) first.more)) in
     u.stops first.line first.more first.one (sym e ∙ first.same) (first.more, sides, (sym same ∙ gives.0, gives.1))

@@ -8,7 +8,7 @@ use Rattle.witx_ast.specs.TypeNames.{type_text}
 use Rattle.witx_machine.specs.declared.surface.WasmType.{WasmType}
 use Rattle.witx_machine.specs.Events.{Step, Event, emit, space, push, finish}
 use Rattle.witx_adapt.specs.Lines.{step_name, event_text}
-use Rattle.witx_adapt.specs.Names.{quoted, signature}
+use Rattle.witx_adapt.specs.Names.{in_quotes, signature}
 use Rattle.witx_traces.specs.declared.line_words.PlainWord.{PlainWord}
 use Rattle.witx_traces.specs.declared.line_words.NumberWord.{NumberWord}
 use Rattle.witx_traces.specs.declared.line_words.NamedWord.{NamedWord}
@@ -63,17 +63,17 @@ number_step NumberWord.TupleLift n = Step.TupleLift n
 number_step NumberWord.TupleLower n = Step.TupleLower n
 number_step NumberWord.Return n = Step.Return n
 
-abbrev pub named_step : NamedWord → Tree → Step
-named_step NamedWord.I32FromHandle t = Step.I32FromHandle t
-named_step NamedWord.I32FromBitflags t = Step.I32FromBitflags t
-named_step NamedWord.I64FromBitflags t = Step.I64FromBitflags t
-named_step NamedWord.HandleFromI32 t = Step.HandleFromI32 t
-named_step NamedWord.BitflagsFromI32 t = Step.BitflagsFromI32 t
-named_step NamedWord.BitflagsFromI64 t = Step.BitflagsFromI64 t
-named_step NamedWord.Load t = Step.Load t
-named_step NamedWord.Store t = Step.Store t
-named_step NamedWord.EnumLift t = Step.EnumLift t
-named_step NamedWord.EnumLower t = Step.EnumLower t
+abbrev pub named_word_step : NamedWord → Tree → Step
+named_word_step NamedWord.I32FromHandle t = Step.I32FromHandle t
+named_word_step NamedWord.I32FromBitflags t = Step.I32FromBitflags t
+named_word_step NamedWord.I64FromBitflags t = Step.I64FromBitflags t
+named_word_step NamedWord.HandleFromI32 t = Step.HandleFromI32 t
+named_word_step NamedWord.BitflagsFromI32 t = Step.BitflagsFromI32 t
+named_word_step NamedWord.BitflagsFromI64 t = Step.BitflagsFromI64 t
+named_word_step NamedWord.Load t = Step.Load t
+named_word_step NamedWord.Store t = Step.Store t
+named_word_step NamedWord.EnumLift t = Step.EnumLift t
+named_word_step NamedWord.EnumLower t = Step.EnumLower t
 
 abbrev pub shown_step : ShownWord → Tree → Step
 shown_step ShownWord.ListFromPointerLength t = Step.ListFromPointerLength t
@@ -81,16 +81,16 @@ shown_step ShownWord.PointerFromI32 t = Step.PointerFromI32 t
 shown_step ShownWord.ConstPointerFromI32 t = Step.ConstPointerFromI32 t
 
 -- the word alone
-abbrev pub spelling : LineWord → List ℕ
-spelling (LineWord.Plain w) = event_text (plain_event w)
-spelling (LineWord.Number w) = step_name (number_step w 0)
-spelling (LineWord.Named w) = step_name (named_step w handle)
-spelling (LineWord.Shown w) = step_name (shown_step w handle)
-spelling LineWord.CallWasm = codes "call_wasm"
-spelling LineWord.CallInterface = codes "call_interface"
-spelling LineWord.ResultLower = codes "result_lower"
-spelling LineWord.Space = codes "space"
-spelling LineWord.FinishBlock = codes "finish_block"
+abbrev pub word_spelling : LineWord → List ℕ
+word_spelling (LineWord.Plain w) = event_text (plain_event w)
+word_spelling (LineWord.Number w) = step_name (number_step w 0)
+word_spelling (LineWord.Named w) = step_name (named_word_step w handle)
+word_spelling (LineWord.Shown w) = step_name (shown_step w handle)
+word_spelling LineWord.CallWasm = codes "call_wasm"
+word_spelling LineWord.CallInterface = codes "call_interface"
+word_spelling LineWord.ResultLower = codes "result_lower"
+word_spelling LineWord.Space = codes "space"
+word_spelling LineWord.FinishBlock = codes "finish_block"
 
 abbrev pub all_words : List LineWord
 all_words =
@@ -153,11 +153,11 @@ all_words =
     (LineWord.FinishBlock) ∷
     []
 
-abbrev pub spelled : LineWord → LineWord × List ℕ
-spelled w = (w, spelling w)
+abbrev pub spelled_line_word : LineWord → LineWord × List ℕ
+spelled_line_word w = (w, word_spelling w)
 
-abbrev pub the_words : List (LineWord × List ℕ)
-the_words = map spelled all_words
+abbrev pub the_line_words : List (LineWord × List ℕ)
+the_line_words = map spelled_line_word all_words
 
 -- a word of the program
 abbrev pub spelled_word : Spelled → LineWord × List ℕ
@@ -184,7 +184,7 @@ pub data Parts : Type 0 where
 abbrev pub event_from : Parts → Event
 event_from (plain w) = plain_event w
 event_from (number w n) = emit (number_step w n)
-event_from (named w t) = emit (named_step w t)
+event_from (named w t) = emit (named_word_step w t)
 event_from (shown w t) = emit (shown_step w t)
 event_from (wasm m n ps rs) = emit (Step.CallWasm m n ps rs)
 event_from (interface m n ps rs) = emit (Step.CallInterface m n ps rs)
@@ -192,16 +192,16 @@ event_from (lower ok err) = emit (Step.ResultLower ok err)
 event_from (room k t) = space k t
 event_from (finished v) = finish v
 
-abbrev pub word_of : Parts → LineWord
-word_of (plain w) = LineWord.Plain w
-word_of (number w n) = LineWord.Number w
-word_of (named w t) = LineWord.Named w
-word_of (shown w t) = LineWord.Shown w
-word_of (wasm m n ps rs) = LineWord.CallWasm
-word_of (interface m n ps rs) = LineWord.CallInterface
-word_of (lower ok err) = LineWord.ResultLower
-word_of (room k t) = LineWord.Space
-word_of (finished v) = LineWord.FinishBlock
+abbrev pub line_word : Parts → LineWord
+line_word (plain w) = LineWord.Plain w
+line_word (number w n) = LineWord.Number w
+line_word (named w t) = LineWord.Named w
+line_word (shown w t) = LineWord.Shown w
+line_word (wasm m n ps rs) = LineWord.CallWasm
+line_word (interface m n ps rs) = LineWord.CallInterface
+line_word (lower ok err) = LineWord.ResultLower
+line_word (room k t) = LineWord.Space
+line_word (finished v) = LineWord.FinishBlock
 
 -- the payloads of a result that is lowered
 abbrev pub lower_tail : Option Tree → Option Tree → Option (List ℕ)
@@ -220,8 +220,8 @@ tail_of (plain w) = None
 tail_of (number w n) = Some (decimal n)
 tail_of (named w t) = Some (type_text t)
 tail_of (shown w t) = Some (type_text t)
-tail_of (wasm m n ps rs) = Some (quoted m ++ (codes " " ++ (quoted n ++ (codes " " ++ signature ps rs))))
-tail_of (interface m n ps rs) = Some (quoted m ++ (codes " " ++ quoted n))
+tail_of (wasm m n ps rs) = Some (in_quotes m ++ (codes " " ++ (in_quotes n ++ (codes " " ++ signature ps rs))))
+tail_of (interface m n ps rs) = Some (in_quotes m ++ (codes " " ++ in_quotes n))
 tail_of (lower ok err) = lower_tail ok err
 tail_of (room k t) = Some (decimal k ++ (codes " " ++ type_text t))
 tail_of (finished v) = Some (block_end v)
@@ -309,7 +309,7 @@ no_blank (b ∷ bs) = if b == 32 then false else no_blank bs
 
 -- the event's line has this word, and this behind the blank after it
 pub record HasParts (types : Types) (word : LineWord) (tail : Option (List ℕ)) (e : Event) : Type 0 where
-  pub word-is : word_of (parts e) ≡ word
+  pub word-is : line_word (parts e) ≡ word
   pub tail-is : tail_of (parts e) ≡ tail
   pub can : CanSayParts types (parts e)
 
@@ -318,7 +318,7 @@ SaidBy types word tail o = Answered (HasParts types word tail) o
 
 -- the event's text is this
 pub record HasText (types : Types) (text : List ℕ) (e : Event) : Type 0 where
-  pub same : with_tail (spelling (word_of (parts e))) (tail_of (parts e)) ≡ text
+  pub same : with_tail (word_spelling (line_word (parts e))) (tail_of (parts e)) ≡ text
   pub can : CanSayParts types (parts e)
 
 abbrev pub SaidByText : Types → List ℕ → Option Event → Type 0

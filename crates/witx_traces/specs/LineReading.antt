@@ -4,7 +4,7 @@ use Rattle.std.specs.Borrow.{Bor}
 use Rattle.std.specs.Str.{IsUtf8}
 use Rattle.std.specs.Fmt.{decimal}
 use Rattle.witx_machine.specs.declared.surface.WasmType.{WasmType}
-use Rattle.witx_adapt.specs.Names.{quoted, signature, wasm_word}
+use Rattle.witx_adapt.specs.Names.{in_quotes, signature, wasm_word}
 use Rattle.witx_traces.specs.declared.signature_texts.WasmSignature.{WasmSignature}
 use Rattle.witx_traces.specs.Answers.{Answered}
 use Rattle.witx_traces.specs.Traces.{IsWord}
@@ -14,8 +14,8 @@ abbrev pub IsBehind : List ℕ → List ℕ → Option (List ℕ) → Type 0
 IsBehind front text o = Answered (λ rest. text ≡ front ++ rest) o
 
 -- as the program has what it takes, and what follows
-abbrev pub taken : {A : Type 0} → A × Bor (List ℕ) → A × List ℕ
-taken p = (p.0, p.1.now)
+abbrev pub taken_line : {A : Type 0} → A × Bor (List ℕ) → A × List ℕ
+taken_line p = (p.0, p.1.now)
 
 -- ---- numbers
 
@@ -54,45 +54,45 @@ spelled_byte [] = None
 spelled_byte (b ∷ s) = (if b == 34 then None else (if b == 92 then escaped_byte s else Some (b, s)))
 
 -- the bytes that are spelled up to a quote or the end
-abbrev pub Spells : List ℕ → List ℕ → Type 0
-Spells text [] = spelled_byte text ≡ None
-Spells text (b ∷ bytes) = (more : List ℕ) × (spelled_byte text ≡ Some (b, more)) × Spells more bytes
+abbrev pub SpellsQuoted : List ℕ → List ℕ → Type 0
+SpellsQuoted text [] = spelled_byte text ≡ None
+SpellsQuoted text (b ∷ bytes) = (more : List ℕ) × (spelled_byte text ≡ Some (b, more)) × SpellsQuoted more bytes
 
 -- the name stands in quotes at the head, and this follows it
 pub record IsQuoted (text : List ℕ) (p : List ℕ × List ℕ) : Type 0 where
   pub utf8 : IsUtf8 p.0
-  pub same : text ≡ quoted p.0 ++ p.1
+  pub same : text ≡ in_quotes p.0 ++ p.1
 
 abbrev pub QuotedAt : List ℕ → Option (List ℕ × List ℕ) → Type 0
 QuotedAt text o = Answered (IsQuoted text) o
 
 -- it is this name
-pub record IsFront (name text : List ℕ) (p : List ℕ × List ℕ) : Type 0 where
+pub record IsNameFront (name text : List ℕ) (p : List ℕ × List ℕ) : Type 0 where
   pub named : p.0 ≡ name
-  pub same : text ≡ quoted name ++ p.1
+  pub same : text ≡ in_quotes name ++ p.1
 
 abbrev pub FrontOf : List ℕ → List ℕ → Option (List ℕ × List ℕ) → Type 0
-FrontOf name text o = Answered (IsFront name text) o
+FrontOf name text o = Answered (IsNameFront name text) o
 
 abbrev pub name_behind : List ℕ × Bor (List ℕ) → List ℕ × List ℕ
 name_behind p = (p.0, p.1.now)
 
 -- two quoted names with a space between, and what follows them
-pub record Names : Type 0 where
+pub record QuotedNames : Type 0 where
   pub owner : List ℕ
   pub name : List ℕ
   pub rest : List ℕ
 
-abbrev pub names_behind : List ℕ × List ℕ × Bor (List ℕ) → Names
+abbrev pub names_behind : List ℕ × List ℕ × Bor (List ℕ) → QuotedNames
 names_behind p = record { owner = p.0; name = p.1; rest = p.2.now }
 
-pub record AreNames (text : List ℕ) (p : Names) : Type 0 where
+pub record AreQuotedNames (text : List ℕ) (p : QuotedNames) : Type 0 where
   pub owner-utf8 : IsUtf8 p.owner
   pub name-utf8 : IsUtf8 p.name
-  pub same : text ≡ quoted p.owner ++ (32 ∷ (quoted p.name ++ p.rest))
+  pub same : text ≡ in_quotes p.owner ++ (32 ∷ (in_quotes p.name ++ p.rest))
 
-abbrev pub NamesAt : List ℕ → Option Names → Type 0
-NamesAt text o = Answered (AreNames text) o
+abbrev pub NamesAt : List ℕ → Option QuotedNames → Type 0
+NamesAt text o = Answered (AreQuotedNames text) o
 
 -- ---- signatures
 

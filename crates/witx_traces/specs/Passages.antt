@@ -8,13 +8,13 @@ use Rattle.witx_ast.specs.Definitions.{DefinitionTree, typename_of, module_of, c
 use Rattle.witx_machine.specs.Events.{Event}
 use Rattle.witx_layout.specs.declared.layout.SizeAlign.{SizeAlign}
 use Rattle.witx_adapt.specs.Lines.{event_lines}
-use Rattle.witx_adapt.specs.Listings.{constant_line, module_line, import_line, func_line, typename_lines, func_count}
+use Rattle.witx_adapt.specs.Listings.{constant_line, module_line, import_line, listed_func_line, listed_typename_lines, func_count}
 use Rattle.witx_traces.specs.declared.passages.Passage as code_passage
 use Rattle.witx_traces.specs.declared.passages.Draft as code_draft
 use Rattle.witx_traces.specs.declared.reading.TracePair as code_pair
 use Rattle.witx_instructions.specs.Views.{event_of}
 use Rattle.witx_traces.specs.Answers.{Never}
-use Rattle.witx_traces.specs.Traces.{Types, types_of, Offered, offered, Listed, Sides, IsLine, AreLines, one_line, ended}
+use Rattle.witx_traces.specs.Traces.{Types, known_of, Offered, offered, Listed, Sides, IsSayable, AreSayable, one_line, ended}
 
 -- ---- the passages of a listing
 
@@ -38,7 +38,7 @@ end_passage f d = record { done = d.done ++ record { fixed = d.text; function = 
 -- with the first of the functions, where there is one
 abbrev pub put_func : List ℕ → Abi → List Offered → Draft → Draft
 put_func name abi [] d = d
-put_func name abi (f ∷ fs) d = end_passage f (put (func_line name abi f.lowered.params f.lowered.results ++ codes "caller\n") d)
+put_func name abi (f ∷ fs) d = end_passage f (put (listed_func_line name abi f.lowered.params f.lowered.results ++ codes "caller\n") d)
 
 abbrev pub put_items : List ItemTree → List Offered → Draft → Draft
 put_items [] fs d = d
@@ -47,7 +47,7 @@ put_items (func_of f ∷ items) fs d = put_items items (drop 1 fs) (put_func f.n
 
 abbrev pub put_definitions : List DefinitionTree → List Offered → List SizeAlign → Draft → Draft
 put_definitions [] fs ls d = d
-put_definitions (typename_of name t docs ∷ ds) fs ls d = put_definitions ds fs (drop 1 ls) (put (typename_lines name ls) d)
+put_definitions (typename_of name t docs ∷ ds) fs ls d = put_definitions ds fs (drop 1 ls) (put (listed_typename_lines name ls) d)
 put_definitions (module_of m ∷ ds) fs ls d = put_definitions ds (drop (func_count m.items) fs) ls (put_items m.items fs (put (module_line m.name) d))
 put_definitions (constant_of c ∷ ds) fs ls d = put_definitions ds fs ls (put (constant_line c) d)
 
@@ -75,15 +75,15 @@ pub record Stretch : Type 0 where
 abbrev pub stretches : List DefinitionTree → List Passage → List Stretch
 stretches ds [] = []
 stretches ds (p ∷ ps) =
-    record { fixed = p.fixed; types = types_of ds p.function.function }
-    ∷ record { fixed = codes "callee\n"; types = types_of ds p.function.function }
+    record { fixed = p.fixed; types = known_of ds p.function.function }
+    ∷ record { fixed = codes "callee\n"; types = known_of ds p.function.function }
     ∷ stretches ds ps
 
 -- the text has each stretch with some events, and then the last fixed text
 abbrev pub Has : List Stretch → List ℕ → List ℕ → Type 0
 Has [] last text = text ≡ last
 Has (s ∷ ss) last text =
-    (es : List Event) × (more : List ℕ) × AllByRecursion (IsLine s.types) es × (text ≡ s.fixed ++ (event_lines es ++ more)) × Has ss last more
+    (es : List Event) × (more : List ℕ) × AllByRecursion (IsSayable s.types) es × (text ≡ s.fixed ++ (event_lines es ++ more)) × Has ss last more
 
 -- a blank stands first
 abbrev pub indented : List ℕ → Bool
@@ -91,24 +91,24 @@ indented [] = false
 indented (b ∷ bs) = b == 32
 
 -- no such text begins with a blank
-abbrev pub IsPlain : List Stretch → List ℕ → Type 0
-IsPlain ss last = (text : List ℕ) → Has ss last text → indented text ≡ false
+abbrev pub BeginPlainly : List Stretch → List ℕ → Type 0
+BeginPlainly ss last = (text : List ℕ) → Has ss last text → indented text ≡ false
 
 -- ---- whole lines
 
-abbrev pub closed : List ℕ → Bool
-closed [] = true
-closed (b ∷ []) = b == 10
-closed (b ∷ c ∷ cs) = closed (c ∷ cs)
+abbrev pub is_ended : List ℕ → Bool
+is_ended [] = true
+is_ended (b ∷ []) = b == 10
+is_ended (b ∷ c ∷ cs) = is_ended (c ∷ cs)
 
 -- lines above events
 abbrev pub IsFixed : List ℕ → Type 0
 IsFixed [] = ⊥
-IsFixed (b ∷ bs) = ((b == 32) ≡ false) × (closed (b ∷ bs) ≡ true)
+IsFixed (b ∷ bs) = ((b == 32) ≡ false) × (is_ended (b ∷ bs) ≡ true)
 
 -- lines behind the last events, if there are any
 abbrev pub IsLast : List ℕ → Type 0
-IsLast text = (indented text ≡ false) × (closed text ≡ true)
+IsLast text = (indented text ≡ false) × (is_ended text ≡ true)
 
 abbrev pub AreFixed : List Passage → Type 0
 AreFixed ps = AllByRecursion (λ p. IsFixed p.fixed) ps
@@ -120,14 +120,14 @@ AreFixed ps = AllByRecursion (λ p. IsFixed p.fixed) ps
 pub record Stops (L : List ℕ → Type 0) (text rest : List ℕ) : Type 0 where
   pub front : List ℕ
   pub whole : text ≡ front ++ rest
-  pub lines : closed front ≡ true
+  pub lines : is_ended front ≡ true
   pub more : List ℕ
   pub begins : L (front ++ more)
   pub stops : (line behind after : List ℕ) → one_line line ≡ true → rest ≡ ended line ++ behind → L ((front ++ ended line) ++ after) → ⊥
   pub missing : rest ≡ [] → L text → ⊥
 
 -- the text doesn't begin with this line
-pub record LacksLine (wanted text rest : List ℕ) : Type 0 where
+pub record LacksWantedLine (wanted text rest : List ℕ) : Type 0 where
   pub same : rest ≡ text
   pub other : Never (λ more. text ≡ ended wanted ++ more)
 
@@ -137,7 +137,7 @@ pub record IsCutAt (lines text rest : List ℕ) : Type 0 where
   pub wanted : List ℕ
   pub behind : List ℕ
   pub same : lines ≡ front ++ (ended wanted ++ behind)
-  pub closed-front : closed front ≡ true
+  pub closed-front : is_ended front ≡ true
   pub one : one_line wanted ≡ true
   pub whole : text ≡ front ++ rest
   pub other : (more : List ℕ) → rest ≡ ended wanted ++ more → ⊥
@@ -163,7 +163,7 @@ ReadPairs ds [] [] text rest = text ≡ rest
 ReadPairs ds [] (s ∷ ss) text rest = ⊥
 ReadPairs ds (p ∷ ps) [] text rest = ⊥
 ReadPairs ds (p ∷ ps) (s ∷ ss) text rest =
-    AreLines (types_of ds p.function.function) s × ((more : List ℕ) × (text ≡ pair_text p s more) × ReadPairs ds ps ss more rest)
+    AreSayable (known_of ds p.function.function) s × ((more : List ℕ) × (text ≡ pair_text p s more) × ReadPairs ds ps ss more rest)
 
 -- the number of the line with which what follows a text begins
 abbrev pub feeds : List ℕ → ℕ

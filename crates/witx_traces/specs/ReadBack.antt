@@ -15,7 +15,7 @@ use Rattle.witx_adapt.specs.Adaptable.{IsAdaptable}
 use Rattle.witx_adapt.specs.Entries.{all_functions, entry_for, entry_of}
 use Rattle.witx_adapt.specs.Listings.{listing_text}
 use Rattle.witx_adapt.specs.declared.adapted.Adapted.{Adapted}
-use Rattle.witx_traces.specs.Traces.{GivesTraces, IsPayload, IsShown, IsTypename, IsWord, Offered, Sides, Types, listed, one_line, own_sides, shown, shown_payload, types_of}
+use Rattle.witx_traces.specs.Traces.{GivesTraces, IsPayload, IsShown, IsTypename, IsWord, Offered, Sides, Types, listed, one_line, own_sides, shown, shown_payload, known_of}
 use Rattle.witx_traces.specs.LineParts.{Parts, plain, number, named, shown as shown_part, wasm, interface, lower, room, finished, event_from, no_blank, parts}
 
 -- ---- an event as its line says it
@@ -44,8 +44,8 @@ event_read types e = event_from (parts_read types (parts e))
 
 abbrev pub sides_read : List DefinitionTree → Offered → Sides
 sides_read ds f = record {
-  caller = map (event_read (types_of ds f.function)) f.lowered.caller;
-  callee = map (event_read (types_of ds f.function)) f.lowered.callee;
+  caller = map (event_read (known_of ds f.function)) f.lowered.caller;
+  callee = map (event_read (known_of ds f.function)) f.lowered.callee;
 }
 
 -- each type of an event is what its text stands for
@@ -60,7 +60,7 @@ abbrev pub EventsStand : Types → List Event → Type 0
 EventsStand types es = AllByRecursion (λ e. StandsForItself types (parts e)) es
 
 abbrev pub SidesStand : List DefinitionTree → Offered → Type 0
-SidesStand ds f = EventsStand (types_of ds f.function) f.lowered.caller × EventsStand (types_of ds f.function) f.lowered.callee
+SidesStand ds f = EventsStand (known_of ds f.function) f.lowered.caller × EventsStand (known_of ds f.function) f.lowered.callee
 
 -- ---- names
 
@@ -80,11 +80,11 @@ NamesAreUnbroken (typename_of name t docs ∷ ds) = IsUnbroken name × NamesAreU
 NamesAreUnbroken (module_of m ∷ ds) = NamesAreUnbroken ds
 NamesAreUnbroken (constant_of c ∷ ds) = NamesAreUnbroken ds
 
-abbrev pub AreHeld : List DefinitionTree → Type 0
-AreHeld [] = Unit {0}
-AreHeld (typename_of name t docs ∷ ds) = AreHeld ds
-AreHeld (module_of m ∷ ds) = IsUtf8 m.name × ItemsAreHeld m.items × AreHeld ds
-AreHeld (constant_of c ∷ ds) = AreHeld ds
+abbrev pub AreTypesHeld : List DefinitionTree → Type 0
+AreTypesHeld [] = Unit {0}
+AreTypesHeld (typename_of name t docs ∷ ds) = AreTypesHeld ds
+AreTypesHeld (module_of m ∷ ds) = IsUtf8 m.name × ItemsAreHeld m.items × AreTypesHeld ds
+AreTypesHeld (constant_of c ∷ ds) = AreTypesHeld ds
 
 -- ---- the law
 
@@ -98,7 +98,7 @@ pub record IsReadable (a : Adapted) : Type 0 where
   pub adaptable : IsAdaptable (listed a).definitions
   pub entries : HasOwnEntries a
   pub unbroken : NamesAreUnbroken (listed a).definitions
-  pub held : AreHeld (listed a).definitions
+  pub held : AreTypesHeld (listed a).definitions
 
 -- its listing gives its own traces, each type as what its text stands for
 abbrev pub OwnListingsAreReadBack : Type 0

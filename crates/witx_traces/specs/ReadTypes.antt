@@ -13,8 +13,8 @@ use Rattle.witx_traces.specs.Traces.{Types, IsPayload, first_shown}
 abbrev pub candidate_type : code_candidate.Candidate → Tree
 candidate_type c = tree_of c.ty.now
 
-unfoldable pub types_in : code_types.KnownTypes → Types
-types_in k = record {
+unfoldable pub known_in : code_types.KnownTypes → Types
+known_in k = record {
   typename = typename_called (map definition_tree k.document.now.definitions);
   held = first_shown (map candidate_type k.held.items);
   payload = first_shown (map candidate_type k.payloads.items);

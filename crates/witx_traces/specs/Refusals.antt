@@ -7,11 +7,11 @@ use Rattle.witx_traces.specs.declared.reading.TracesError.TheVariants as error_v
 use Rattle.witx_traces.specs.Traces.{Listed, IsUnfit}
 
 -- what holds where reading stopped; nothing is said of want of memory
-abbrev pub Tells : (List ℕ → Type 0) → stopped.Stopped → Type 0
-Tells P (stopped_variant.At rest) = P rest.now
-Tells P stopped_variant.OutOfMemory = ⊤
+abbrev pub TellsOfStop : (List ℕ → Type 0) → stopped.Stopped → Type 0
+TellsOfStop P (stopped_variant.At rest) = P rest.now
+TellsOfStop P stopped_variant.OutOfMemory = ⊤
 
 -- the line is the first that can't stand
-abbrev pub Refuses : Listed → List ℕ → error.TracesError → Type 0
-Refuses l text (error_variant.Line n) = IsUnfit l text n
-Refuses l text error_variant.OutOfMemory = ⊤
+abbrev pub RefusesLines : Listed → List ℕ → error.TracesError → Type 0
+RefusesLines l text (error_variant.Line n) = IsUnfit l text n
+RefusesLines l text error_variant.OutOfMemory = ⊤

@@ -17,7 +17,7 @@ use Rattle.witx_adapt.specs.declared.adapted.AdaptedFunc.{AdaptedFunc}
 use Rattle.witx_adapt.specs.Entries.{Lowered, lowered}
 use Rattle.witx_layout.specs.declared.layout.SizeAlign.{SizeAlign}
 use Rattle.witx_adapt.specs.Lines.{event_text}
-use Rattle.witx_adapt.specs.Listings.{definition_lines, func_count, listing_text}
+use Rattle.witx_adapt.specs.Listings.{listed_definition_lines, func_count, listing_text}
 
 -- ---- which type a text stands for
 
@@ -58,8 +58,8 @@ pub record Types : Type 0 where
   pub params : List Tree
   pub results : List Tree
 
-abbrev pub types_of : List DefinitionTree → Function → Types
-types_of ds f = record {
+abbrev pub known_of : List DefinitionTree → Function → Types
+known_of ds f = record {
   typename = typename_called ds;
   held = first_shown (held_types f);
   payload = first_shown (payload_types f);
@@ -141,11 +141,11 @@ one_line [] = true
 one_line (b ∷ bs) = if b == 10 then false else one_line bs
 
 -- events that lines can say, each in one line
-abbrev pub IsLine : Types → Event → Type 0
-IsLine types e = CanSay types e × (one_line (event_text e) ≡ true)
+abbrev pub IsSayable : Types → Event → Type 0
+IsSayable types e = CanSay types e × (one_line (event_text e) ≡ true)
 
-abbrev pub AreLines : Types → Sides → Type 0
-AreLines types s = AllByRecursion (IsLine types) s.caller × AllByRecursion (IsLine types) s.callee
+abbrev pub AreSayable : Types → Sides → Type 0
+AreSayable types s = AllByRecursion (IsSayable types) s.caller × AllByRecursion (IsSayable types) s.callee
 
 -- a function with what lowering makes of it
 pub record Offered : Type 0 where
@@ -169,7 +169,7 @@ abbrev pub FitFunctions : List DefinitionTree → List Offered → List Sides �
 FitFunctions ds [] [] = ⊤
 FitFunctions ds [] (s ∷ ss) = ⊥
 FitFunctions ds (f ∷ fs) [] = ⊥
-FitFunctions ds (f ∷ fs) (s ∷ ss) = AreLines (types_of ds f.function) s × FitFunctions ds fs ss
+FitFunctions ds (f ∷ fs) (s ∷ ss) = AreSayable (known_of ds f.function) s × FitFunctions ds fs ss
 
 -- the functions with other events
 abbrev pub with_sides : List Offered → List Sides → List Lowered
@@ -178,7 +178,7 @@ with_sides _ _ = []
 
 -- the text of the listing with other events
 abbrev pub listing_with : Listed → List Sides → List ℕ
-listing_with l sides = definition_lines l.definitions (with_sides l.functions sides) l.layouts
+listing_with l sides = listed_definition_lines l.definitions (with_sides l.functions sides) l.layouts
 
 abbrev pub GivesTraces : Listed → List ℕ → List Sides → Type 0
 GivesTraces l text sides = (text ≡ listing_with l sides) × FitFunctions l.definitions l.functions sides

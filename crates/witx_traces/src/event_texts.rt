@@ -7,7 +7,7 @@ ghost use Rattle.witx_ast.specs.Views.{tree_of};
 ghost use Rattle.witx_instructions.specs.Views.{event_of, param_types};
 ghost use Rattle.witx_traces.specs.LineParts.{SaidBy, SaidByLine, SaidByText, no_blank};
 ghost use Rattle.witx_traces.specs.LineReading.{NamesAt, NumberAt, PayloadsAt, names_behind, texts_taken};
-ghost use Rattle.witx_traces.specs.ReadTypes.{PayloadAt, types_in};
+ghost use Rattle.witx_traces.specs.ReadTypes.{PayloadAt, known_in};
 ghost use Rattle.witx_traces.specs.Traces.{Types};
 ghost use Rattle.witx_traces.specs.declared.line_words.LineWord.TheVariants as line_word;
 
@@ -32,7 +32,7 @@ pub(crate) fn read_event(
     types: &KnownTypes<'_>,
     line: &str,
 ) -> Result<Option<Event>, OutOfMemory>
-    ensures { IfOk result (λ o. SaidByLine (types_in types.now) line.now (option_map event_of o)) }
+    ensures { IfOk result (λ o. SaidByLine (known_in types.now) line.now (option_map event_of o)) }
 {
     match behind(line, "  ") {
         Some(text) => Ok(read_text(alloc, types, text)?),
@@ -47,7 +47,7 @@ fn read_text(
     types: &KnownTypes<'_>,
     text: &str,
 ) -> Result<Option<Event>, OutOfMemory>
-    ensures { IfOk result (λ o. SaidByText (types_in types.now) text.now (option_map event_of o)) }
+    ensures { IfOk result (λ o. SaidByText (known_in types.now) text.now (option_map event_of o)) }
 {
     match cut_word(text) {
         Some((word, tail)) => Ok(read_spelled(alloc, types, word, tail)?),
@@ -96,7 +96,7 @@ fn read_spelled(
     tail: &str,
 ) -> Result<Option<Event>, OutOfMemory>
     requires { no_blank word.now ≡ true }
-    ensures { IfOk result (λ o. SaidByText (types_in types.now) (word.now ++ 32 ∷ tail.now) (option_map event_of o)) }
+    ensures { IfOk result (λ o. SaidByText (known_in types.now) (word.now ++ 32 ∷ tail.now) (option_map event_of o)) }
 {
     match line_word(word) {
         Some(word) => Ok(read_fields(alloc, types, word, tail)?),
@@ -112,7 +112,7 @@ fn read_fields(
     word: LineWord,
     tail: &str,
 ) -> Result<Option<Event>, OutOfMemory>
-    ensures { IfOk result (λ o. SaidBy (types_in types.now) word (Some tail.now) (option_map event_of o)) }
+    ensures { IfOk result (λ o. SaidBy (known_in types.now) word (Some tail.now) (option_map event_of o)) }
 {
     match word {
         LineWord::Plain(_) => Ok(None),
@@ -172,7 +172,7 @@ fn read_named_step(
     word: NamedWord,
     tail: &str,
 ) -> Result<Option<Event>, OutOfMemory>
-    ensures { IfOk result (λ o. SaidBy (types_in types.now) (line_word.Named word) (Some tail.now) (option_map event_of o)) }
+    ensures { IfOk result (λ o. SaidBy (known_in types.now) (line_word.Named word) (Some tail.now) (option_map event_of o)) }
 {
     match types.typename(alloc, tail)? {
         Some(named) => Ok(Some(Event::Emit(named_step(word, named.clone()?)))),
@@ -187,7 +187,7 @@ fn read_shown_step(
     word: ShownWord,
     tail: &str,
 ) -> Result<Option<Event>, OutOfMemory>
-    ensures { IfOk result (λ o. SaidBy (types_in types.now) (line_word.Shown word) (Some tail.now) (option_map event_of o)) }
+    ensures { IfOk result (λ o. SaidBy (known_in types.now) (line_word.Shown word) (Some tail.now) (option_map event_of o)) }
 {
     match types.shown(alloc, tail)? {
         Some(ty) => Ok(Some(Event::Emit(shown_step(word, ty)))),
@@ -201,7 +201,7 @@ fn read_space(
     types: &KnownTypes<'_>,
     tail: &str,
 ) -> Result<Option<Event>, OutOfMemory>
-    ensures { IfOk result (λ o. SaidBy (types_in types.now) line_word.Space (Some tail.now) (option_map event_of o)) }
+    ensures { IfOk result (λ o. SaidBy (known_in types.now) line_word.Space (Some tail.now) (option_map event_of o)) }
 {
     let Some((number, name)) = cut_word(tail) else {
         return Ok(None);
@@ -275,7 +275,7 @@ fn read_call_interface(
     types: &KnownTypes<'_>,
     tail: &str,
 ) -> Result<Option<Event>, OutOfMemory>
-    ensures { IfOk result (λ o. SaidBy (types_in types.now) line_word.CallInterface (Some tail.now) (option_map event_of o)) }
+    ensures { IfOk result (λ o. SaidBy (known_in types.now) line_word.CallInterface (Some tail.now) (option_map event_of o)) }
 {
     let Some((module, name, rest)) = read_names(alloc, tail)? else {
         return Ok(None);
@@ -338,7 +338,7 @@ fn read_result_lower(
     types: &KnownTypes<'_>,
     tail: &str,
 ) -> Result<Option<Event>, OutOfMemory>
-    ensures { IfOk result (λ o. SaidBy (types_in types.now) line_word.ResultLower (Some tail.now) (option_map event_of o)) }
+    ensures { IfOk result (λ o. SaidBy (known_in types.now) line_word.ResultLower (Some tail.now) (option_map event_of o)) }
 {
     let Some((ok, err)) = payload_texts(tail) else {
         return Ok(None);
@@ -359,7 +359,7 @@ fn read_payload(
     types: &KnownTypes<'_>,
     text: Option<&str>,
 ) -> Result<Option<Option<TypeRef>>, OutOfMemory>
-    ensures { IfOk result (λ o. PayloadAt (types_in types.now) (option_copied text.entry) (option_map (λ t. option_map tree_of t) o)) }
+    ensures { IfOk result (λ o. PayloadAt (known_in types.now) (option_copied text.entry) (option_map (λ t. option_map tree_of t) o)) }
 {
     match text {
         Some(text) => match types.payload(alloc, text)? {

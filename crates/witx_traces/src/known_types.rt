@@ -9,8 +9,8 @@ ghost use Rattle.witx_ast.specs.Definitions.{definition_tree, typename_called};
 ghost use Rattle.witx_ast.specs.TypeNames.{type_text};
 ghost use Rattle.witx_machine.specs.Functions.{err_of, ok_of, result_cases};
 ghost use Rattle.witx_instructions.specs.Views.{called, param_types, payload_tree};
-ghost use Rattle.witx_traces.specs.ReadTypes.{candidate_type, types_in};
-ghost use Rattle.witx_traces.specs.Traces.{err_types, first_shown, held_types, ok_types, payload_types, shown, shown_payload, target, types_of};
+ghost use Rattle.witx_traces.specs.ReadTypes.{candidate_type, known_in};
+ghost use Rattle.witx_traces.specs.Traces.{err_types, first_shown, held_types, ok_types, payload_types, shown, shown_payload, target, known_of};
 
 use crate::candidates::{Candidate, KnownTypes};
 use std::alloc::Global;
@@ -27,7 +27,7 @@ impl<'a> KnownTypes<'a> {
         document: &'a Document,
         func: &'a InterfaceFunc,
     ) -> Result<KnownTypes<'a>, OutOfMemory>
-        ensures { IfOk result (λ k. types_in k ≡ types_of (map definition_tree document.now.definitions) (called func.now)) }
+        ensures { IfOk result (λ k. known_in k ≡ known_of (map definition_tree document.now.definitions) (called func.now)) }
     {
         let payloads = payloads_of(alloc, func)?;
         let held = held_of(alloc, func)?;
@@ -40,30 +40,30 @@ impl<'a> KnownTypes<'a> {
     }
 
     /// The function.
-    #[tactic(auto, unfolding(crate::specs::ReadTypes::types_in))]
+    #[tactic(auto, unfolding(crate::specs::ReadTypes::known_in))]
     pub(crate) fn func(&self) -> &'a InterfaceFunc
-        ensures params { param_types result.now.params ≡ (types_in self.now).params }
-        ensures results { param_types result.now.results ≡ (types_in self.now).results }
+        ensures params { param_types result.now.params ≡ (known_in self.now).params }
+        ensures results { param_types result.now.results ≡ (known_in self.now).results }
     {
         self.func
     }
 
     /// The typename that is spelled so.
-    #[tactic(auto, unfolding(crate::specs::ReadTypes::types_in))]
+    #[tactic(auto, unfolding(crate::specs::ReadTypes::known_in))]
     pub(crate) fn typename(
         &self,
         alloc: Global,
         text: &str,
     ) -> Result<Option<&'a Rc<NamedType>>, OutOfMemory>
-        ensures { IfOk result (λ o. option_map (λ n. named_tree n.now.value) o ≡ (types_in self.now).typename text.now) }
+        ensures { IfOk result (λ o. option_map (λ n. named_tree n.now.value) o ≡ (known_in self.now).typename text.now) }
     {
         typename(alloc, self.document, text)
     }
 
     /// The type that a text stands for: the typename, else the first of the types that the function holds.
-    #[tactic(auto, using(witx_ast::proofs::TreeKinds::kind_rules), unfolding(crate::specs::ReadTypes::types_in))]
+    #[tactic(auto, using(witx_ast::proofs::TreeKinds::kind_rules), unfolding(crate::specs::ReadTypes::known_in))]
     pub(crate) fn shown(&self, alloc: Global, text: &str) -> Result<Option<TypeRef>, OutOfMemory>
-        ensures { IfOk result (λ o. option_map tree_of o ≡ shown (types_in self.now) text.now) }
+        ensures { IfOk result (λ o. option_map tree_of o ≡ shown (known_in self.now) text.now) }
     {
         match typename(alloc, self.document, text)? {
             Some(named) => Ok(Some(TypeRef::Name(named.clone()?))),
@@ -72,9 +72,9 @@ impl<'a> KnownTypes<'a> {
     }
 
     /// The type that a text stands for where a result is lowered: its ok or err type before all others.
-    #[tactic(auto, unfolding(crate::specs::ReadTypes::types_in))]
+    #[tactic(auto, unfolding(crate::specs::ReadTypes::known_in))]
     pub(crate) fn payload(&self, alloc: Global, text: &str) -> Result<Option<TypeRef>, OutOfMemory>
-        ensures { IfOk result (λ o. option_map tree_of o ≡ shown_payload (types_in self.now) text.now) }
+        ensures { IfOk result (λ o. option_map tree_of o ≡ shown_payload (known_in self.now) text.now) }
     {
         match first_candidate(self.payloads.as_slice(), text)? {
             Some(ty) => Ok(Some(ty)),

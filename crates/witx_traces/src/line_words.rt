@@ -3,7 +3,7 @@
 ghost use Rattle.std.specs.Prelude.{◌≡◌, map};
 ghost use Rattle.witx_ast.specs.Views.{tree_of, named_tree};
 ghost use Rattle.witx_instructions.specs.Views.{event_of, kept_step};
-ghost use Rattle.witx_traces.specs.LineParts.{named_step, number_step, plain_event, shown_step, spelled_word, the_words, word_spelled};
+ghost use Rattle.witx_traces.specs.LineParts.{named_word_step, number_step, plain_event, shown_step, spelled_word, the_line_words, word_spelled};
 
 use std::rc::Rc;
 use witx_abi::{Event, Step};
@@ -209,14 +209,14 @@ static WORDS: [Spelled; 57] = [
 
 /// The words of the lines of events.
 fn words() -> &'static [Spelled]
-    ensures { map spelled_word result.now ≡ the_words }
+    ensures { map spelled_word result.now ≡ the_line_words }
 {
     &WORDS
 }
 
 /// The word that is spelled so.
 pub(crate) fn line_word(text: &str) -> Option<LineWord>
-    ensures { result ≡ word_spelled the_words text.now }
+    ensures { result ≡ word_spelled the_line_words text.now }
 {
     word_among(words(), text)
 }
@@ -291,7 +291,7 @@ pub(crate) fn number_step(word: NumberWord, number: usize) -> Step
 
 /// The step of a word and the typename behind it.
 pub(crate) fn named_step(word: NamedWord, ty: Rc<NamedType>) -> Step
-    ensures { kept_step result ≡ named_step word (named_tree ty.value) }
+    ensures { kept_step result ≡ named_word_step word (named_tree ty.value) }
 {
     match word {
         NamedWord::I32FromHandle => Step::I32FromHandle { ty },

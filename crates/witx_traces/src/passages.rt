@@ -3,7 +3,7 @@
 ghost use Rattle.std.specs.Prelude.{◌≡◌, ◌++◌, ◌∷◌, [], IfOk, OnOk, codes, drop, map, string_bytes};
 ghost use Rattle.witx_ast.specs.Items.{item_tree};
 ghost use Rattle.witx_ast.specs.Definitions.{definition_tree, module_tree};
-ghost use Rattle.witx_adapt.specs.Listings.{constant_line, func_count, func_line, import_line, module_line, typename_lines};
+ghost use Rattle.witx_adapt.specs.Listings.{constant_line, func_count, listed_func_line, import_line, module_line, listed_typename_lines};
 ghost use Rattle.witx_traces.specs.Passages.{draft_of, end_passage, passage_of, passages_of, put, put_definitions, put_func, put_items};
 ghost use Rattle.witx_traces.specs.Traces.{listed, offered};
 
@@ -100,7 +100,7 @@ fn put_typename<'a>(
     name: &str,
     layouts: &'a [SizeAlign],
 ) -> Result<&'a [SizeAlign], OutOfMemory>
-    ensures lines { IfOk result (λ rest. string_bytes text.new ≡ string_bytes text.old ++ typename_lines name.now layouts.now) }
+    ensures lines { IfOk result (λ rest. string_bytes text.new ≡ string_bytes text.old ++ listed_typename_lines name.now layouts.now) }
     ensures rest { IfOk result (λ rest. rest.now ≡ drop 1 layouts.now) }
 {
     if layouts.is_empty() {
@@ -197,7 +197,7 @@ fn put_func<'a>(
 /// The line of a function, and the line above the events of its caller.
 fn put_head(text: &mut String, func: &InterfaceFunc, entry: &AdaptedFunc) -> Result<(), OutOfMemory>
     ensures { OnOk result (string_bytes text.new ≡ string_bytes text.old
-        ++ (func_line func.now.name func.now.abi entry.now.params entry.now.results ++ codes "caller\n")) }
+        ++ (listed_func_line func.now.name func.now.abi entry.now.params entry.now.results ++ codes "caller\n")) }
 {
     put_func_line(
         text,

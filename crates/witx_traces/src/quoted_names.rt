@@ -3,7 +3,7 @@
 //! It is read loosely, and then its own text is compared with what stands there.
 
 ghost use Rattle.std.specs.Prelude.{◌≡◌, ◌<◌, IfOk, MatchOption, length, option_map};
-ghost use Rattle.witx_traces.specs.LineReading.{QuotedAt, FrontOf, Spells, escaped_byte, hex_byte, hex_value, is_mark, name_behind, spelled_byte, taken};
+ghost use Rattle.witx_traces.specs.LineReading.{QuotedAt, FrontOf, SpellsQuoted, escaped_byte, hex_byte, hex_value, is_mark, name_behind, spelled_byte, taken_line};
 
 use crate::heads::behind;
 use std::alloc::Global;
@@ -40,7 +40,7 @@ fn is_mark(byte: u8) -> bool
 /// The byte that is spelled behind a backslash, and what follows.
 #[tactic(auto, using(crate::proofs::Spelling::byte_rules))]
 fn escaped_byte(text: &[u8]) -> Option<(u8, &[u8])>
-    ensures byte { option_map taken result ≡ escaped_byte text.now }
+    ensures byte { option_map taken_line result ≡ escaped_byte text.now }
     ensures shorter { MatchOption result (length text.now ≡ length text.now) (λ p. length p.1.now < length text.now) }
 {
     let [mark, rest @ ..] = text else {
@@ -58,7 +58,7 @@ fn escaped_byte(text: &[u8]) -> Option<(u8, &[u8])>
 /// The byte that is spelled at the head, and what follows; none at a quote and at the end.
 #[tactic(auto, using(crate::proofs::Spelling::byte_rules))]
 fn spelled_byte(text: &[u8]) -> Option<(u8, &[u8])>
-    ensures byte { option_map taken result ≡ spelled_byte text.now }
+    ensures byte { option_map taken_line result ≡ spelled_byte text.now }
     ensures shorter { MatchOption result (length text.now ≡ length text.now) (λ p. length p.1.now < length text.now) }
 {
     let [byte, rest @ ..] = text else {
@@ -76,7 +76,7 @@ fn spelled_byte(text: &[u8]) -> Option<(u8, &[u8])>
 /// The bytes that are spelled up to a quote or the end.
 #[tactic(auto, using(crate::proofs::Spelling::loop_rules))]
 fn spelled_bytes(alloc: Global, text: &[u8]) -> Result<Vec<u8>, OutOfMemory>
-    ensures { IfOk result (λ bytes. Spells text.now bytes.items) }
+    ensures { IfOk result (λ bytes. SpellsQuoted text.now bytes.items) }
 {
     let mut bytes = Vec::new(alloc);
     let mut rest = text;

@@ -5,10 +5,10 @@ ghost use Rattle.std.specs.List.{AllByRecursion};
 ghost use Rattle.witx_ast.specs.Definitions.{definition_tree};
 ghost use Rattle.witx_adapt.specs.Lines.{event_line, event_lines};
 ghost use Rattle.witx_instructions.specs.Views.{event_of};
-ghost use Rattle.witx_traces.specs.Passages.{AreFixed, IsCutAt, IsFixed, IsLast, IsPlain, LacksLine, Passage as PassageText, ReadPairs, Stretch, StopsAt, closed, events_of, feeds, indented, pair_text, passage_of, sides_of, stretches};
-ghost use Rattle.witx_traces.specs.ReadTypes.{types_in};
-ghost use Rattle.witx_traces.specs.Refusals.{Refuses, Tells};
-ghost use Rattle.witx_traces.specs.Traces.{AreLines, GivesTraces, HasEachEntry, IsLine, ended, listed, one_line, types_of};
+ghost use Rattle.witx_traces.specs.Passages.{AreFixed, IsCutAt, IsFixed, IsLast, BeginPlainly, LacksWantedLine, Passage as PassageText, ReadPairs, Stretch, StopsAt, is_ended, events_of, feeds, indented, pair_text, passage_of, sides_of, stretches};
+ghost use Rattle.witx_traces.specs.ReadTypes.{known_in};
+ghost use Rattle.witx_traces.specs.Refusals.{RefusesLines, TellsOfStop};
+ghost use Rattle.witx_traces.specs.Traces.{AreSayable, GivesTraces, HasEachEntry, IsSayable, ended, listed, one_line, known_of};
 
 use crate::candidates::KnownTypes;
 use crate::event_texts::read_event;
@@ -83,7 +83,7 @@ impl From<OutOfMemory> for TracesError {
 pub fn read_traces(alloc: Global, adapted: &Adapted, text: &str) -> Result<TracePairs, TracesError>
     requires { HasEachEntry (listed adapted.now) }
     ensures traces { IfOk result (λ pairs. GivesTraces (listed adapted.now) text.now (map sides_of pairs)) }
-    ensures line { IfErr result (Refuses (listed adapted.now) text.now) }
+    ensures line { IfErr result (RefusesLines (listed adapted.now) text.now) }
 {
     let shown = listing_passages(alloc, adapted)?;
     match read_passages(
@@ -138,7 +138,7 @@ fn read_passages<'t>(
     requires last { IsLast last.now }
     ensures pairs { IfOk result (λ pairs. ReadPairs (map definition_tree document.now.definitions)
         (map passage_of passages.now) (map sides_of pairs) text.now last.now) }
-    ensures stopped { IfErr result (Tells (StopsAt (stretches (map definition_tree document.now.definitions)
+    ensures stopped { IfErr result (TellsOfStop (StopsAt (stretches (map definition_tree document.now.definitions)
         (map passage_of passages.now)) last.now text.now)) }
 {
     let (pairs, rest) = read_pairs(alloc, document, passages, text)?;
@@ -164,7 +164,7 @@ fn read_pairs<'t>(
     ensures behind { IfOk result (λ p. (last rest : List ℕ) → IsLast last → StopsAt [] last p.1.now rest
         → StopsAt (stretches (map definition_tree document.now.definitions) (map passage_of passages.now)) last text.now rest) }
     ensures stopped { (last : List ℕ) → IsLast last
-        → IfErr result (Tells (StopsAt (stretches (map definition_tree document.now.definitions) (map passage_of passages.now)) last text.now)) }
+        → IfErr result (TellsOfStop (StopsAt (stretches (map definition_tree document.now.definitions) (map passage_of passages.now)) last text.now)) }
 {
     let mut pairs = TracePairs::new(alloc);
     let mut rest = text;
@@ -186,14 +186,14 @@ fn read_pair<'t>(
 ) -> Result<(TracePair, &'t str), Stopped<'t>>
     requires { IsFixed (passage_of passage.now).fixed }
     ensures pair { IfOk result (λ p. text.now ≡ pair_text (passage_of passage.now) (sides_of p.0) p.1.now) }
-    ensures lines { IfOk result (λ p. AreLines (types_of (map definition_tree document.now.definitions)
+    ensures lines { IfOk result (λ p. AreSayable (known_of (map definition_tree document.now.definitions)
         (passage_of passage.now).function.function) (sides_of p.0)) }
     ensures behind { IfOk result (λ p. (ps : List PassageText) (last rest : List ℕ)
-        → IsPlain (stretches (map definition_tree document.now.definitions) ps) last
+        → BeginPlainly (stretches (map definition_tree document.now.definitions) ps) last
         → StopsAt (stretches (map definition_tree document.now.definitions) ps) last p.1.now rest
         → StopsAt (stretches (map definition_tree document.now.definitions) (passage_of passage.now ∷ ps)) last text.now rest) }
-    ensures stopped { (ps : List PassageText) (last : List ℕ) → IsPlain (stretches (map definition_tree document.now.definitions) ps) last
-        → IfErr result (Tells (StopsAt (stretches (map definition_tree document.now.definitions) (passage_of passage.now ∷ ps)) last text.now)) }
+    ensures stopped { (ps : List PassageText) (last : List ℕ) → BeginPlainly (stretches (map definition_tree document.now.definitions) ps) last
+        → IfErr result (TellsOfStop (StopsAt (stretches (map definition_tree document.now.definitions) (passage_of passage.now ∷ ps)) last text.now)) }
 {
     let types = KnownTypes::new(alloc, document, &passage.entry.func)?;
     let (caller, rest) = read_side(alloc, &types, passage.fixed.as_str(), text)?;
@@ -211,11 +211,11 @@ fn read_side<'t>(
 ) -> Result<(Events, &'t str), Stopped<'t>>
     requires { IsFixed fixed.now }
     ensures events { IfOk result (λ p. text.now ≡ fixed.now ++ (event_lines (map event_of p.0) ++ p.1.now)) }
-    ensures lines { IfOk result (λ p. AllByRecursion (IsLine (types_in types.now)) (map event_of p.0)) }
-    ensures behind { IfOk result (λ p. (ss : List Stretch) (last rest : List ℕ) → IsPlain ss last → StopsAt ss last p.1.now rest
-        → StopsAt (record { fixed = fixed.now; types = types_in types.now } ∷ ss) last text.now rest) }
-    ensures stopped { (ss : List Stretch) (last : List ℕ) → IsPlain ss last
-        → IfErr result (Tells (StopsAt (record { fixed = fixed.now; types = types_in types.now } ∷ ss) last text.now)) }
+    ensures lines { IfOk result (λ p. AllByRecursion (IsSayable (known_in types.now)) (map event_of p.0)) }
+    ensures behind { IfOk result (λ p. (ss : List Stretch) (last rest : List ℕ) → BeginPlainly ss last → StopsAt ss last p.1.now rest
+        → StopsAt (record { fixed = fixed.now; types = known_in types.now } ∷ ss) last text.now rest) }
+    ensures stopped { (ss : List Stretch) (last : List ℕ) → BeginPlainly ss last
+        → IfErr result (TellsOfStop (StopsAt (record { fixed = fixed.now; types = known_in types.now } ∷ ss) last text.now)) }
 {
     let behind = behind_lines(text, fixed)?;
     read_events(alloc, types, behind)
@@ -224,9 +224,9 @@ fn read_side<'t>(
 /// What follows these lines, if the text begins with them; else it stops at the first that is another.
 #[tactic(auto, using(crate::proofs::ReadSteps::lines_rules))]
 fn behind_lines<'t>(text: &'t str, lines: &str) -> Result<&'t str, Stopped<'t>>
-    requires { closed lines.now ≡ true }
+    requires { is_ended lines.now ≡ true }
     ensures behind { IfOk result (λ rest. text.now ≡ lines.now ++ rest.now) }
-    ensures stopped { IfErr result (Tells (IsCutAt lines.now text.now)) }
+    ensures stopped { IfErr result (TellsOfStop (IsCutAt lines.now text.now)) }
 {
     let mut rest = text;
     let mut wanted = lines;
@@ -242,7 +242,7 @@ fn behind_lines<'t>(text: &'t str, lines: &str) -> Result<&'t str, Stopped<'t>>
 fn behind_line<'t>(text: &'t str, wanted: &str) -> Result<&'t str, Stopped<'t>>
     requires { one_line wanted.now ≡ true }
     ensures behind { IfOk result (λ rest. text.now ≡ ended wanted.now ++ rest.now) }
-    ensures stopped { IfErr result (Tells (LacksLine wanted.now text.now)) }
+    ensures stopped { IfErr result (TellsOfStop (LacksWantedLine wanted.now text.now)) }
 {
     let Some((line, more)) = cut_line(text) else {
         return Err(Stopped::At(text));
@@ -261,11 +261,11 @@ fn read_events<'t>(
     text: &'t str,
 ) -> Result<(Events, &'t str), Stopped<'t>>
     ensures events { IfOk result (λ p. text.now ≡ event_lines (map event_of p.0) ++ p.1.now) }
-    ensures lines { IfOk result (λ p. AllByRecursion (IsLine (types_in types.now)) (map event_of p.0)) }
-    ensures behind { IfOk result (λ p. (ss : List Stretch) (last rest : List ℕ) → IsPlain ss last → StopsAt ss last p.1.now rest
-        → StopsAt (events_of (types_in types.now) ∷ ss) last text.now rest) }
-    ensures stopped { (ss : List Stretch) (last : List ℕ) → IsPlain ss last
-        → IfErr result (Tells (StopsAt (events_of (types_in types.now) ∷ ss) last text.now)) }
+    ensures lines { IfOk result (λ p. AllByRecursion (IsSayable (known_in types.now)) (map event_of p.0)) }
+    ensures behind { IfOk result (λ p. (ss : List Stretch) (last rest : List ℕ) → BeginPlainly ss last → StopsAt ss last p.1.now rest
+        → StopsAt (events_of (known_in types.now) ∷ ss) last text.now rest) }
+    ensures stopped { (ss : List Stretch) (last : List ℕ) → BeginPlainly ss last
+        → IfErr result (TellsOfStop (StopsAt (events_of (known_in types.now) ∷ ss) last text.now)) }
 {
     let mut events = Events::new(alloc);
     let mut rest = text;
@@ -293,9 +293,9 @@ fn read_line<'t>(
 ) -> Result<(Event, &'t str), Stopped<'t>>
     requires { indented text.now ≡ true }
     ensures event { IfOk result (λ p. text.now ≡ event_line (event_of p.0) ++ p.1.now) }
-    ensures line { IfOk result (λ p. IsLine (types_in types.now) (event_of p.0)) }
-    ensures stopped { (ss : List Stretch) (last : List ℕ) → IsPlain ss last
-        → IfErr result (Tells (StopsAt (events_of (types_in types.now) ∷ ss) last text.now)) }
+    ensures line { IfOk result (λ p. IsSayable (known_in types.now) (event_of p.0)) }
+    ensures stopped { (ss : List Stretch) (last : List ℕ) → BeginPlainly ss last
+        → IfErr result (TellsOfStop (StopsAt (events_of (known_in types.now) ∷ ss) last text.now)) }
 {
     let Some((line, more)) = cut_line(text) else {
         return Err(Stopped::At(text));

@@ -5,7 +5,7 @@
 ghost use Rattle.std.specs.Prelude.{◌≡◌, ◌<◌, ◌≤◌, IfOk, MatchOption, length, option_map};
 ghost use Rattle.witx_base.specs.Texts.{same_text};
 ghost use Rattle.witx_adapt.specs.Names.{signature};
-ghost use Rattle.witx_traces.specs.LineReading.{IsFirstType, SignatureAt, TypesAt, behind_space, signature_parts, taken};
+ghost use Rattle.witx_traces.specs.LineReading.{IsFirstType, SignatureAt, TypesAt, behind_space, signature_parts, taken_line};
 
 use crate::heads::behind;
 use std::alloc::Global;
@@ -23,7 +23,7 @@ pub(crate) struct WasmSignature {
 /// The type at the head, and what follows it.
 #[tactic(auto, using(crate::proofs::SignatureReading::type_rules))]
 fn first_type(text: &str) -> Option<(WasmType, &str)>
-    ensures first { IsFirstType text.now (option_map taken result) }
+    ensures first { IsFirstType text.now (option_map taken_line result) }
     ensures shorter { MatchOption result (length text.now ≡ length text.now) (λ p. length p.1.now < length text.now) }
 {
     if let Some(rest) = behind(text, "i32") {

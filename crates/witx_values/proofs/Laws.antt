@@ -3,7 +3,7 @@ use Rattle.std.proofs.Common.{◌≡◌, ℕ, List, [], ◌∷◌, refl, sym, ap
 use Rattle.std.specs.Prelude.{◌⊎◌, slice_index_or}
 use Rattle.std.specs.List.{flat_map}
 use Rattle.witx_grammar.specs.Grammar.{In, Derives, Rewrite}
-use Rattle.witx_grammar.specs.Faults.{IsFault, IsSameFault, HasDerivation, HasFault}
+use Rattle.witx_grammar.specs.Faults.{IsTokenFault, IsSameFault, HasDerivation, HasTokenFault}
 use Rattle.witx_grammar.specs.declared.table.Step.{Step}
 use Rattle.witx_grammar.specs.declared.table.Symbol.TheVariants.{Nonterminal}
 use Rattle.witx_grammar.proofs.Verdicts.{no_fault, one_fault}
@@ -41,19 +41,19 @@ module _ {T N P S V F : Type 0} (a : Language T N P Lexed S V) (start : N) (tell
   no_fault_there text v f x (inl l) = no_pieces x.lexed.0 l.has_fault.0 0 text l.has_fault.1 l.fault.kind l.has_fault.2 x.lexed.1 l.has_fault.3 l.has_fault.4
   no_fault_there text v f x (inr s) =
       no_fault (grammar_of a) start (kinds_of a x.tokens) x.parsed.steps s.at s.expected x.parsed.derives
-      (subst (λ (ts : List Lexed). IsFault (grammar_of a) start (kinds_of a ts) s.at s.expected) (one_lexing text s.tokens x.tokens s.lexed x.lexed) s.has_fault)
+      (subst (λ (ts : List Lexed). IsTokenFault (grammar_of a) start (kinds_of a ts) s.at s.expected) (one_lexing text s.tokens x.tokens s.lexed x.lexed) s.has_fault)
 
   -- where a value of the sort of the nonterminal holds something
-  module _ (h : IsLawful a) (g : List (Rewrite T N P)) (rows : g ≡ grammar_of a) (either : (ts : List T) → HasDerivation g start ts ⊎ HasFault g start ts)
+  module _ (h : IsLawful a) (g : List (Rewrite T N P)) (rows : g ≡ grammar_of a) (either : (ts : List T) → HasDerivation g start ts ⊎ HasTokenFault g start ts)
       {D : Type 0} (holding : D → V) (held : (v : V) → a.sort_of v ≡ a.nonterminal_sort start → (d : D) × (holding d ≡ v)) where
     -- a text has a value or a fault
     abbrev Read : List ℕ → Type 0
     Read text = ((d : D) × HasValue a start text (holding d)) ⊎ ((f : F) × IsTextFault a start telling text f)
 
-    parsed : (ts : List T) → HasDerivation (grammar_of a) start ts ⊎ HasFault (grammar_of a) start ts
-    parsed ts = subst (λ (r : List (Rewrite T N P)). HasDerivation r start ts ⊎ HasFault r start ts) rows (either ts)
+    parsed : (ts : List T) → HasDerivation (grammar_of a) start ts ⊎ HasTokenFault (grammar_of a) start ts
+    parsed ts = subst (λ (r : List (Rewrite T N P)). HasDerivation r start ts ⊎ HasTokenFault r start ts) rows (either ts)
 
-    of_pieces : (text : List ℕ) (ps : List Piece) → ArePieces ps text → HasDerivation (grammar_of a) start (kinds_of a (tokens_of ps)) ⊎ HasFault (grammar_of a) start (kinds_of a (tokens_of ps)) → Read text
+    of_pieces : (text : List ℕ) (ps : List Piece) → ArePieces ps text → HasDerivation (grammar_of a) start (kinds_of a (tokens_of ps)) ⊎ HasTokenFault (grammar_of a) start (kinds_of a (tokens_of ps)) → Read text
     of_pieces text ps k (inl d) =
         let one = reads_as a h start (tokens_of ps) d.0 d.1 in
         let holds = held one.0 one.2 in
@@ -102,4 +102,4 @@ module _ {T N P S V F : Type 0} (a : Language T N P Lexed S V) (start : N) (tell
         let tokens : x.tokens ≡ y.tokens = one_lexing text x.tokens y.tokens x.lexed y.lexed in
         one_syntactic text f g x y tokens
         (one_fault (grammar_of a) start (kinds_of a y.tokens) x.at y.at x.expected y.expected
-        (subst (λ (ts : List Lexed). IsFault (grammar_of a) start (kinds_of a ts) x.at x.expected) tokens x.has_fault) y.has_fault)
+        (subst (λ (ts : List Lexed). IsTokenFault (grammar_of a) start (kinds_of a ts) x.at x.expected) tokens x.has_fault) y.has_fault)

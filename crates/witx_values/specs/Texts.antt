@@ -1,7 +1,7 @@
 -- A text in a language: the value that it is, or its fault.
 -- A text has a value where its tokens derive from the nonterminal and the derivation stands for the value.
 use Rattle.std.specs.Prelude.{◌≡◌, ◌⊎◌, ℕ, nat_lt, if◌then◌else◌, List, [], length, slice_index_or}
-use Rattle.witx_grammar.specs.Faults.{IsFault}
+use Rattle.witx_grammar.specs.Faults.{IsTokenFault}
 use Rattle.witx_lex.specs.Tokens.{right, Lexed}
 use Rattle.witx_lex.specs.Meaning.{HasTokens}
 use Rattle.witx_lex.specs.Faults.{HasFault}
@@ -47,7 +47,7 @@ module _ {T N P S V F : Type 0} (a : Language T N P Lexed S V) (start : N) (tell
     pub lexed : HasTokens text tokens
     pub at : ℕ
     pub expected : List T
-    pub has_fault : IsFault (grammar_of a) start (kinds_of a tokens) at expected
+    pub has_fault : IsTokenFault (grammar_of a) start (kinds_of a tokens) at expected
     pub told : f ≡ telling.unexpected text expected (slice_index_or (kinds_of a tokens) at a.end) (start_of text tokens at)
 
   -- this is the fault of the text: its lexical fault, or else that of its tokens

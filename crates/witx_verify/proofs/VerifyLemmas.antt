@@ -20,7 +20,7 @@ use Rattle.witx_symbols.specs.declared.surface.Verdict.{Verdict}
 use Rattle.witx_symbols.specs.declared.world.World as declared_world
 use Rattle.witx_symbols.specs.Adapted.{AdaptedGetsYes}
 use Rattle.witx_symbols.specs.Symbols.{Symbol, SymbolWord}
-use Rattle.witx_symbols.specs.Symbolic.{World, known_world, unknown_world, world_if, worlds_by, worlds_of, worlds, reply_from, SymbolMemory, symbols}
+use Rattle.witx_symbols.specs.Symbolic.{SymbolWorld, known_world, unknown_world, world_if, worlds_by, worlds_of, worlds, reply_from, SymbolMemory, symbols}
 use Rattle.witx_symbols.specs.Verdicts.{arguments_from, judged, doubt_in, first_doubt, misfit, doubt, verdict_of, verdict}
 use Rattle.witx_symbols.specs.WordViews.{option_of, world_of}
 use Rattle.witx_symbols.specs.WorldViews.{AreOf, worlds_read}
@@ -28,11 +28,11 @@ use Rattle.witx_symbols.proofs.Sound.{yes_is_faithful}
 use Rattle.witx_symbols.proofs.AdaptedLemmas.{adapted_get_yes}
 
 -- each world of a function has the function's reply
-are-if : (r : Option Symbol) (b : Bool) (w : World) → w.whole ≡ r → AreOf r (world_if b w)
+are-if : (r : Option Symbol) (b : Bool) (w : SymbolWorld) → w.whole ≡ r → AreOf r (world_if b w)
 are-if r true w e = (e, tt)
 are-if r false w e = tt
 
-are-both : (r : Option Symbol) (vs ws : List World) → AreOf r vs → AreOf r ws → AreOf r (vs ++ ws)
+are-both : (r : Option Symbol) (vs ws : List SymbolWorld) → AreOf r vs → AreOf r ws → AreOf r (vs ++ ws)
 are-both r [] ws a b = b
 are-both r (v ∷ vs) ws a b = (a.0, are-both r vs ws a.1 b)
 
@@ -64,7 +64,7 @@ one-is-of r ws i w l e a = (subst (AreOf r) (worlds-drop ws i w l e) (later ws i
     later (w ∷ ws) (suc i) a = later ws i a.1
 
 -- what is judged of the run is the doubt in the world
-pub doubt-judged : {Error : Type 0} (w : World) (m : List ℕ) (f : Function) (cs es : List declared_event.Event) (arguments : List Symbol) (o : Result (Option Doubt) Error) (run : Tried Spot (Outcome Symbol SymbolWord SymbolMemory)) →
+pub doubt-judged : {Error : Type 0} (w : SymbolWorld) (m : List ℕ) (f : Function) (cs es : List declared_event.Event) (arguments : List Symbol) (o : Result (Option Doubt) Error) (run : Tried Spot (Outcome Symbol SymbolWord SymbolMemory)) →
     arguments ≡ arguments_from 0 f.params → w.whole ≡ reply_from f.results →
     run ≡ spotted_run (symbols w) m f (map event_of cs) (map event_of es) arguments w.whole (record { made = []; left = length cs + length es }) →
     IfOk o (λ d. d ≡ judged w f arguments w.whole run) → IfOk o (λ d. d ≡ doubt_in w m f (map event_of cs) (map event_of es))

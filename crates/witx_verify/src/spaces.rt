@@ -4,7 +4,7 @@ ghost use Rattle.std.specs.Prelude.{◌≡◌};
 ghost use Rattle.witx_ast.specs.Same.{same_tree};
 ghost use Rattle.witx_ast.specs.Views.{named_tree};
 ghost use Rattle.witx_symbols.specs.Verdicts.{is_made_for};
-ghost use Rattle.witx_symbols.specs.WordViews.{memory_of, word_of};
+ghost use Rattle.witx_symbols.specs.WordViews.{memory_of, word_seen};
 
 use witx_ast::NamedType;
 use witx_symbols::{Cell, Cells, Word, cell_at};
@@ -12,7 +12,7 @@ use witx_symbols::{Cell, Cells, Word, cell_at};
 /// Whether the word is an address that was made for the type as it is written.
 #[tactic(auto, using(witx_symbols::proofs::CellLemmas::cell_rules))]
 pub(crate) fn is_made_for(cells: &Cells, word: &Word, ty: &NamedType) -> bool
-    ensures { result ≡ is_made_for (memory_of cells.now) (word_of word.now) (named_tree ty.now) }
+    ensures { result ≡ is_made_for (memory_of cells.now) (word_seen word.now) (named_tree ty.now) }
 {
     match word {
         Word::Given(k) => match cell_at(cells, *k) {

@@ -17,7 +17,7 @@ use Rattle.witx_order.specs.Items.{declaration, use_of, Declared}
 use Rattle.witx_order.specs.Walks.{World, Place, beginning, declared_in, missing, faulty}
 use Rattle.witx_order.specs.Verdicts.{Verdict, fine, refused, Turn, on, ends, turn, Leads, here, along, IsVerdict}
 use Rattle.witx_order.proofs.FinalFronts.{fine-walk}
-use Rattle.witx_walk.specs.Readings.{Reading}
+use Rattle.witx_walk.specs.Readings.{FileReading}
 use Rattle.witx_walk.specs.Meaning.{world, past_of, fault_behind, MeansDocument}
 
 -- the file of a name in the topmost folder
@@ -53,7 +53,7 @@ u_of_all = typename_at (codes "u") 22 (ident (name_at (codes "t") 25))
 abbrev second_t : NotedItem
 second_t = typename_at (codes "t") 27 (builtin word.U16)
 
-abbrev reading : Reading
+abbrev reading : FileReading
 reading text =
     if same_text text one then Ok (declaration t_of_one ∷ [])
     else if same_text text all then Ok (use_of (codes "one") ∷ declaration u_of_all ∷ [])

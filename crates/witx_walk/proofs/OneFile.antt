@@ -4,7 +4,7 @@ use Rattle.std.specs.Cmp.Lexicographic.{lists_equiv, nat_list_eq_equiv}
 use Rattle.witx_base.specs.Causes.{Rose}
 use Rattle.witx_base.specs.Paths.{Path, path_of, file_name}
 use Rattle.witx_base.specs.PathOrder.{same_path}
-use Rattle.witx_files.specs.Files.{Files, held}
+use Rattle.witx_files.specs.Files.{Files, text_in}
 use Rattle.witx_files.specs.declared.fault.IoFault.TheVariants.{NotFound, LineNotFound, Failed}
 use Rattle.witx_files.proofs.SamePaths.{same-test}
 use Rattle.witx_ast.specs.Entries.{Held}
@@ -16,7 +16,7 @@ use Rattle.witx_order.specs.Walks.{World, Mark, start, decl, skip, end, Place, N
 use Rattle.witx_order.specs.Verdicts.{Verdict, refused, on, ends, turn, turned, checked, Leads, here, along, Ends, IsVerdict}
 use Rattle.witx_order.proofs.FinalFronts.{turned-on}
 use Rattle.witx_order.proofs.Taking.{Takes, NextTakes, next-takes}
-use Rattle.witx_walk.specs.Readings.{Reading}
+use Rattle.witx_walk.specs.Readings.{FileReading}
 use Rattle.witx_walk.specs.Meaning.{world}
 use Rattle.witx_walk.specs.Answers.{Answer, Answers, HasCause, Caused, answer_of}
 use Rattle.witx_walk.specs.OneFile.{source_path, source_file, source_world, IsOfOneFile}
@@ -31,11 +31,11 @@ equal-by : {A B : Type 0} {f g : A → B} → ((x : A) → f x ≡ g x) → f �
 equal-by e = λ i x. e x i
 
 -- the files with the one text are those of the definition
-pub world-is : (none files : Files) (source : List ℕ) (p : Path) (text : List ℕ) (reading : Reading) → none ≡ [] → p ≡ source_path → text ≡ source
-    → ((q : Path) → held files q ≡ (if same_path p q then Some text else held none q)) → world files [] reading ≡ source_world source reading
+pub world-is : (none files : Files) (source : List ℕ) (p : Path) (text : List ℕ) (reading : FileReading) → none ≡ [] → p ≡ source_path → text ≡ source
+    → ((q : Path) → text_in files q ≡ (if same_path p q then Some text else text_in none q)) → world files [] reading ≡ source_world source reading
 world-is none files source p text reading n e f put =
     ap (λ (t : Path → Option (List ℕ)). record (source_world source reading) { text_at = t })
-    (equal-by (λ q. put q ∙ (ap (λ x. (if same_path p q then Some text else held x q)) n ∙ (ap (λ x. (if same_path x q then Some text else None)) e ∙ ap (λ x. (if same_path source_path q then Some x else None)) f))))
+    (equal-by (λ q. put q ∙ (ap (λ x. (if same_path p q then Some text else text_in x q)) n ∙ (ap (λ x. (if same_path x q then Some text else None)) e ∙ ap (λ x. (if same_path source_path q then Some x else None)) f))))
 
 same-trans : (p q : Path) → same_path source_path p ≡ true → same_path source_path q ≡ true → same_path p q ≡ true
 same-trans p q e f =
@@ -48,7 +48,7 @@ if-some false source text e = absurd (cc)
 clash : {b : Bool} → b ≡ true → b ≡ false → ⊥
 clash e f = cc
 
-module _ (source : List ℕ) (reading : Reading) where
+module _ (source : List ℕ) (reading : FileReading) where
   abbrev w : World Fault
   w = source_world source reading
 
@@ -131,7 +131,7 @@ verdict-as w w' p v e f h =
     let Q : Path → Type 0 = λ x. IsVerdict w (x ∷ []) v in
     subst Q (sym f) (subst P (sym e) h)
 
-pub one-file : (source : List ℕ) (reading : Reading) (IsNameless : Path → Type 0) (files : Option Files) (r : Result (Held Definition Entry) WitxError)
+pub one-file : (source : List ℕ) (reading : FileReading) (IsNameless : Path → Type 0) (files : Option Files) (r : Result (Held Definition Entry) WitxError)
     → ((p : Path) → IsNameless p → ⊥) → Caused IsNameless files 0 0 r → Answers (source_world source reading) (source_path ∷ []) 0 0 (answer_of r) → IfErr r (λ e. IsOfOneFile e)
 one-file source reading IsNameless files (Ok d) never c h = tt
 one-file source reading IsNameless files (Err e) never c h = of-one-file source reading e IsNameless files never c h

@@ -4,16 +4,16 @@ use Rattle.witx_base.specs.Paths.{Path}
 use Rattle.witx_files.specs.declared.fault.IoFault.TheVariants.{NotFound, LineNotFound, Failed}
 use Rattle.witx_ast.specs.Definitions.{DefinitionTree, definition_tree}
 use Rattle.witx_scope.specs.Faults.{Fault}
-use Rattle.witx_order.specs.Walks.{World, place, beginning, Refusal}
+use Rattle.witx_order.specs.Walks.{World, place, beginning, WalkRefusal}
 use Rattle.witx_order.specs.Verdicts.{Verdict, fine, refused, IsVerdict}
 use Rattle.witx_order.proofs.Steps.{stopped, ends-after}
 use Rattle.witx_order.proofs.OnlyOne.{one-verdict}
 use Rattle.witx_order.proofs.Ending.{a-verdict}
 use Rattle.witx_order.proofs.FinalFronts.{fine-walk, means-fine}
-use Rattle.witx_walk.specs.Readings.{Reading, IsReading}
+use Rattle.witx_walk.specs.Readings.{FileReading, IsReading}
 use Rattle.witx_walk.specs.Meaning.{MeansDocument, definitions_of, world}
-use Rattle.witx_walk.specs.Answers.{Answer, Answers, AgreesWith, Refuses, told_by, OneAnswer}
-use Rattle.witx_walk.specs.Steps.{Reaches}
+use Rattle.witx_walk.specs.Answers.{Answer, Answers, AgreesWith, RefusesFiles, told_by, OneAnswer}
+use Rattle.witx_walk.specs.Steps.{ReachesPlace}
 use Rattle.witx_walk.specs.declared.error.WitxError.{WitxError}
 use Rattle.witx_walk.specs.declared.error.WitxError.TheVariants.{Io, Parse, Validation, BadPath, TooManyFiles, OutOfMemory}
 use Rattle.witx_walk.specs.declared.walking.Walking.{Walking}
@@ -25,11 +25,11 @@ some-is : {A : Type 0} {a x b : A} → Some a ≡ Some x → a ≡ b → x ≡ b
 some-is e f = sym (some-same e) ∙ f
 
 module _ (w : World Fault) (handed : List Path) where
-  pub all-mean : (walk : Walking) → Reaches w walk (beginning handed) (place [] []) → MeansDocument w handed (map definition_tree walk.definitions)
+  pub all-mean : (walk : Walking) → ReachesPlace w walk (beginning handed) (place [] []) → MeansDocument w handed (map definition_tree walk.definitions)
   all-mean walk h =
       (h.1.0, (fine-walk w handed h.1.0 (ends-after w h.1.1.1 (stopped w _ _ refl)), h.1.1.0.holding.definitions))
 
-  agrees-err : (e : WitxError) (before now : ℕ) (v : Verdict Fault) → Refuses w (beginning handed) before now e → IsVerdict w handed v → AgreesWith v (Err e)
+  agrees-err : (e : WitxError) (before now : ℕ) (v : Verdict Fault) → RefusesFiles w (beginning handed) before now e → IsVerdict w handed v → AgreesWith v (Err e)
   agrees-err (BadPath p) before now v h k = one-verdict w handed v _ k h.1
   agrees-err (TooManyFiles p) before now v h k = one-verdict w handed v _ k h.1
   agrees-err (Io p NotFound) before now v h k = one-verdict w handed v _ k h.1
@@ -49,12 +49,12 @@ module _ (w : World Fault) (handed : List Path) where
   pub means-as : (ds es : List DefinitionTree) → ds ≡ es → MeansDocument w handed ds → MeansDocument w handed es
   means-as ds es e h = let P : List DefinitionTree → Type 0 = λ x. MeansDocument w handed x in subst P e h
 
-of_verdict : Verdict Fault → Result (List DefinitionTree) (Refusal Fault)
+of_verdict : Verdict Fault → Result (List DefinitionTree) (WalkRefusal Fault)
 of_verdict (fine declared) = Ok (definitions_of declared)
 of_verdict (refused refusal) = Err refusal
 
 -- what an answer tells that is the verdict
-told-is : (r : Answer) (v : Verdict Fault) (x : Result (List DefinitionTree) (Refusal Fault)) → AgreesWith v r → told_by r ≡ Some x → x ≡ of_verdict v
+told-is : (r : Answer) (v : Verdict Fault) (x : Result (List DefinitionTree) (WalkRefusal Fault)) → AgreesWith v r → told_by r ≡ Some x → x ≡ of_verdict v
 unfolding of_verdict
 told-is (Ok definitions) v x h e = some-is e (ap (λ y. Ok y) h.1.1 ∙ sym (ap of_verdict h.1.0))
 told-is (Err (BadPath p)) v x h e = some-is e (sym (ap of_verdict h))
@@ -67,7 +67,7 @@ told-is (Err (Validation f)) v x h e = some-is e (sym (ap of_verdict h))
 told-is (Err OutOfMemory) v x h e = absurd (cc)
 
 -- two answers that tell something tell the same
-pub one-answer : (reading : Reading) → IsReading reading → OneAnswer
+pub one-answer : (reading : FileReading) → IsReading reading → OneAnswer
 one-answer reading o files aliases handed before now before' now' r s x y h k e f =
     let v = a-verdict (world files aliases reading) handed in
     told-is r v.0 x (agrees (world files aliases reading) handed r before now v.0 (h files aliases reading refl refl o) v.1) e

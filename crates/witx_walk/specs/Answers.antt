@@ -14,9 +14,9 @@ use Rattle.witx_scope.specs.Faults.{Fault}
 use Rattle.witx_scope.specs.Blame.{fault_of}
 use Rattle.witx_language.specs.declared.error.ParseError.{ParseError}
 use Rattle.witx_order.specs.Items.{Declared, SyntaxFault}
-use Rattle.witx_order.specs.Walks.{World, Place, Wish, reach, declare, close, unread, nameless, done, wish, is_taken, most_files, Refusal, bad_path, too_many, missing, unreadable, faulty, beginning}
+use Rattle.witx_order.specs.Walks.{World, Place, Wish, reach, declare, close, unread, nameless, done, wish, is_taken, most_files, WalkRefusal, bad_path, too_many, missing, unreadable, faulty, beginning}
 use Rattle.witx_order.specs.Verdicts.{Verdict, fine, refused, Leads, Ends, IsVerdict}
-use Rattle.witx_walk.specs.Readings.{Reading, IsReading}
+use Rattle.witx_walk.specs.Readings.{FileReading, IsReading}
 use Rattle.witx_walk.specs.Meaning.{world, definitions_of, MeansDocument}
 use Rattle.witx_walk.specs.declared.error.WitxError.{WitxError}
 use Rattle.witx_walk.specs.declared.error.WitxError.TheVariants.{Io, Parse, Validation, BadPath, TooManyFiles, OutOfMemory}
@@ -42,15 +42,15 @@ pub record Breaks (w : World Fault) (at : Place) (path : Path) : Type 0 where
   pub call : IsCalledFor w (wish last) path
 
 -- each refusal is what comes first from a place on; the count of faults rises only where a call failed
-abbrev pub Refuses : World Fault → Place → ℕ → ℕ → WitxError → Type 0
-Refuses w at before now (BadPath path) = (now ≡ before) × Ends w at (refused (bad_path path))
-Refuses w at before now (TooManyFiles path) = (now ≡ before) × Ends w at (refused (too_many path))
-Refuses w at before now (Io path NotFound) = (now ≡ before) × Ends w at (refused (missing path))
-Refuses w at before now (Io path LineNotFound) = ⊥
-Refuses w at before now (Io path Failed) = Rose before now × Breaks w at path
-Refuses w at before now (Parse e) = (now ≡ before) × Ends w at (refused (unreadable e.path (told_fault e)))
-Refuses w at before now (Validation e) = (now ≡ before) × Ends w at (refused (faulty (fault_of e)))
-Refuses w at before now OutOfMemory = now ≡ before
+abbrev pub RefusesFiles : World Fault → Place → ℕ → ℕ → WitxError → Type 0
+RefusesFiles w at before now (BadPath path) = (now ≡ before) × Ends w at (refused (bad_path path))
+RefusesFiles w at before now (TooManyFiles path) = (now ≡ before) × Ends w at (refused (too_many path))
+RefusesFiles w at before now (Io path NotFound) = (now ≡ before) × Ends w at (refused (missing path))
+RefusesFiles w at before now (Io path LineNotFound) = ⊥
+RefusesFiles w at before now (Io path Failed) = Rose before now × Breaks w at path
+RefusesFiles w at before now (Parse e) = (now ≡ before) × Ends w at (refused (unreadable e.path (told_fault e)))
+RefusesFiles w at before now (Validation e) = (now ≡ before) × Ends w at (refused (faulty (fault_of e)))
+RefusesFiles w at before now OutOfMemory = now ≡ before
 
 -- an answer, given as the definitions of its document
 abbrev pub Answer : Type 0
@@ -63,7 +63,7 @@ answer_of (Err e) = Err e
 -- the answer over a world, to the files at these paths
 abbrev pub Answers : World Fault → List Path → ℕ → ℕ → Answer → Type 0
 Answers w handed before now (Ok definitions) = (now ≡ before) × MeansDocument w handed definitions
-Answers w handed before now (Err e) = Refuses w (beginning handed) before now e
+Answers w handed before now (Err e) = RefusesFiles w (beginning handed) before now e
 
 -- the answer is the verdict, but for a failed call and want of memory
 abbrev pub AgreesWith : Verdict Fault → Answer → Type 0
@@ -78,20 +78,20 @@ AgreesWith v (Err (Validation e)) = v ≡ refused (faulty (fault_of e))
 AgreesWith v (Err OutOfMemory) = Unit {0}
 
 -- the claim holds of the world of the files and aliases, where both are told, and the reading of texts
-abbrev pub Told : Option Files → Option Aliases → (World Fault → Type 0) → Type 0
-Told files aliases P =
-    (fs : Files) (links : Aliases) (reading : Reading) → files ≡ Some fs → aliases ≡ Some links → IsReading reading → P (world fs links reading)
+abbrev pub WhereTold : Option Files → Option Aliases → (World Fault → Type 0) → Type 0
+WhereTold files aliases P =
+    (fs : Files) (links : Aliases) (reading : FileReading) → files ≡ Some fs → aliases ≡ Some links → IsReading reading → P (world fs links reading)
 
 -- the answer to the files at these paths, where files and aliases are told
-abbrev pub IsAnswer : Option Files → Option Aliases → List Path → ℕ → ℕ → Answer → Type 0
-IsAnswer files aliases handed before now r = Told files aliases (λ w. Answers w handed before now r)
+abbrev pub IsWalkAnswer : Option Files → Option Aliases → List Path → ℕ → ℕ → Answer → Type 0
+IsWalkAnswer files aliases handed before now r = WhereTold files aliases (λ w. Answers w handed before now r)
 
 -- it is the verdict
 abbrev pub IsVerdictOf : Option Files → Option Aliases → List Path → Answer → Type 0
-IsVerdictOf files aliases handed r = Told files aliases (λ w. (v : Verdict Fault) → IsVerdict w handed v → AgreesWith v r)
+IsVerdictOf files aliases handed r = WhereTold files aliases (λ w. (v : Verdict Fault) → IsVerdict w handed v → AgreesWith v r)
 
 -- what an answer tells of the files: their definitions, or the refusal; a failed call and want of memory tell nothing
-abbrev pub told_by : Answer → Option (Result (List DefinitionTree) (Refusal Fault))
+abbrev pub told_by : Answer → Option (Result (List DefinitionTree) (WalkRefusal Fault))
 told_by (Ok definitions) = Some (Ok definitions)
 told_by (Err (BadPath path)) = Some (Err (bad_path path))
 told_by (Err (TooManyFiles path)) = Some (Err (too_many path))
@@ -105,8 +105,8 @@ told_by (Err OutOfMemory) = None
 -- over told files and aliases two answers that tell something tell the same
 abbrev pub OneAnswer : Type 0
 OneAnswer = (files : Files) (aliases : Aliases) (handed : List Path) (before now before' now' : ℕ) (r s : Answer)
-    (x y : Result (List DefinitionTree) (Refusal Fault))
-    → IsAnswer (Some files) (Some aliases) handed before now r → IsAnswer (Some files) (Some aliases) handed before' now' s
+    (x y : Result (List DefinitionTree) (WalkRefusal Fault))
+    → IsWalkAnswer (Some files) (Some aliases) handed before now r → IsWalkAnswer (Some files) (Some aliases) handed before' now' s
     → told_by r ≡ Some x → told_by s ≡ Some y → x ≡ y
 
 -- ---- over any reader, whether or not it tells its files

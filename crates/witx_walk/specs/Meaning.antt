@@ -2,10 +2,10 @@
 -- walk and no declaration has a fault. A name that two declarations introduce is a fault of the second.
 use Rattle.std.specs.Prelude.{◌≡◌, ℕ, List, [], ◌∷◌, ◌++◌, Option, None, Some}
 use Rattle.witx_base.specs.Paths.{Path}
-use Rattle.witx_files.specs.Files.{Files, Aliases, held, canonical}
+use Rattle.witx_files.specs.Files.{Files, Aliases, text_in, canonical}
 use Rattle.witx_files.specs.declared.location.Location.{Location}
 use Rattle.witx_comments.specs.Comments.{Comments}
-use Rattle.witx_syntax_tree.specs.Trees.{ItemTree, uses, typename, module_of, constant}
+use Rattle.witx_syntax_tree.specs.Trees.{FormTree, uses, typename, module_of, constant}
 use Rattle.witx_ast.specs.Definitions.{DefinitionTree}
 use Rattle.witx_scope.specs.Faults.{Fault, first_fault}
 use Rattle.witx_scope.specs.Places.{location_in}
@@ -14,10 +14,10 @@ use Rattle.witx_scope.specs.Declarations.{Past, nothing_before, decl_checks, dec
 use Rattle.witx_order.specs.Items.{Declared}
 use Rattle.witx_order.specs.Walks.{World}
 use Rattle.witx_order.specs.Fronts.{Means}
-use Rattle.witx_walk.specs.Readings.{Reading}
+use Rattle.witx_walk.specs.Readings.{FileReading}
 
 -- the form of a declaration; a use is none
-abbrev pub form_of : ItemTree → Option DeclForm
+abbrev pub form_of : FormTree → Option DeclForm
 form_of (uses path) = None
 form_of (typename name type_) = Some (typename_form name type_)
 form_of (module_of name items) = Some (module_form name items)
@@ -73,8 +73,8 @@ fault_behind before δ = form_fault (past_of before) (places_of δ) (form_of δ.
 -- ---- files
 
 -- files and aliases, with texts that are read so
-abbrev pub world : Files → Aliases → Reading → World Fault
-world files aliases reading = record { text_at = held files; canonical = canonical aliases; reading = reading; fault_of = fault_behind }
+abbrev pub world : Files → Aliases → FileReading → World Fault
+world files aliases reading = record { text_at = text_in files; canonical = canonical aliases; reading = reading; fault_of = fault_behind }
 
 -- the files at these paths mean a document with these definitions
 abbrev pub MeansDocument : World Fault → List Path → List DefinitionTree → Type 0

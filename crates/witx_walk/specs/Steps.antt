@@ -23,7 +23,7 @@ use Rattle.witx_syntax_tree.specs.declared.tree.DeclSyntax.{DeclSyntax}
 use Rattle.witx_order.specs.Walks.{World, Place, declared_in, is_taken}
 use Rattle.witx_order.specs.Verdicts.{Leads}
 use Rattle.witx_walk.specs.Meaning.{past_of, definitions_of}
-use Rattle.witx_walk.specs.Answers.{Refuses}
+use Rattle.witx_walk.specs.Answers.{RefusesFiles}
 use Rattle.witx_walk.specs.declared.error.WitxError.{WitxError}
 use Rattle.witx_walk.specs.declared.error.WitxError.TheVariants.{Io, Parse, Validation, BadPath, TooManyFiles, OutOfMemory}
 use Rattle.witx_walk.specs.declared.path_set.PathSet.{PathSet}
@@ -67,16 +67,16 @@ abbrev pub IsWell : Walking → Type 0
 IsWell walk = (declared : List Declared) × Holding walk declared
 
 -- what is kept has a place to which the marks lead
-abbrev pub Reaches : World Fault → Walking → Place → (List Path → List Declared → Place) → Type 0
-Reaches w walk at behind = (taken : List Path) × ((declared : List Declared) × (Tracks walk taken declared × Leads w at (behind taken declared)))
+abbrev pub ReachesPlace : World Fault → Walking → Place → (List Path → List Declared → Place) → Type 0
+ReachesPlace w walk at behind = (taken : List Path) × ((declared : List Declared) × (Tracks walk taken declared × Leads w at (behind taken declared)))
 
 -- an answer over told files: Ok leads on, each refusal is where the marks end
-abbrev pub Outcome : {U : Type 0} → World Fault → Place → (List Path → List Declared → Place) → Walking → ℕ → ℕ → Result U WitxError → Type 0
-Outcome w at behind walk before now (Ok u) = (now ≡ before) × Reaches w walk at behind
-Outcome w at behind walk before now (Err e) = Refuses w at before now e
+abbrev pub WalkOutcome : {U : Type 0} → World Fault → Place → (List Path → List Declared → Place) → Walking → ℕ → ℕ → Result U WitxError → Type 0
+WalkOutcome w at behind walk before now (Ok u) = (now ≡ before) × ReachesPlace w walk at behind
+WalkOutcome w at behind walk before now (Err e) = RefusesFiles w at before now e
 
-abbrev pub Never : Path → Type 0
-Never path = ⊥
+abbrev pub NeverComes : Path → Type 0
+NeverComes path = ⊥
 
 abbrev pub IsReached : Option Aliases → Path → ℕ → ℕ → Result Path WitxError → Type 0
 IsReached aliases joined before now (Ok path) = StandsFor aliases joined path × (now ≡ before)

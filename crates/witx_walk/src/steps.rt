@@ -8,7 +8,7 @@ ghost use Rattle.witx_walk.specs.Answers.{Caused, told_fault};
 ghost use Rattle.witx_walk.specs.Meaning.{fault_behind};
 ghost use Rattle.witx_language.specs.FaultPlaces.{fault_view};
 ghost use Rattle.witx_walk.specs.Readings.{syntax_fault};
-ghost use Rattle.witx_walk.specs.Steps.{Holding, IsDeclared, declared_at, IsGot, IsReached, IsWell, Never};
+ghost use Rattle.witx_walk.specs.Steps.{Holding, IsDeclared, declared_at, IsGot, IsReached, IsWell, NeverComes};
 
 use crate::error::WitxError;
 use crate::walking::Walking;
@@ -98,7 +98,7 @@ pub fn declare(
     comments: &CommentSyntax<'_>,
 ) -> Result<(), WitxError>
     ensures taken { walk.new.taken ≡ walk.old.taken }
-    ensures cause { (files : Option Files) (count : ℕ) → Caused Never files count count result }
+    ensures cause { (files : Option Files) (count : ℕ) → Caused NeverComes files count count result }
     ensures well { IsWell walk.old → OnOk result (IsWell walk.new) }
     ensures declared { (declared : List Declared) → Holding walk.old declared →
         IsDeclared

@@ -8,10 +8,10 @@ ghost use Rattle.witx_syntax_tree.specs.Views.{noted_item};
 ghost use Rattle.witx_ast.specs.Definitions.{definition_tree};
 ghost use Rattle.witx_ast.specs.Ordered.{IsOrdered};
 ghost use Rattle.witx_ast.specs.Closed.{IsClosed};
-ghost use Rattle.witx_order.specs.Items.{Declared, Item, items_of, item_of};
+ghost use Rattle.witx_order.specs.Items.{Declared, TextItem, items_of, item_of};
 ghost use Rattle.witx_order.specs.Walks.{OpenFile, Place, open_file, place, reach, wish};
-ghost use Rattle.witx_walk.specs.Answers.{Caused, IsAnswer, answer_of, IsVerdictOf, Told};
-ghost use Rattle.witx_walk.specs.Steps.{AreTakenIn, IsTakenIn, IsWell, Never, Outcome, StayTaken, Tracks};
+ghost use Rattle.witx_walk.specs.Answers.{Caused, IsWalkAnswer, answer_of, IsVerdictOf, WhereTold};
+ghost use Rattle.witx_walk.specs.Steps.{AreTakenIn, IsTakenIn, IsWell, NeverComes, WalkOutcome, StayTaken, Tracks};
 
 use crate::error::WitxError;
 use crate::path_set::PathSet;
@@ -42,13 +42,13 @@ fn take_in<I: WitxIo>(
     ensures grows { OnOk result (btree_set_len walk.old.taken.paths ≤ btree_set_len walk.new.taken.paths) }
     ensures keeps { OnOk result (StayTaken walk.old.taken walk.new.taken) }
     ensures reached { OnOk result (IsTakenIn (I.aliases io.old) joined walk.new.taken) }
-    ensures cause { Caused Never (I.files io.old) (I.faults io.old) (I.faults io.new) result }
+    ensures cause { Caused NeverComes (I.files io.old) (I.faults io.old) (I.faults io.new) result }
     ensures well { IsWell walk.old → OnOk result (IsWell walk.new) }
-    ensures told { Told (I.files io.old) (I.aliases io.old) (λ w.
+    ensures told { WhereTold (I.files io.old) (I.aliases io.old) (λ w.
         (at : Place) (open_files : List OpenFile) (handed taken : List Path) (declared : List Declared)
         → Tracks walk.old taken declared
         → wish at ≡ reach (place open_files handed taken declared) joined directory.now
-        → Outcome w at (place open_files handed) walk.new (I.faults io.old) (I.faults io.new) result) }
+        → WalkOutcome w at (place open_files handed) walk.new (I.faults io.old) (I.faults io.new) result) }
 {
     let path = canonical_path(alloc, joined, io)?;
     if walk.taken.contains(&path) {
@@ -94,12 +94,12 @@ fn take_items<I: WitxIo>(
     ensures aliases { I.aliases io.new ≡ I.aliases io.old }
     ensures grows { OnOk result (btree_set_len walk.old.taken.paths ≤ btree_set_len walk.new.taken.paths) }
     ensures keeps { OnOk result (StayTaken walk.old.taken walk.new.taken) }
-    ensures cause { Caused Never (I.files io.old) (I.faults io.old) (I.faults io.new) result }
+    ensures cause { Caused NeverComes (I.files io.old) (I.faults io.old) (I.faults io.new) result }
     ensures well { IsWell walk.old → OnOk result (IsWell walk.new) }
-    ensures told { Told (I.files io.old) (I.aliases io.old) (λ w.
+    ensures told { WhereTold (I.files io.old) (I.aliases io.old) (λ w.
         (open_files : List OpenFile) (handed taken : List Path) (declared : List Declared)
         → Tracks walk.old taken declared
-        → Outcome w
+        → WalkOutcome w
         (place (open_file path.now.path.now text.now folder.now (Ok (items_of (map noted_item items.now))) ∷ open_files) handed taken declared)
         (place open_files handed) walk.new (I.faults io.old) (I.faults io.new) result) }
 {
@@ -128,13 +128,13 @@ fn take_item<I: WitxIo>(
     ensures keeps { OnOk result (StayTaken walk.old.taken walk.new.taken) }
     ensures uses { AreTakenIn (I.aliases io.old) folder.now progress.old.uses walk.old.taken
         → OnOk result (AreTakenIn (I.aliases io.old) folder.now progress.new.uses walk.new.taken) }
-    ensures cause { Caused Never (I.files io.old) (I.faults io.old) (I.faults io.new) result }
+    ensures cause { Caused NeverComes (I.files io.old) (I.faults io.old) (I.faults io.new) result }
     ensures well { IsWell walk.old → OnOk result (IsWell walk.new) }
-    ensures told { Told (I.files io.old) (I.aliases io.old) (λ w.
-        (left : List Item) (open_files : List OpenFile) (handed taken : List Path) (declared : List Declared)
+    ensures told { WhereTold (I.files io.old) (I.aliases io.old) (λ w.
+        (left : List TextItem) (open_files : List OpenFile) (handed taken : List Path) (declared : List Declared)
         → Tracks walk.old taken declared
         → AreTakenIn (I.aliases io.old) folder.now progress.old.uses walk.old.taken
-        → Outcome w
+        → WalkOutcome w
         (place (open_file path.now.path.now progress.old.lines.text.now folder.now (Ok (item_of (noted_item item.now) ∷ left)) ∷ open_files)
         handed taken declared)
         (place (open_file path.now.path.now progress.old.lines.text.now folder.now (Ok left) ∷ open_files) handed)
@@ -169,10 +169,10 @@ fn take_handed<I: WitxIo>(
     ensures aliases { I.aliases io.new ≡ I.aliases io.old }
     ensures cause { Caused (λ p. (p ≡ path.now) × (file_name p ≡ None)) (I.files io.old) (I.faults io.old) (I.faults io.new) result }
     ensures well { IsWell walk.old → OnOk result (IsWell walk.new) }
-    ensures told { Told (I.files io.old) (I.aliases io.old) (λ w.
+    ensures told { WhereTold (I.files io.old) (I.aliases io.old) (λ w.
         (left taken : List Path) (declared : List Declared)
         → Tracks walk.old taken declared
-        → Outcome w (place [] (path.now ∷ left) taken declared) (place [] left) walk.new (I.faults io.old) (I.faults io.new) result) }
+        → WalkOutcome w (place [] (path.now ∷ left) taken declared) (place [] left) walk.new (I.faults io.old) (I.faults io.new) result) }
 {
     let copy = path.copy()?;
     match path.file_name() {
@@ -195,10 +195,10 @@ fn take_all<I: WitxIo>(
     ensures aliases { I.aliases io.new ≡ I.aliases io.old }
     ensures cause { Caused (λ p. Contains paths.now p × (file_name p ≡ None)) (I.files io.old) (I.faults io.old) (I.faults io.new) result }
     ensures well { IsWell walk.old → OnOk result (IsWell walk.new) }
-    ensures told { Told (I.files io.old) (I.aliases io.old) (λ w.
+    ensures told { WhereTold (I.files io.old) (I.aliases io.old) (λ w.
         (taken : List Path) (declared : List Declared)
         → Tracks walk.old taken declared
-        → Outcome w (place [] paths.now taken declared) (place [] []) walk.new (I.faults io.old) (I.faults io.new) result) }
+        → WalkOutcome w (place [] paths.now taken declared) (place [] []) walk.new (I.faults io.old) (I.faults io.new) result) }
 {
     for path in paths {
         take_handed(alloc, walk, path, io)?;
@@ -223,7 +223,7 @@ fn read_all<I: WitxIo>(alloc: Global, paths: &[WitxPath], io: &mut I) -> Result<
     ensures cause { Caused (λ p. Contains paths.now p × (file_name p ≡ None)) (I.files io.old) (I.faults io.old) (I.faults io.new) result }
     ensures ordered { IfOk result (λ document. IsOrdered (map definition_tree document.definitions)) }
     ensures closed { IfOk result (λ document. IsClosed (map definition_tree document.definitions)) }
-    ensures answer { IsAnswer (I.files io.old) (I.aliases io.old) paths.now (I.faults io.old) (I.faults io.new) (answer_of result) }
+    ensures answer { IsWalkAnswer (I.files io.old) (I.aliases io.old) paths.now (I.faults io.old) (I.faults io.new) (answer_of result) }
 {
     let mut walk = new_walk(alloc)?;
     take_all(alloc, &mut walk, paths, io)?;
@@ -248,7 +248,7 @@ pub fn parse_witx_with<I: WitxIo>(
     ensures cause { Caused (λ p. Contains paths.now p × (file_name p ≡ None)) (I.files io.old) (I.faults io.old) (I.faults io.new) result }
     ensures ordered { IfOk result (λ document. IsOrdered (map definition_tree document.definitions)) }
     ensures closed { IfOk result (λ document. IsClosed (map definition_tree document.definitions)) }
-    ensures answer { IsAnswer (I.files io.old) (I.aliases io.old) paths.now (I.faults io.old) (I.faults io.new) (answer_of result) }
+    ensures answer { IsWalkAnswer (I.files io.old) (I.aliases io.old) paths.now (I.faults io.old) (I.faults io.new) (answer_of result) }
     ensures verdict { IsVerdictOf (I.files io.old) (I.aliases io.old) paths.now (answer_of result) }
 {
     read_all(alloc, paths, io)

@@ -7,9 +7,9 @@ use Rattle.witx_wasm.proofs.Exact.{Takes, takes-before, bind_ok, guard_ok, hold_
 use Rattle.witx_wasm.proofs.ExactTypes.{picked, IsKnownImport, function-exact, import-exact}
 use Rattle.witx_wasm.specs.Binary.{IsFunctionType, IsImport}
 use Rattle.witx_wasm.specs.Forms.{byte, ◌before◌, AreMany, IsVector, IsSized, IsName}
-use Rattle.witx_wasm.specs.Modules.{magic, version, Section, custom, typing, importing, other, IsFramed, anything, IsSection, place, InOrder, types_in, imports_in, HasType, IsModule}
+use Rattle.witx_wasm.specs.Modules.{magic, version, Section, custom, typing, importing, other, IsFramed, anything, IsSection, section_place, AreInOrder, types_in, imports_in, HasType, IsModule}
 use Rattle.witx_wasm.specs.Readers.{Reading, ◌>>=◌, stop, byte_at, sized_at, name_at, vector_at, all_of, literal_at}
-use Rattle.witx_wasm.specs.Reading.{function_type_at, import_at, section_number_at, frame_at, with_types, with_imports, with_other, contents_at, placed, section_at, Sections, no_more, faulty, more, preamble_at, nothing_known, HasFaultBehind, HasFault}
+use Rattle.witx_wasm.specs.Reading.{function_type_at, import_at, section_number_at, frame_at, with_types, with_imports, with_other, contents_at, placed, section_at, Sections, no_more, faulty, more, preamble_at, nothing_known, HasFaultBehind, HasByteFault}
 use Rattle.witx_wasm.specs.declared.fault.Fault.{Fault}
 use Rattle.witx_wasm.specs.declared.fault.FaultKind.TheVariants as kinds
 use Rattle.witx_wasm.specs.declared.fault.Stop.{Stop}
@@ -70,7 +70,7 @@ split-known count (i ∷ is) js h = let r = split-known count is js h.1 in ((h.0
 
 -- a section with this number may stand behind one with the place `last`
 abbrev pub MayStand : ℕ → ℕ → Type 0
-MayStand last number = (number ≡ 0) ⊎ ((0 < number) × (number < 13) × (last < place number))
+MayStand last number = (number ≡ 0) ⊎ ((0 < number) × (number < 13) × (last < section_place number))
 
 from-13 : (n : ℕ) → eqb n 13 ≡ false → n ≤ 13 → n < 13
 from-13 n ne le = let h = eqb-false n 13 ne in omega (arith, h, le)
@@ -79,11 +79,11 @@ positive : (n : ℕ) → eqb n 0 ≡ false → 0 < n
 positive n ne = let h = eqb-false n 0 ne in omega (arith, h)
 
 number-stands : (last : ℕ) (bytes : List ℕ) (n : ℕ × List ℕ) (number : ℕ) (rest : List ℕ)
-    → cond (eqb n.0 0) (Ok n) (cond (eqb n.0 13) (Err (stop kinds.Tag bytes)) (cond (ltb 13 n.0) (Err (stop kinds.SectionId bytes)) (cond (ltb last (place n.0)) (Ok n) (Err (stop kinds.SectionOrder bytes))))) ≡ Ok (number, rest)
+    → cond (eqb n.0 0) (Ok n) (cond (eqb n.0 13) (Err (stop kinds.Tag bytes)) (cond (ltb 13 n.0) (Err (stop kinds.SectionId bytes)) (cond (ltb last (section_place n.0)) (Ok n) (Err (stop kinds.SectionOrder bytes))))) ≡ Ok (number, rest)
     → (n ≡ (number, rest)) × MayStand last number
 number-stands last bytes n number rest e =
     let found : Reading ℕ = Ok n in
-    let ordered = cond (ltb last (place n.0)) found (Err (stop kinds.SectionOrder bytes)) in
+    let ordered = cond (ltb last (section_place n.0)) found (Err (stop kinds.SectionOrder bytes)) in
     let known = cond (ltb 13 n.0) (Err (stop kinds.SectionId bytes)) ordered in
     let untagged = cond (eqb n.0 13) (Err (stop kinds.Tag bytes)) known in
     elim (picked (eqb n.0 0) found untagged (number, rest) e) [
@@ -91,7 +91,7 @@ number-stands last bytes n number rest e =
       | inr h ↦
           let a = guard_ok (eqb n.0 13) (stop kinds.Tag bytes) known (number, rest) h.1 in
           let b = guard_ok (ltb 13 n.0) (stop kinds.SectionId bytes) ordered (number, rest) a.1 in
-          let c = hold_ok (ltb last (place n.0)) (stop kinds.SectionOrder bytes) found (number, rest) b.1 in
+          let c = hold_ok (ltb last (section_place n.0)) (stop kinds.SectionOrder bytes) found (number, rest) b.1 in
           let same = ok_is n (number, rest) c.1 in (
             same,
             subst (λ (p : ℕ × List ℕ). MayStand last p.0) same
@@ -102,7 +102,7 @@ number-stands last bytes n number rest e =
 number-sound : (last : ℕ) (bytes : List ℕ) (number : ℕ) (rest : List ℕ) → section_number_at last bytes ≡ Ok (number, rest) → Takes (byte number) bytes rest × MayStand last number
 unfolding section_number_at
 number-sound last bytes number rest e =
-    let a = bind_ok (byte_at bytes) (λ n. cond (eqb n.0 0) (Ok n) (cond (eqb n.0 13) (Err (stop kinds.Tag bytes)) (cond (ltb 13 n.0) (Err (stop kinds.SectionId bytes)) (cond (ltb last (place n.0)) (Ok n) (Err (stop kinds.SectionOrder bytes)))))) (number, rest) e in
+    let a = bind_ok (byte_at bytes) (λ n. cond (eqb n.0 0) (Ok n) (cond (eqb n.0 13) (Err (stop kinds.Tag bytes)) (cond (ltb 13 n.0) (Err (stop kinds.SectionId bytes)) (cond (ltb last (section_place n.0)) (Ok n) (Err (stop kinds.SectionOrder bytes)))))) (number, rest) e in
     let s = number-stands last bytes a.0 number rest a.2 in
     (subst (λ (p : ℕ × List ℕ). Takes (byte p.0) bytes p.1) s.0 (byte-exact.sound bytes a.0.0 a.0.1 a.1), s.1)
 
@@ -113,7 +113,7 @@ number-again last number front rest (inr h) b =
     let not-zero : eqb number 0 ≡ false = ne_eqb number 0 (λ is. omega (arith, is, h.0)) in
     let not-tag : eqb number 13 ≡ false = ne_eqb number 13 (λ is. omega (arith, is, h.1)) in
     let small : ltb 13 number ≡ false = le-ltb 13 number (omega (arith, h.1)) in
-    rw (byte-exact.again number front rest b, not-zero, not-tag, small, lt-ltb last (place number) h.2) refl
+    rw (byte-exact.again number front rest b, not-zero, not-tag, small, lt-ltb last (section_place number) h.2) refl
 
 frame-sound : (last : ℕ) (bytes : List ℕ) (number : ℕ) (contents rest : List ℕ) → frame_at last bytes ≡ Ok ((number, contents), rest)
     → Takes (IsFramed number contents) bytes rest × MayStand last number
@@ -168,7 +168,7 @@ abbrev Follows : ℕ → Section → Type 0
 Follows last (custom name) = Unit {0}
 Follows last (typing types) = last < 1
 Follows last (importing imports) = last < 2
-Follows last (other number) = last < place number
+Follows last (other number) = last < section_place number
 
 record Contains (known : Progress) (number : ℕ) (contents : List ℕ) (next : Progress) : Type 0 where
   section : Section
@@ -235,9 +235,9 @@ not-large n is large = omega (arith, is, large)
 
 follows-of : (last number : ℕ) (s : Section) → number ≡ number_of s → IsLarge s → MayStand last number → Follows last s
 follows-of last number (custom name) is large h = tt
-follows-of last number (typing types) is large h = elim h [ inl z ↦ omega (arith, is, z) | inr k ↦ subst (λ (n : ℕ). last < place n) is k.2 ]
-follows-of last number (importing imports) is large h = elim h [ inl z ↦ omega (arith, is, z) | inr k ↦ subst (λ (n : ℕ). last < place n) is k.2 ]
-follows-of last number (other n) is large h = elim h [ inl z ↦ absurd (not-large n (omega (arith, is, z)) large) | inr k ↦ subst (λ (n : ℕ). last < place n) is k.2 ]
+follows-of last number (typing types) is large h = elim h [ inl z ↦ omega (arith, is, z) | inr k ↦ subst (λ (n : ℕ). last < section_place n) is k.2 ]
+follows-of last number (importing imports) is large h = elim h [ inl z ↦ omega (arith, is, z) | inr k ↦ subst (λ (n : ℕ). last < section_place n) is k.2 ]
+follows-of last number (other n) is large h = elim h [ inl z ↦ absurd (not-large n (omega (arith, is, z)) large) | inr k ↦ subst (λ (n : ℕ). last < section_place n) is k.2 ]
 
 -- a section's number is none that isn't read
 small-of : (last number : ℕ) (s : Section) → number ≡ number_of s → IsLarge s → MayStand last number → number_of s < 13
@@ -353,7 +353,7 @@ decide : (t : Bool) → (t ≡ true) ⊎ (t ≡ false)
 decide true = inl refl
 decide false = inr refl
 
-place-late : (n : ℕ) → 2 < n → 2 < place n
+place-late : (n : ℕ) → 2 < n → 2 < section_place n
 place-late n h = elim (decide (eqb n 10)) [
   | inl a ↦ rw a (omega arith)
   | inr a ↦ elim (decide (eqb n 11)) [
@@ -371,7 +371,7 @@ after-fresh known (typing types) large f fresh = record { types = λ (h : 1 < 1)
 after-fresh known (importing imports) large f fresh = record { types = λ (h : 2 < 1). absurd (omega (arith, h)); imports = λ (h : 2 < 2). absurd (omega (arith, h)) }
 after-fresh known (other number) large f fresh =
     let late = place-late number large in
-    record { types = λ (h : place number < 1). absurd (omega (arith, h, late)); imports = λ (h : place number < 2). absurd (omega (arith, h, late)) }
+    record { types = λ (h : section_place number < 1). absurd (omega (arith, h, late)); imports = λ (h : section_place number < 2). absurd (omega (arith, h, late)) }
 
 types-after : (known : Progress) (s : Section) → Follows known.last s → IsFresh known → (after known s).types ≡ known.types ++ types_in s
 types-after known (custom name) f fresh = sym (append-nil known.types)
@@ -385,13 +385,13 @@ imports-after known (typing types) f fresh = sym (append-nil known.imports)
 imports-after known (importing imports) f fresh = ap (λ (is : List Import). is ++ imports) (sym (fresh.imports f))
 imports-after known (other number) f fresh = sym (append-nil known.imports)
 
-in-order : (known : Progress) (s : Section) (ss : List Section) → Follows known.last s → InOrder (after known s).last ss → InOrder known.last (s ∷ ss)
+in-order : (known : Progress) (s : Section) (ss : List Section) → Follows known.last s → AreInOrder (after known s).last ss → AreInOrder known.last (s ∷ ss)
 in-order known (custom name) ss f h = h
 in-order known (typing types) ss f h = (f, h)
 in-order known (importing imports) ss f h = (f, h)
 in-order known (other number) ss f h = (f, h)
 
-order-in : (known : Progress) (s : Section) (ss : List Section) → InOrder known.last (s ∷ ss) → Follows known.last s × InOrder (after known s).last ss
+order-in : (known : Progress) (s : Section) (ss : List Section) → AreInOrder known.last (s ∷ ss) → Follows known.last s × AreInOrder (after known s).last ss
 order-in known (custom name) ss h = (tt, h)
 order-in known (typing types) ss h = h
 order-in known (importing imports) ss h = h
@@ -407,7 +407,7 @@ large-in (other number) bytes h = h.0
 pub record Rest (known : Progress) (bytes : List ℕ) (end : Progress) : Type 0 where
   pub sections : List Section
   pub many : AreMany IsSection sections bytes
-  pub order : InOrder known.last sections
+  pub order : AreInOrder known.last sections
   pub types : end.types ≡ known.types ++ flat_map types_in sections
   pub imports : end.imports ≡ known.imports ++ flat_map imports_in sections
   pub known_imports : KnownIn (length end.types) (flat_map imports_in sections)
@@ -439,14 +439,14 @@ sections-sound total known bytes r (more k b bs next rest end' e d) end is fresh
     record {
       sections = s.section ∷ t.sections;
       many = (s.taken.0, rest, s.taken.1, s.taken.2, t.many);
-      order = in-order known s.section t.sections s.follows (subst (λ (p : Progress). InOrder p.last t.sections) s.is_next t.order);
+      order = in-order known s.section t.sections s.follows (subst (λ (p : Progress). AreInOrder p.last t.sections) s.is_next t.order);
       types = types-are;
       imports = imports-are;
       known_imports = both-known (length end.types) (imports_in s.section) (flat_map imports_in t.sections) (all-larger (length known.types) (length end.types) long (imports_in s.section) s.known_at) t.known_imports;
     }
 
 -- no types come behind a section that isn't custom
-no-more-types : (ss : List Section) (bytes : List ℕ) (known : Progress) → AreMany IsSection ss bytes → InOrder known.last ss → 0 < known.last → (behind known ss).types ≡ known.types
+no-more-types : (ss : List Section) (bytes : List ℕ) (known : Progress) → AreMany IsSection ss bytes → AreInOrder known.last ss → 0 < known.last → (behind known ss).types ≡ known.types
 no-more-types [] bytes known many order late = refl
 no-more-types (custom name ∷ ss) bytes known many order late = no-more-types ss many.1 known many.4 order late
 no-more-types (typing types ∷ ss) bytes known many order late = absurd (omega (arith, late, order.0))
@@ -454,7 +454,7 @@ no-more-types (importing imports ∷ ss) bytes known many order late = no-more-t
 no-more-types (other number ∷ ss) bytes known many order late = no-more-types ss many.1 (with_other known number) many.4 order.1 (omega (arith, place-late number many.3.0))
 
 -- the types that are known in front of a section's imports are all types
-known-at : (s : Section) (ss : List Section) (bytes : List ℕ) (known : Progress) → AreMany IsSection ss bytes → InOrder (after known s).last ss
+known-at : (s : Section) (ss : List Section) (bytes : List ℕ) (known : Progress) → AreMany IsSection ss bytes → AreInOrder (after known s).last ss
     → KnownAt (length (behind (after known s) ss).types) s → KnownAt (length known.types) s
 known-at (custom name) ss bytes known many order h = tt
 known-at (typing types) ss bytes known many order h = tt
@@ -466,7 +466,7 @@ pub sections-more : (total : ℕ) (known : Progress) (bytes rest : List ℕ) (ne
 sections-more total known bytes rest next r b bs is e d =
     subst (λ (t : List ℕ). Sections total known t r) (sym is) (more known b bs next rest r (ap (section_at total known) (sym is) ∙ e) d)
 
-pub sections-again : (ss : List Section) (total : ℕ) (known : Progress) (bytes : List ℕ) → AreMany IsSection ss bytes → InOrder known.last ss
+pub sections-again : (ss : List Section) (total : ℕ) (known : Progress) (bytes : List ℕ) → AreMany IsSection ss bytes → AreInOrder known.last ss
     → KnownIn (length (behind known ss).types) (flat_map imports_in ss) → Sections total known bytes (Ok (behind known ss))
 sections-again [] total known bytes many order k = subst (λ (t : List ℕ). Sections total known t (Ok known)) (sym many) (no_more known)
 sections-again (s ∷ ss) total known bytes many order k =
@@ -479,7 +479,7 @@ sections-again (s ∷ ss) total known bytes many order k =
     (many.2 ∙ ap (λ (t : List ℕ). t ++ many.1) begins.2) e (sections-again ss total (after known s) many.1 many.4 o.1 split.1)
 
 -- what is known behind the sections is what they say
-behind-types : (ss : List Section) (bytes : List ℕ) (known : Progress) → AreMany IsSection ss bytes → InOrder known.last ss → IsFresh known
+behind-types : (ss : List Section) (bytes : List ℕ) (known : Progress) → AreMany IsSection ss bytes → AreInOrder known.last ss → IsFresh known
     → ((behind known ss).types ≡ known.types ++ flat_map types_in ss) × ((behind known ss).imports ≡ known.imports ++ flat_map imports_in ss)
 behind-types [] bytes known many order fresh = (sym (append-nil known.types), sym (append-nil known.imports))
 behind-types (s ∷ ss) bytes known many order fresh =
@@ -619,7 +619,7 @@ at-most-one-module bytes m n h k =
 ok-no-fault : (end : Progress) (f : Fault) → well end ≡ Err f → ⊥
 ok-no-fault end f e = cc
 
-pub no-fault : (bytes : List ℕ) (m : WasmModule) (f : Fault) → IsModule m bytes → HasFault f bytes → ⊥
+pub no-fault : (bytes : List ℕ) (m : WasmModule) (f : Fault) → IsModule m bytes → HasByteFault f bytes → ⊥
 no-fault bytes m f h k =
     let a = module-again m bytes h in
     let placed-ok : placed (length bytes) (preamble_at bytes) ≡ Ok a.rest = ap (placed (length bytes)) a.preamble in
@@ -627,7 +627,7 @@ no-fault bytes m f h k =
     ok-no-fault a.end f (sections-one (length bytes) nothing_known a.rest (Ok a.end) a.sections (Err f) d)
 
 abbrev Either : List ℕ → Type 0
-Either bytes = ((m : WasmModule) × IsModule m bytes) ⊎ ((f : Fault) × HasFault f bytes)
+Either bytes = ((m : WasmModule) × IsModule m bytes) ⊎ ((f : Fault) × HasByteFault f bytes)
 
 ended : (bytes rest : List ℕ) → placed (length bytes) (preamble_at bytes) ≡ Ok rest → (r : Result Progress Fault) → Sections (length bytes) nothing_known rest r → Either bytes
 ended bytes rest e (Ok end) d = inl (said end, module-sound (length bytes) bytes rest end e d)
@@ -650,5 +650,5 @@ faults-behind : (total : ℕ) (p : Result (List ℕ) Fault) (f g : Fault) → Ha
 faults-behind total (Err e) f g h k = h ∙ sym k
 faults-behind total (Ok rest) f g h k = fault-is f g (sections-one total nothing_known rest (Err f) h (Err g) k)
 
-pub at-most-one-fault : (bytes : List ℕ) (f g : Fault) → HasFault f bytes → HasFault g bytes → f ≡ g
+pub at-most-one-fault : (bytes : List ℕ) (f g : Fault) → HasByteFault f bytes → HasByteFault g bytes → f ≡ g
 at-most-one-fault bytes f g h k = faults-behind (length bytes) (placed (length bytes) (preamble_at bytes)) f g h k

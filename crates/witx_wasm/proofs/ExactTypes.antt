@@ -7,7 +7,7 @@ use Rattle.witx_wasm.specs.Codes.{reference_code, value_code, mutability_code}
 use Rattle.witx_wasm.specs.Forms.{byte, ◌before◌, IsU32, IsVector, IsName}
 use Rattle.witx_wasm.specs.Modules.{HasType}
 use Rattle.witx_wasm.specs.Readers.{Reading, ◌>>=◌, stop, byte_at, u32_at, vector_at, name_at}
-use Rattle.witx_wasm.specs.Reading.{reference_of, value_of_reference, value_of, reference_fault, value_fault, form_fault, decoded, reference_at, value_at, function_type_at, limits_fault, limits_at, table_at, mutability_at, global_at, type_number_at, described, kind_fault, description_at, import_at}
+use Rattle.witx_wasm.specs.Reading.{reference_of, value_of_reference, value_type_of, reference_fault, value_fault, type_form_fault, decoded, reference_at, value_at, function_type_at, limits_fault, limits_at, table_at, mutability_at, global_at, type_number_at, described, kind_fault, description_at, import_at}
 use Rattle.witx_wasm.specs.declared.fault.FaultKind.{FaultKind}
 use Rattle.witx_wasm.specs.declared.fault.FaultKind.TheVariants as kinds
 use Rattle.witx_wasm.specs.declared.module.FunctionType.{FunctionType}
@@ -51,7 +51,7 @@ value-of-reference b (Some r) t is e =
     let same : Reference r ≡ t = cc in
     reference-is b r is ∙ ap value_code same
 
-value-is : (b : ℕ) (t : ValueType) → value_of b ≡ Some t → b ≡ value_code t
+value-is : (b : ℕ) (t : ValueType) → value_type_of b ≡ Some t → b ≡ value_code t
 value-is b t e =
     let last = value_of_reference (reference_of b) in
     elim (chosen (eqb b 0x7F) I32 (cond (eqb b 0x7E) (Some I64) (cond (eqb b 0x7D) (Some F32) (cond (eqb b 0x7C) (Some F64) last))) t e) [
@@ -68,7 +68,7 @@ value-is b t e =
       ]
     ]
 
-value-code : (t : ValueType) → value_of (value_code t) ≡ Some t
+value-code : (t : ValueType) → value_type_of (value_code t) ≡ Some t
 value-code I32 = refl
 value-code I64 = refl
 value-code F32 = refl
@@ -109,7 +109,7 @@ reference-exact = coded-exact reference_of reference_code (reference_fault kinds
 
 pub value-exact : IsExact value_at IsValueType
 unfolding value_at
-value-exact = coded-exact value_of value_code value_fault value-is value-code
+value-exact = coded-exact value_type_of value_code value_fault value-is value-code
 
 -- ---- functions
 
@@ -130,8 +130,8 @@ with_params params = vector_at value_at params.1 >>= with_results params.0
 function-sound : (bytes : List ℕ) (t : FunctionType) (rest : List ℕ) → function_type_at bytes ≡ Ok (t, rest) → Takes (IsFunctionType t) bytes rest
 unfolding function_type_at
 function-sound bytes t rest e =
-    let a = bind_ok (byte_at bytes) (λ form. cond (eqb form.0 0x60) (vector_at value_at form.1 >>= with_params) (Err (stop (form_fault form.0) bytes))) (t, rest) e in
-    let h = hold_ok (eqb a.0.0 0x60) (stop (form_fault a.0.0) bytes) (vector_at value_at a.0.1 >>= with_params) (t, rest) a.2 in
+    let a = bind_ok (byte_at bytes) (λ form. cond (eqb form.0 0x60) (vector_at value_at form.1 >>= with_params) (Err (stop (type_form_fault form.0) bytes))) (t, rest) e in
+    let h = hold_ok (eqb a.0.0 0x60) (stop (type_form_fault a.0.0) bytes) (vector_at value_at a.0.1 >>= with_params) (t, rest) a.2 in
     let b = bind_ok (vector_at value_at a.0.1) with_params (t, rest) h.1 in
     let c = bind_ok (vector_at value_at b.0.1) (with_results b.0.0) (t, rest) b.2 in
     let vectors = vector-exact value_at IsValueType value-exact in

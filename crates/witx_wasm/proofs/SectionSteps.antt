@@ -4,7 +4,7 @@ use Rattle.std.specs.Prelude.{IfOk, IfErr}
 use Rattle.std.proofs.lemmas.List.{nil_from_length}
 use Rattle.witx_wasm.proofs.ExactModules.{section-sound, section-begins, sections-more, at-most-one-module, no-fault}
 use Rattle.witx_wasm.specs.Modules.{IsModule}
-use Rattle.witx_wasm.specs.Reading.{placed, section_at, Sections, no_more, faulty, preamble_at, nothing_known, Denies, ComesAsErr, HasFault, HasFaultBehind, OfFault, IsAnswerFor}
+use Rattle.witx_wasm.specs.Reading.{placed, section_at, Sections, no_more, faulty, preamble_at, nothing_known, Denies, ComesAsErr, HasByteFault, HasFaultBehind, OfFault, IsAnswerFor}
 use Rattle.witx_wasm.specs.declared.fault.Fault.{Fault}
 use Rattle.witx_wasm.specs.declared.fault.ModuleError.{ModuleError}
 use Rattle.witx_wasm.specs.declared.fault.ModuleError.TheVariants as errors
@@ -34,20 +34,20 @@ is_done total known rest bytes none leads =
 
 -- ---- a module
 
-pub preamble-fault : (bytes : List ℕ) (e : ModuleError) → Denies e (placed (length bytes) (preamble_at bytes)) → OfFault e (λ f. HasFault f bytes)
+pub preamble-fault : (bytes : List ℕ) (e : ModuleError) → Denies e (placed (length bytes) (preamble_at bytes)) → OfFault e (λ f. HasByteFault f bytes)
 preamble-fault bytes errors.OutOfMemory h = tt
 preamble-fault bytes (errors.Fault f) h = subst (HasFaultBehind (length bytes) f) (sym h) refl
 
 pub sections-fault : (bytes rest : List ℕ) (e : ModuleError) → placed (length bytes) (preamble_at bytes) ≡ Ok rest
-    → ComesAsErr e (λ end. Sections (length bytes) nothing_known rest end) → OfFault e (λ f. HasFault f bytes)
+    → ComesAsErr e (λ end. Sections (length bytes) nothing_known rest end) → OfFault e (λ f. HasByteFault f bytes)
 sections-fault bytes rest errors.OutOfMemory p h = tt
 sections-fault bytes rest (errors.Fault f) p h = subst (HasFaultBehind (length bytes) f) (sym p) h
 
-faultless : (bytes : List ℕ) (m : WasmModule) (e : ModuleError) → IsModule m bytes → OfFault e (λ f. HasFault f bytes) → OfFault e (λ f. ⊥)
+faultless : (bytes : List ℕ) (m : WasmModule) (e : ModuleError) → IsModule m bytes → OfFault e (λ f. HasByteFault f bytes) → OfFault e (λ f. ⊥)
 faultless bytes m errors.OutOfMemory is h = tt
 faultless bytes m (errors.Fault f) is h = no-fault bytes m f is h
 
-pub is_answer : (bytes : List ℕ) (r : Result WasmModule ModuleError) → IfOk r (λ m. IsModule m bytes) → IfErr r (λ e. OfFault e (λ f. HasFault f bytes))
+pub is_answer : (bytes : List ℕ) (r : Result WasmModule ModuleError) → IfOk r (λ m. IsModule m bytes) → IfErr r (λ e. OfFault e (λ f. HasByteFault f bytes))
     → (m : WasmModule) → IsModule m bytes → IsAnswerFor m r
 is_answer bytes (Ok n) found fault m is = at-most-one-module bytes n m found is
 is_answer bytes (Err e) found fault m is = faultless bytes m e is fault

@@ -47,17 +47,17 @@ IsSection (other number) bytes = (2 < number) × (number < 13) × HasContents nu
 
 -- The place of a section in the order: that of its number, but the count of data segments, 12, stands before the code, 10,
 -- which stands before the data, 11. (Binary Format, Modules, Modules, and Data Count Section)
-abbrev pub place : ℕ → ℕ
-place number = if number == 10 then 11 else if number == 11 then 12 else if number == 12 then 10 else number
+abbrev pub section_place : ℕ → ℕ
+section_place number = if number == 10 then 11 else if number == 11 then 12 else if number == 12 then 10 else number
 
 -- Behind a section with the place `last` each section has a greater place than the one before, so that none stands twice; custom
 -- ones stand anywhere. (Binary Format, Modules, Modules)
-abbrev pub InOrder : ℕ → List Section → Type 0
-InOrder last [] = Unit {0}
-InOrder last (custom name ∷ sections) = InOrder last sections
-InOrder last (typing types ∷ sections) = (last < 1) × InOrder 1 sections
-InOrder last (importing imports ∷ sections) = (last < 2) × InOrder 2 sections
-InOrder last (other number ∷ sections) = (last < place number) × InOrder (place number) sections
+abbrev pub AreInOrder : ℕ → List Section → Type 0
+AreInOrder last [] = Unit {0}
+AreInOrder last (custom name ∷ sections) = AreInOrder last sections
+AreInOrder last (typing types ∷ sections) = (last < 1) × AreInOrder 1 sections
+AreInOrder last (importing imports ∷ sections) = (last < 2) × AreInOrder 2 sections
+AreInOrder last (other number ∷ sections) = (last < section_place number) × AreInOrder (section_place number) sections
 
 -- the types that a section declares
 abbrev pub types_in : Section → List FunctionType
@@ -82,7 +82,7 @@ HasType count (Global g) = Unit {0}
 
 -- these sections make up the module: they stand in order, and it has their types and imports, of which each is known
 pub record AreSectionsOf (m : WasmModule) (sections : List Section) : Type 0 where
-  pub order : InOrder 0 sections
+  pub order : AreInOrder 0 sections
   pub types : m.types ≡ flat_map types_in sections
   pub imports : m.imports ≡ flat_map imports_in sections
   pub known : AllByRecursion (λ i. HasType (length m.types) i.description) m.imports

@@ -33,9 +33,9 @@ Refuses errors.OutOfMemory reading = Unit {0}
 Refuses (errors.Stop s) reading = reading ≡ Err s
 
 -- what a function answers, seen by view, is what is read, unless memory was refused
-abbrev pub Reads : {A B : Type 0} → (A → B) → Result A ReadError → Result B Stop → Type 0
-Reads view (Ok x) reading = reading ≡ Ok (view x)
-Reads view (Err e) reading = Refuses e reading
+abbrev pub ReadsBytes : {A B : Type 0} → (A → B) → Result A ReadError → Result B Stop → Type 0
+ReadsBytes view (Ok x) reading = reading ≡ Ok (view x)
+ReadsBytes view (Err e) reading = Refuses e reading
 
 -- a byte; at the end of the bytes one is missing
 unfoldable pub byte_at : List ℕ → Reading ℕ

@@ -1,6 +1,6 @@
 -- Reading a module from left to right, up to its first fault.
 use Rattle.std.specs.Prelude.{◌≡◌, ◌-◌, ℕ, Bool, List, [], ◌∷◌, length, Option, Some, None, Result, Ok, Err, nat_lt, ◌==◌, if◌then◌else◌}
-use Rattle.witx_wasm.specs.Modules.{magic, version, place}
+use Rattle.witx_wasm.specs.Modules.{magic, version, section_place}
 use Rattle.witx_wasm.specs.Readers.{Reading, ◌>>=◌, stops, byte_at, literal_at, u32_at, vector_at, sized_at, name_at, all_of}
 use Rattle.witx_wasm.specs.declared.fault.Fault.{Fault}
 use Rattle.witx_wasm.specs.declared.fault.FaultKind.{FaultKind}
@@ -36,8 +36,8 @@ value_of_reference None = None
 value_of_reference (Some r) = Some (Reference r)
 
 -- the type of values that a byte stands for
-abbrev pub value_of : ℕ → Option ValueType
-value_of b =
+abbrev pub value_type_of : ℕ → Option ValueType
+value_type_of b =
     if b == 0x7F then Some I32 else if b == 0x7E then Some I64 else if b == 0x7D then Some F32 else if b == 0x7C then Some F64
     else value_of_reference (reference_of b)
 
@@ -54,8 +54,8 @@ value_fault b = if b == 0x7B then kinds.Vector else reference_fault kinds.ValueT
 
 -- What is wrong with a byte that begins no type of functions: from 0x4E on stand groups and subtypes, and from 0x5E on arrays and
 -- structures, which aren't read. (Binary Format, Types, Composite Types, and Recursive Types)
-abbrev pub form_fault : ℕ → FaultKind
-form_fault b =
+abbrev pub type_form_fault : ℕ → FaultKind
+type_form_fault b =
     if nat_lt b 0x4E then kinds.FunctionForm else if nat_lt b 0x51 then kinds.CompositeType else if nat_lt b 0x5E then kinds.FunctionForm
     else if nat_lt b 0x60 then kinds.CompositeType else kinds.FunctionForm
 
@@ -74,7 +74,7 @@ reference_at bytes = do
 unfoldable pub value_at : List ℕ → Reading ValueType
 value_at bytes = do
   b ← byte_at bytes
-  decoded (value_fault b.0) bytes b.1 (value_of b.0)
+  decoded (value_fault b.0) bytes b.1 (value_type_of b.0)
 
 -- a type of functions; its fault may be its form, at its first byte
 unfoldable pub function_type_at : List ℕ → Reading FunctionType
@@ -85,7 +85,7 @@ function_type_at bytes = do
         params ← vector_at value_at form.1
         results ← vector_at value_at params.1
         Ok (record { params = params.0; results = results.0 }, results.1))
-      else stops (form_fault form.0) bytes
+      else stops (type_form_fault form.0) bytes
 
 -- ---- imports
 
@@ -166,7 +166,7 @@ section_number_at last bytes = do
   if number.0 == 0 then Ok number
       else if number.0 == 13 then stops kinds.Tag bytes
       else if nat_lt 13 number.0 then stops kinds.SectionId bytes
-      else if nat_lt last (place number.0) then Ok number
+      else if nat_lt last (section_place number.0) then Ok number
       else stops kinds.SectionOrder bytes
 
 -- a section's number and contents
@@ -186,7 +186,7 @@ with_imports known imports = record { last = 2; types = known.types; imports = i
 
 -- what is known behind another one
 abbrev pub with_other : Progress → ℕ → Progress
-with_other known number = record { last = place number; types = known.types; imports = known.imports }
+with_other known number = record { last = section_place number; types = known.types; imports = known.imports }
 
 -- what is known behind the contents of the section with the number
 unfoldable pub contents_at : Progress → ℕ → List ℕ → Result Progress Stop
@@ -230,8 +230,8 @@ HasFaultBehind total fault (Err e) = fault ≡ e
 HasFaultBehind total fault (Ok rest) = Sections total nothing_known rest (Err fault)
 
 -- the bytes' fault: the first one from left to right
-abbrev pub HasFault : Fault → List ℕ → Type 0
-HasFault fault bytes = HasFaultBehind (length bytes) fault (placed (length bytes) (preamble_at bytes))
+abbrev pub HasByteFault : Fault → List ℕ → Type 0
+HasByteFault fault bytes = HasFaultBehind (length bytes) fault (placed (length bytes) (preamble_at bytes))
 
 -- a stop in bytes whose end is so far from the beginning, as a function tells it
 abbrev pub told : ℕ → ReadError → ModuleError
@@ -254,9 +254,9 @@ ComesAsErr (errors.Fault fault) P = P (Err fault)
 ComesAsErr errors.OutOfMemory P = Unit {0}
 
 -- the claim holds of what a function answers, unless memory was refused
-abbrev pub Comes : Result Progress ModuleError → (Result Progress Fault → Type 0) → Type 0
-Comes (Ok known) P = P (Ok known)
-Comes (Err e) P = ComesAsErr e P
+abbrev pub HoldsOfAnswer : Result Progress ModuleError → (Result Progress Fault → Type 0) → Type 0
+HoldsOfAnswer (Ok known) P = P (Ok known)
+HoldsOfAnswer (Err e) P = ComesAsErr e P
 
 -- the claim holds of the fault, if the error has one
 abbrev pub OfFault : ModuleError → (Fault → Type 0) → Type 0

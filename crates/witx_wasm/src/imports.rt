@@ -1,7 +1,7 @@
 //! Imports: two names, and what is wanted.
 
 ghost use Rattle.std.specs.Prelude.{◌≡◌};
-ghost use Rattle.witx_wasm.specs.Readers.{Reads};
+ghost use Rattle.witx_wasm.specs.Readers.{ReadsBytes};
 ghost use Rattle.witx_wasm.specs.Reading.{kind_fault, type_number_at, description_at, import_at};
 
 use crate::fault::{FaultKind, ReadError};
@@ -14,7 +14,7 @@ use std::alloc::Global;
 /// The number of one of so many types.
 #[tactic(auto, unfolding(crate::specs::Reading::type_number_at))]
 fn type_number(count: usize, bytes: &[u8]) -> Result<(u32, &[u8]), ReadError>
-    ensures { Reads (λ x. (x.0, x.1.now)) result (type_number_at count bytes.now) }
+    ensures { ReadsBytes (λ x. (x.0, x.1.now)) result (type_number_at count bytes.now) }
 {
     let (number, rest) = number(bytes)?;
     if (number as usize) < count {
@@ -37,7 +37,7 @@ fn kind_fault(byte: u8) -> FaultKind
 /// What is wanted, in a module of so many types.
 #[tactic(auto, unfolding(crate::specs::Reading::description_at))]
 fn description(count: usize, bytes: &[u8]) -> Result<(ImportDescription, &[u8]), ReadError>
-    ensures { Reads (λ x. (x.0, x.1.now)) result (description_at count bytes.now) }
+    ensures { ReadsBytes (λ x. (x.0, x.1.now)) result (description_at count bytes.now) }
 {
     let (kind, rest) = byte(bytes)?;
     match kind {
@@ -64,7 +64,7 @@ fn description(count: usize, bytes: &[u8]) -> Result<(ImportDescription, &[u8]),
 /// An import of a module of so many types.
 #[tactic(auto, unfolding(crate::specs::Reading::import_at))]
 fn import(alloc: Global, count: usize, bytes: &[u8]) -> Result<(Import, &[u8]), ReadError>
-    ensures { Reads (λ x. (x.0, x.1.now)) result (import_at count bytes.now) }
+    ensures { ReadsBytes (λ x. (x.0, x.1.now)) result (import_at count bytes.now) }
 {
     let (module, rest) = name(alloc, bytes)?;
     let (name, rest) = name(alloc, rest)?;

@@ -4,7 +4,7 @@ ghost use Rattle.std.specs.Prelude.{◌≡◌, ◌⊎◌, ℕ, List};
 ghost use Rattle.witx_wasm.specs.declared.fault.Fault.{Fault};
 ghost use Rattle.witx_wasm.specs.declared.module.WasmModule.{WasmModule};
 ghost use Rattle.witx_wasm.specs.Modules.{IsModule};
-ghost use Rattle.witx_wasm.specs.Reading.{HasFault};
+ghost use Rattle.witx_wasm.specs.Reading.{HasByteFault};
 
 /// Bytes are at most one module.
 pub fn at_most_one_module()
@@ -13,15 +13,15 @@ pub fn at_most_one_module()
 
 /// Bytes that are a module have no fault.
 pub fn no_fault_in_a_module()
-    ensures { (bytes : List ℕ) (m : WasmModule) (fault : Fault) → IsModule m bytes → HasFault fault bytes → ⊥ }
+    ensures { (bytes : List ℕ) (m : WasmModule) (fault : Fault) → IsModule m bytes → HasByteFault fault bytes → ⊥ }
 {}
 
 /// Bytes are a module or have a fault.
 pub fn a_module_or_a_fault()
-    ensures { (bytes : List ℕ) → ((m : WasmModule) × IsModule m bytes) ⊎ ((fault : Fault) × HasFault fault bytes) }
+    ensures { (bytes : List ℕ) → ((m : WasmModule) × IsModule m bytes) ⊎ ((fault : Fault) × HasByteFault fault bytes) }
 {}
 
 /// Bytes have at most one fault: one kind at one offset.
 pub fn at_most_one_module_fault()
-    ensures { (bytes : List ℕ) (fault other : Fault) → HasFault fault bytes → HasFault other bytes → fault ≡ other }
+    ensures { (bytes : List ℕ) (fault other : Fault) → HasByteFault fault bytes → HasByteFault other bytes → fault ≡ other }
 {}

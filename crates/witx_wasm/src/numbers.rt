@@ -2,7 +2,7 @@
 
 ghost use Rattle.std.specs.Prelude.{◌≡◌, ◌<◌, ◌≤◌, ◌^◌, ◌-◌, IfOk};
 ghost use Rattle.witx_wasm.specs.declared.fault.ReadError.TheVariants as errors;
-ghost use Rattle.witx_wasm.specs.Readers.{Reads, byte_at, expected_at, unsigned_at, u32_at, sized_at, name_at, stop};
+ghost use Rattle.witx_wasm.specs.Readers.{ReadsBytes, byte_at, expected_at, unsigned_at, u32_at, sized_at, name_at, stop};
 
 use crate::fault::{FaultKind, ReadError, Stop};
 use std::alloc::Global;
@@ -22,7 +22,7 @@ pub fn stopped(kind: FaultKind, bytes: &[u8]) -> ReadError
 /// A byte.
 #[tactic(auto, unfolding(crate::specs::Readers::byte_at))]
 pub fn byte(bytes: &[u8]) -> Result<(u8, &[u8]), ReadError>
-    ensures { Reads (λ x. (x.0, x.1.now)) result (byte_at bytes.now) }
+    ensures { ReadsBytes (λ x. (x.0, x.1.now)) result (byte_at bytes.now) }
 {
     match bytes {
         [] => Err(stopped(FaultKind::End, bytes)),
@@ -33,7 +33,7 @@ pub fn byte(bytes: &[u8]) -> Result<(u8, &[u8]), ReadError>
 /// What stands behind a wanted byte.
 #[tactic(auto, unfolding(crate::specs::Readers::expected_at))]
 pub fn expected(kind: FaultKind, wanted: u8, bytes: &[u8]) -> Result<&[u8], ReadError>
-    ensures { Reads (λ x. x.now) result (expected_at kind wanted bytes.now) }
+    ensures { ReadsBytes (λ x. x.now) result (expected_at kind wanted bytes.now) }
 {
     match bytes {
         [] => Err(stopped(FaultKind::End, bytes)),
@@ -55,7 +55,7 @@ fn group_of(byte: u8) -> u32
 #[tactic(auto, unfolding(crate::specs::Readers::unsigned_at))]
 fn unsigned(bits: u32, bytes: &[u8]) -> Result<(u32, &[u8]), ReadError>
     requires { bits ≤ 32 }
-    ensures number { Reads (λ x. (x.0, x.1.now)) result (unsigned_at bits bytes.now) }
+    ensures number { ReadsBytes (λ x. (x.0, x.1.now)) result (unsigned_at bits bytes.now) }
     ensures small { IfOk result (λ x. x.0 < 2 ^ bits) }
 {
     match bytes {
@@ -79,7 +79,7 @@ fn unsigned(bits: u32, bytes: &[u8]) -> Result<(u32, &[u8]), ReadError>
 
 /// A number below 2^32.
 pub fn number(bytes: &[u8]) -> Result<(u32, &[u8]), ReadError>
-    ensures { Reads (λ x. (x.0, x.1.now)) result (u32_at bytes.now) }
+    ensures { ReadsBytes (λ x. (x.0, x.1.now)) result (u32_at bytes.now) }
 {
     unsigned(32, bytes)
 }
@@ -87,7 +87,7 @@ pub fn number(bytes: &[u8]) -> Result<(u32, &[u8]), ReadError>
 /// As many bytes as the number in front of them says.
 #[tactic(auto, unfolding(crate::specs::Readers::sized_at))]
 pub fn sized(bytes: &[u8]) -> Result<(&[u8], &[u8]), ReadError>
-    ensures { Reads (λ x. (x.0.now, x.1.now)) result (sized_at bytes.now) }
+    ensures { ReadsBytes (λ x. (x.0.now, x.1.now)) result (sized_at bytes.now) }
 {
     let (size, rest) = number(bytes)?;
     let size = size as usize;
@@ -101,7 +101,7 @@ pub fn sized(bytes: &[u8]) -> Result<(&[u8], &[u8]), ReadError>
 /// The text of a name.
 #[tactic(auto, unfolding(crate::specs::Readers::name_at))]
 pub fn text(bytes: &[u8]) -> Result<(&str, &[u8]), ReadError>
-    ensures { Reads (λ x. (x.0.now, x.1.now)) result (name_at bytes.now) }
+    ensures { ReadsBytes (λ x. (x.0.now, x.1.now)) result (name_at bytes.now) }
 {
     let (text, rest) = sized(bytes)?;
     match str::from_utf8(text) {
@@ -115,7 +115,7 @@ pub fn text(bytes: &[u8]) -> Result<(&str, &[u8]), ReadError>
 
 /// A name.
 pub fn name(alloc: Global, bytes: &[u8]) -> Result<(Id, &[u8]), ReadError>
-    ensures { Reads (λ x. (x.0, x.1.now)) result (name_at bytes.now) }
+    ensures { ReadsBytes (λ x. (x.0, x.1.now)) result (name_at bytes.now) }
 {
     let (text, rest) = text(bytes)?;
     Ok((Id::new(alloc, text)?, rest))

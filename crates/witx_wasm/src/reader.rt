@@ -1,7 +1,7 @@
 //! Vectors: a number, and so many values of one form.
 
 ghost use Rattle.std.specs.Prelude.{◌≡◌, ℕ, List};
-ghost use Rattle.witx_wasm.specs.Readers.{Reading, Reads, many_at, vector_at};
+ghost use Rattle.witx_wasm.specs.Readers.{Reading, ReadsBytes, many_at, vector_at};
 
 use crate::fault::ReadError;
 use crate::numbers::number;
@@ -18,7 +18,7 @@ pub trait Reader {
 
     /// A value, and the bytes behind it.
     fn read<'a>(&self, bytes: &'a [u8]) -> Result<(Self::Value, &'a [u8]), ReadError>
-        ensures { Reads (λ x. (x.0, x.1.now)) result (value_at self.now bytes.now) };
+        ensures { ReadsBytes (λ x. (x.0, x.1.now)) result (value_at self.now bytes.now) };
 }
 
 /// A vector. Memory is taken value by value, whatever the number says.
@@ -28,7 +28,7 @@ pub fn vector<'a, R: Reader>(
     reader: &R,
     bytes: &'a [u8],
 ) -> Result<(Items<R::Value>, &'a [u8]), ReadError>
-    ensures { Reads (λ x. (x.0, x.1.now)) result (vector_at (R.value_at reader.now) bytes.now) }
+    ensures { ReadsBytes (λ x. (x.0, x.1.now)) result (vector_at (R.value_at reader.now) bytes.now) }
 {
     let (count, rest) = number(bytes)?;
     many(alloc, reader, count, rest)
@@ -41,7 +41,7 @@ fn many<'a, R: Reader>(
     count: u32,
     bytes: &'a [u8],
 ) -> Result<(Items<R::Value>, &'a [u8]), ReadError>
-    ensures { Reads (λ x. (x.0, x.1.now)) result (many_at (R.value_at reader.now) count bytes.now) }
+    ensures { ReadsBytes (λ x. (x.0, x.1.now)) result (many_at (R.value_at reader.now) count bytes.now) }
 {
     let mut values = Items::new(alloc);
     let mut rest = bytes;

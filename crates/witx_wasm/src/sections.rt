@@ -1,9 +1,9 @@
 //! Sections in their order, and modules.
 
 ghost use Rattle.std.specs.Prelude.{◌≡◌, ◌<◌, ◌-◌, IfOk, IfErr, length};
-ghost use Rattle.witx_wasm.specs.Modules.{IsModule, place, magic, version};
-ghost use Rattle.witx_wasm.specs.Readers.{Reads, all_of, vector_at};
-ghost use Rattle.witx_wasm.specs.Reading.{section_number_at, frame_at, contents_at, section_at, placed, preamble_at, Sections, nothing_known, told, Tells, Comes, HasFault, OfFault, IsAnswerFor};
+ghost use Rattle.witx_wasm.specs.Modules.{IsModule, section_place, magic, version};
+ghost use Rattle.witx_wasm.specs.Readers.{ReadsBytes, all_of, vector_at};
+ghost use Rattle.witx_wasm.specs.Reading.{section_number_at, frame_at, contents_at, section_at, placed, preamble_at, Sections, nothing_known, told, Tells, HoldsOfAnswer, HasByteFault, OfFault, IsAnswerFor};
 ghost use Rattle.witx_wasm.specs.declared.module.WasmModule.{WasmModule};
 
 use crate::fault::{Fault, FaultKind, ModuleError, ReadError};
@@ -25,7 +25,7 @@ pub struct Progress {
 
 /// The place of a section in the order.
 fn place(number: u8) -> u8
-    ensures { result ≡ place number }
+    ensures { result ≡ section_place number }
 {
     match number {
         10 => 11,
@@ -38,7 +38,7 @@ fn place(number: u8) -> u8
 /// The number of a section that may stand behind one with the place `last`.
 #[tactic(auto, unfolding(crate::specs::Reading::section_number_at))]
 fn section_number(last: u8, bytes: &[u8]) -> Result<(u8, &[u8]), ReadError>
-    ensures { Reads (λ x. (x.0, x.1.now)) result (section_number_at last bytes.now) }
+    ensures { ReadsBytes (λ x. (x.0, x.1.now)) result (section_number_at last bytes.now) }
 {
     let (number, rest) = byte(bytes)?;
     if number == 0 {
@@ -57,7 +57,7 @@ fn section_number(last: u8, bytes: &[u8]) -> Result<(u8, &[u8]), ReadError>
 /// A section's number and contents, and what stands behind it.
 #[tactic(auto, unfolding(crate::specs::Reading::frame_at))]
 fn frame(last: u8, bytes: &[u8]) -> Result<(u8, &[u8], &[u8]), ReadError>
-    ensures { Reads (λ x. ((x.0, x.1.now), x.2.now)) result (frame_at last bytes.now) }
+    ensures { ReadsBytes (λ x. ((x.0, x.1.now), x.2.now)) result (frame_at last bytes.now) }
 {
     let (number, rest) = section_number(last, bytes)?;
     let (contents, rest) = sized(rest)?;
@@ -67,7 +67,7 @@ fn frame(last: u8, bytes: &[u8]) -> Result<(u8, &[u8], &[u8]), ReadError>
 /// A vector that is all of the bytes.
 #[tactic(auto, unfolding(crate::specs::Readers::all_of))]
 fn whole<R: Reader>(alloc: Global, reader: &R, bytes: &[u8]) -> Result<Items<R::Value>, ReadError>
-    ensures { Reads (λ x. x) result (all_of (vector_at (R.value_at reader.now) bytes.now)) }
+    ensures { ReadsBytes (λ x. x) result (all_of (vector_at (R.value_at reader.now) bytes.now)) }
 {
     let (values, rest) = vector(alloc, reader, bytes)?;
     if rest.is_empty() {
@@ -81,7 +81,7 @@ fn whole<R: Reader>(alloc: Global, reader: &R, bytes: &[u8]) -> Result<Items<R::
 /// What is known behind the contents of a section.
 #[tactic(auto, unfolding(crate::specs::Reading::contents_at))]
 fn contents(alloc: Global, known: Progress, number: u8, bytes: &[u8]) -> Result<Progress, ReadError>
-    ensures { Reads (λ x. x) result (contents_at known number bytes.now) }
+    ensures { ReadsBytes (λ x. x) result (contents_at known number bytes.now) }
 {
     match number {
         0 => {
@@ -170,7 +170,7 @@ fn section(
 
 /// What all sections say, in a module of so many bytes.
 fn sections(alloc: Global, total: usize, bytes: &[u8]) -> Result<Progress, ModuleError>
-    ensures { Comes result (λ end. Sections total nothing_known bytes.now end) }
+    ensures { HoldsOfAnswer result (λ end. Sections total nothing_known bytes.now end) }
 {
     let mut known = Progress {
         last: 0,
@@ -198,7 +198,7 @@ fn preamble(bytes: &[u8]) -> Result<&[u8], ModuleError>
 
 /// What stands behind `\0asm` and the version.
 fn behind_version(bytes: &[u8]) -> Result<&[u8], ReadError>
-    ensures { Reads (λ x. x.now) result (preamble_at bytes.now) }
+    ensures { ReadsBytes (λ x. x.now) result (preamble_at bytes.now) }
 {
     let rest = expected(FaultKind::Magic, 0, bytes)?;
     let rest = expected(FaultKind::Magic, b'a', rest)?;
@@ -223,7 +223,7 @@ fn behind_version(bytes: &[u8]) -> Result<&[u8], ReadError>
 pub fn read_module(alloc: Global, bytes: &[u8]) -> Result<WasmModule, ModuleError>
     ensures read { IfOk result (λ m. IsModule m bytes.now) }
     ensures only { (m : WasmModule) → IsModule m bytes.now → IsAnswerFor m result }
-    ensures fault { IfErr result (λ e. OfFault e (λ fault. HasFault fault bytes.now)) }
+    ensures fault { IfErr result (λ e. OfFault e (λ fault. HasByteFault fault bytes.now)) }
 {
     module(alloc, bytes)
 }
@@ -231,7 +231,7 @@ pub fn read_module(alloc: Global, bytes: &[u8]) -> Result<WasmModule, ModuleErro
 /// The module, or its fault.
 fn module(alloc: Global, bytes: &[u8]) -> Result<WasmModule, ModuleError>
     ensures read { IfOk result (λ m. IsModule m bytes.now) }
-    ensures fault { IfErr result (λ e. OfFault e (λ fault. HasFault fault bytes.now)) }
+    ensures fault { IfErr result (λ e. OfFault e (λ fault. HasByteFault fault bytes.now)) }
 {
     let rest = preamble(bytes)?;
     let known = sections(alloc, bytes.len(), rest)?;

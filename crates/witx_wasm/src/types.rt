@@ -1,8 +1,8 @@
 //! Types of values, of functions, of tables and of globals, and limits.
 
 ghost use Rattle.std.specs.Prelude.{◌≡◌, ◌<◌};
-ghost use Rattle.witx_wasm.specs.Readers.{Reads};
-ghost use Rattle.witx_wasm.specs.Reading.{reference_of, value_of, reference_fault, value_fault, form_fault, limits_fault, reference_at, value_at, function_type_at, limits_at, table_at, mutability_at, global_at};
+ghost use Rattle.witx_wasm.specs.Readers.{ReadsBytes};
+ghost use Rattle.witx_wasm.specs.Reading.{reference_of, value_type_of, reference_fault, value_fault, type_form_fault, limits_fault, reference_at, value_at, function_type_at, limits_at, table_at, mutability_at, global_at};
 
 use crate::fault::{FaultKind, ReadError};
 use crate::module::{FunctionType, GlobalType, Limits, ReferenceType, TableType, ValueType};
@@ -23,7 +23,7 @@ fn reference_of(byte: u8) -> Option<ReferenceType>
 
 /// The type of values that a byte stands for.
 fn value_of(byte: u8) -> Option<ValueType>
-    ensures { result ≡ value_of byte }
+    ensures { result ≡ value_type_of byte }
 {
     match byte {
         0x7F => Some(ValueType::I32),
@@ -64,7 +64,7 @@ fn value_fault(byte: u8) -> FaultKind
 
 /// What is wrong with a byte that begins no type of functions.
 fn form_fault(byte: u8) -> FaultKind
-    ensures { result ≡ form_fault byte }
+    ensures { result ≡ type_form_fault byte }
 {
     if byte < 0x4E {
         FaultKind::FunctionForm
@@ -82,7 +82,7 @@ fn form_fault(byte: u8) -> FaultKind
 /// A type of references.
 #[tactic(auto, unfolding(crate::specs::Reading::reference_at))]
 fn reference(bytes: &[u8]) -> Result<(ReferenceType, &[u8]), ReadError>
-    ensures { Reads (λ x. (x.0, x.1.now)) result (reference_at bytes.now) }
+    ensures { ReadsBytes (λ x. (x.0, x.1.now)) result (reference_at bytes.now) }
 {
     let (code, rest) = byte(bytes)?;
     match reference_of(code) {
@@ -97,7 +97,7 @@ fn reference(bytes: &[u8]) -> Result<(ReferenceType, &[u8]), ReadError>
 /// A type of values.
 #[tactic(auto, unfolding(crate::specs::Reading::value_at))]
 fn value(bytes: &[u8]) -> Result<(ValueType, &[u8]), ReadError>
-    ensures { Reads (λ x. (x.0, x.1.now)) result (value_at bytes.now) }
+    ensures { ReadsBytes (λ x. (x.0, x.1.now)) result (value_at bytes.now) }
 {
     let (code, rest) = byte(bytes)?;
     match value_of(code) {
@@ -139,7 +139,7 @@ impl Reader for FunctionTypes {
 /// A type of functions.
 #[tactic(auto, unfolding(crate::specs::Reading::function_type_at))]
 fn function_type(alloc: Global, bytes: &[u8]) -> Result<(FunctionType, &[u8]), ReadError>
-    ensures { Reads (λ x. (x.0, x.1.now)) result (function_type_at bytes.now) }
+    ensures { ReadsBytes (λ x. (x.0, x.1.now)) result (function_type_at bytes.now) }
 {
     let (form, rest) = byte(bytes)?;
     if form != 0x60 {
@@ -168,7 +168,7 @@ fn limits_fault(flag: u8) -> FaultKind
 /// Limits.
 #[tactic(auto, unfolding(crate::specs::Reading::limits_at))]
 pub fn limits(bytes: &[u8]) -> Result<(Limits, &[u8]), ReadError>
-    ensures { Reads (λ x. (x.0, x.1.now)) result (limits_at bytes.now) }
+    ensures { ReadsBytes (λ x. (x.0, x.1.now)) result (limits_at bytes.now) }
 {
     let (flag, rest) = byte(bytes)?;
     if flag > 1 {
@@ -186,7 +186,7 @@ pub fn limits(bytes: &[u8]) -> Result<(Limits, &[u8]), ReadError>
 /// A type of tables.
 #[tactic(auto, unfolding(crate::specs::Reading::table_at))]
 pub fn table(bytes: &[u8]) -> Result<(TableType, &[u8]), ReadError>
-    ensures { Reads (λ x. (x.0, x.1.now)) result (table_at bytes.now) }
+    ensures { ReadsBytes (λ x. (x.0, x.1.now)) result (table_at bytes.now) }
 {
     let (element, rest) = reference(bytes)?;
     let (limits, rest) = limits(rest)?;
@@ -196,7 +196,7 @@ pub fn table(bytes: &[u8]) -> Result<(TableType, &[u8]), ReadError>
 /// Whether a global may be changed.
 #[tactic(auto, unfolding(crate::specs::Reading::mutability_at))]
 fn mutability(bytes: &[u8]) -> Result<(bool, &[u8]), ReadError>
-    ensures { Reads (λ x. (x.0, x.1.now)) result (mutability_at bytes.now) }
+    ensures { ReadsBytes (λ x. (x.0, x.1.now)) result (mutability_at bytes.now) }
 {
     let (code, rest) = byte(bytes)?;
     if code > 1 {
@@ -208,7 +208,7 @@ fn mutability(bytes: &[u8]) -> Result<(bool, &[u8]), ReadError>
 /// A type of globals.
 #[tactic(auto, unfolding(crate::specs::Reading::global_at))]
 pub fn global(bytes: &[u8]) -> Result<(GlobalType, &[u8]), ReadError>
-    ensures { Reads (λ x. (x.0, x.1.now)) result (global_at bytes.now) }
+    ensures { ReadsBytes (λ x. (x.0, x.1.now)) result (global_at bytes.now) }
 {
     let (value, rest) = value(bytes)?;
     let (mutable, rest) = mutability(rest)?;

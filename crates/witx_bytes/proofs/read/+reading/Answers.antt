@@ -12,7 +12,7 @@ use Rattle.witx_layout.proofs.LawProofs.{align-low, align-high}
 use Rattle.witx_bytes.specs.Bytes.{held}
 use Rattle.witx_bytes.specs.Payloads.{payload_at}
 use Rattle.witx_bytes.specs.Reading.{number_at, value_at, members_at}
-use Rattle.witx_bytes.specs.Readings.{CanRead, CanReadCase, Reads, case_number}
+use Rattle.witx_bytes.specs.Readings.{CanRead, CanReadCase, ReadAs, case_number}
 use Rattle.witx_bytes.specs.Seen.{seen, seen_in, values_seen}
 use Rattle.witx_bytes.specs.declared.read_error.ReadError.{ReadError}
 use Rattle.witx_bytes.proofs.ReadParts.{ReadTo, read_first, read_within, read_can, read_next, read_stops, can_read_by, case_can_read_by, tuple_can_read, record_can_read, case_below, case_read, case_refused, case_can_read, cases_few}
@@ -152,8 +152,8 @@ read_members-returns-in_err-value t c =
     let ms = c.args.members.now in
     let d = c.index-members-i.result in
     let start : c.rounded_up-start.result ≡ align_to c.loop-i.end (align_of (plain (tree_of d.tref))) = c.rounded_up-start.ensures ∙ ap (align_to c.loop-i.end) c.layout_of-layout.ensures.align in
-    let stops : (e : ReadError) → Reads seen (value_at (plain (tree_of d.tref)) (held c.args.memory.now) (c.args.at + c.rounded_up-start.result)) (Err e) → Reads values_seen (members_at 0 (members_plain c.args.members.now) (held c.args.memory.now) c.args.at) (Err e) =
-    λ e h. read_stops ms c.loop-i.values c.args.at c.loop-i.end c.loop-i.i (held c.args.memory.now) d c.loop-i.invariant c.loop-i-test.true c.index-members-i.is e (subst (λ s. Reads seen (value_at (plain (tree_of d.tref)) (held c.args.memory.now) (c.args.at + s)) (Err e)) start h)
+    let stops : (e : ReadError) → ReadAs seen (value_at (plain (tree_of d.tref)) (held c.args.memory.now) (c.args.at + c.rounded_up-start.result)) (Err e) → ReadAs values_seen (members_at 0 (members_plain c.args.members.now) (held c.args.memory.now) c.args.at) (Err e) =
+    λ e h. read_stops ms c.loop-i.values c.args.at c.loop-i.end c.loop-i.i (held c.args.memory.now) d c.loop-i.invariant c.loop-i-test.true c.index-members-i.is e (subst (λ s. ReadAs seen (value_at (plain (tree_of d.tref)) (held c.args.memory.now) (c.args.at + s)) (Err e)) start h)
     in
     search (rules, stops)
 
@@ -191,9 +191,9 @@ read_cases-returns-in_err-payload t c =
     let cs = cases_plain c.args.cases.now in
     let number : case_number (length c.args.cases.now) (number_at (repr_size c.args.repr) (held c.args.memory.now) c.args.at) ≡ Some c.in-Some.i = search rules in
     let carries : all_bare (cases_plain c.args.cases.now) ≡ false = search rules in
-    let refused : (e : ReadError) → Reads (option_map seen_in) (payload_at c.index-cases-i.result.tref (held c.args.memory.now) (c.args.at + c.args.offset)) (Err e) → Reads seen (value_at (Plain.variant_of c.args.repr (cases_plain c.args.cases.now)) (held c.args.memory.now) c.args.at) (Err e) =
+    let refused : (e : ReadError) → ReadAs (option_map seen_in) (payload_at c.index-cases-i.result.tref (held c.args.memory.now) (c.args.at + c.args.offset)) (Err e) → ReadAs seen (value_at (Plain.variant_of c.args.repr (cases_plain c.args.cases.now)) (held c.args.memory.now) c.args.at) (Err e) =
     λ e h. case_refused c.args.repr c.args.cases.now (held c.args.memory.now) c.args.at c.in-Some.i number c.index-cases-i.result c.index-cases-i.is carries e
-    (subst (λ o. Reads (option_map seen_in) (payload_at c.index-cases-i.result.tref (held c.args.memory.now) (c.args.at + o)) (Err e)) c.requires.offset h)
+    (subst (λ o. ReadAs (option_map seen_in) (payload_at c.index-cases-i.result.tref (held c.args.memory.now) (c.args.at + o)) (Err e)) c.requires.offset h)
     in
     search (rules, refused)
 
@@ -252,7 +252,7 @@ read_tuple-returns t c = search (rules, read_rules)
 pub read_type-returns : goal.read_type-returns
 read_type-returns t c =
     let e = behind_plain (datatype_tree c.deref.result.now) (tree_of c.args.ty.now) (ap datatype_tree c.deref.ensures ∙ c.type_.ensures) in
-    subst (λ t. Reads seen (value_at t (held c.args.memory.now) c.args.at) c.read_datatype.result) (sym e) c.read_datatype.ensures
+    subst (λ t. ReadAs seen (value_at t (held c.args.memory.now) c.args.at) c.read_datatype.result) (sym e) c.read_datatype.ensures
 
 pub read_variant-returns : goal.read_variant-returns
 read_variant-returns t c = search (rules, write_rules)

@@ -1,7 +1,7 @@
 use Rattle.std.proofs.Common.{[], ◌∷◌, ◌++◌, ap, subst, ◌∙◌}
 use Rattle.std.specs.String.{string_bytes}
 use Rattle.std.proofs.lemmas.List.{drop_all}
-use Rattle.witx_comments.specs.Documentation.{documentation_of, text_of_lines, lines_of}
+use Rattle.witx_comments.specs.Documentation.{documentation_of, text_of_lines, doc_lines}
 use Rattle.witx_comments.proofs.Lines.{IsAt, shown, at_start, at_end, at_other, at_line}
 use Rattle.witx_comments.proofs.documentation_text.documentation.Goals as goal
 use Rattle.witx_comments.proofs.documentation_text.documentation.Goals.{in-Some+in_ok-push_str+in_ok-push, in_default}
@@ -21,5 +21,5 @@ loop-comment-preserved c = elim c.match-line.branch [
 
 pub returns : goal.returns
 unfolding documentation_of
-returns c = c.from_string.ensures ∙ at_end _ _ _ (subst (λ l. IsAt c.margin-margin.result (string_bytes c.loop-comment.text) (lines_of (shown c.args.comments.now)) (lines_of (shown l))) (drop_all c.loop-comment.comment-index c.args.comments.now c.loop-comment-test.false) c.loop-comment.invariant)
-    ∙ ap (λ m. text_of_lines m (lines_of (shown c.args.comments.now))) c.margin-margin.ensures
+returns c = c.from_string.ensures ∙ at_end _ _ _ (subst (λ l. IsAt c.margin-margin.result (string_bytes c.loop-comment.text) (doc_lines (shown c.args.comments.now)) (doc_lines (shown l))) (drop_all c.loop-comment.comment-index c.args.comments.now c.loop-comment-test.false) c.loop-comment.invariant)
+    ∙ ap (λ m. text_of_lines m (doc_lines (shown c.args.comments.now))) c.margin-margin.ensures

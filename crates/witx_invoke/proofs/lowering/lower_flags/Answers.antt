@@ -7,7 +7,7 @@ use Rattle.witx_ast.specs.declared.types.IntRepr.{IntRepr}
 use Rattle.witx_machine.specs.Words.{repr_word_type, same_type}
 use Rattle.witx_bytes.specs.Seen.{seen}
 use Rattle.witx_invoke.specs.Representing.{flags_kept}
-use Rattle.witx_call.specs.WordViews.{word_of}
+use Rattle.witx_call.specs.WordViews.{word_view}
 use Rattle.witx_invoke.proofs.FlagLemmas.{flags-word, moved, no-flags-of-it, other-word}
 use Rattle.witx_invoke.proofs.lowering.lower_flags.Goals as goal
 
@@ -29,4 +29,4 @@ returns c =
     let kept : ◌≡◌ {A = Option (IntRepr × ℕ)} (Some (c.in-Some.repr, c.in-Some._count)) (flags_kept (plain (tree_of c.args.named.now.tref))) = search rules in
     let same : same_type c.args.ty (repr_word_type c.in-Some.repr) ≡ true = search rules in
     let one : is_value (plain (tree_of c.args.named.now.tref)) (seen c.args.value.now) ≡ true = search rules in
-    moved c.flags_word.result (option_map word_of) _ _ (flags-word c.args.named.now c.args.ty (seen c.args.value.now) c.in-Some.repr c.in-Some._count kept same one) c.flags_word.ensures
+    moved c.flags_word.result (option_map word_view) _ _ (flags-word c.args.named.now c.args.ty (seen c.args.value.now) c.in-Some.repr c.in-Some._count kept same one) c.flags_word.ensures

@@ -5,7 +5,7 @@ use Rattle.std.proofs.lemmas.Bool.{le-ltb}
 use Rattle.witx_lex.specs.Tokens.{id, word, annot, int}
 use Rattle.std.specs.List.{prefix_len}
 use Rattle.std.specs.Str.{IsCharBoundary}
-use Rattle.witx_lex.specs.Characters.{is_name}
+use Rattle.witx_lex.specs.Characters.{is_name_character}
 use Rattle.witx_lex.specs.Pieces.{run}
 use Rattle.witx_lex.specs.Meaning.{token, is_int}
 use Rattle.witx_lex.proofs.Texts.{IsCharBoundary-ascii_run}
@@ -23,7 +23,7 @@ not_annot c len name e l (inr h) = let q : (get_or name 0 0 == 64) ≡ false = (
 pub range-name-requires-clause-end_boundary : goal.range-name-requires-clause-end_boundary
 range-name-requires-clause-end_boundary c =
     let text = c.args.text.now in
-    subst (IsCharBoundary text) (ap (prefix_len is_name) (sym c.as_bytes.ensures.value) ∙ sym c.name_len-len.ensures.len) (IsCharBoundary-ascii_run is_name text c.utf8.text (λ b e. grind (arith, nat_tests)))
+    subst (IsCharBoundary text) (ap (prefix_len is_name_character) (sym c.as_bytes.ensures.value) ∙ sym c.name_len-len.ensures.len) (IsCharBoundary-ascii_run is_name_character text c.utf8.text (λ b e. grind (arith, nat_tests)))
 
 -- the run that was found, whatever its token is
 one_name : (c : ℕ) (name : List ℕ) → c ≡ get_or name 0 0 → (c ≡ 36 → ⊥) → name ≢ 36 ∷ []

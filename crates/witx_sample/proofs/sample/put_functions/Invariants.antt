@@ -1,7 +1,7 @@
 use Rattle.std.proofs.Common.{◌≡◌, ◌-◌, ◌++◌, string_bytes}
 use Rattle.std.specs.List.{flat_map, range_with_len}
-use Rattle.witx_sample.specs.Samples.{each, func_line}
+use Rattle.witx_sample.specs.Samples.{each_below, sample_func_line}
 use Rattle.witx_sample.proofs.sample.put_functions.Given as goal
 
 abbrev pub invariant-loop-i : goal.invariant-loop-i
-invariant-loop-i l = string_bytes l.text ++ flat_map func_line (range_with_len l.i (l.n - l.i)) ≡ string_bytes l.initial.text ++ each func_line l.n
+invariant-loop-i l = string_bytes l.text ++ flat_map sample_func_line (range_with_len l.i (l.n - l.i)) ≡ string_bytes l.initial.text ++ each_below sample_func_line l.n

@@ -7,7 +7,7 @@ use Rattle.witx_language.specs.declared.nonterminal.Nonterminal.TheVariants.{Tex
 use Rattle.witx_language.specs.declared.token_kind.TokenKind.{TokenKind}
 use Rattle.witx_language.specs.declared.token_kind.TokenKind.TheVariants.{End}
 use Rattle.witx_language.specs.Actions.{the_language}
-use Rattle.witx_language.specs.FaultPlaces.{fault_view, told_at}
+use Rattle.witx_language.specs.FaultPlaces.{fault_view, fault_told_at}
 use Rattle.witx_language.specs.Messages.{message_of}
 use Rattle.witx_language.specs.Values.{some_items}
 use Rattle.witx_language.proofs.Lawful.{lawful}
@@ -34,5 +34,5 @@ returns-clause-fault c =
     text_fault the_language lawful value_view Text text ts c.requires c.in_ok-value.field-0 c.in_ok-value.ensures
     telling fault (fault_view c.token_fault-fault.result) c.in-Fault.is
     (c.token_fault-fault.ensures
-    ∙ ap (λ (expected : List TokenKind). told_at text (message_of expected (slice_index_or c.as_slice-in-Fault.result.now fault.at End)) (start_of text ts fault.at)) c.as_slice-in-Fault-2.ensures.value
-    ∙ ap (λ (kinds : List TokenKind). told_at text (message_of fault.expected.items (slice_index_or kinds fault.at End)) (start_of text ts fault.at)) (c.as_slice-in-Fault.ensures.value ∙ c.in_ok-kinds.ensures))
+    ∙ ap (λ (expected : List TokenKind). fault_told_at text (message_of expected (slice_index_or c.as_slice-in-Fault.result.now fault.at End)) (start_of text ts fault.at)) c.as_slice-in-Fault-2.ensures.value
+    ∙ ap (λ (kinds : List TokenKind). fault_told_at text (message_of fault.expected.items (slice_index_or kinds fault.at End)) (start_of text ts fault.at)) (c.as_slice-in-Fault.ensures.value ∙ c.in_ok-kinds.ensures))

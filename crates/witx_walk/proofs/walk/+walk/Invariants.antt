@@ -4,8 +4,8 @@ use Rattle.witx_base.specs.Paths.{Path}
 use Rattle.witx_syntax_tree.specs.Views.{noted_item}
 use Rattle.witx_order.specs.Items.{Declared, items_of}
 use Rattle.witx_order.specs.Walks.{OpenFile}
-use Rattle.witx_walk.specs.Answers.{Told}
-use Rattle.witx_walk.specs.Steps.{AreTakenIn, IsWell, Reaches, StayTaken, Tracks}
+use Rattle.witx_walk.specs.Answers.{WhereTold}
+use Rattle.witx_walk.specs.Steps.{AreTakenIn, IsWell, ReachesPlace, StayTaken, Tracks}
 use Rattle.witx_walk.proofs.Items.{file_at}
 use Rattle.witx_walk.proofs.walk.+walk.Given as goal
 
@@ -28,8 +28,8 @@ invariant-take_items-loop-item g l = record {
   count : g.I.WitxIo.faults l.io ≡ g.I.WitxIo.faults l.initial.io;
   well : IsWell l.initial.walk → IsWell l.walk;
   text : l.progress.lines.text.now ≡ l.text;
-  told : Told (g.I.WitxIo.files l.initial.io) (g.I.WitxIo.aliases l.initial.io) (λ w.
+  told : WhereTold (g.I.WitxIo.files l.initial.io) (g.I.WitxIo.aliases l.initial.io) (λ w.
       (open_files : List OpenFile) (handed taken : List Path) (declared : List Declared) → Tracks l.initial.walk taken declared
-      → Reaches w l.walk (file_at w l.path.path.now l.text l.folder open_files handed (items_of (map noted_item l.items)) taken declared)
+      → ReachesPlace w l.walk (file_at w l.path.path.now l.text l.folder open_files handed (items_of (map noted_item l.items)) taken declared)
       (file_at w l.path.path.now l.text l.folder open_files handed (items_of (map noted_item (drop l.item-index l.items)))));
 }

@@ -4,16 +4,16 @@ use Rattle.witx_lex.specs.Views.{lexed_view}
 use Rattle.witx_values.specs.Language.{stack_of}
 use Rattle.witx_imports.specs.declared.production.ProductionName.{ProductionName}
 use Rattle.witx_imports.specs.declared.production.ProductionName.TheVariants as p
-use Rattle.witx_imports.specs.Actions.{act}
-use Rattle.witx_imports.specs.Stack.{performed, value_view}
-use Rattle.witx_imports.specs.Values.{Val}
+use Rattle.witx_imports.specs.Actions.{import_act}
+use Rattle.witx_imports.specs.Stack.{import_performed, import_value_view}
+use Rattle.witx_imports.specs.Values.{ImportVal}
 use Rattle.witx_imports.proofs.builder.BuildingActions.perform.Goals as goal
 
-performed_is : (x : ProductionName) (ts : List Lexed) (vs : List Val) → performed x vs ≡ act x ts vs
+performed_is : (x : ProductionName) (ts : List Lexed) (vs : List ImportVal) → import_performed x vs ≡ import_act x ts vs
 performed_is p.NoImports ts vs = refl
 performed_is x ts vs = refl
 
 pub returns : goal.returns
 returns c =
-    subst (λ (vs : List Val). IfOk c.perform.result (λ _. stack_of value_view c.perform.new.stack.items ≡ vs))
-    (performed_is c.args.production (drop c.args._at (map lexed_view c.args._tokens.now)) (stack_of value_view c.args.stack.now.items)) c.perform.ensures
+    subst (λ (vs : List ImportVal). IfOk c.perform.result (λ _. stack_of import_value_view c.perform.new.stack.items ≡ vs))
+    (performed_is c.args.production (drop c.args._at (map lexed_view c.args._tokens.now)) (stack_of import_value_view c.args.stack.now.items)) c.perform.ensures
