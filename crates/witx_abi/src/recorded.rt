@@ -1,4 +1,5 @@
 //! The traces of both sides of a call.
+#![tactic(auto, using(witx_instructions::proofs::Plans::play_rules))]
 
 ghost use Rattle.std.specs.Prelude.{◌≡◌, IfOk, None, map};
 ghost use Rattle.witx_machine.specs.Lowerable.{unlowerable};
@@ -15,7 +16,6 @@ use witx_lowering::{plan_callee, plan_caller};
 /// The trace of the side that calls a function that can be lowered, with the words of its signature.
 ///
 /// The events are those that [`call_wasm`](crate::AbiFunc::call_wasm) hands a generator.
-#[tactic(auto, using(witx_instructions::proofs::Plans::play_rules))]
 pub fn caller_trace<'a>(
     alloc: Global,
     owner: &'a Id,
@@ -37,7 +37,6 @@ pub fn caller_trace<'a>(
 /// The trace of the side that is called, of a function that can be lowered.
 ///
 /// The events are those that [`call_interface`](crate::AbiFunc::call_interface) hands a generator.
-#[tactic(auto, using(witx_instructions::proofs::Plans::play_rules))]
 pub fn callee_trace<'a>(
     alloc: Global,
     owner: &'a Id,

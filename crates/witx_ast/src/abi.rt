@@ -1,4 +1,5 @@
 //! Which results a function may have, under each way of calling it.
+#![tactic(auto, using(crate::proofs::ResultLaws::result_rules))]
 
 ghost use Rattle.std.specs.Prelude.{◌≡◌, Some, None, map, option_map, MatchResult};
 ghost use Rattle.std.specs.Option.{option_copied};
@@ -14,7 +15,6 @@ impl Abi {
     /// Whether the results are permitted, or the reason why not: at most one result. Under
     /// `Preview1` it is a scalar, flags, or an `ok`/`err` variant of named types; under `Stored`
     /// it is a name.
-    #[tactic(auto, using(crate::proofs::ResultLaws::result_rules))]
     pub fn validate(&self, _params: &Params, results: &Params) -> Result<(), &'static str>
         ensures { MatchResult result
             (λ _. results_reason self.now (map param_field results.now) ≡ None)
@@ -31,7 +31,6 @@ impl Abi {
     }
 }
 
-#[tactic(auto, using(crate::proofs::ResultLaws::result_rules))]
 fn validate_result(abi: Abi, tref: &TypeRef) -> Result<(), &'static str>
     ensures { MatchResult result
         (λ _. result_reason abi (tree_of tref.now) ≡ None)
@@ -49,7 +48,6 @@ fn validate_result(abi: Abi, tref: &TypeRef) -> Result<(), &'static str>
     }
 }
 
-#[tactic(auto, using(crate::proofs::ResultLaws::result_rules))]
 fn validate_type(tref: &TypeRef) -> Result<(), &'static str>
     ensures { MatchResult result
         (λ _. type_reason (behind (tree_of tref.now)) ≡ None)
@@ -72,7 +70,6 @@ fn validate_type(tref: &TypeRef) -> Result<(), &'static str>
     }
 }
 
-#[tactic(auto, using(crate::proofs::ResultLaws::result_rules))]
 fn validate_payloads(ok: Option<&TypeRef>, err: Option<&TypeRef>) -> Result<(), &'static str>
     ensures { MatchResult result
         (λ _. payloads_reason (Some (option_map tree_of (option_copied ok.entry), option_map tree_of (option_copied err.entry))) ≡ None)
@@ -92,7 +89,6 @@ fn validate_payloads(ok: Option<&TypeRef>, err: Option<&TypeRef>) -> Result<(), 
 }
 
 /// Whether an `ok` type is named, or is a tuple of named types.
-#[tactic(auto, using(crate::proofs::ResultLaws::result_rules))]
 fn ok_is_named(tref: &TypeRef) -> bool
     ensures { result ≡ ok_named (tree_of tref.now) }
 {
@@ -110,7 +106,6 @@ fn ok_is_named(tref: &TypeRef) -> bool
     }
 }
 
-#[tactic(auto, using(crate::proofs::ResultLaws::result_rules))]
 fn all_are_named(members: &[RecordMember]) -> bool
     ensures { result ≡ all_named (fields_of (map member_field members.now)) }
 {

@@ -1,4 +1,5 @@
 //! The error types of a document's functions.
+#![tactic(auto, using(crate::proofs::ErrorLaws::error_rules))]
 
 ghost use Rattle.std.specs.Prelude.{◌≡◌, map, option_map, OnOk, IfOk};
 ghost use Rattle.std.specs.Option.{option_copied};
@@ -24,7 +25,6 @@ pub type TypeRefs = Items<TypeRef>;
 
 impl Document {
     /// The error types of the functions with one `ok`/`err` result, each once, by first appearance.
-    #[tactic(auto, using(crate::proofs::ErrorLaws::error_rules))]
     pub fn error_types(&self, alloc: Global) -> Result<TypeRefs, OutOfMemory>
         ensures { IfOk result (λ types. map tree_of types ≡ error_types_of (map definition_tree self.now.definitions)) }
     {
@@ -45,7 +45,6 @@ struct Found {
 }
 
 impl Found {
-    #[tactic(auto, using(crate::proofs::ErrorLaws::error_rules))]
     fn add_all(&mut self, definitions: &[Definition]) -> Result<(), OutOfMemory>
         requires { TellsTypes self.old.seen self.old.types }
         ensures { OnOk result (map tree_of self.new.types ≡ and_types (map tree_of self.old.types) (all_errors (map definition_tree definitions.now))) }
@@ -56,7 +55,6 @@ impl Found {
         Ok(())
     }
 
-    #[tactic(auto, using(crate::proofs::ErrorLaws::error_rules))]
     fn add_definition(&mut self, definition: &Definition) -> Result<(), OutOfMemory>
         requires { TellsTypes self.old.seen self.old.types }
         ensures told { OnOk result (TellsTypes self.new.seen self.new.types) }
@@ -68,7 +66,6 @@ impl Found {
         }
     }
 
-    #[tactic(auto, using(crate::proofs::ErrorLaws::error_rules))]
     fn add_items(&mut self, items: &[ModuleDefinition]) -> Result<(), OutOfMemory>
         requires { TellsTypes self.old.seen self.old.types }
         ensures told { OnOk result (TellsTypes self.new.seen self.new.types) }
@@ -84,7 +81,6 @@ impl Found {
         Ok(())
     }
 
-    #[tactic(auto, using(crate::proofs::ErrorLaws::error_rules))]
     fn add(&mut self, error: &TypeRef) -> Result<(), OutOfMemory>
         requires { TellsTypes self.old.seen self.old.types }
         ensures told { OnOk result (TellsTypes self.new.seen self.new.types) }
@@ -97,7 +93,6 @@ impl Found {
     }
 }
 
-#[tactic(auto, using(crate::proofs::ErrorLaws::error_rules))]
 fn error_of(func: &InterfaceFunc) -> Option<&TypeRef>
     ensures { option_map tree_of (option_copied result) ≡ function_error (func_tree func.now) }
 {
@@ -108,7 +103,6 @@ fn error_of(func: &InterfaceFunc) -> Option<&TypeRef>
     error_of_type(&results[0].tref)
 }
 
-#[tactic(auto, using(crate::proofs::ErrorLaws::error_rules))]
 fn error_of_type(tref: &TypeRef) -> Option<&TypeRef>
     ensures { option_map tree_of (option_copied result) ≡ type_error (behind (tree_of tref.now)) }
 {

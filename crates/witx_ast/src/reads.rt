@@ -1,4 +1,5 @@
 //! What is read off a type: the type behind its names, its kind, flags, cases.
+#![tactic(auto, using(crate::proofs::TreeKinds::kind_rules))]
 
 ghost use Rattle.std.specs.Prelude.{◌≡◌, true, false, map, option_map};
 ghost use Rattle.std.specs.Option.{option_copied};
@@ -13,7 +14,6 @@ use std::rc::Rc;
 
 impl TypeRef {
     /// The type behind all names.
-    #[tactic(auto, using(crate::proofs::TreeKinds::kind_rules))]
     pub fn type_(&self) -> &Rc<Datatype>
         ensures { datatype_tree result.now.value ≡ behind (tree_of self.now) }
     {
@@ -27,7 +27,6 @@ impl TypeRef {
     }
 
     /// Whether the type is a name.
-    #[tactic(auto, using(crate::proofs::TreeKinds::kind_rules))]
     pub fn named(&self) -> bool
         ensures { result ≡ is_named (tree_of self.now) }
     {
@@ -40,7 +39,6 @@ impl TypeRef {
 
 impl NamedType {
     /// The type behind all names.
-    #[tactic(auto, using(crate::proofs::TreeKinds::kind_rules))]
     pub fn type_(&self) -> &Rc<Datatype>
         ensures { datatype_tree result.now.value ≡ behind (named_tree self.now) }
     {
@@ -50,7 +48,6 @@ impl NamedType {
 
 impl Datatype {
     /// The word for the kind of the type.
-    #[tactic(auto, using(crate::proofs::TreeKinds::kind_rules))]
     pub fn kind(&self) -> &'static str
         ensures { result.now ≡ kind_word (datatype_tree self.now) }
     {
@@ -68,7 +65,6 @@ impl Datatype {
 
 impl RecordDatatype {
     /// Whether the record is a tuple.
-    #[tactic(auto, using(crate::proofs::TreeKinds::kind_rules))]
     pub fn is_tuple(&self) -> bool
         ensures { result ≡ is_tuple_kind (out-RecordDatatype self.now).kind }
     {
@@ -76,7 +72,6 @@ impl RecordDatatype {
     }
 
     /// What flags are kept in; none for other records.
-    #[tactic(auto, using(crate::proofs::TreeKinds::kind_rules))]
     pub fn bitflags_repr(&self) -> Option<IntRepr>
         ensures { result ≡ flags_repr (out-RecordDatatype self.now).kind }
     {

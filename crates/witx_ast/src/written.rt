@@ -1,5 +1,6 @@
 //! What a hasher is fed of a type: the type as it is written, part by part, and of a name its text, so that a set tells
 //! types apart without comparing each with each, and what a name stands for isn't gone through.
+#![tactic(auto, using(crate::proofs::Feeding::feed_rules))]
 
 ghost use Rattle.std.specs.Prelude.{◌≡◌, map, option_map};
 ghost use Rattle.std.specs.List.{fold};
@@ -12,7 +13,6 @@ use std::hash::{Hash, Hasher};
 
 /// A type by its name, or as it is written out.
 #[cycle(written)]
-#[tactic(auto, using(crate::proofs::Feeding::feed_rules))]
 pub fn feed_type<H: Hasher>(tref: &TypeRef, state: &mut H)
     ensures { state.new ≡ fold H.write state.old (type_writes (tree_of tref.now)) }
 {
@@ -26,7 +26,6 @@ pub fn feed_type<H: Hasher>(tref: &TypeRef, state: &mut H)
 }
 
 #[cycle(written)]
-#[tactic(auto, using(crate::proofs::Feeding::feed_rules))]
 fn feed_datatype<H: Hasher>(datatype: &Datatype, state: &mut H)
     ensures { state.new ≡ fold H.write state.old (type_writes (datatype_tree datatype.now)) }
 {
@@ -62,7 +61,6 @@ fn feed_datatype<H: Hasher>(datatype: &Datatype, state: &mut H)
 }
 
 #[cycle(written)]
-#[tactic(auto, using(crate::proofs::Feeding::feed_rules))]
 fn feed_members<H: Hasher>(members: &[RecordMember], state: &mut H)
     ensures { state.new ≡ fold H.write state.old (members_writes (fields_of (map member_field members.now))) }
 {
@@ -73,7 +71,6 @@ fn feed_members<H: Hasher>(members: &[RecordMember], state: &mut H)
 }
 
 #[cycle(written)]
-#[tactic(auto, using(crate::proofs::Feeding::feed_rules))]
 fn feed_member<H: Hasher>(member: &RecordMember, state: &mut H)
     ensures { state.new ≡ fold H.write state.old (member_writes member.now.name (type_writes (tree_of member.now.tref)) member.now.docs) }
 {
@@ -84,7 +81,6 @@ fn feed_member<H: Hasher>(member: &RecordMember, state: &mut H)
 }
 
 #[cycle(written)]
-#[tactic(auto, using(crate::proofs::Feeding::feed_rules))]
 fn feed_cases<H: Hasher>(cases: &[Case], state: &mut H)
     ensures { state.new ≡ fold H.write state.old (cases_writes (arms_of (map case_arm cases.now))) }
 {
@@ -95,7 +91,6 @@ fn feed_cases<H: Hasher>(cases: &[Case], state: &mut H)
 }
 
 #[cycle(written)]
-#[tactic(auto, using(crate::proofs::Feeding::feed_rules))]
 fn feed_case<H: Hasher>(case: &Case, state: &mut H)
     ensures { state.new ≡ fold H.write state.old (case_writes case.now.name (option_map (λ t. type_writes (tree_of t)) case.now.tref) case.now.docs) }
 {
@@ -105,7 +100,6 @@ fn feed_case<H: Hasher>(case: &Case, state: &mut H)
 }
 
 #[cycle(written)]
-#[tactic(auto, using(crate::proofs::Feeding::feed_rules))]
 fn feed_payload<H: Hasher>(payload: &Option<TypeRef>, state: &mut H)
     ensures { state.new ≡ fold H.write state.old (payload_writes (option_map (λ t. type_writes (tree_of t)) payload.now)) }
 {

@@ -1,4 +1,5 @@
 //! A value's image, written into a memory of bytes.
+#![tactic(auto, using(crate::proofs::Parts::scalar_rules))]
 
 ghost use Rattle.std.specs.Prelude.{◌≡◌, ◌+◌, ◌^◌, ◌<◌, ◌≤◌, ℕ, true, List, map};
 ghost use Rattle.witx_ast.specs.Plain.{plain, Plain, list_of, pointer_to, const_pointer_to, handle, builtin, record_of, variant_of};
@@ -32,7 +33,6 @@ use witx_ast::{
 use witx_layout::Layout;
 
 /// Sets exactly the bytes of the value's image; takes no memory.
-#[tactic(auto, using(crate::proofs::Parts::scalar_rules))]
 pub fn write_value(memory: &mut ByteMemory, at: u32, ty: &TypeRef, value: &Value)
     requires value { is_of (plain (tree_of ty.now)) (seen value.now) ≡ true }
     requires writable { fits (plain (tree_of ty.now)) ≡ true }
@@ -43,7 +43,6 @@ pub fn write_value(memory: &mut ByteMemory, at: u32, ty: &TypeRef, value: &Value
 }
 
 /// The same, with the layout of the type.
-#[tactic(auto, using(crate::proofs::Parts::scalar_rules))]
 pub fn write_laid(memory: &mut ByteMemory, at: u32, ty: &TypeRef, laid: &Laid, value: &Value)
     requires value { is_of (plain (tree_of ty.now)) (seen value.now) ≡ true }
     requires writable { fits (plain (tree_of ty.now)) ≡ true }
@@ -118,7 +117,6 @@ fn write_record(
 }
 
 #[cycle(writing)]
-#[tactic(auto, using(crate::proofs::Parts::scalar_rules))]
 fn write_tuple(
     memory: &mut ByteMemory,
     at: u64,
@@ -138,7 +136,6 @@ fn write_tuple(
 }
 
 #[cycle(writing)]
-#[tactic(auto, using(crate::proofs::Parts::scalar_rules))]
 fn write_other(
     memory: &mut ByteMemory,
     at: u64,
@@ -159,7 +156,6 @@ fn write_other(
 
 /// Members, each at the next multiple of its alignment behind the one before it.
 #[cycle(writing)]
-#[tactic(auto, using(crate::proofs::Parts::scalar_rules))]
 fn write_members(
     memory: &mut ByteMemory,
     at: u64,
@@ -213,7 +209,6 @@ fn write_variant(
 }
 
 #[cycle(writing)]
-#[tactic(auto, using(crate::proofs::Parts::scalar_rules))]
 fn write_cases(
     memory: &mut ByteMemory,
     at: u64,
@@ -241,7 +236,6 @@ fn write_cases(
 
 /// The payload of case i, if it has one.
 #[cycle(writing)]
-#[tactic(auto, using(crate::proofs::Parts::scalar_rules))]
 fn write_payload(
     memory: &mut ByteMemory,
     at: u64,
@@ -263,7 +257,6 @@ fn write_payload(
 
 /// The payload of a case that has one.
 #[cycle(writing)]
-#[tactic(auto, using(crate::proofs::Parts::scalar_rules))]
 fn write_case(memory: &mut ByteMemory, at: u64, case: &Case, known: Option<&Laid>, value: &Value)
     requires value { CanWriteCase case.now.tref (seen value.now) }
     requires room { HasRange at (case_size case.now.tref) (held memory.old) }
@@ -278,7 +271,6 @@ fn write_case(memory: &mut ByteMemory, at: u64, case: &Case, known: Option<&Laid
 
 /// Flags, as one number.
 #[inline(never)]
-#[tactic(auto, using(crate::proofs::Parts::scalar_rules))]
 fn write_flags(
     memory: &mut ByteMemory,
     at: u64,
@@ -303,7 +295,6 @@ fn write_flags(
 
 /// A builtin's number.
 #[inline(never)]
-#[tactic(auto, using(crate::proofs::Parts::scalar_rules))]
 fn write_builtin(memory: &mut ByteMemory, at: u64, ty: BuiltinType, value: &Value)
     requires value { CanWrite (builtin ty) (seen value.now) }
     requires room { HasRange at (size_of (builtin ty)) (held memory.old) }
@@ -322,7 +313,6 @@ fn write_builtin(memory: &mut ByteMemory, at: u64, ty: BuiltinType, value: &Valu
 
 /// A handle.
 #[inline(never)]
-#[tactic(auto, using(crate::proofs::Parts::scalar_rules))]
 fn write_handle(memory: &mut ByteMemory, at: u64, value: &Value)
     requires value { CanWrite handle (seen value.now) }
     requires room { HasRange at (size_of handle) (held memory.old) }
@@ -336,7 +326,6 @@ fn write_handle(memory: &mut ByteMemory, at: u64, value: &Value)
 
 /// A list's address, and its length behind it.
 #[inline(never)]
-#[tactic(auto, using(crate::proofs::Parts::scalar_rules))]
 fn write_list(memory: &mut ByteMemory, at: u64, target: &TypeRef, value: &Value)
     requires value { CanWrite (list_of (plain (tree_of target.now))) (seen value.now) }
     requires room { HasRange at 8 (held memory.old) }
@@ -352,7 +341,6 @@ fn write_list(memory: &mut ByteMemory, at: u64, target: &TypeRef, value: &Value)
 }
 
 #[inline(never)]
-#[tactic(auto, using(crate::proofs::Parts::scalar_rules))]
 fn write_pointer(memory: &mut ByteMemory, at: u64, target: &TypeRef, value: &Value)
     requires value { CanWrite (pointer_to (plain (tree_of target.now))) (seen value.now) }
     requires room { HasRange at 4 (held memory.old) }
@@ -365,7 +353,6 @@ fn write_pointer(memory: &mut ByteMemory, at: u64, target: &TypeRef, value: &Val
 }
 
 #[inline(never)]
-#[tactic(auto, using(crate::proofs::Parts::scalar_rules))]
 fn write_const_pointer(memory: &mut ByteMemory, at: u64, target: &TypeRef, value: &Value)
     requires value { CanWrite (const_pointer_to (plain (tree_of target.now))) (seen value.now) }
     requires room { HasRange at 4 (held memory.old) }

@@ -1,4 +1,5 @@
 //! What is answered of a run that has ended: the parts of its outcome.
+#![tactic(auto, using(crate::proofs::AnswerLemmas::answer_rules))]
 
 ghost use Rattle.std.specs.Prelude.{◌≡◌, IfOk, Option, Some, map, option_map, option_to_list};
 ghost use Rattle.witx_ast.specs.Values as plain_values;
@@ -22,7 +23,6 @@ use witx_bytes::Value;
 use witx_run::{Item, Outcome};
 
 /// The parts of an outcome.
-#[tactic(auto, using(crate::proofs::AnswerLemmas::answer_rules))]
 pub fn outcome_seen(
     alloc: Global,
     outcome: Outcome<Value, Word, Placement>,
@@ -42,7 +42,6 @@ pub fn outcome_seen(
 }
 
 /// The value that the caller gave back, if it is one value alone.
-#[tactic(auto, using(crate::proofs::AnswerLemmas::answer_rules))]
 fn returned(back: Vec<Item<Value, Word>>) -> Option<Value>
     ensures { (reply : Option plain_values.Value) →
         values_in (items_of seen word_view back.items) ≡ Some (option_to_list reply) → option_map seen result ≡ reply }

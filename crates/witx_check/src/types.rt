@@ -1,4 +1,5 @@
 //! Types: the checks of each form of syntax, and the type that it means.
+#![tactic(auto, using(crate::proofs::Onward::type_rules))]
 
 ghost use Rattle.std.specs.Prelude.{◌≡◌, IfOk, IfErr, OnOk, None, [], map, option_map};
 ghost use Rattle.witx_syntax_tree.specs.Views.{type_view, fields_view, types_view, union_fields_view, cases_view, boxed_view};
@@ -98,7 +99,6 @@ pub fn checked_type(
 }
 
 #[cycle(types)]
-#[tactic(auto, using(crate::proofs::Onward::type_rules))]
 fn checked_record(syntax: &RecordSyntax<'_>, scope: &Scope<'_>) -> Result<TypeRef, CheckError>
     ensures ok { OnOk result (first_fault (record_checks (here_of scope.now) syntax.now) ≡ None) }
     ensures tree { IfOk result (λ t. tree_of t ≡ record_meant (here_of scope.now) syntax.now) }
@@ -134,7 +134,6 @@ fn checked_rows(
 }
 
 #[cycle(types)]
-#[tactic(auto, using(crate::proofs::Onward::type_rules))]
 fn checked_tuple(
     syntax: &TupleSyntax<'_>,
     scope: &Scope<'_>,
@@ -174,7 +173,6 @@ fn checked_parts(
 }
 
 #[cycle(types)]
-#[tactic(auto, using(crate::proofs::Onward::type_rules))]
 fn checked_maybe(
     of: &Option<Box<TypedefSyntax<'_>>>,
     scope: &Scope<'_>,
@@ -191,7 +189,6 @@ fn checked_maybe(
 }
 
 #[cycle(types)]
-#[tactic(auto, using(crate::proofs::Onward::type_rules))]
 fn checked_payload(
     of: &Option<TypedefSyntax<'_>>,
     scope: &Scope<'_>,
@@ -208,7 +205,6 @@ fn checked_payload(
 }
 
 #[cycle(types)]
-#[tactic(auto, using(crate::proofs::Onward::type_rules))]
 fn checked_expected(
     syntax: &ExpectedSyntax<'_>,
     scope: &Scope<'_>,

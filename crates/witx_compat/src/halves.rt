@@ -1,4 +1,5 @@
 //! The parameters, or the results, of two functions: those that are mapped, and those that are not.
+#![tactic(auto, using(crate::proofs::Mapping::mapping_rules))]
 
 ghost use Rattle.std.specs.Prelude.{◌≡◌, List, IfOk, OnOk, map, option_map, ◌++◌, ◌∷◌, []};
 ghost use Rattle.std.specs.Option.{option_to_list};
@@ -24,7 +25,6 @@ pub struct Half {
 
 /// Maps each source to the first target of its name. What is left is unknown: first the sources without
 /// a target, then the targets whose name is not mapped.
-#[tactic(auto, using(crate::proofs::Mapping::mapping_rules))]
 pub fn half_of(
     alloc: Global,
     part: Part,
@@ -45,7 +45,6 @@ pub fn half_of(
 }
 
 /// Each source with its target, by a table of the targets.
-#[tactic(auto, using(crate::proofs::Mapping::mapping_rules))]
 fn all_mapped(
     alloc: Global,
     part: Part,
@@ -62,7 +61,6 @@ fn all_mapped(
     Ok(made)
 }
 
-#[tactic(auto, using(crate::proofs::Mapping::mapping_rules))]
 fn put_mapped(
     made: &mut ParamPolyfills,
     part: Part,
@@ -78,7 +76,6 @@ fn put_mapped(
     }
 }
 
-#[tactic(auto, using(crate::proofs::Mapping::mapping_rules))]
 fn put_pair(made: &mut ParamPolyfills, pair: ParamPolyfill) -> Result<(), OutOfMemory>
     ensures { OnOk result (map mapped_view made.new ≡ map mapped_view made.old ++ mapped_view pair ∷ []) }
 {
@@ -87,7 +84,6 @@ fn put_pair(made: &mut ParamPolyfills, pair: ParamPolyfill) -> Result<(), OutOfM
 }
 
 /// Those that are not mapped, by the table of the targets and by what is mapped.
-#[tactic(auto, using(crate::proofs::Mapping::mapping_rules))]
 fn all_unknown(
     alloc: Global,
     part: Part,
@@ -107,7 +103,6 @@ fn all_unknown(
 }
 
 /// The sources whose name a table lacks.
-#[tactic(auto, using(crate::proofs::Mapping::mapping_rules))]
 fn unknown_sources(
     alloc: Global,
     part: Part,
@@ -125,7 +120,6 @@ fn unknown_sources(
 }
 
 /// Appends the targets whose name a table lacks.
-#[tactic(auto, using(crate::proofs::Mapping::mapping_rules))]
 fn put_targets(
     made: &mut ParamUnknowns,
     part: Part,
@@ -142,7 +136,6 @@ fn put_targets(
 }
 
 /// Appends a source, unless it has a target.
-#[tactic(auto, using(crate::proofs::Mapping::mapping_rules))]
 fn put_source(
     made: &mut ParamUnknowns,
     part: Part,
@@ -160,7 +153,6 @@ fn put_source(
 }
 
 /// Appends a target, unless its name is mapped.
-#[tactic(auto, using(crate::proofs::Mapping::mapping_rules))]
 fn put_target(
     made: &mut ParamUnknowns,
     part: Part,

@@ -1,4 +1,5 @@
 //! The conversions of mapped functions, each once.
+#![tactic(auto, using(crate::proofs::OnceLaws::once_rules))]
 
 ghost use Rattle.std.specs.Prelude.{◌≡◌, IfOk, OnOk, map, []};
 ghost use Rattle.std.specs.List.{flat_map};
@@ -15,7 +16,6 @@ use witx_base::{Duplicate, Items, OutOfMemory};
 
 impl FuncPolyfill {
     /// The conversions of the mapped parameters, then those of the mapped results, each once.
-    #[tactic(auto, using(crate::proofs::OnceLaws::once_rules))]
     pub fn type_polyfills(&self, alloc: Global) -> Result<TypePolyfills, OutOfMemory>
         ensures { IfOk result (λ types. map conversion_view types ≡ each_once (function_conversions (function_view self.now))) }
     {
@@ -27,7 +27,6 @@ impl FuncPolyfill {
 
 impl ModulePolyfill {
     /// The conversions of the mapped functions, in order, each once.
-    #[tactic(auto, using(crate::proofs::OnceLaws::once_rules))]
     pub fn type_polyfills(&self, alloc: Global) -> Result<TypePolyfills, OutOfMemory>
         ensures { IfOk result (λ types. map conversion_view types ≡ each_once (module_conversions (module_view self.now))) }
     {
@@ -39,7 +38,6 @@ impl ModulePolyfill {
 
 impl Polyfill {
     /// The conversions of the mapped modules, in order, each once.
-    #[tactic(auto, using(crate::proofs::OnceLaws::once_rules))]
     pub fn type_polyfills(&self, alloc: Global) -> Result<TypePolyfills, OutOfMemory>
         ensures { IfOk result (λ types. map conversion_view types ≡ each_once (flat_map module_conversions (map module_view self.now.modules))) }
     {
@@ -57,7 +55,6 @@ struct Found {
 }
 
 impl Found {
-    #[tactic(auto, using(crate::proofs::OnceLaws::once_rules))]
     fn new(alloc: Global) -> Found
         ensures told { TellsPairs result.seen result.types }
         ensures types { result.types ≡ [] }
@@ -68,7 +65,6 @@ impl Found {
         }
     }
 
-    #[tactic(auto, using(crate::proofs::OnceLaws::once_rules))]
     fn add_modules(&mut self, modules: &[ModulePolyfill]) -> Result<(), OutOfMemory>
         requires { TellsPairs self.old.seen self.old.types }
         ensures { OnOk result (map conversion_view self.new.types
@@ -80,7 +76,6 @@ impl Found {
         Ok(())
     }
 
-    #[tactic(auto, using(crate::proofs::OnceLaws::once_rules))]
     fn add_functions(&mut self, functions: &[FuncPolyfill]) -> Result<(), OutOfMemory>
         requires { TellsPairs self.old.seen self.old.types }
         ensures told { OnOk result (TellsPairs self.new.seen self.new.types) }
@@ -93,7 +88,6 @@ impl Found {
         Ok(())
     }
 
-    #[tactic(auto, using(crate::proofs::OnceLaws::once_rules))]
     fn add_function(&mut self, function: &FuncPolyfill) -> Result<(), OutOfMemory>
         requires { TellsPairs self.old.seen self.old.types }
         ensures told { OnOk result (TellsPairs self.new.seen self.new.types) }
@@ -105,7 +99,6 @@ impl Found {
         Ok(())
     }
 
-    #[tactic(auto, using(crate::proofs::OnceLaws::once_rules))]
     fn add_mapped(&mut self, mapped: &[ParamPolyfill]) -> Result<(), OutOfMemory>
         requires { TellsPairs self.old.seen self.old.types }
         ensures told { OnOk result (TellsPairs self.new.seen self.new.types) }
@@ -118,7 +111,6 @@ impl Found {
         Ok(())
     }
 
-    #[tactic(auto, using(crate::proofs::OnceLaws::once_rules))]
     fn add(&mut self, conversion: &TypePolyfill) -> Result<(), OutOfMemory>
         requires { TellsPairs self.old.seen self.old.types }
         ensures told { OnOk result (TellsPairs self.new.seen self.new.types) }

@@ -1,4 +1,5 @@
 //! Whether each name in a type is that of a typename that stands before, for an equal type.
+#![tactic(auto, using(crate::proofs::Naming::name_rules))]
 
 ghost use Rattle.std.specs.Prelude.{◌≡◌, map};
 ghost use Rattle.witx_ast.specs.Definitions.{definition_tree};
@@ -11,7 +12,6 @@ use witx_ast::{Case, Datatype, Definition, RecordMember, TypeRef};
 
 /// Whether so it is of each name in this type. What a name stands for isn't entered.
 #[cycle(naming)]
-#[tactic(auto, using(crate::proofs::Naming::name_rules))]
 pub(crate) fn names_stand(before: &[Definition], tref: &TypeRef) -> bool
     ensures { result ≡ names_stand (map definition_tree before.now) (tree_of tref.now) }
 {
@@ -22,7 +22,6 @@ pub(crate) fn names_stand(before: &[Definition], tref: &TypeRef) -> bool
 }
 
 #[cycle(naming)]
-#[tactic(auto, using(crate::proofs::Naming::name_rules))]
 fn datatype_stands(before: &[Definition], datatype: &Datatype) -> bool
     ensures { result ≡ names_stand (map definition_tree before.now) (datatype_tree datatype.now) }
 {
@@ -38,7 +37,6 @@ fn datatype_stands(before: &[Definition], datatype: &Datatype) -> bool
 }
 
 #[cycle(naming)]
-#[tactic(auto, using(crate::proofs::Naming::name_rules))]
 fn members_stand(before: &[Definition], members: &[RecordMember]) -> bool
     ensures { result ≡ fields_stand (map definition_tree before.now) (fields_of (map member_field members.now)) }
 {
@@ -51,7 +49,6 @@ fn members_stand(before: &[Definition], members: &[RecordMember]) -> bool
 }
 
 #[cycle(naming)]
-#[tactic(auto, using(crate::proofs::Naming::name_rules))]
 fn cases_stand(before: &[Definition], cases: &[Case]) -> bool
     ensures { result ≡ arms_stand (map definition_tree before.now) (arms_of (map case_arm cases.now)) }
 {
@@ -64,7 +61,6 @@ fn cases_stand(before: &[Definition], cases: &[Case]) -> bool
 }
 
 #[cycle(naming)]
-#[tactic(auto, using(crate::proofs::Naming::name_rules))]
 fn case_stands(before: &[Definition], case: &Case) -> bool
     ensures { result ≡ payload_stands (map definition_tree before.now) case.now.tref }
 {

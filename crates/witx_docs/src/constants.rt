@@ -1,4 +1,5 @@
 //! The constants of a document, by the names of their types.
+#![tactic(auto, using(crate::proofs::Standing::standing_rules))]
 
 ghost use Rattle.std.specs.Prelude.{◌≡◌, ◌∷◌, ◌++◌, [], ℕ, List, IfOk, OnOk, map};
 ghost use Rattle.witx_ast.specs.Definitions.{definition_tree};
@@ -15,7 +16,6 @@ use witx_base::{Duplicate, Id, Items, OutOfMemory};
 pub type ConstantsByType<'a> = BTreeMap<Id, Items<&'a Constant>>;
 
 /// The constants among definitions.
-#[tactic(auto, using(crate::proofs::Standing::standing_rules))]
 pub fn constants_by_type<'a>(
     alloc: Global,
     definitions: &'a [Definition],
@@ -33,7 +33,6 @@ pub fn constants_by_type<'a>(
 }
 
 /// Adds a constant behind those of its type.
-#[tactic(auto, using(crate::proofs::Standing::standing_rules))]
 fn add_constant<'a>(
     alloc: Global,
     constants: &mut ConstantsByType<'a>,

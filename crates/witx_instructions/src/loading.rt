@@ -1,4 +1,5 @@
 //! The events that make room for results, and that load through return pointers.
+#![tactic(auto, using(crate::proofs::Sides::side_rules))]
 
 ghost use Rattle.std.specs.Prelude.{◌≡◌, ◌++◌, ◌∷◌, [], IfOk, cond, is_some};
 ghost use Rattle.witx_ast.specs.Views.{tree_of};
@@ -16,7 +17,6 @@ use witx_ast::TypeRef;
 use witx_base::OutOfMemory;
 
 /// Makes room for what the return pointers point to, and pushes their addresses.
-#[tactic(auto, using(crate::proofs::Sides::side_rules))]
 pub fn make_spaces<'a>(plan: &mut Plan<'a>, pointers: &Pointers<'a>) -> Result<(), OutOfMemory>
     ensures { IfOk result (λ _. planned_events plan.new ≡ planned_events plan.old ++ traces.make_spaces 0 (pointer_types pointers.now)) }
 {
@@ -29,7 +29,6 @@ pub fn make_spaces<'a>(plan: &mut Plan<'a>, pointers: &Pointers<'a>) -> Result<(
 }
 
 /// The block for ok of the side that calls.
-#[tactic(auto, using(crate::proofs::Sides::side_rules))]
 pub fn lift_ok_block<'a>(
     plan: &mut Plan<'a>,
     ok: Option<&'a TypeRef>,
@@ -49,7 +48,6 @@ pub fn lift_ok_block<'a>(
     )
 }
 
-#[tactic(auto, using(crate::proofs::Sides::side_rules))]
 fn lift_ok<'a>(
     plan: &mut Plan<'a>,
     ok: Option<&'a TypeRef>,
@@ -67,7 +65,6 @@ fn lift_ok<'a>(
     }
 }
 
-#[tactic(auto, using(crate::proofs::Sides::side_rules))]
 fn pack<'a>(plan: &mut Plan<'a>, tref: &TypeRef, amt: usize) -> Result<(), OutOfMemory>
     ensures { IfOk result (λ _. planned_events plan.new ≡ planned_events plan.old
         ++ cond (is_tuple (tree_of tref.now)) (machine.emit (machine.Step.TupleLift amt) ∷ []) []) }
@@ -80,7 +77,6 @@ fn pack<'a>(plan: &mut Plan<'a>, tref: &TypeRef, amt: usize) -> Result<(), OutOf
 }
 
 /// Loads through all return pointers, in order.
-#[tactic(auto, using(crate::proofs::Sides::side_rules))]
 pub fn load_all<'a>(plan: &mut Plan<'a>, pointers: &Pointers<'a>) -> Result<(), OutOfMemory>
     ensures { IfOk result (λ _. planned_events plan.new ≡ planned_events plan.old ++ traces.load_all 0 (pointer_types pointers.now)) }
 {

@@ -1,4 +1,5 @@
 //! The return pointers of a function, by the types that they point to.
+#![tactic(auto, using(crate::proofs::Sides::side_rules))]
 
 ghost use Rattle.std.specs.Prelude.{◌≡◌, ◌++◌, ◌∷◌, [], None, Some, IfOk, map, take, true};
 ghost use Rattle.witx_ast.specs.declared.function.Abi.TheVariants.{Preview1, Stored};
@@ -19,7 +20,6 @@ use witx_base::{Items, OutOfMemory};
 pub type Pointers<'a> = Items<&'a Rc<NamedType>>;
 
 /// The return pointers of a function that can be lowered.
-#[tactic(auto, using(crate::proofs::Sides::side_rules))]
 pub fn return_pointers<'a>(
     alloc: Global,
     abi: Abi,
@@ -47,7 +47,6 @@ fn stored_pointer<'a>(alloc: Global, results: &'a Params) -> Result<Pointers<'a>
     Ok(pointers)
 }
 
-#[tactic(auto, using(crate::proofs::Sides::side_rules))]
 fn first_pointers<'a>(alloc: Global, results: &'a Params) -> Result<Pointers<'a>, OutOfMemory>
     requires { unlowerable_result Preview1 (param_types results.now) ≡ None }
     ensures { IfOk result (λ pointers. pointer_types pointers ≡ pointers_of (param_types results.now)) }
@@ -58,7 +57,6 @@ fn first_pointers<'a>(alloc: Global, results: &'a Params) -> Result<Pointers<'a>
     }
 }
 
-#[tactic(auto, using(crate::proofs::Sides::side_rules))]
 fn result_pointers<'a>(alloc: Global, tref: &'a TypeRef) -> Result<Pointers<'a>, OutOfMemory>
     requires { can_be_result Preview1 (tree_of tref.now) ≡ true }
     ensures { IfOk result (λ pointers. pointer_types pointers ≡ pointers_by (result_cases (tree_of tref.now))) }

@@ -1,4 +1,5 @@
 //! Whether a record or a variant can come back as a result.
+#![tactic(auto, using(witx_ast::proofs::TreeKinds::kind_rules, crate::proofs::Results::lowerable_rules))]
 
 ghost use Rattle.std.specs.Prelude.{◌≡◌, map};
 ghost use Rattle.witx_ast.specs.Views.{tree_of, datatype_tree, record_tree, variant_tree};
@@ -9,7 +10,6 @@ use crate::reading::{err_type, is_tuple, ok_type, passes_one_i32};
 use witx_ast::{Datatype, IntRepr, Members, RecordDatatype, RecordKind, TypeRef, Variant};
 
 /// Whether a record can come back: named flags.
-#[tactic(auto, using(witx_ast::proofs::TreeKinds::kind_rules, crate::proofs::Results::lowerable_rules))]
 pub fn record_can_return(record: &RecordDatatype, named: bool) -> bool
     ensures { result ≡ can_return named (record_tree «record».now) }
 {
@@ -20,7 +20,6 @@ pub fn record_can_return(record: &RecordDatatype, named: bool) -> bool
 }
 
 /// Whether a variant can come back, as a result of `ok` and `err`.
-#[tactic(auto, using(witx_ast::proofs::TreeKinds::kind_rules, crate::proofs::Results::lowerable_rules))]
 pub fn variant_can_return(variant: &Variant, named: bool) -> bool
     ensures { result ≡ can_return named (variant_tree variant.now) }
 {
@@ -30,7 +29,6 @@ pub fn variant_can_return(variant: &Variant, named: bool) -> bool
     }
 }
 
-#[tactic(auto, using(witx_ast::proofs::TreeKinds::kind_rules, crate::proofs::Results::lowerable_rules))]
 fn cases_can_return(variant: &Variant, named: bool) -> bool
     ensures { result ≡ cases_can_return named (variant_arms variant.now) }
 {
@@ -40,7 +38,6 @@ fn cases_can_return(variant: &Variant, named: bool) -> bool
         && can_be_err(err_type(variant))
 }
 
-#[tactic(auto, using(witx_ast::proofs::TreeKinds::kind_rules, crate::proofs::Results::lowerable_rules))]
 fn can_be_ok(ok: Option<&TypeRef>) -> bool
     ensures { result ≡ can_be_ok (payload_tree ok.entry) }
 {
@@ -50,7 +47,6 @@ fn can_be_ok(ok: Option<&TypeRef>) -> bool
     }
 }
 
-#[tactic(auto, using(witx_ast::proofs::TreeKinds::kind_rules, crate::proofs::Results::lowerable_rules))]
 fn can_be_err(err: Option<&TypeRef>) -> bool
     ensures { result ≡ can_be_err (payload_tree err.entry) }
 {
@@ -61,7 +57,6 @@ fn can_be_err(err: Option<&TypeRef>) -> bool
 }
 
 // Whether the members of a tuple are names; true for what isn't a tuple.
-#[tactic(auto, using(witx_ast::proofs::TreeKinds::kind_rules, crate::proofs::Results::lowerable_rules))]
 fn members_are_named(datatype: &Datatype) -> bool
     ensures { result ≡ members_are_named (datatype_tree datatype.now) }
 {
@@ -71,7 +66,6 @@ fn members_are_named(datatype: &Datatype) -> bool
     }
 }
 
-#[tactic(auto, using(witx_ast::proofs::TreeKinds::kind_rules, crate::proofs::Results::lowerable_rules))]
 fn tuple_is_named(record: &RecordDatatype) -> bool
     ensures { result ≡ members_are_named (record_tree «record».now) }
 {
@@ -81,7 +75,6 @@ fn tuple_is_named(record: &RecordDatatype) -> bool
     }
 }
 
-#[tactic(auto, using(witx_ast::proofs::TreeKinds::kind_rules, crate::proofs::Results::lowerable_rules))]
 fn all_are_named(members: &Members) -> bool
     ensures { result ≡ all_names (map (λ m. tree_of m.tref) members.now) }
 {

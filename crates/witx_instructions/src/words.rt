@@ -1,4 +1,5 @@
 //! The words of parameters, of results and of return pointers.
+#![tactic(auto, using(crate::proofs::Signatures::signature_rules))]
 
 ghost use Rattle.std.specs.Prelude.{◌≡◌, ◌++◌, IfOk, length, map, replicate};
 ghost use Rattle.witx_ast.specs.Views.{tree_of, datatype_tree, record_tree};
@@ -14,7 +15,6 @@ use witx_base::{Items, OutOfMemory};
 use witx_machine::WasmType;
 
 /// The types of the words that come back.
-#[tactic(auto, using(crate::proofs::Signatures::signature_rules))]
 pub fn words_back(alloc: Global, func: &InterfaceFunc) -> Result<WasmTypes, OutOfMemory>
     ensures { IfOk result (λ words. words ≡ signature_results (called func.now)) }
 {
@@ -24,7 +24,6 @@ pub fn words_back(alloc: Global, func: &InterfaceFunc) -> Result<WasmTypes, OutO
     }
 }
 
-#[tactic(auto, using(crate::proofs::Signatures::signature_rules))]
 fn result_words(alloc: Global, results: &Params) -> Result<WasmTypes, OutOfMemory>
     ensures { IfOk result (λ words. words ≡ words_of_results (param_types results.now)) }
 {
@@ -38,7 +37,6 @@ fn result_words(alloc: Global, results: &Params) -> Result<WasmTypes, OutOfMemor
 }
 
 /// Appends the words of parameters.
-#[tactic(auto, using(crate::proofs::Signatures::signature_rules))]
 pub fn push_params(words: &mut WasmTypes, params: &Params) -> Result<(), OutOfMemory>
     ensures { IfOk result (λ _. words.new ≡ words.old ++ words_of_params (param_types params.now)) }
 {
@@ -49,7 +47,6 @@ pub fn push_params(words: &mut WasmTypes, params: &Params) -> Result<(), OutOfMe
 }
 
 /// A pointer for each part of what an `ok` carries.
-#[tactic(auto, using(crate::proofs::Signatures::signature_rules))]
 pub fn push_ok_pointers(words: &mut WasmTypes, results: &Params) -> Result<(), OutOfMemory>
     ensures { IfOk result (λ _. words.new ≡ words.old ++ map (λ t. WasmType.I32) (pointers_of (param_types results.now))) }
 {
@@ -59,7 +56,6 @@ pub fn push_ok_pointers(words: &mut WasmTypes, results: &Params) -> Result<(), O
     Ok(())
 }
 
-#[tactic(auto, using(crate::proofs::Signatures::signature_rules))]
 fn push_i32s(words: &mut WasmTypes, count: usize) -> Result<(), OutOfMemory>
     ensures { IfOk result (λ _. words.new ≡ words.old ++ replicate count WasmType.I32) }
 {
@@ -70,7 +66,6 @@ fn push_i32s(words: &mut WasmTypes, count: usize) -> Result<(), OutOfMemory>
 }
 
 // How many return pointers a result has.
-#[tactic(auto, using(crate::proofs::Signatures::signature_rules))]
 fn pointer_count(tref: &TypeRef) -> usize
     ensures { result ≡ length (pointers_by (result_cases (tree_of tref.now))) }
 {
@@ -80,7 +75,6 @@ fn pointer_count(tref: &TypeRef) -> usize
     }
 }
 
-#[tactic(auto, using(crate::proofs::Signatures::signature_rules))]
 fn ok_count(ok: Option<&TypeRef>) -> usize
     ensures { result ≡ length (ok_pointers (payload_tree ok.entry)) }
 {

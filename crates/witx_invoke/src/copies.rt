@@ -1,4 +1,5 @@
 //! Values once more.
+#![tactic(auto, using(witx_call::proofs::CopyLemmas::copy_rules))]
 
 ghost use Rattle.std.specs.Prelude.{◌≡◌, IfOk, map, option_map};
 ghost use Rattle.witx_bytes.specs.Seen.{seen, seen_in};
@@ -10,7 +11,6 @@ use witx_bytes::{Bools, Value, Values};
 
 /// The value once more.
 #[cycle(copies)]
-#[tactic(auto, using(witx_call::proofs::CopyLemmas::copy_rules))]
 pub(crate) fn copy_value(alloc: Global, value: &Value) -> Result<Value, OutOfMemory>
     ensures { IfOk result (λ made. seen made ≡ seen value.now) }
 {
@@ -31,7 +31,6 @@ pub(crate) fn copy_value(alloc: Global, value: &Value) -> Result<Value, OutOfMem
     }
 }
 
-#[tactic(auto, using(witx_call::proofs::CopyLemmas::copy_rules))]
 fn copy_flags(alloc: Global, flags: &[bool]) -> Result<Bools, OutOfMemory>
     ensures { IfOk result (λ made. made ≡ flags.now) }
 {
@@ -43,7 +42,6 @@ fn copy_flags(alloc: Global, flags: &[bool]) -> Result<Bools, OutOfMemory>
 }
 
 #[cycle(copies)]
-#[tactic(auto, using(witx_call::proofs::CopyLemmas::copy_rules))]
 fn copy_values(alloc: Global, values: &[Value]) -> Result<Values, OutOfMemory>
     ensures { IfOk result (λ made. map seen made ≡ map seen values.now) }
 {
@@ -55,7 +53,6 @@ fn copy_values(alloc: Global, values: &[Value]) -> Result<Values, OutOfMemory>
 }
 
 #[cycle(copies)]
-#[tactic(auto, using(witx_call::proofs::CopyLemmas::copy_rules))]
 fn copy_payload(
     alloc: Global,
     payload: &Option<Box<Value>>,

@@ -1,4 +1,5 @@
 //! Which reply is excepted, told by the reply alone.
+#![tactic(auto, using(crate::proofs::ExceptLemmas::excepting_rules))]
 
 ghost use Rattle.std.specs.Prelude.{◌≡◌, Some, nat_eq, option_map};
 ghost use Rattle.witx_machine.specs.Words.{bits_of_flags};
@@ -11,7 +12,6 @@ use witx_ast::Abi;
 use witx_bytes::Value;
 
 /// Whether the reply is an error that is passed as the word 0, which under `Preview1` can't be told from ok.
-#[tactic(auto, using(crate::proofs::ExceptLemmas::excepting_rules))]
 pub(crate) fn is_excepted(abi: Abi, reply: Option<&Value>) -> bool
     ensures { result ≡ excepted abi (reply_of seen reply.entry) }
 {
@@ -23,7 +23,6 @@ pub(crate) fn is_excepted(abi: Abi, reply: Option<&Value>) -> bool
 }
 
 /// Whether it is the second case, with a payload whose word is 0.
-#[tactic(auto, using(crate::proofs::ExceptLemmas::excepting_rules))]
 fn is_zero_error(value: &Value) -> bool
     ensures { result ≡ zero_error (seen value.now) }
 {
@@ -41,7 +40,6 @@ fn is_zero_error(value: &Value) -> bool
     }
 }
 
-#[tactic(auto, using(crate::proofs::ExceptLemmas::excepting_rules))]
 fn is_zero_case(case: u32, payload: &Option<Box<Value>>) -> bool
     ensures { result ≡ zero_case (option_map seen_in payload.now) case }
 {
@@ -51,7 +49,6 @@ fn is_zero_case(case: u32, payload: &Option<Box<Value>>) -> bool
     }
 }
 
-#[tactic(auto, using(crate::proofs::ExceptLemmas::excepting_rules))]
 fn is_zero_payload(case: u32, payload: &Value) -> bool
     ensures { result ≡ zero_case (Some (seen payload.now)) case }
 {
@@ -62,7 +59,6 @@ fn is_zero_payload(case: u32, payload: &Value) -> bool
 }
 
 /// Whether it has one word, which is 0.
-#[tactic(auto, using(crate::proofs::ExceptLemmas::excepting_rules))]
 fn has_zero_word(value: &Value) -> bool
     ensures { result ≡ is_word_zero (seen value.now) }
 {

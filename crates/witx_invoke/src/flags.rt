@@ -1,4 +1,5 @@
 //! Flags at the head of a text.
+#![tactic(auto, using(crate::proofs::HeadLaws::head_rules))]
 
 ghost use Rattle.std.specs.Prelude.{◌≡◌, option_map, option_and_then};
 ghost use Rattle.witx_bytes.specs.Readings.{ReadAs};
@@ -9,7 +10,6 @@ use std::alloc::Global;
 use witx_bytes::{Bools, ReadError};
 
 /// The flag at the head.
-#[tactic(auto, using(crate::proofs::HeadLaws::head_rules))]
 fn read_flag(text: &[u8]) -> Option<(bool, &[u8])>
     ensures { option_map (taken (λ b. b)) result ≡ flag_at text.now }
 {
@@ -21,7 +21,6 @@ fn read_flag(text: &[u8]) -> Option<(bool, &[u8])>
 }
 
 /// The flag of an item, behind the space before it.
-#[tactic(auto, using(crate::proofs::HeadLaws::head_rules))]
 fn read_item(item: usize, text: &[u8]) -> Option<(bool, &[u8])>
     ensures { option_map (taken (λ b. b)) result ≡ option_and_then flag_at (item_past item text.now) }
 {

@@ -1,10 +1,10 @@
 //! What stands at the head of a text, and what follows it.
+#![tactic(auto, using(crate::proofs::HeadLaws::head_rules))]
 
 ghost use Rattle.std.specs.Prelude.{◌≡◌, ◌<◌, ℕ, MatchOption, option_map, option_copied, length};
 ghost use Rattle.witx_invoke.specs.Reading.{past, digits_at, grown, index_at, item_past, signed_at, taken, word_at};
 
 /// What follows a byte, if it stands at the head.
-#[tactic(auto, using(crate::proofs::HeadLaws::head_rules))]
 pub(crate) fn after(byte: u8, text: &[u8]) -> Option<&[u8]>
     ensures { option_copied result ≡ past byte text.now }
 {
@@ -15,7 +15,6 @@ pub(crate) fn after(byte: u8, text: &[u8]) -> Option<&[u8]>
 }
 
 /// What follows the space before an item; nothing stands before the first one.
-#[tactic(auto, using(crate::proofs::HeadLaws::head_rules))]
 pub(crate) fn item_start(item: usize, text: &[u8]) -> Option<&[u8]>
     ensures { option_copied result ≡ item_past item text.now }
 {
@@ -26,7 +25,6 @@ pub(crate) fn item_start(item: usize, text: &[u8]) -> Option<&[u8]>
 }
 
 /// The digit at the head, if there is one.
-#[tactic(auto, using(crate::proofs::HeadLaws::head_rules))]
 fn first_digit(text: &[u8]) -> Option<(u32, &[u8])>
     ensures goes_on { MatchOption result ((n : ℕ) → digits_at n text.now ≡ (n, text.now))
         (λ p. (n : ℕ) → digits_at n text.now ≡ digits_at (grown n p.0) p.1.now) }
@@ -40,7 +38,6 @@ fn first_digit(text: &[u8]) -> Option<(u32, &[u8])>
 }
 
 /// A number with one digit more.
-#[tactic(auto, using(crate::proofs::HeadLaws::head_rules))]
 fn grown(number: u64, digit: u32) -> u64
     ensures { result ≡ grown number digit }
 {
@@ -48,7 +45,6 @@ fn grown(number: u64, digit: u32) -> u64
 }
 
 /// The number that the digits at the head write, and what follows them; the greatest where it is too large.
-#[tactic(auto, using(crate::proofs::HeadLaws::head_rules))]
 fn read_digits(text: &[u8]) -> (u64, &[u8])
     ensures { taken (λ n. n) result ≡ digits_at 0 text.now }
 {
@@ -62,7 +58,6 @@ fn read_digits(text: &[u8]) -> (u64, &[u8])
 }
 
 /// A number of 32 bits.
-#[tactic(auto, using(crate::proofs::HeadLaws::head_rules))]
 pub(crate) fn read_word(text: &[u8]) -> (u32, &[u8])
     ensures { taken (λ n. n) result ≡ word_at text.now }
 {
@@ -71,7 +66,6 @@ pub(crate) fn read_word(text: &[u8]) -> (u32, &[u8])
 }
 
 /// A number that may be below 0.
-#[tactic(auto, using(crate::proofs::HeadLaws::head_rules))]
 pub(crate) fn read_signed(text: &[u8]) -> (i128, &[u8])
     ensures { taken (λ n. n) result ≡ signed_at text.now }
 {
@@ -88,7 +82,6 @@ pub(crate) fn read_signed(text: &[u8]) -> (i128, &[u8])
 }
 
 /// The number of a case, behind its `#`.
-#[tactic(auto, using(crate::proofs::HeadLaws::head_rules))]
 pub(crate) fn read_index(text: &[u8]) -> Option<(u32, &[u8])>
     ensures { option_map (taken (λ n. n)) result ≡ index_at text.now }
 {

@@ -1,4 +1,5 @@
 //! Values that are loaded from an address.
+#![tactic(auto, using(crate::proofs::LoadLemmas::load_rules))]
 
 ghost use Rattle.std.specs.Prelude.{◌≡◌, IfOk, option_map, true};
 ghost use Rattle.witx_ast.specs.Plain.{plain};
@@ -19,7 +20,6 @@ use witx_call::{Placement, Word};
 use witx_layout::Layout;
 
 /// The value that stands at an address, of a type that fits its tags and whose size is a machine's number.
-#[tactic(auto, using(crate::proofs::LoadLemmas::load_rules))]
 pub(crate) fn load(
     placement: &Placement,
     alloc: Global,
@@ -38,7 +38,6 @@ pub(crate) fn load(
 }
 
 /// Whether the type fits its tags and its size is a machine's number.
-#[tactic(auto, using(crate::proofs::LoadLemmas::load_rules))]
 fn is_readable(ty: &TypeRef) -> bool
     ensures { result ≡ can_be_read (plain (tree_of ty.now)) }
 {
@@ -49,7 +48,6 @@ fn is_readable(ty: &TypeRef) -> bool
 }
 
 /// The value that the bytes there spell.
-#[tactic(auto, using(crate::proofs::LoadLemmas::load_rules))]
 fn value_there(
     alloc: Global,
     memory: &ByteMemory,

@@ -1,4 +1,5 @@
 //! The plan of the side that is called.
+#![tactic(auto, using(witx_instructions::proofs::Sides::side_rules))]
 
 ghost use Rattle.std.specs.Prelude.{◌≡◌, ◌+◌, ◌++◌, ◌∷◌, [], cond, IfOk, None, Some, is_some, length, position, not, true, false};
 ghost use Rattle.witx_ast.specs.Plain.{plain};
@@ -20,7 +21,6 @@ use witx_instructions::{
 };
 
 /// Plans the events of the side that is called.
-#[tactic(auto, using(witx_instructions::proofs::Sides::side_rules))]
 pub fn plan_callee<'a>(
     plan: &mut Plan<'a>,
     module_name: &'a Id,
@@ -40,7 +40,6 @@ pub fn plan_callee<'a>(
 }
 
 // How many words come back.
-#[tactic(auto, using(witx_instructions::proofs::Sides::side_rules))]
 fn word_count(func: &InterfaceFunc) -> usize
     requires { unlowerable (called func.now) ≡ None }
     ensures { result ≡ length (signature_results (called func.now)) }
@@ -52,7 +51,6 @@ fn word_count(func: &InterfaceFunc) -> usize
 }
 
 // Answers the number of words: that of the first return pointer.
-#[tactic(auto, using(witx_instructions::proofs::Sides::side_rules))]
 fn lift_params<'a>(plan: &mut Plan<'a>, params: &'a Params) -> Result<usize, OutOfMemory>
     requires { position (λ t. not (can_be_param t)) (param_types params.now) ≡ None }
     ensures events { IfOk result (λ _. planned_events plan.new ≡ planned_events plan.old ++ traces.lift_params 0 (param_types params.now)) }
@@ -68,7 +66,6 @@ fn lift_params<'a>(plan: &mut Plan<'a>, params: &'a Params) -> Result<usize, Out
 
 // Gets the words of a parameter, and answers the number of the next word. So many words that they
 // can't be numbered have no place in memory either.
-#[tactic(auto, using(witx_instructions::proofs::Sides::side_rules))]
 fn get_words<'a>(plan: &mut Plan<'a>, word: usize, tref: &TypeRef) -> Result<usize, OutOfMemory>
     ensures events { IfOk result (λ _. planned_events plan.new ≡ planned_events plan.old ++ traces.get_args word (param_words (plain (tree_of tref.now)))) }
     ensures next { IfOk result (λ next. next ≡ word + length (param_words (plain (tree_of tref.now)))) }
@@ -82,7 +79,6 @@ fn get_words<'a>(plan: &mut Plan<'a>, word: usize, tref: &TypeRef) -> Result<usi
     next.checked_add(1).ok_or(OutOfMemory)
 }
 
-#[tactic(auto, using(witx_instructions::proofs::Sides::side_rules))]
 fn lower_results<'a>(
     plan: &mut Plan<'a>,
     abi: Abi,
@@ -100,7 +96,6 @@ fn lower_results<'a>(
     }
 }
 
-#[tactic(auto, using(witx_instructions::proofs::Sides::side_rules))]
 fn lower_first<'a>(
     plan: &mut Plan<'a>,
     results: &'a Params,
@@ -117,7 +112,6 @@ fn lower_first<'a>(
     }
 }
 
-#[tactic(auto, using(witx_instructions::proofs::Sides::side_rules))]
 fn lower_result<'a>(
     plan: &mut Plan<'a>,
     tref: &'a TypeRef,
@@ -134,7 +128,6 @@ fn lower_result<'a>(
     }
 }
 
-#[tactic(auto, using(witx_instructions::proofs::Sides::side_rules))]
 fn lower_cases<'a>(
     plan: &mut Plan<'a>,
     ok: Option<&'a TypeRef>,
@@ -151,7 +144,6 @@ fn lower_cases<'a>(
     put(plan, Instruction::ResultLower { ok, err })
 }
 
-#[tactic(auto, using(witx_instructions::proofs::Sides::side_rules))]
 fn lower_ok_block<'a>(
     plan: &mut Plan<'a>,
     ok: Option<&'a TypeRef>,
@@ -166,7 +158,6 @@ fn lower_ok_block<'a>(
     add(plan, Planned::Finish { value: false })
 }
 
-#[tactic(auto, using(witx_instructions::proofs::Sides::side_rules))]
 fn lower_ok<'a>(
     plan: &mut Plan<'a>,
     ok: Option<&'a TypeRef>,
@@ -186,7 +177,6 @@ fn lower_ok<'a>(
     }
 }
 
-#[tactic(auto, using(witx_instructions::proofs::Sides::side_rules))]
 fn unpack<'a>(plan: &mut Plan<'a>, tref: &TypeRef, amt: usize) -> Result<(), OutOfMemory>
     ensures { IfOk result (λ _. planned_events plan.new ≡ planned_events plan.old
         ++ cond (is_tuple (tree_of tref.now)) (machine.emit (machine.Step.TupleLower amt) ∷ []) []) }
@@ -199,7 +189,6 @@ fn unpack<'a>(plan: &mut Plan<'a>, tref: &TypeRef, amt: usize) -> Result<(), Out
 }
 
 // Stores through the pointers whose words begin at the first, from the last pointer to the first.
-#[tactic(auto, using(witx_instructions::proofs::Sides::side_rules))]
 fn store_all<'a>(
     plan: &mut Plan<'a>,
     first: usize,
@@ -219,7 +208,6 @@ fn store_all<'a>(
     Ok(())
 }
 
-#[tactic(auto, using(witx_instructions::proofs::Sides::side_rules))]
 fn lower_err_block<'a>(plan: &mut Plan<'a>, err: Option<&'a TypeRef>) -> Result<(), OutOfMemory>
     requires { can_be_err (payload_tree err) ≡ true }
     ensures { IfOk result (λ _. planned_events plan.new ≡ planned_events plan.old
@@ -235,7 +223,6 @@ fn lower_err_block<'a>(plan: &mut Plan<'a>, err: Option<&'a TypeRef>) -> Result<
     )
 }
 
-#[tactic(auto, using(witx_instructions::proofs::Sides::side_rules))]
 fn lower_err<'a>(plan: &mut Plan<'a>, err: Option<&'a TypeRef>) -> Result<(), OutOfMemory>
     requires { can_be_err (payload_tree err) ≡ true }
     ensures { IfOk result (λ _. planned_events plan.new ≡ planned_events plan.old ++ traces.err_lowered (payload_tree err.entry)) }

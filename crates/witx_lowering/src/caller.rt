@@ -1,4 +1,5 @@
 //! The plan of the side that calls.
+#![tactic(auto, using(witx_instructions::proofs::Sides::side_rules))]
 
 ghost use Rattle.std.specs.Prelude.{◌≡◌, ◌++◌, IfOk, None, is_some, position, not, true};
 ghost use Rattle.witx_ast.specs.declared.function.Abi.TheVariants.{Preview1};
@@ -18,7 +19,6 @@ use witx_instructions::{
 };
 
 /// Plans the events of the side that calls.
-#[tactic(auto, using(witx_instructions::proofs::Sides::side_rules))]
 pub fn plan_caller<'a>(
     plan: &mut Plan<'a>,
     module_name: &'a Id,
@@ -51,7 +51,6 @@ pub fn plan_caller<'a>(
     put(plan, Instruction::Return { amt })
 }
 
-#[tactic(auto, using(witx_instructions::proofs::Sides::side_rules))]
 fn lower_params<'a>(plan: &mut Plan<'a>, params: &'a Params) -> Result<(), OutOfMemory>
     requires { position (λ t. not (can_be_param t)) (param_types params.now) ≡ None }
     ensures { IfOk result (λ _. planned_events plan.new ≡ planned_events plan.old ++ traces.lower_params 0 (param_types params.now)) }
@@ -63,7 +62,6 @@ fn lower_params<'a>(plan: &mut Plan<'a>, params: &'a Params) -> Result<(), OutOf
     Ok(())
 }
 
-#[tactic(auto, using(witx_instructions::proofs::Sides::side_rules))]
 fn lift_results<'a>(
     plan: &mut Plan<'a>,
     abi: Abi,
@@ -80,7 +78,6 @@ fn lift_results<'a>(
     }
 }
 
-#[tactic(auto, using(witx_instructions::proofs::Sides::side_rules))]
 fn lift_first<'a>(
     plan: &mut Plan<'a>,
     results: &'a Params,
@@ -96,7 +93,6 @@ fn lift_first<'a>(
     }
 }
 
-#[tactic(auto, using(witx_instructions::proofs::Sides::side_rules))]
 fn lift_result<'a>(
     plan: &mut Plan<'a>,
     tref: &'a TypeRef,
@@ -112,7 +108,6 @@ fn lift_result<'a>(
     }
 }
 
-#[tactic(auto, using(witx_instructions::proofs::Sides::side_rules))]
 fn lift_cases<'a>(
     plan: &mut Plan<'a>,
     ok: Option<&'a TypeRef>,
@@ -128,7 +123,6 @@ fn lift_cases<'a>(
     put(plan, Instruction::ResultLift)
 }
 
-#[tactic(auto, using(witx_instructions::proofs::Sides::side_rules))]
 fn lift_err_block<'a>(plan: &mut Plan<'a>, err: Option<&'a TypeRef>) -> Result<(), OutOfMemory>
     requires { can_be_err (payload_tree err) ≡ true }
     ensures { IfOk result (λ _. planned_events plan.new ≡ planned_events plan.old
@@ -144,7 +138,6 @@ fn lift_err_block<'a>(plan: &mut Plan<'a>, err: Option<&'a TypeRef>) -> Result<(
     )
 }
 
-#[tactic(auto, using(witx_instructions::proofs::Sides::side_rules))]
 fn lift_err<'a>(plan: &mut Plan<'a>, err: Option<&'a TypeRef>) -> Result<(), OutOfMemory>
     requires { can_be_err (payload_tree err) ≡ true }
     ensures { IfOk result (λ _. planned_events plan.new ≡ planned_events plan.old ++ traces.err_lifted (payload_tree err.entry)) }

@@ -1,4 +1,5 @@
 //! The words that go in.
+#![tactic(auto, using(witx_instructions::proofs::Signatures::signature_rules))]
 
 ghost use Rattle.std.specs.Prelude.{◌≡◌, ◌++◌, IfOk, map, take};
 ghost use Rattle.witx_machine.specs.Signature.{pointers_under, signature_params};
@@ -11,7 +12,6 @@ use witx_instructions::{WasmTypes, push_ok_pointers, push_params};
 use witx_machine::WasmType;
 
 /// The types of the words that go in.
-#[tactic(auto, using(witx_instructions::proofs::Signatures::signature_rules))]
 pub fn words_in(alloc: Global, func: &InterfaceFunc) -> Result<WasmTypes, OutOfMemory>
     ensures { IfOk result (λ words. words ≡ signature_params (called func.now)) }
 {
@@ -22,7 +22,6 @@ pub fn words_in(alloc: Global, func: &InterfaceFunc) -> Result<WasmTypes, OutOfM
 }
 
 // A word for each return pointer.
-#[tactic(auto, using(witx_instructions::proofs::Signatures::signature_rules))]
 fn push_pointers(words: &mut WasmTypes, abi: Abi, results: &Params) -> Result<(), OutOfMemory>
     ensures { IfOk result (λ _. words.new ≡ words.old ++ map (λ t. WasmType.I32) (pointers_under abi (param_types results.now))) }
 {
@@ -33,7 +32,6 @@ fn push_pointers(words: &mut WasmTypes, abi: Abi, results: &Params) -> Result<()
 }
 
 // The pointer to the whole result, if there is one.
-#[tactic(auto, using(witx_instructions::proofs::Signatures::signature_rules))]
 fn push_one_pointer(words: &mut WasmTypes, results: &Params) -> Result<(), OutOfMemory>
     ensures { IfOk result (λ _. words.new ≡ words.old ++ map (λ t. WasmType.I32) (take 1 (param_types results.now))) }
 {

@@ -1,4 +1,5 @@
 //! Who stands above whom, from the parents of a tree's nodes.
+#![tactic(auto, using(crate::proofs::Ancestry::ancestor_rules))]
 
 ghost use Rattle.std.specs.Prelude.{◌≡◌, ◌<◌, ◌≤◌, IfOk, length};
 ghost use Rattle.witx_markdown.specs.Trees.{AreParents, ancestors_of};
@@ -8,7 +9,6 @@ use std::alloc::Global;
 use witx_base::OutOfMemory;
 
 /// The nodes above `node`, from its parent up to the root.
-#[tactic(auto, using(crate::proofs::Ancestry::ancestor_rules))]
 pub fn ancestors_in(
     alloc: Global,
     parents: &[Option<usize>],
@@ -28,7 +28,6 @@ pub fn ancestors_in(
 }
 
 /// How many nodes stand above `node`.
-#[tactic(auto, using(crate::proofs::Ancestry::ancestor_rules))]
 pub fn ancestor_count(parents: &[Option<usize>], node: usize) -> usize
     requires parents { AreParents parents.now }
     requires node { node < length parents.now }

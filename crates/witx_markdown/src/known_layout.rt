@@ -1,4 +1,5 @@
 //! The layouts of types, the names in which are known.
+#![tactic(auto, using(crate::proofs::NameSteps::layout_steps))]
 
 ghost use Rattle.std.specs.Prelude.{◌≡◌, ◌≤◌, ◌<◌, ◌^◌, MatchResult, IfOk, OnOk, map};
 ghost use Rattle.witx_ast.specs.Tree.{fields_of, arms_of};
@@ -21,7 +22,6 @@ use witx_layout::{
 
 /// The layout of a type.
 #[cycle(layouts)]
-#[tactic(auto, using(crate::proofs::NameSteps::layout_steps))]
 pub fn type_layout(names: NamedLayouts, tref: &TypeRef) -> Result<SizeAlign, TooLarge>
     requires { NamesKnown names (tree_of tref.now) }
     ensures { MatchResult result
@@ -35,7 +35,6 @@ pub fn type_layout(names: NamedLayouts, tref: &TypeRef) -> Result<SizeAlign, Too
 }
 
 /// The layout of a name.
-#[tactic(auto, using(crate::proofs::NameSteps::layout_steps))]
 fn named_layout(names: NamedLayouts, named: &NamedType) -> Result<SizeAlign, TooLarge>
     requires { NamesKnown names (named_tree named.now) }
     ensures { MatchResult result
@@ -49,7 +48,6 @@ fn named_layout(names: NamedLayouts, named: &NamedType) -> Result<SizeAlign, Too
 }
 
 /// The layout of a name, which is kept.
-#[tactic(auto, using(crate::proofs::NameSteps::layout_steps))]
 fn kept_layout(table: &NameMap<SizeAlign>, named: &NamedType) -> SizeAlign
     requires { Knows table.now (named_tree named.now) }
     ensures size { result.size ≡ size_of (plain (named_tree named.now)) }
@@ -63,7 +61,6 @@ fn kept_layout(table: &NameMap<SizeAlign>, named: &NamedType) -> SizeAlign
 
 /// The layout of a type that is written out.
 #[cycle(layouts)]
-#[tactic(auto, using(crate::proofs::NameSteps::layout_steps))]
 fn datatype_layout(names: NamedLayouts, datatype: &Datatype) -> Result<SizeAlign, TooLarge>
     requires { NamesKnown names (datatype_tree datatype.now) }
     ensures { MatchResult result
@@ -82,7 +79,6 @@ fn datatype_layout(names: NamedLayouts, datatype: &Datatype) -> Result<SizeAlign
 }
 
 #[cycle(layouts)]
-#[tactic(auto, using(crate::proofs::NameSteps::layout_steps))]
 fn record_layout(names: NamedLayouts, record_type: &RecordDatatype) -> Result<SizeAlign, TooLarge>
     requires { NamesKnown names (record_tree record_type.now) }
     ensures { MatchResult result
@@ -98,7 +94,6 @@ fn record_layout(names: NamedLayouts, record_type: &RecordDatatype) -> Result<Si
 
 /// The layout of a variant.
 #[cycle(layouts)]
-#[tactic(auto, using(crate::proofs::NameSteps::layout_steps))]
 pub fn variant_layout(names: NamedLayouts, variant: &Variant) -> Result<SizeAlign, TooLarge>
     requires { NamesKnown names (variant_tree variant.now) }
     ensures { MatchResult result
@@ -116,7 +111,6 @@ pub fn variant_layout(names: NamedLayouts, variant: &Variant) -> Result<SizeAlig
 
 /// Where the members end, one after the other from 0 on, and their greatest alignment.
 #[cycle(layouts)]
-#[tactic(auto, using(crate::proofs::NameSteps::layout_steps))]
 fn members_layout(names: NamedLayouts, members: &[RecordMember]) -> Result<SizeAlign, TooLarge>
     requires { FieldNamesKnown names (fields_of (map member_field members.now)) }
     ensures { MatchResult result
@@ -133,7 +127,6 @@ fn members_layout(names: NamedLayouts, members: &[RecordMember]) -> Result<SizeA
 
 /// The greatest size and the greatest alignment of a payload.
 #[cycle(layouts)]
-#[tactic(auto, using(crate::proofs::NameSteps::layout_steps))]
 fn greatest_payload(names: NamedLayouts, cases: &[Case]) -> Result<SizeAlign, TooLarge>
     requires { ArmNamesKnown names (arms_of (map case_arm cases.now)) }
     ensures { MatchResult result
@@ -156,7 +149,6 @@ fn greatest_payload(names: NamedLayouts, cases: &[Case]) -> Result<SizeAlign, To
 
 /// The members of a record that isn't flags, each behind the one before it; too large exactly where the
 /// record is.
-#[tactic(auto, using(crate::proofs::NameSteps::layout_steps))]
 pub fn placed<'a>(
     alloc: Global,
     names: NamedLayouts,

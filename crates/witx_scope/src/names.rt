@@ -1,4 +1,5 @@
 //! Names that are introduced once, and what they denote.
+#![tactic(auto, using(crate::proofs::Introducing::introduce_rules))]
 
 ghost use Rattle.std.specs.Prelude.{◌≡◌, IfOk, IfErr, OnOk, None, ◌∷◌};
 ghost use Rattle.witx_base.specs.Found.{found};
@@ -19,7 +20,6 @@ use witx_base::{Duplicate, Id, OutOfMemory};
 use witx_syntax_tree::IdSyntax;
 
 /// Takes a name into a scope inside the declaration.
-#[tactic(auto, using(crate::proofs::Introducing::introduce_rules))]
 pub fn introduce_mark(
     marks: &mut Marks,
     scope: &Scope<'_>,
@@ -51,7 +51,6 @@ pub fn mark(marks: &mut Marks, name: Id, at: usize) -> Result<(), OutOfMemory>
 }
 
 /// Takes a name into the scope of the document.
-#[tactic(auto, using(crate::proofs::Introducing::introduce_rules))]
 pub fn introduce(
     names: &mut Names,
     alloc: Global,

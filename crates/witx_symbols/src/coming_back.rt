@@ -1,4 +1,5 @@
 //! Whether what comes back is what the interface says.
+#![tactic(auto, using(crate::proofs::ReturnLemmas::return_rules))]
 
 ghost use Rattle.std.specs.Prelude.{◌≡◌, ◌∷◌, [], length, IfOk, Some};
 ghost use Rattle.witx_ast.specs.Plain.{plain};
@@ -28,7 +29,6 @@ use witx_base::OutOfMemory;
 
 /// Whether the callee's words, and what stands at its return at the addresses that it was passed, are the
 /// reply; without a result there is no word.
-#[tactic(auto, using(crate::proofs::ReturnLemmas::return_rules))]
 pub fn gives_back(
     alloc: Global,
     world: &World,
@@ -44,14 +44,12 @@ pub fn gives_back(
     }
 }
 
-#[tactic(auto, using(crate::proofs::ReturnLemmas::return_rules))]
 fn nothing_returns(results: &[InterfaceFuncParam], outcome: &Outcome) -> bool
     ensures { result ≡ nothing_returns (param_types results.now) (outcome_of outcome.now) }
 {
     results.is_empty() && outcome.call.callee_words.is_empty()
 }
 
-#[tactic(auto, using(crate::proofs::ReturnLemmas::return_rules))]
 fn reply_returns(
     alloc: Global,
     world: &World,
@@ -68,7 +66,6 @@ fn reply_returns(
     }
 }
 
-#[tactic(auto, using(crate::proofs::ReturnLemmas::return_rules))]
 fn result_returns(
     alloc: Global,
     world: &World,
@@ -87,7 +84,6 @@ fn result_returns(
 }
 
 // Stored whole, at the last address.
-#[tactic(auto, using(crate::proofs::ReturnLemmas::return_rules))]
 fn whole_returns(reply: &Symbol, outcome: &Outcome) -> bool
     ensures { result ≡ returns_whole (symbol_of reply.now) (outcome_of outcome.now) }
 {
@@ -100,14 +96,12 @@ fn whole_returns(reply: &Symbol, outcome: &Outcome) -> bool
 }
 
 /// The last words of so many.
-#[tactic(auto, using(crate::proofs::ReturnLemmas::return_rules))]
 fn last_words(words: &[Word], count: usize) -> &[Word]
     ensures { words_of result.now ≡ last_words count (words_of words.now) }
 {
     &words[words.len().saturating_sub(count)..]
 }
 
-#[tactic(auto, using(crate::proofs::ReturnLemmas::return_rules))]
 fn word_returns(
     alloc: Global,
     world: &World,
@@ -124,7 +118,6 @@ fn word_returns(
     }
 }
 
-#[tactic(auto, using(crate::proofs::ReturnLemmas::return_rules))]
 fn case_returns(
     alloc: Global,
     world: &World,
@@ -143,7 +136,6 @@ fn case_returns(
     }
 }
 
-#[tactic(auto, using(crate::proofs::ReturnLemmas::return_rules))]
 fn picked_returns(
     alloc: Global,
     ok: Option<&TypeRef>,
@@ -171,7 +163,6 @@ fn picked_returns(
 }
 
 // Whether they are the one word of a case.
-#[tactic(auto, using(crate::proofs::ReturnLemmas::return_rules))]
 fn is_case_word(error: bool, words: &[Word]) -> bool
     ensures { result ≡ is_case_word error (words_of words.now) }
 {
@@ -181,7 +172,6 @@ fn is_case_word(error: bool, words: &[Word]) -> bool
     }
 }
 
-#[tactic(auto, using(crate::proofs::ReturnLemmas::return_rules))]
 fn stands_for(error: bool, word: &Word) -> bool
     ensures { result ≡ is_case_word error (word_seen word.now ∷ []) }
 {
@@ -195,7 +185,6 @@ fn stands_for(error: bool, word: &Word) -> bool
 }
 
 /// How many return pointers what an `ok` carries has: one for each member of a tuple, else one.
-#[tactic(auto, using(crate::proofs::ReturnLemmas::return_rules))]
 fn pointer_count(ok: Option<&TypeRef>) -> usize
     ensures { result ≡ length (ok_pointers (payload_tree ok.entry)) }
 {
@@ -205,7 +194,6 @@ fn pointer_count(ok: Option<&TypeRef>) -> usize
     }
 }
 
-#[tactic(auto, using(crate::proofs::ReturnLemmas::return_rules))]
 fn member_count(ty: &TypeRef) -> usize
     ensures { result ≡ length (ok_pointers (Some (tree_of ty.now))) }
 {
@@ -215,7 +203,6 @@ fn member_count(ty: &TypeRef) -> usize
     }
 }
 
-#[tactic(auto, using(crate::proofs::ReturnLemmas::return_rules))]
 fn err_returns(err: Option<&TypeRef>, payload: &Symbol, cells: &Cells, words: &[Word]) -> bool
     ensures { result ≡ err_returns (payload_tree err.entry) (symbol_of payload.now) (memory_of cells.now) (words_of words.now) }
 {
@@ -225,7 +212,6 @@ fn err_returns(err: Option<&TypeRef>, payload: &Symbol, cells: &Cells, words: &[
     }
 }
 
-#[tactic(auto, using(crate::proofs::ReturnLemmas::return_rules))]
 fn ok_returns(
     alloc: Global,
     ok: Option<&TypeRef>,
@@ -250,7 +236,6 @@ fn ok_returns(
 }
 
 // Whether a payload stands at these addresses: a tuple's members, each at its own, or the payload at the one.
-#[tactic(auto, using(crate::proofs::ReturnLemmas::return_rules))]
 fn parts_stand(
     alloc: Global,
     cells: &Cells,
@@ -268,7 +253,6 @@ fn parts_stand(
     }
 }
 
-#[tactic(auto, using(crate::proofs::ReturnLemmas::return_rules))]
 fn members_stand(
     alloc: Global,
     cells: &Cells,
@@ -284,7 +268,6 @@ fn members_stand(
     }
 }
 
-#[tactic(auto, using(crate::proofs::ReturnLemmas::return_rules))]
 fn hold_all(cells: &Cells, words: &[Word], symbols: &[Rc<Symbol>]) -> bool
     ensures { result ≡ hold_all (memory_of cells.now) (words_of words.now) (shared_symbols symbols.now) }
 {

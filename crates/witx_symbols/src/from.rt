@@ -1,4 +1,5 @@
 //! Symbols from where they come: an argument, the reply, its payload, and the parts of each.
+#![tactic(auto, using(crate::proofs::FromLemmas::from_rules))]
 
 ghost use Rattle.std.specs.Prelude.{◌≡◌, IfOk, map};
 ghost use Rattle.witx_ast.specs.Plain.{plain};
@@ -16,7 +17,6 @@ use witx_base::OutOfMemory;
 
 /// The symbol of a type that comes from there. Where that is a tuple type it stands for all parts, which are made as they
 /// are asked for.
-#[tactic(auto, using(crate::proofs::FromLemmas::from_rules))]
 pub fn symbol_from(
     alloc: Global,
     ty: &TypeRef,
@@ -30,7 +30,6 @@ pub fn symbol_from(
 }
 
 /// The parts of a tuple of these members that comes from there.
-#[tactic(auto, using(crate::proofs::FromLemmas::from_rules))]
 pub(crate) fn parts_from(
     alloc: Global,
     members: &[RecordMember],
@@ -45,7 +44,6 @@ pub(crate) fn parts_from(
     Ok(parts)
 }
 
-#[tactic(auto, using(crate::proofs::FromLemmas::from_rules))]
 fn part_from(
     alloc: Global,
     member: &RecordMember,
@@ -60,7 +58,6 @@ fn part_from(
 }
 
 /// The symbols of the arguments of these parameters.
-#[tactic(auto, using(crate::proofs::FromLemmas::from_rules))]
 pub fn arguments_from(
     alloc: Global,
     params: &[InterfaceFuncParam],
@@ -74,7 +71,6 @@ pub fn arguments_from(
     Ok(arguments)
 }
 
-#[tactic(auto, using(crate::proofs::FromLemmas::from_rules))]
 fn argument_from(
     alloc: Global,
     param: &InterfaceFuncParam,

@@ -1,4 +1,5 @@
 //! Whether what the caller gives back is the reply.
+#![tactic(auto, using(crate::proofs::JudgeLemmas::judge_rules))]
 
 ghost use Rattle.std.specs.Prelude.{◌≡◌, ◌∷◌, [], option_to_list};
 ghost use Rattle.witx_machine.specs.Run.{values_in};
@@ -12,7 +13,6 @@ use crate::symbol::{Symbol, same};
 use std::rc::Rc;
 
 /// Whether what the caller gave back is the reply alone, or nothing where there is none.
-#[tactic(auto, using(crate::proofs::JudgeLemmas::judge_rules))]
 pub fn is_reply(back: &[Item], reply: &Option<Rc<Symbol>>) -> bool
     ensures { result ≡ are_values (values_in (symbol_items back.now)) (option_to_list (option_of reply.now)) }
 {
@@ -22,7 +22,6 @@ pub fn is_reply(back: &[Item], reply: &Option<Rc<Symbol>>) -> bool
     }
 }
 
-#[tactic(auto, using(crate::proofs::JudgeLemmas::judge_rules))]
 fn is_alone(back: &[Item], reply: &Symbol) -> bool
     ensures { result ≡ are_values (values_in (symbol_items back.now)) (symbol_of reply.now ∷ []) }
 {
@@ -32,7 +31,6 @@ fn is_alone(back: &[Item], reply: &Symbol) -> bool
     }
 }
 
-#[tactic(auto, using(crate::proofs::JudgeLemmas::judge_rules))]
 fn is_value(item: &Item, reply: &Symbol) -> bool
     ensures { result ≡ are_values (values_in (symbol_item item.now ∷ [])) (symbol_of reply.now ∷ []) }
 {

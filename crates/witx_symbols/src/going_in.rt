@@ -1,4 +1,5 @@
 //! Whether words are those of one value.
+#![tactic(auto, using(crate::proofs::PassLemmas::pass_rules))]
 
 ghost use Rattle.std.specs.Prelude.{◌≡◌, ◌∷◌, [], length, option_map};
 ghost use Rattle.witx_ast.specs.Plain.{plain};
@@ -17,7 +18,6 @@ use crate::words::Word;
 use witx_ast::TypeRef;
 
 /// The words behind those of one argument, where it is passed by the first ones.
-#[tactic(auto, using(crate::proofs::PassLemmas::pass_rules))]
 pub fn words_behind<'a>(
     cells: &Cells,
     ty: &TypeRef,
@@ -39,7 +39,6 @@ pub fn words_behind<'a>(
     }
 }
 
-#[tactic(auto, using(crate::proofs::PassLemmas::pass_rules))]
 fn word_count(ty: &TypeRef) -> usize
     ensures { result ≡ length (param_words (plain (tree_of ty.now))) }
 {
@@ -47,7 +46,6 @@ fn word_count(ty: &TypeRef) -> usize
 }
 
 /// Whether these words are those of a value of a type: its address, or its own words.
-#[tactic(auto, using(crate::proofs::PassLemmas::pass_rules))]
 pub(crate) fn param_are(cells: &Cells, ty: &TypeRef, symbol: &Symbol, words: &[Word]) -> bool
     ensures { result ≡ param_are (memory_of cells.now) (plain (tree_of ty.now)) (symbol_of symbol.now) (words_of words.now) }
 {
@@ -59,7 +57,6 @@ pub(crate) fn param_are(cells: &Cells, ty: &TypeRef, symbol: &Symbol, words: &[W
 }
 
 /// Whether they are one word, an address at which the symbol stands.
-#[tactic(auto, using(crate::proofs::PassLemmas::pass_rules))]
 pub(crate) fn holds_one(cells: &Cells, symbol: &Symbol, words: &[Word]) -> bool
     ensures { result ≡ hold_all (memory_of cells.now) (words_of words.now) (symbol_of symbol.now ∷ []) }
 {
@@ -70,7 +67,6 @@ pub(crate) fn holds_one(cells: &Cells, symbol: &Symbol, words: &[Word]) -> bool
 }
 
 /// Whether they are the words of a value that isn't passed by address.
-#[tactic(auto, using(crate::proofs::PassLemmas::pass_rules))]
 pub(crate) fn direct_are(ty: &TypeRef, symbol: &Symbol, words: &[Word]) -> bool
     ensures { result ≡ direct_are (plain (tree_of ty.now)) (symbol_of symbol.now) (words_of words.now) }
 {
@@ -81,7 +77,6 @@ pub(crate) fn direct_are(ty: &TypeRef, symbol: &Symbol, words: &[Word]) -> bool
     }
 }
 
-#[tactic(auto, using(crate::proofs::PassLemmas::pass_rules))]
 fn list_are(list: &Symbol, words: &[Word]) -> bool
     ensures { result ≡ list_are (symbol_of list.now) (words_of words.now) }
 {
@@ -91,7 +86,6 @@ fn list_are(list: &Symbol, words: &[Word]) -> bool
     }
 }
 
-#[tactic(auto, using(crate::proofs::PassLemmas::pass_rules))]
 fn are_of_list(list: &Symbol, address: &Word, length: &Word) -> bool
     ensures { result ≡ list_are (symbol_of list.now) (word_seen address.now ∷ word_seen length.now ∷ []) }
 {
@@ -101,7 +95,6 @@ fn are_of_list(list: &Symbol, address: &Word, length: &Word) -> bool
     }
 }
 
-#[tactic(auto, using(crate::proofs::PassLemmas::pass_rules))]
 fn one_is(ty: &TypeRef, symbol: &Symbol, words: &[Word]) -> bool
     ensures { result ≡ one_is (param_words (plain (tree_of ty.now))) (symbol_of symbol.now) (words_of words.now) }
 {
@@ -111,7 +104,6 @@ fn one_is(ty: &TypeRef, symbol: &Symbol, words: &[Word]) -> bool
     }
 }
 
-#[tactic(auto, using(crate::proofs::PassLemmas::pass_rules))]
 fn is_word_of(ty: &TypeRef, symbol: &Symbol, word: &Word) -> bool
     ensures { result ≡ is_word_of (param_words (plain (tree_of ty.now))) (symbol_of symbol.now) (word_seen word.now) }
 {

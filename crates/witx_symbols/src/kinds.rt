@@ -1,4 +1,5 @@
 //! Which conversions between values and words a type has.
+#![tactic(auto, using(crate::proofs::KindLemmas::kind_rules))]
 
 ghost use Rattle.std.specs.Prelude.{◌≡◌, ◌∷◌, []};
 ghost use Rattle.witx_ast.specs.Plain as plain_tree;
@@ -21,7 +22,6 @@ use witx_run::{Conversion, builtin_word_type, same_type};
 
 /// Whether a type has the conversion: it is the builtin, a pointer, or alike to the named type, which
 /// is of the kind.
-#[tactic(auto, using(crate::proofs::KindLemmas::kind_rules))]
 pub fn fits(conversion: &Conversion<'_>, ty: &TypeRef) -> bool
     ensures { result ≡ has_kind (scalar_of conversion.now) (plain (tree_of ty.now)) }
 {
@@ -38,7 +38,6 @@ pub fn fits(conversion: &Conversion<'_>, ty: &TypeRef) -> bool
 }
 
 /// Whether a symbol is of a type that has the conversion.
-#[tactic(auto, using(crate::proofs::KindLemmas::kind_rules))]
 pub fn converts(conversion: &Conversion<'_>, symbol: &Symbol) -> bool
     ensures { result ≡ converts (scalar_of conversion.now) (symbol_of symbol.now) }
 {
@@ -53,7 +52,6 @@ pub fn converts(conversion: &Conversion<'_>, symbol: &Symbol) -> bool
     }
 }
 
-#[tactic(auto, using(crate::proofs::KindLemmas::kind_rules))]
 fn is_builtin(builtin: BuiltinType, datatype: &Datatype) -> bool
     ensures { result ≡ same_plain (plain (datatype_tree datatype.now)) (plain_tree.builtin builtin) }
 {
@@ -63,21 +61,18 @@ fn is_builtin(builtin: BuiltinType, datatype: &Datatype) -> bool
     }
 }
 
-#[tactic(auto, using(crate::proofs::KindLemmas::kind_rules))]
 fn is_pointer(datatype: &Datatype) -> bool
     ensures { result ≡ is_pointer_type (plain (datatype_tree datatype.now)) }
 {
     matches!(datatype, Datatype::Pointer(_))
 }
 
-#[tactic(auto, using(crate::proofs::KindLemmas::kind_rules))]
 fn is_const_pointer(datatype: &Datatype) -> bool
     ensures { result ≡ is_const_pointer_type (plain (datatype_tree datatype.now)) }
 {
     matches!(datatype, Datatype::ConstPointer(_))
 }
 
-#[tactic(auto, using(crate::proofs::KindLemmas::kind_rules))]
 fn is_handle(datatype: &Datatype) -> bool
     ensures { result ≡ is_handle_type (plain (datatype_tree datatype.now)) }
 {
@@ -85,14 +80,12 @@ fn is_handle(datatype: &Datatype) -> bool
 }
 
 /// Whether a value of the type has one word, of this type.
-#[tactic(auto, using(crate::proofs::KindLemmas::kind_rules))]
 pub(crate) fn has_one_word(word: WasmType, ty: &TypeRef) -> bool
     ensures { result ≡ same_types (word ∷ []) (param_words (plain (tree_of ty.now))) }
 {
     is_one_word(word, ty.type_())
 }
 
-#[tactic(auto, using(crate::proofs::KindLemmas::kind_rules))]
 fn is_one_word(word: WasmType, datatype: &Datatype) -> bool
     ensures { result ≡ same_types (word ∷ []) (param_words (plain (datatype_tree datatype.now))) }
 {
@@ -107,7 +100,6 @@ fn is_one_word(word: WasmType, datatype: &Datatype) -> bool
     }
 }
 
-#[tactic(auto, using(crate::proofs::KindLemmas::kind_rules))]
 fn is_word_of_record(word: WasmType, members: &RecordDatatype) -> bool
     ensures { result ≡ same_types (word ∷ []) (param_words (plain (record_tree members.now))) }
 {
@@ -118,21 +110,18 @@ fn is_word_of_record(word: WasmType, members: &RecordDatatype) -> bool
 }
 
 /// Whether a type is a list, names looked through.
-#[tactic(auto, using(crate::proofs::KindLemmas::kind_rules))]
 pub(crate) fn is_list(ty: &TypeRef) -> bool
     ensures { result ≡ is_listed_type (plain (tree_of ty.now)) }
 {
     is_list_datatype(ty.type_())
 }
 
-#[tactic(auto, using(crate::proofs::KindLemmas::kind_rules))]
 fn is_list_datatype(datatype: &Datatype) -> bool
     ensures { result ≡ is_listed_type (plain (datatype_tree datatype.now)) }
 {
     matches!(datatype, Datatype::List(_))
 }
 
-#[tactic(auto, using(crate::proofs::KindLemmas::kind_rules))]
 fn is_flags(word: WasmType, datatype: &Datatype) -> bool
     ensures { result ≡ is_flags_type word (plain (datatype_tree datatype.now)) }
 {
@@ -142,7 +131,6 @@ fn is_flags(word: WasmType, datatype: &Datatype) -> bool
     }
 }
 
-#[tactic(auto, using(crate::proofs::KindLemmas::kind_rules))]
 fn is_flags_record(word: WasmType, members: &RecordDatatype) -> bool
     ensures { result ≡ is_flags_type word (plain (record_tree members.now)) }
 {
@@ -152,7 +140,6 @@ fn is_flags_record(word: WasmType, members: &RecordDatatype) -> bool
     }
 }
 
-#[tactic(auto, using(crate::proofs::KindLemmas::kind_rules))]
 fn is_enum(datatype: &Datatype) -> bool
     ensures { result ≡ is_enum_type (plain (datatype_tree datatype.now)) }
 {
@@ -163,7 +150,6 @@ fn is_enum(datatype: &Datatype) -> bool
 }
 
 /// Whether a value of the type is passed by address: a record that isn't flags, or a variant with a payload.
-#[tactic(auto, using(crate::proofs::KindLemmas::kind_rules))]
 pub(crate) fn is_by_address(ty: &TypeRef) -> bool
     ensures { result ≡ by_address (plain (tree_of ty.now)) }
 {
@@ -181,7 +167,6 @@ fn is_datatype_by_address(datatype: &Datatype) -> bool
     }
 }
 
-#[tactic(auto, using(crate::proofs::KindLemmas::kind_rules))]
 fn is_record_by_address(members: &RecordDatatype) -> bool
     ensures { result ≡ by_address (plain (record_tree members.now)) }
 {

@@ -1,4 +1,5 @@
 //! One world of a function: that of a known case, and that in which nothing is known.
+#![tactic(auto, using(crate::proofs::WorldsLemmas::worlds_rules))]
 
 ghost use Rattle.std.specs.Prelude.{◌≡◌, ◌∷◌, ◌++◌, [], IfOk, nat_le, true};
 ghost use Rattle.witx_instructions.specs.Views.{payload_tree};
@@ -15,7 +16,6 @@ use witx_ast::{Abi, TypeRef};
 use witx_base::OutOfMemory;
 
 /// This world alone, in which nothing is known of the reply but its type.
-#[tactic(auto, using(crate::proofs::WorldsLemmas::worlds_rules))]
 pub fn one_world(
     alloc: Global,
     abi: Abi,
@@ -29,7 +29,6 @@ pub fn one_world(
 }
 
 /// The world in which nothing is known of the reply but its type.
-#[tactic(auto, using(crate::proofs::WorldsLemmas::worlds_rules))]
 pub fn unknown(abi: Abi, reply: Option<Rc<Symbol>>) -> World
     ensures { world_of result ≡ unknown_world abi (option_of reply) }
 {
@@ -42,7 +41,6 @@ pub fn unknown(abi: Abi, reply: Option<Rc<Symbol>>) -> World
 }
 
 /// The world of the second case, where there are so many cases.
-#[tactic(auto, using(crate::proofs::WorldsLemmas::worlds_rules))]
 pub fn push_second(
     worlds: &mut Vec<World>,
     abi: Abi,
@@ -61,7 +59,6 @@ pub fn push_second(
 }
 
 /// The world of a case that carries a value of this type, or nothing.
-#[tactic(auto, using(crate::proofs::WorldsLemmas::worlds_rules))]
 pub fn known(
     alloc: Global,
     abi: Abi,
@@ -80,7 +77,6 @@ pub fn known(
     })
 }
 
-#[tactic(auto, using(crate::proofs::WorldsLemmas::worlds_rules))]
 fn payload_from(alloc: Global, payload: Option<&TypeRef>) -> Result<Option<Rc<Symbol>>, OutOfMemory>
     ensures { IfOk result (λ load. option_of load ≡ payload_from (payload_tree payload.entry)) }
 {

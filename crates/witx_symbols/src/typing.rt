@@ -1,4 +1,5 @@
 //! Which symbols are of a type.
+#![tactic(auto, using(crate::proofs::TypingLemmas::typing_rules))]
 
 ghost use Rattle.std.specs.Prelude.{◌≡◌};
 ghost use Rattle.witx_ast.specs.Plain.{plain};
@@ -14,7 +15,6 @@ use witx_ast::{Datatype, RecordMember, TypeRef};
 
 /// Whether a symbol is of a type; a tuple by its parts, whatever the names of the type's members.
 #[cycle(typing)]
-#[tactic(auto, using(crate::proofs::TypingLemmas::typing_rules))]
 pub fn is_of(symbol: &Symbol, ty: &TypeRef) -> bool
     ensures { result ≡ is_of (plain (tree_of ty.now)) (symbol_of symbol.now) }
 {
@@ -30,7 +30,6 @@ pub fn is_of(symbol: &Symbol, ty: &TypeRef) -> bool
 }
 
 /// Whether a type is a tuple.
-#[tactic(auto, using(crate::proofs::TypingLemmas::typing_rules))]
 pub(crate) fn is_tuple(datatype: &Datatype) -> bool
     ensures { result ≡ is_tuple_type (plain (datatype_tree datatype.now)) }
 {
@@ -46,7 +45,6 @@ pub(crate) fn is_tuple(datatype: &Datatype) -> bool
 }
 
 #[cycle(typing)]
-#[tactic(auto, using(crate::proofs::TypingLemmas::typing_rules))]
 fn parts_are(parts: &[Rc<Symbol>], datatype: &Datatype) -> bool
     ensures { result ≡ is_of (plain (datatype_tree datatype.now)) (tuple (symbols_read parts.now)) }
 {
@@ -68,7 +66,6 @@ fn parts_are(parts: &[Rc<Symbol>], datatype: &Datatype) -> bool
 }
 
 #[cycle(typing)]
-#[tactic(auto, using(crate::proofs::TypingLemmas::typing_rules))]
 fn all_are(parts: &[Rc<Symbol>], members: &[RecordMember]) -> bool
     ensures { result ≡ are_of (members_plain members.now) (symbols_read parts.now) }
 {

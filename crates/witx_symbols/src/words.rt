@@ -1,4 +1,5 @@
 //! What stands for a word, and the conversions between symbols and words.
+#![tactic(auto, using(crate::proofs::WordLemmas::word_rules))]
 
 ghost use Rattle.std.specs.Prelude.{◌≡◌, IfOk, option_map};
 ghost use Rattle.witx_symbols.specs.Symbolic.{lower_symbol, lift_word, symbol_list_words, list_of_words, symbol_parts, word_has_type};
@@ -39,7 +40,6 @@ pub enum Word {
 
 impl Word {
     /// Whether the word is of a type.
-    #[tactic(auto, using(crate::proofs::WordLemmas::word_rules))]
     pub fn has_type(&self, ty: WasmType) -> bool
         ensures { result ≡ word_has_type ty (word_seen self.now) }
     {
@@ -52,7 +52,6 @@ impl Word {
     }
 
     /// The word once more.
-    #[tactic(auto, using(crate::proofs::WordLemmas::word_rules))]
     pub(crate) fn again(&self) -> Result<Word, OutOfMemory>
         ensures { IfOk result (λ w. word_seen w ≡ word_seen self.now) }
     {
@@ -71,7 +70,6 @@ impl Word {
 }
 
 /// The one word of a symbol by a conversion; none where its type doesn't have it.
-#[tactic(auto, using(crate::proofs::WordLemmas::word_rules))]
 pub fn lower(conversion: &Conversion<'_>, symbol: &Rc<Symbol>) -> Result<Option<Word>, OutOfMemory>
     ensures { IfOk result (λ word. option_map word_seen word ≡ lower_symbol (scalar_of conversion.now) (shared_of symbol.now)) }
 {
@@ -86,7 +84,6 @@ pub fn lower(conversion: &Conversion<'_>, symbol: &Rc<Symbol>) -> Result<Option<
 }
 
 /// The symbol whose word it is, by a conversion that its type has; else none.
-#[tactic(auto, using(crate::proofs::WordLemmas::word_rules))]
 pub fn lift(conversion: &Conversion<'_>, word: &Word) -> Result<Option<Rc<Symbol>>, OutOfMemory>
     ensures { IfOk result (λ symbol. option_of symbol ≡ lift_word (scalar_of conversion.now) (word_seen word.now)) }
 {
@@ -103,7 +100,6 @@ pub fn lift(conversion: &Conversion<'_>, word: &Word) -> Result<Option<Rc<Symbol
 }
 
 /// The address and the length of a symbol of a list type; none of another symbol.
-#[tactic(auto, using(crate::proofs::WordLemmas::word_rules))]
 pub fn list_words(symbol: &Rc<Symbol>) -> Result<Option<(Word, Word)>, OutOfMemory>
     ensures { IfOk result (λ words. option_map (λ p. (word_seen p.0, word_seen p.1)) words ≡ symbol_list_words (shared_of symbol.now)) }
 {
@@ -115,7 +111,6 @@ pub fn list_words(symbol: &Rc<Symbol>) -> Result<Option<(Word, Word)>, OutOfMemo
     }
 }
 
-#[tactic(auto, using(crate::proofs::WordLemmas::word_rules))]
 fn is_a_list(symbol: &Symbol) -> bool
     ensures { result ≡ is_list_symbol (symbol_of symbol.now) }
 {
@@ -131,7 +126,6 @@ fn is_a_list(symbol: &Symbol) -> bool
 }
 
 /// The list of this address and this length, where they are its own; else none.
-#[tactic(auto, using(crate::proofs::WordLemmas::word_rules))]
 pub fn list_of_words(address: &Word, length: &Word) -> Result<Option<Rc<Symbol>>, OutOfMemory>
     ensures { IfOk result (λ symbol. option_of symbol ≡ list_of_words (word_seen address.now) (word_seen length.now)) }
 {
@@ -183,7 +177,6 @@ fn copied_parts(
 }
 
 /// Symbols once more.
-#[tactic(auto, using(crate::proofs::WordLemmas::word_rules))]
 fn copies(alloc: Global, symbols: &[Rc<Symbol>]) -> Result<Vec<Rc<Symbol>>, OutOfMemory>
     ensures { IfOk result (λ made. shared_symbols made.items ≡ shared_symbols symbols.now) }
 {

@@ -1,4 +1,5 @@
 //! A world: what is known of the reply.
+#![tactic(auto, using(crate::proofs::WordLemmas::word_rules))]
 
 ghost use Rattle.std.specs.Prelude.{◌≡◌, Some, true, cond, IfOk, option_map};
 ghost use Rattle.witx_machine.specs.Words.{when};
@@ -38,7 +39,6 @@ pub type Picked = witx_run::Picked<Rc<Symbol>>;
 impl World {
     /// Which case a symbol has, for cases that carry these types: only the reply has one, and only where
     /// it is known.
-    #[tactic(auto, using(crate::proofs::WordLemmas::word_rules))]
     pub fn picks(
         &self,
         ok: Option<&TypeRef>,
@@ -61,7 +61,6 @@ impl World {
     }
 
     /// Whether a word stands for the second case, or for the first; neither where it tells nothing.
-    #[tactic(auto, using(crate::proofs::WordLemmas::word_rules))]
     pub fn chooses(&self, word: &Word) -> Option<bool>
         ensures { result ≡ chooses_in self.now.error (world_of self.now) (word_seen word.now) }
     {
@@ -81,7 +80,6 @@ impl World {
         }
     }
 
-    #[tactic(auto, using(crate::proofs::WordLemmas::word_rules))]
     fn tells_error(&self, word: &Word) -> bool
         ensures { when result (Some true) ≡ chooses_in (Some true) (world_of self.now) (word_seen word.now) }
     {
@@ -96,7 +94,6 @@ impl World {
     }
 
     /// The result of a case with a payload or none: the reply, where they are the reply's.
-    #[tactic(auto, using(crate::proofs::WordLemmas::word_rules))]
     pub fn result(
         &self,
         alloc: Global,
@@ -118,7 +115,6 @@ impl World {
         }
     }
 
-    #[tactic(auto, using(crate::proofs::WordLemmas::word_rules))]
     fn is_case(&self, error: bool) -> bool
         ensures { result ≡ is_case_of error self.now.error }
     {
@@ -130,7 +126,6 @@ impl World {
 }
 
 /// Whether it is this symbol.
-#[tactic(auto, using(crate::proofs::WordLemmas::word_rules))]
 pub(crate) fn is_symbol(option: &Option<Rc<Symbol>>, symbol: &Symbol) -> bool
     ensures { result ≡ same_option (option_of option.now) (Some (symbol_of symbol.now)) }
 {
@@ -140,7 +135,6 @@ pub(crate) fn is_symbol(option: &Option<Rc<Symbol>>, symbol: &Symbol) -> bool
     }
 }
 
-#[tactic(auto, using(crate::proofs::WordLemmas::word_rules))]
 fn same_payload(a: &Option<Rc<Symbol>>, b: &Option<Rc<Symbol>>) -> bool
     ensures { result ≡ same_option (option_of a.now) (option_of b.now) }
 {
@@ -151,7 +145,6 @@ fn same_payload(a: &Option<Rc<Symbol>>, b: &Option<Rc<Symbol>>) -> bool
     }
 }
 
-#[tactic(auto, using(crate::proofs::WordLemmas::word_rules))]
 fn made(alloc: Global, error: bool, payload: Option<Rc<Symbol>>) -> Result<Rc<Symbol>, OutOfMemory>
     ensures { IfOk result (λ made. shared_of made ≡ made_of (cond error 1 0) (option_of payload)) }
 {
@@ -163,7 +156,6 @@ fn made(alloc: Global, error: bool, payload: Option<Rc<Symbol>>) -> Result<Rc<Sy
 }
 
 // The payload, as the type of its case has it: absent where that case has no type.
-#[tactic(auto, using(crate::proofs::WordLemmas::word_rules))]
 fn payload_of(
     ty: Option<&TypeRef>,
     load: &Option<Rc<Symbol>>,

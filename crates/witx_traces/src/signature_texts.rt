@@ -1,6 +1,7 @@
 //! The signature that a text is.
 //!
 //! It is read loosely, and then its own text is compared with what stands there.
+#![tactic(auto, using(crate::proofs::SignatureReading::type_rules))]
 
 ghost use Rattle.std.specs.Prelude.{◌≡◌, ◌<◌, ◌≤◌, IfOk, MatchOption, length, option_map};
 ghost use Rattle.witx_base.specs.Texts.{same_text};
@@ -21,7 +22,6 @@ pub(crate) struct WasmSignature {
 }
 
 /// The type at the head, and what follows it.
-#[tactic(auto, using(crate::proofs::SignatureReading::type_rules))]
 fn first_type(text: &str) -> Option<(WasmType, &str)>
     ensures first { IsFirstType text.now (option_map taken_line result) }
     ensures shorter { MatchOption result (length text.now ≡ length text.now) (λ p. length p.1.now < length text.now) }
@@ -42,7 +42,6 @@ fn first_type(text: &str) -> Option<(WasmType, &str)>
 }
 
 /// What follows a space, if one stands at the head.
-#[tactic(auto, using(crate::proofs::SignatureReading::type_rules))]
 fn behind_space(text: &str) -> &str
     ensures behind { result.now ≡ behind_space text.now }
     ensures shorter { length result.now ≤ length text.now }

@@ -1,4 +1,5 @@
 //! Whether the words of a call pass the arguments.
+#![tactic(auto, using(witx_symbols::proofs::PassLemmas::pass_rules))]
 
 ghost use Rattle.std.specs.Prelude.{◌≡◌};
 ghost use Rattle.witx_instructions.specs.Views.{param_types, pointer_types};
@@ -13,7 +14,6 @@ use witx_symbols::{Cells, Symbol, Word, words_behind};
 
 /// Whether the words of a call are those of the arguments, one after the other, and then an address made
 /// for each return pointer.
-#[tactic(auto, using(witx_symbols::proofs::PassLemmas::pass_rules))]
 pub(crate) fn passes(
     cells: &Cells,
     pointers: &[&Rc<NamedType>],
@@ -37,7 +37,6 @@ pub(crate) fn passes(
 }
 
 // Whether they are addresses made for these types, one for each.
-#[tactic(auto, using(witx_symbols::proofs::PassLemmas::pass_rules))]
 fn pointers_are(cells: &Cells, pointers: &[&Rc<NamedType>], words: &[Word]) -> bool
     ensures { result ≡ pointers_are (memory_of cells.now) (pointer_types pointers.now) (words_of words.now) }
 {

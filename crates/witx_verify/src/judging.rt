@@ -1,4 +1,5 @@
 //! The doubt that a run leaves.
+#![tactic(auto, using(witx_symbols::proofs::JudgeLemmas::judge_rules))]
 
 ghost use Rattle.std.specs.Prelude.{◌≡◌, IfOk};
 ghost use Rattle.witx_machine.specs.Machine.{went};
@@ -16,7 +17,6 @@ use witx_base::OutOfMemory;
 use witx_symbols::{Doubt, Outcome, Run, Symbol, World, all_same, gives_back, is_reply};
 
 /// The doubt that a run in a world leaves; none where it ended as it should.
-#[tactic(auto, using(witx_symbols::proofs::JudgeLemmas::judge_rules))]
 pub(crate) fn judged(
     alloc: Global,
     world: &World,
@@ -36,7 +36,6 @@ pub(crate) fn judged(
     }
 }
 
-#[tactic(auto, using(witx_symbols::proofs::JudgeLemmas::judge_rules))]
 fn outcome_judged(
     alloc: Global,
     world: &World,

@@ -1,4 +1,5 @@
 //! The verdict on two traces.
+#![tactic(auto, using(crate::proofs::VerifyLemmas::verify_rules))]
 
 ghost use Rattle.std.specs.Prelude.{◌≡◌, IfOk, None, map};
 ghost use Rattle.witx_machine.specs.Faithful.{Faithful};
@@ -28,7 +29,6 @@ use witx_symbols::{Doubt, Verdict, World, arguments_from, misfit, run_in};
 /// none. A yes says that the traces are faithful; not every faithful pair gets one. Parameters, results and
 /// events are numbered from 0. `OutOfMemory` is the only error; it comes also where types are too deep, or where
 /// there is too much to them as they are gone through at each of their mentions.
-#[tactic(auto, using(crate::proofs::VerifyLemmas::verify_rules))]
 pub fn verify(
     alloc: Global,
     module_name: &Id,
@@ -49,7 +49,6 @@ pub fn verify(
 
 /// The same verdict, where those on all functions of a document share what they may go through. `OutOfMemory` comes also
 /// where too much of it was taken by earlier ones.
-#[tactic(auto, using(crate::proofs::VerifyLemmas::verify_rules))]
 pub fn verify_within(
     allotment: &mut Allotment,
     alloc: Global,
@@ -73,7 +72,6 @@ pub fn verify_within(
 }
 
 // The first doubt, none where the answer is yes.
-#[tactic(auto, using(crate::proofs::VerifyLemmas::verify_rules))]
 fn doubt(
     alloc: Global,
     module_name: &Id,
@@ -95,7 +93,6 @@ fn doubt(
 }
 
 // The first doubt in one of these worlds of the function's reply.
-#[tactic(auto, using(crate::proofs::VerifyLemmas::verify_rules))]
 fn first_doubt(
     alloc: Global,
     worlds: &[World],
@@ -118,7 +115,6 @@ fn first_doubt(
 }
 
 // The doubt in one world.
-#[tactic(auto, using(crate::proofs::VerifyLemmas::verify_rules))]
 fn doubt_in(
     alloc: Global,
     world: &World,

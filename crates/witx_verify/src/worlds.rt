@@ -1,4 +1,5 @@
 //! The worlds of a function: what its reply can be.
+#![tactic(auto, using(witx_symbols::proofs::WorldsLemmas::worlds_rules))]
 
 ghost use Rattle.std.specs.Prelude.{◌≡◌, ◌∷◌, ◌++◌, [], IfOk, Some, nat_le};
 ghost use Rattle.witx_ast.specs.Views.{tree_of};
@@ -16,7 +17,6 @@ use witx_symbols::{Source, Symbol, World, known, one_world, push_second, symbol_
 
 /// The worlds of a function, at most three. Where its result is a variant with a payload, the reply is
 /// the first case, the second, or a later one, as far as there are such cases; else there is one world.
-#[tactic(auto, using(witx_symbols::proofs::WorldsLemmas::worlds_rules))]
 pub(crate) fn worlds(alloc: Global, func: &InterfaceFunc) -> Result<Vec<World>, OutOfMemory>
     ensures { IfOk result (λ made. worlds_read made.items ≡ worlds (called func.now)) }
 {
@@ -26,7 +26,6 @@ pub(crate) fn worlds(alloc: Global, func: &InterfaceFunc) -> Result<Vec<World>, 
     }
 }
 
-#[tactic(auto, using(witx_symbols::proofs::WorldsLemmas::worlds_rules))]
 fn worlds_of_result(alloc: Global, abi: Abi, ty: &TypeRef) -> Result<Vec<World>, OutOfMemory>
     ensures { IfOk result (λ made. worlds_read made.items ≡ worlds_of abi (tree_of ty.now ∷ [])) }
 {
@@ -38,7 +37,6 @@ fn worlds_of_result(alloc: Global, abi: Abi, ty: &TypeRef) -> Result<Vec<World>,
     }
 }
 
-#[tactic(auto, using(witx_symbols::proofs::WorldsLemmas::worlds_rules))]
 fn worlds_of_cases(
     alloc: Global,
     abi: Abi,
@@ -56,7 +54,6 @@ fn worlds_of_cases(
 }
 
 // The world of the cases behind the second, of which nothing more is known, where there are so many.
-#[tactic(auto, using(witx_symbols::proofs::WorldsLemmas::worlds_rules))]
 fn push_later(
     worlds: &mut Vec<World>,
     abi: Abi,
