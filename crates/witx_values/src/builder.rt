@@ -8,6 +8,7 @@ ghost use Rattle.std.specs.Prelude.{◌≡◌, ◌+◌, ◌<◌, ◌^◌, [], �
 ghost use Rattle.witx_values.specs.Language.{IsDerived, stands_for};
 
 use crate::actions::Actions;
+use crate::top;
 use std::alloc::Global;
 use witx_base::OutOfMemory;
 use witx_grammar::Step;
@@ -45,8 +46,5 @@ pub fn build<A: Actions>(
             }
         }
     }
-    let Some(value) = stack.pop() else {
-        unreachable!()
-    };
-    Ok(value)
+    Ok(top!(stack))
 }

@@ -58,4 +58,4 @@ pub returns : goal.returns
 returns g c =
     built g.A.Actions.language g.met.A.Actions.lawful c.args.start c.args.steps.now (map g.A.Actions.token_of c.args.tokens.now) c.requires.derived
     g.A.Actions.value_of c.each.stack.items c.each.number c.each.at (omega (arith, c.each-test.false)) c.each.invariant
-    c.pop.new.self.items c.in-Some.value c.in-Some.ensures.items
+    c.pop.new.self.items c.in-Some.top c.in-Some.ensures.items
