@@ -107,8 +107,8 @@ fn push_named<'a>(pointers: &mut Pointers<'a>, tref: &'a TypeRef) -> Result<(), 
     requires { is_named (tree_of tref.now) ≡ true }
     ensures { IfOk result (λ _. pointer_types pointers.new ≡ pointer_types pointers.old ++ tree_of tref.now ∷ []) }
 {
-    match tref {
-        TypeRef::Name(named) => pointers.push(named),
-        TypeRef::Value(_) => unreachable!(),
+    if let TypeRef::Name(named) = tref {
+        pointers.push(named)?;
     }
+    Ok(())
 }
