@@ -240,10 +240,10 @@ impl ByteMemory {
         ensures filled { Filled at (at + len) (Some 0) (held self.old) (held self.new) }
         ensures kept { (n : ℕ) → HasBlock n self.old → HasBlock n self.new }
     {
-        match self.blocks.get_mut(&(at / SIZE)) {
-            Some(block) => block.fill(at % SIZE, len),
-            None => unreachable!(),
-        }
+        let Some(block) = self.blocks.get_mut(&(at / SIZE)) else {
+            return;
+        };
+        block.fill(at % SIZE, len);
     }
 
     /// Writes a number into so many bytes of one block, the lowest first; takes no memory.
@@ -253,10 +253,10 @@ impl ByteMemory {
         requires inside { at % 256 + width ≤ 256 }
         ensures { Writes at (little width number) (held self.old) (held self.new) }
     {
-        match self.blocks.get_mut(&(at / SIZE)) {
-            Some(block) => block.write(at % SIZE, width, number),
-            None => unreachable!(),
-        }
+        let Some(block) = self.blocks.get_mut(&(at / SIZE)) else {
+            return;
+        };
+        block.write(at % SIZE, width, number);
     }
 }
 

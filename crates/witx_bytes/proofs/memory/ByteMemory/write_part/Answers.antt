@@ -6,8 +6,8 @@ use Rattle.witx_bytes.specs.Writes.{Writes}
 use Rattle.witx_bytes.proofs.Blocks.{OneBlock, one_block, number_changed, bytes_written, part_within}
 use Rattle.witx_bytes.proofs.memory.ByteMemory.write_part.Goals as goal
 
-pub invariant_of-self : goal.invariant_of-self
-invariant_of-self c =
+pub invariant_of-self-2 : goal.invariant_of-self-2
+invariant_of-self-2 c =
     let m = c.self.inside.blocks.entries in
     let n = (c.get_mut.follows.lender c.write.new.self).entries in
     let was : block_of (c.args.at / 256) m ≡ Some c.in-Some.block.now = sym c.get_mut.ensures.value ∙ ap option_copied_mut c.in-Some.is in
