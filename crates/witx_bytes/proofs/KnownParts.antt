@@ -1,5 +1,5 @@
 -- What is known of a type gives what is known of its parts.
-use Rattle.std.proofs.Common.{◌≡◌, ℕ, zero, suc, ◌+◌, ◌<◌, refl, sym, ap, ◌∙◌, subst, arith, max, Option, Some, None, List, [], ◌∷◌, length, get_or, slice_get}
+use Rattle.std.proofs.Common.{◌≡◌, ℕ, zero, suc, ◌<◌, refl, sym, ap, ◌∙◌, subst, arith, max, Option, Some, None, List, [], ◌∷◌, length, get_or, slice_get}
 use Rattle.witx_ast.specs.Plain.{Plain, plain, Fields, Arms}
 use Rattle.witx_ast.specs.Views.{tree_of, variant_tree, members_plain, cases_plain}
 use Rattle.witx_ast.specs.declared.types.Case.{Case}
@@ -69,6 +69,11 @@ known_tuple ms (Some l) h = h.1
 pub known_record : (ms : Fields) (o : Option Laid) → KnownOf (Plain.record_of RecordKind.Other ms) o → KnownMembers ms o
 known_record ms None h = tt
 known_record ms (Some l) h = h.1
+
+pub known_members : (k : RecordKind) (ms : Fields) (o : Option Laid) → ((r : IntRepr) → k ≡ RecordKind.Bitflags r → ⊥) → KnownOf (Plain.record_of k ms) o → KnownMembers ms o
+known_members (RecordKind.Bitflags r) ms o n h = absurd (n r refl)
+known_members RecordKind.Tuple ms o n h = known_tuple ms o h
+known_members RecordKind.Other ms o n h = known_record ms o h
 
 pub known_cases : (r : IntRepr) (cs : Arms) (o : Option Laid) → KnownOf (Plain.variant_of r cs) o → KnownCases cs o
 known_cases r cs None h = tt

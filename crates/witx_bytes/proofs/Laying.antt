@@ -14,7 +14,7 @@ use Rattle.witx_layout.specs.Numbers.{align_to, align_of, size_of, members_end, 
 use Rattle.witx_layout.specs.declared.members.LayoutError.{LayoutError}
 use Rattle.witx_layout.proofs.Alignments.{members-some, payloads-some}
 use Rattle.witx_layout.proofs.Onward.{next-end, next-align, part-within, part-large, all-ended, all-aligned, bare-size, bare-align, carries-size, carries-align, payload-within, all-sized, all-payloads-aligned}
-use Rattle.witx_bytes.specs.Laids.{Numbers, PartsLaid, MembersLaid, CasesLaid, IsLaid, IsCaseLaid, Lays, LaysMembers, LaysCase, LaysCases, MemberAdded, CaseAdded}
+use Rattle.witx_bytes.specs.Laids.{Numbers, MembersLaid, CasesLaid, IsLaid, IsCaseLaid, Lays, LaysMembers, LaysCase, LaysCases, MemberAdded, CaseAdded}
 use Rattle.witx_bytes.specs.Payloads.{case_size}
 use Rattle.witx_bytes.specs.declared.laid.Laid.{Laid, out-Laid, out-roll-Laid}
 

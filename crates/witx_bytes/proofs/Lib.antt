@@ -16,6 +16,7 @@ pub mod GoodTraces
 pub mod TracesOverBytes
 pub mod FlagBits
 pub mod Parts
+pub mod ScalarParts
 pub mod Members
 pub mod Payloads
 pub mod Belonging

@@ -1,8 +1,8 @@
 -- Members written one after the other, and the parts of variants.
-use Rattle.std.proofs.Common.{◌≡◌, ℕ, ◌+◌, ◌-◌, ◌^◌, ◌<◌, ◌≤◌, max, Bool, true, false, ◌&&◌, refl, sym, ap, ◌∙◌, subst, arith, Option, Some, None, List, [], ◌∷◌, ◌++◌, length, map, drop, get_or, nat_le}
+use Rattle.std.proofs.Common.{◌≡◌, ℕ, ◌+◌, ◌-◌, ◌^◌, ◌<◌, ◌≤◌, max, Bool, true, false, ◌&&◌, refl, sym, ap, ◌∙◌, subst, arith, Option, Some, None, List, [], ◌∷◌, ◌++◌, length, map, drop, get_or, nat_le, inl, inr, ◌⊎◌}
 use Rattle.std.proofs.lemmas.List.{drop_more, drop_all}
 use Rattle.witx_base.specs.SameBytes.{false-true, both}
-use Rattle.std.proofs.Common.{ℤ, option_map, not, nat_eq, nat_lt, ◌||◌}
+use Rattle.std.proofs.Common.{option_map, not, nat_eq, nat_lt, ◌||◌}
 use Rattle.witx_ast.specs.declared.types.TypeRef.{TypeRef}
 use Rattle.witx_ast.specs.declared.types.Case.{Case}
 use Rattle.witx_ast.proofs.Decided.{decides-eq, decides-le}
@@ -12,7 +12,6 @@ use Rattle.witx_bytes.proofs.Agreement.{held-at}
 use Rattle.witx_bytes.proofs.ReadBack.{with-below}
 use Rattle.std.specs.declared.alloc.Global.{Global}
 use Rattle.std.specs.declared.boxed.Box.{Box}
-use Rattle.witx_ast.specs.declared.types.BuiltinType.{BuiltinType}
 use Rattle.witx_ast.specs.declared.types.RecordKind.{RecordKind}
 use Rattle.witx_ast.specs.Plain.{Plain, plain, Fields, Arms, field_count, all_bare}
 use Rattle.witx_ast.specs.Views.{tree_of, members_plain, cases_plain}
@@ -25,21 +24,21 @@ use Rattle.witx_ast.specs.declared.types.IntRepr.{IntRepr}
 use Rattle.witx_ast.proofs.Trees.{tree_rules}
 use Rattle.witx_ast.proofs.Parts.{members-drop, members-end, record-plain, variant-plain, cases-bare, cases-carries, count-cases}
 use Rattle.witx_ast.proofs.ValueLaws.{value-decides, case-with-decides}
-use Rattle.witx_layout.specs.Numbers.{align_to, align_of, size_of, members_end, members_align, repr_size, payload_offset, payloads_size, payloads_align, builtin_size}
-use Rattle.witx_machine.specs.Words.{wrapped, bits_of_flags}
+use Rattle.witx_layout.specs.Numbers.{align_to, align_of, size_of, members_end, members_align, repr_size, payload_offset, payloads_size, payloads_align}
+use Rattle.witx_machine.specs.Words.{bits_of_flags}
 use Rattle.witx_layout.proofs.Onward.{above, end-above}
 use Rattle.witx_machine.specs.Cells.{values_of}
 use Rattle.witx_bytes.specs.Bytes.{Bytes, Image, image_written}
 use Rattle.witx_bytes.specs.Images.{image, members_image, payload_image, gap, padded_to, tag_image, little}
 use Rattle.witx_bytes.specs.Seen.{seen}
 use Rattle.witx_bytes.specs.Writes.{CanWrite, CanWriteAll, HasRange, Writes}
-use Rattle.witx_bytes.specs.Writes.{CanWriteCase, CanWritePayload}
+use Rattle.witx_bytes.specs.Writes.{CanWritePayload}
 use Rattle.witx_bytes.specs.Payloads.{payload_type_fits, is_payload_of, is_case, case_size, type_image, case_image}
 use Rattle.witx_bytes.specs.Seen.{seen_in}
 use Rattle.witx_bytes.proofs.Payloads.{CaseIs, case_found}
 use Rattle.witx_bytes.specs.declared.value.Value.{Value}
 use Rattle.witx_bytes.specs.declared.value.Value.TheVariants as value
-use Rattle.witx_bytes.proofs.Seen.{seen-Num, seen-List, seen-Flags, seen-Tuple, seen-Rec, seen-Enum, seen-Bare, seen-With}
+use Rattle.witx_bytes.proofs.Seen.{seen-Flags, seen-Tuple, seen-Rec, seen-Enum, seen-Bare, seen-With}
 use Rattle.witx_bytes.proofs.Agreement.{gap-length, length-both}
 use Rattle.witx_bytes.proofs.Lengths.{image-length, tag-length}
 use Rattle.witx_bytes.proofs.Writing.{written-same, written-at, written-then, written-behind, writes-then, writes-padded, range_kept, range_part}
@@ -137,26 +136,35 @@ module _ (ms : List RecordMember) (vs : List Value) (at end i : ℕ) (m k : Byte
 pub members_done : (ms : List RecordMember) (vs : List Value) (at end i : ℕ) (m k : Bytes) → MembersLeft ms vs at end i m k → length ms ≤ i → Writes at (members_image 0 (members_plain ms) (values_of (map seen vs))) m k
 members_done ms vs at end i m k f l y = ap (λ ms. image_written (at + end) (members_image end ms (vs_from vs i)) k y) (sym (members-end ms i l)) ∙ f.same y
 
--- scalars, by their numbers
-pub builtin_written : (b : BuiltinType) (v : Value) (k : BuiltinType) (n : ℤ) (at width number : ℕ) (m k' : Bytes) → v ≡ value.Num k n → width ≡ builtin_size b → number ≡ wrapped (256 ^ builtin_size b) n → Writes at (little width number) m k' → Writes at (image (Plain.builtin b) (seen v)) m k'
-builtin_written b v k n at width number m k' e w is f x =
-    f x ∙ ap (λ width. image_written at (little width number) m x) w ∙ ap (λ number. image_written at (little (builtin_size b) number) m x) is ∙ ap (λ u. image_written at (image (Plain.builtin b) u) m x) (sym (ap seen e ∙ seen-Num k n))
+-- what can be written is a value
+not_so : (t : Plain) (v : Value) → CanWrite t (seen v) → (u : plain.Value) → seen v ≡ u → is_value t u ≡ false → ⊥
+not_so t v h u e n = false-true (sym n ∙ ap (is_value t) (sym e) ∙ h.value)
 
-pub list_written : (t : Plain) (v : Value) (a l at behind : ℕ) (m k n : Bytes) → v ≡ value.List a l → Writes at (little 4 a) m k → behind ≡ at + 4 → Writes behind (little 4 l) k n → Writes at (image (Plain.list_of t) (seen v)) m n
-list_written t v a l at behind m k n e f b g x =
-    writes-then at (little 4 a) (little 4 l) m k n f (λ x. g x ∙ written-at behind (at + 4) (little 4 l) k x b) x ∙ ap (λ u. image_written at (image (Plain.list_of t) u) m x) (sym (ap seen e ∙ seen-List a l))
-
+-- flags, as one number
 pub flags_written : (r : IntRepr) (ms : Fields) (v : Value) (bits : List Bool) (at width number : ℕ) (m k : Bytes) → v ≡ value.Flags bits → width ≡ repr_size r → number ≡ bits_of_flags bits → Writes at (little width number) m k → Writes at (image (Plain.record_of (RecordKind.Bitflags r) ms) (seen v)) m k
 flags_written r ms v bits at width number m k e w is f x =
     f x ∙ ap (λ width. image_written at (little width number) m x) w ∙ ap (λ number. image_written at (little (repr_size r) number) m x) is ∙ ap (λ u. image_written at (image (Plain.record_of (RecordKind.Bitflags r) ms) u) m x) (sym (ap seen e ∙ seen-Flags bits))
 
-pub tuple_written : (ms : Fields) (v : Value) (vs : List Value) (at : ℕ) (m k : Bytes) → v ≡ value.Tuple vs → Writes at (members_image 0 ms (values_of (map seen vs))) m k → Writes at (image (Plain.record_of RecordKind.Tuple ms) (seen v)) m k
-tuple_written ms v vs at m k e f x =
-    writes-padded at (size_of (Plain.record_of RecordKind.Tuple ms)) (members_image 0 ms (values_of (map seen vs))) m k f x ∙ ap (λ u. image_written at (image (Plain.record_of RecordKind.Tuple ms) u) m x) (sym (ap seen e ∙ seen-Tuple vs))
+-- the members of a tuple, and of another record
+abbrev pub HasMembers : Value → List Value → Type 0
+HasMembers v vs = (v ≡ value.Tuple vs) ⊎ (v ≡ value.Rec vs)
 
-pub record_written : (ms : Fields) (v : Value) (vs : List Value) (at : ℕ) (m k : Bytes) → v ≡ value.Rec vs → Writes at (members_image 0 ms (values_of (map seen vs))) m k → Writes at (image (Plain.record_of RecordKind.Other ms) (seen v)) m k
-record_written ms v vs at m k e f x =
-    writes-padded at (size_of (Plain.record_of RecordKind.Other ms)) (members_image 0 ms (values_of (map seen vs))) m k f x ∙ ap (λ u. image_written at (image (Plain.record_of RecordKind.Other ms) u) m x) (sym (ap seen e ∙ seen-Rec vs))
+members_shown : (v : Value) (vs : List Value) → v ≡ value.Tuple vs → seen v ≡ plain.tuple_values (values_of (map seen vs))
+members_shown v vs e = ap seen e ∙ seen-Tuple vs
+
+others_shown : (v : Value) (vs : List Value) → v ≡ value.Rec vs → seen v ≡ plain.record_values (values_of (map seen vs))
+others_shown v vs e = ap seen e ∙ seen-Rec vs
+
+pub record_written : (k : RecordKind) (ms : Fields) (v : Value) (vs : List Value) (at : ℕ) (m n : Bytes) → CanWrite (Plain.record_of k ms) (seen v) → HasMembers v vs
+    → Writes at (members_image 0 ms (values_of (map seen vs))) m n → Writes at (image (Plain.record_of k ms) (seen v)) m n
+record_written (RecordKind.Bitflags r) ms v vs at m n h (inl e) f = absurd (not_so (Plain.record_of (RecordKind.Bitflags r) ms) v h _ (members_shown v vs e) refl)
+record_written (RecordKind.Bitflags r) ms v vs at m n h (inr e) f = absurd (not_so (Plain.record_of (RecordKind.Bitflags r) ms) v h _ (others_shown v vs e) refl)
+record_written RecordKind.Tuple ms v vs at m n h (inl e) f = λ x.
+    writes-padded at (size_of (Plain.record_of RecordKind.Tuple ms)) (members_image 0 ms (values_of (map seen vs))) m n f x ∙ ap (λ u. image_written at (image (Plain.record_of RecordKind.Tuple ms) u) m x) (sym (members_shown v vs e))
+record_written RecordKind.Tuple ms v vs at m n h (inr e) f = absurd (not_so (Plain.record_of RecordKind.Tuple ms) v h _ (others_shown v vs e) refl)
+record_written RecordKind.Other ms v vs at m n h (inl e) f = absurd (not_so (Plain.record_of RecordKind.Other ms) v h _ (members_shown v vs e) refl)
+record_written RecordKind.Other ms v vs at m n h (inr e) f = λ x.
+    writes-padded at (size_of (Plain.record_of RecordKind.Other ms)) (members_image 0 ms (values_of (map seen vs))) m n f x ∙ ap (λ u. image_written at (image (Plain.record_of RecordKind.Other ms) u) m x) (sym (others_shown v vs e))
 
 pub enum_written : (r : IntRepr) (cs : Arms) (v : Value) (i at width : ℕ) (m k : Bytes) → v ≡ value.Enum i → width ≡ repr_size r → Writes at (little width i) m k → Writes at (image (Plain.variant_of r cs) (seen v)) m k
 enum_written r cs v i at width m k e w f x =
@@ -187,12 +195,13 @@ flags_few r ms v bits h e =
     most IntRepr.U32 = omega arith
     most IntRepr.U64 = omega arith
 
--- the members of a tuple, and of another record
-pub tuple_can : (ms : Fields) (v : Value) (vs : List Value) → CanWrite (Plain.record_of RecordKind.Tuple ms) (seen v) → v ≡ value.Tuple vs → CanWriteAll ms (values_of (map seen vs))
-tuple_can ms v vs h e = record { values = ap (is_value (Plain.record_of RecordKind.Tuple ms)) (sym (ap seen e ∙ seen-Tuple vs)) ∙ h.value; fit = h.fit }
-
-pub record_can : (ms : Fields) (v : Value) (vs : List Value) → CanWrite (Plain.record_of RecordKind.Other ms) (seen v) → v ≡ value.Rec vs → CanWriteAll ms (values_of (map seen vs))
-record_can ms v vs h e = record { values = ap (is_value (Plain.record_of RecordKind.Other ms)) (sym (ap seen e ∙ seen-Rec vs)) ∙ h.value; fit = h.fit }
+pub record_can : (k : RecordKind) (ms : Fields) (v : Value) (vs : List Value) → CanWrite (Plain.record_of k ms) (seen v) → HasMembers v vs → CanWriteAll ms (values_of (map seen vs))
+record_can (RecordKind.Bitflags r) ms v vs h (inl e) = absurd (not_so (Plain.record_of (RecordKind.Bitflags r) ms) v h _ (members_shown v vs e) refl)
+record_can (RecordKind.Bitflags r) ms v vs h (inr e) = absurd (not_so (Plain.record_of (RecordKind.Bitflags r) ms) v h _ (others_shown v vs e) refl)
+record_can RecordKind.Tuple ms v vs h (inl e) = record { values = ap (is_value (Plain.record_of RecordKind.Tuple ms)) (sym (members_shown v vs e)) ∙ h.value; fit = h.fit }
+record_can RecordKind.Tuple ms v vs h (inr e) = absurd (not_so (Plain.record_of RecordKind.Tuple ms) v h _ (others_shown v vs e) refl)
+record_can RecordKind.Other ms v vs h (inl e) = absurd (not_so (Plain.record_of RecordKind.Other ms) v h _ (members_shown v vs e) refl)
+record_can RecordKind.Other ms v vs h (inr e) = record { values = ap (is_value (Plain.record_of RecordKind.Other ms)) (sym (others_shown v vs e)) ∙ h.value; fit = h.fit }
 
 pub record_room : (kind : RecordKind) (ms : Fields) (at : ℕ) (m : Bytes) → ((r : IntRepr) → kind ≡ RecordKind.Bitflags r → ⊥) → HasRange at (size_of (Plain.record_of kind ms)) m → HasRange at (members_end 0 ms) m
 record_room (RecordKind.Bitflags r) ms at m n h = absurd (n r refl)
@@ -219,18 +228,22 @@ can_by t q v e h = subst (λ t. CanWrite t v) e h
 pub room_by : (at : ℕ) (t q : Plain) (m : Bytes) → t ≡ q → HasRange at (size_of t) m → HasRange at (size_of q) m
 room_by at t q m e h = subst (λ t. HasRange at (size_of t) m) e h
 
-pub case_can_by : (o p : Option TypeRef) (v : plain.Value) → o ≡ p → CanWriteCase o v → CanWriteCase p v
-case_can_by o p v e h = subst (λ o. CanWriteCase o v) e h
-
-pub case_room_by : (at : ℕ) (o p : Option TypeRef) (m : Bytes) → o ≡ p → HasRange at (case_size o) m → HasRange at (case_size p) m
-case_room_by at o p m e h = subst (λ o. HasRange at (case_size o) m) e h
-
 pub payload_bound : (cs : List Case) (i : ℕ) (o : Option (Box Value Global)) (b : Box Value Global) → CanWritePayload (cases_plain cs) i (option_map seen_in o) → o ≡ Some b → i < length cs
 payload_bound cs i o b h e =
     let k : is_case_with (cases_plain cs) i (seen b.value) ≡ true = ap (λ o. is_case (cases_plain cs) i (option_map seen_in o)) (sym e) ∙ h.value in
     omega (arith, with-below (cases_plain cs) i (seen b.value) ((case-with-decides (cases_plain cs) i (seen b.value)).0 k), count-cases cs)
 
 -- the payload that is written, by the case's type
+abbrev pub CanWriteCase : Option TypeRef → plain.Value → Type 0
+CanWriteCase None v = ⊥
+CanWriteCase (Some t) v = CanWrite (plain (tree_of t)) v
+
+pub case_can_by : (o p : Option TypeRef) (v : plain.Value) → o ≡ p → CanWriteCase o v → CanWriteCase p v
+case_can_by o p v e h = subst (λ o. CanWriteCase o v) e h
+
+pub case_room_by : (at : ℕ) (o p : Option TypeRef) (m : Bytes) → o ≡ p → HasRange at (case_size o) m → HasRange at (case_size p) m
+case_room_by at o p m e h = subst (λ o. HasRange at (case_size o) m) e h
+
 payload_can : (o : Option TypeRef) (u : plain.Value) → is_payload_of o (Some u) ≡ true → payload_type_fits o ≡ true → CanWriteCase o u
 payload_can None u h f = absurd (false-true h)
 payload_can (Some t) u h f = record { value = h; fit = f }

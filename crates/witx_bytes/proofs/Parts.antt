@@ -1,8 +1,8 @@
 -- Which values the program has at a type.
-use Rattle.std.proofs.Common.{◌≡◌, ℕ, ℤ, true, false, refl, sym, ap, ◌∙◌, subst, Option, Some, None, List, Bool, map, rules}
+use Rattle.std.proofs.Common.{◌≡◌, ℕ, ℤ, false, refl, sym, ap, ◌∙◌, subst, Option, Some, None, List, Bool, map, rules}
 use Rattle.std.specs.declared.alloc.Global.{Global}
 use Rattle.std.specs.declared.boxed.Box.{Box}
-use Rattle.witx_base.specs.SameBytes.{false-true, both}
+use Rattle.witx_base.specs.SameBytes.{false-true}
 use Rattle.witx_ast.specs.declared.types.BuiltinType.{BuiltinType}
 use Rattle.witx_ast.specs.declared.types.IntRepr.{IntRepr}
 use Rattle.witx_ast.specs.declared.types.RecordKind.{RecordKind}
@@ -11,7 +11,7 @@ use Rattle.witx_ast.specs.Values as plain
 use Rattle.witx_ast.specs.ValueTests.{is_value}
 use Rattle.witx_machine.specs.Cells.{values_of}
 use Rattle.witx_bytes.specs.Seen.{seen}
-use Rattle.witx_bytes.specs.Writes.{CanWrite}
+use Rattle.witx_bytes.specs.Writes.{CanWrite, IsScalar}
 use Rattle.witx_bytes.specs.declared.value.Value.{Value, out-Value, roll-Value, the_lemmas}
 use Rattle.witx_bytes.specs.declared.value.Value.TheOpen.{Value-F}
 use Rattle.witx_bytes.specs.declared.value.Value.TheVariants as value
@@ -138,35 +138,28 @@ not_variant r cs v n k = go (shape v)
 other : (t : Plain) (v : plain.Value) → CanWrite t v → is_value t v ≡ false → ⊥
 other t v h e = false-true (sym e ∙ h.value)
 
-pub other_builtin : (b : BuiltinType) (v : Value) → CanWrite (Plain.builtin b) (seen v) → ((k : BuiltinType) (n : ℤ) → v ≡ value.Num k n → ⊥) → ⊥
-other_builtin b v h n = other (Plain.builtin b) (seen v) h (not_builtin b v n)
-
-pub other_handle : (v : Value) → CanWrite Plain.handle (seen v) → ((x : ℕ) → v ≡ value.Handle x → ⊥) → ⊥
-other_handle v h n = other Plain.handle (seen v) h (not_handle v n)
-
-pub other_pointer : (t : Plain) (v : Value) → CanWrite (Plain.pointer_to t) (seen v) → ((x : ℕ) → v ≡ value.Pointer x → ⊥) → ⊥
-other_pointer t v h n = other (Plain.pointer_to t) (seen v) h (not_pointer t v n)
-
-pub other_const : (t : Plain) (v : Value) → CanWrite (Plain.const_pointer_to t) (seen v) → ((x : ℕ) → v ≡ value.ConstPointer x → ⊥) → ⊥
-other_const t v h n = other (Plain.const_pointer_to t) (seen v) h (not_const t v n)
-
-pub other_list : (t : Plain) (v : Value) → CanWrite (Plain.list_of t) (seen v) → ((a l : ℕ) → v ≡ value.List a l → ⊥) → ⊥
-other_list t v h n = other (Plain.list_of t) (seen v) h (not_list t v n)
-
 pub other_flags : (r : IntRepr) (ms : Fields) (v : Value) → CanWrite (Plain.record_of (RecordKind.Bitflags r) ms) (seen v) → ((bits : List Bool) → v ≡ value.Flags bits → ⊥) → ⊥
 other_flags r ms v h n = other (Plain.record_of (RecordKind.Bitflags r) ms) (seen v) h (not_flags r ms v n)
 
-pub other_tuple : (ms : Fields) (v : Value) → CanWrite (Plain.record_of RecordKind.Tuple ms) (seen v) → ((vs : List Value) → v ≡ value.Tuple vs → ⊥) → ⊥
-other_tuple ms v h n = other (Plain.record_of RecordKind.Tuple ms) (seen v) h (not_tuple ms v n)
-
-pub other_record : (ms : Fields) (v : Value) → CanWrite (Plain.record_of RecordKind.Other ms) (seen v) → ((vs : List Value) → v ≡ value.Rec vs → ⊥) → ⊥
-other_record ms v h n = other (Plain.record_of RecordKind.Other ms) (seen v) h (not_record ms v n)
+-- a record but for flags, whose value is neither of a tuple nor of another record
+pub other_members : (k : RecordKind) (ms : Fields) (v : Value) → CanWrite (Plain.record_of k ms) (seen v) → ((r : IntRepr) → k ≡ RecordKind.Bitflags r → ⊥)
+    → ((vs : List Value) → v ≡ value.Tuple vs → ⊥) → ((vs : List Value) → v ≡ value.Rec vs → ⊥) → ⊥
+other_members (RecordKind.Bitflags r) ms v h f n o = f r refl
+other_members RecordKind.Tuple ms v h f n o = other (Plain.record_of RecordKind.Tuple ms) (seen v) h (not_tuple ms v n)
+other_members RecordKind.Other ms v h f n o = other (Plain.record_of RecordKind.Other ms) (seen v) h (not_record ms v o)
 
 pub other_variant : (r : IntRepr) (cs : Arms) (v : Value) → CanWrite (Plain.variant_of r cs) (seen v) → ((i : ℕ) → v ≡ value.Enum i → ⊥) → ((i : ℕ) (o : Option (Box Value Global)) → v ≡ value.Case i o → ⊥) → ⊥
 other_variant r cs v h n k = other (Plain.variant_of r cs) (seen v) h (not_variant r cs v n k)
 
--- a number of the builtin
-pub number_in_range : (b : BuiltinType) (v : Value) (k : BuiltinType) (n : ℤ) → CanWrite (Plain.builtin b) (seen v) → v ≡ value.Num k n → Rattle.witx_ast.specs.ValueTests.in_range b n ≡ true
-number_in_range b v k n h e = (both (Rattle.witx_ast.specs.Alike.same_builtin k b) _ (ap (is_value (Plain.builtin b)) (sym (ap seen e ∙ seen-Num k n)) ∙ h.value)).1
+-- a type that has no parts, whose value is of none of its kinds
+pub other_scalar : (t : Plain) (v : Value) → IsScalar t → CanWrite t (seen v) → ((k : BuiltinType) (n : ℤ) → v ≡ value.Num k n → ⊥) → ((n : ℕ) → v ≡ value.Handle n → ⊥)
+    → ((n : ℕ) → v ≡ value.Pointer n → ⊥) → ((n : ℕ) → v ≡ value.ConstPointer n → ⊥) → ((a l : ℕ) → v ≡ value.List a l → ⊥) → ⊥
+other_scalar (Plain.builtin b) v s h number handle pointer const list = other (Plain.builtin b) (seen v) h (not_builtin b v number)
+other_scalar Plain.handle v s h number handle pointer const list = other Plain.handle (seen v) h (not_handle v handle)
+other_scalar (Plain.list_of t) v s h number handle pointer const list = other (Plain.list_of t) (seen v) h (not_list t v list)
+other_scalar (Plain.pointer_to t) v s h number handle pointer const list = other (Plain.pointer_to t) (seen v) h (not_pointer t v pointer)
+other_scalar (Plain.const_pointer_to t) v s h number handle pointer const list = other (Plain.const_pointer_to t) (seen v) h (not_const t v const)
+other_scalar (Plain.record_of kind ms) v s h number handle pointer const list = absurd s
+other_scalar (Plain.variant_of repr cs) v s h number handle pointer const list = absurd s
 
-pub ruleset scalar_rules = (seen_rules, other_builtin, other_handle, other_pointer, other_const, other_list, other_flags, other_tuple, other_record, other_variant, number_in_range)
+pub ruleset scalar_rules = (seen_rules, other_flags, other_variant)

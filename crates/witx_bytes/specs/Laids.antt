@@ -7,7 +7,7 @@ use Rattle.witx_ast.specs.declared.types.RecordKind.{RecordKind}
 use Rattle.witx_ast.specs.declared.types.TypeRef.{TypeRef}
 use Rattle.witx_layout.specs.Numbers.{size_of, align_of, align_to, members_end, members_align, payloads_size, payloads_align}
 use Rattle.witx_layout.specs.declared.members.LayoutError.{LayoutError}
-use Rattle.witx_bytes.specs.Payloads.{case_size, payload_type_fits}
+use Rattle.witx_bytes.specs.Payloads.{case_size}
 use Rattle.witx_bytes.specs.declared.laid.Laid.{Laid, out-Laid}
 
 -- a layout's numbers, and whether what is laid out fits its tags

@@ -1,11 +1,9 @@
 -- What a write asks for and gives.
-use Rattle.std.specs.Prelude.{◌≡◌, ℕ, ◌+◌, ◌^◌, ◌≤◌, true, Option, Some, None}
-use Rattle.witx_ast.specs.Plain.{Plain, plain, Fields, Arms}
+use Rattle.std.specs.Prelude.{◌≡◌, ℕ, ◌+◌, ◌^◌, ◌≤◌, true, Option}
+use Rattle.witx_ast.specs.Plain.{Plain, Fields, Arms}
 use Rattle.witx_ast.specs.Values.{Value, Values}
 use Rattle.witx_ast.specs.ValueTests.{is_value, are_values}
 use Rattle.witx_ast.specs.Tags.{fits, fields_fit, arms_fit}
-use Rattle.witx_ast.specs.Views.{tree_of}
-use Rattle.witx_ast.specs.declared.types.TypeRef.{TypeRef}
 use Rattle.witx_bytes.specs.Bytes.{Bytes, Image, AreHeld, image_written}
 use Rattle.witx_bytes.specs.Payloads.{is_case}
 
@@ -24,10 +22,11 @@ pub record CanWritePayload (cs : Arms) (i : ℕ) (o : Option Value) : Type 0 whe
   pub value : is_case cs i o ≡ true
   pub fit : arms_fit cs ≡ true
 
--- a payload of a case that has this type
-abbrev pub CanWriteCase : Option TypeRef → Value → Type 0
-CanWriteCase None v = ⊥
-CanWriteCase (Some t) v = CanWrite (plain (tree_of t)) v
+-- a type that has no parts
+abbrev pub IsScalar : Plain → Type 0
+IsScalar (Plain.record_of kind ms) = ⊥
+IsScalar (Plain.variant_of repr cs) = ⊥
+IsScalar t = Unit {0}
 
 -- the range ends within 2^32, and its bytes are held
 pub record HasRange (at size : ℕ) (m : Bytes) : Type 0 where

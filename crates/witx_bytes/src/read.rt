@@ -1,15 +1,15 @@
 //! The value that bytes spell.
 
 ghost use Rattle.std.specs.Prelude.{◌≡◌, ◌+◌, ◌^◌, ◌<◌, ◌≤◌, ℕ, true, Err, IfOk, Some, length, option_copied, option_map};
-ghost use Rattle.witx_ast.specs.Plain.{plain, record_of, variant_of};
+ghost use Rattle.witx_ast.specs.Plain.{plain, record_of};
 ghost use Rattle.witx_ast.specs.Tags.{fits};
 ghost use Rattle.witx_ast.specs.Values.{Value as PlainValue};
-ghost use Rattle.witx_ast.specs.Views.{tree_of, datatype_tree, record_tree, variant_tree, members_plain, cases_plain};
+ghost use Rattle.witx_ast.specs.Views.{tree_of, datatype_tree, record_tree, variant_tree, members_plain};
 ghost use Rattle.witx_ast.specs.declared.types.RecordKind.{RecordKind};
-ghost use Rattle.witx_layout.specs.Numbers.{size_of, repr_size, payload_offset as begin_of_payload};
+ghost use Rattle.witx_layout.specs.Numbers.{size_of, repr_size};
 ghost use Rattle.witx_bytes.specs.Bytes.{held};
 ghost use Rattle.witx_bytes.specs.Images.{Spells};
-ghost use Rattle.witx_bytes.specs.Laids.{IsLaid, KnownOf, KnownMembers, KnownCases, KnownPayload};
+ghost use Rattle.witx_bytes.specs.Laids.{IsLaid, KnownOf, KnownMembers, KnownPayload};
 ghost use Rattle.witx_bytes.specs.Payloads.{payload_at};
 ghost use Rattle.witx_bytes.specs.Reading.{number_at, flags_at, value_at, members_at};
 ghost use Rattle.witx_bytes.specs.Readings.{CanRead, CanReadAll, CanReadCase, ReadAs, case_number};
@@ -197,8 +197,9 @@ fn read_members(
     Ok(values)
 }
 
+/// The case that the tag names, with its payload if it has one.
 #[cycle(reading)]
-#[tactic(auto, using(crate::proofs::Members::write_rules))]
+#[tactic(auto, using(crate::proofs::ReadParts::read_rules))]
 fn read_variant(
     alloc: Global,
     memory: &ByteMemory,
@@ -210,36 +211,16 @@ fn read_variant(
     requires known { KnownOf (plain (variant_tree variant.now)) (option_copied known) }
     ensures { ReadAs seen (value_at (plain (variant_tree variant.now)) (held memory.now) at) result }
 {
-    let offset = payload_begin(known, variant);
     let cases = variant.cases.as_slice();
-    read_cases(alloc, memory, at, variant.tag_repr, offset, cases, known)
-}
-
-/// The case that the tag names, with its payload if it has one.
-#[cycle(reading)]
-#[tactic(auto, using(crate::proofs::ReadParts::read_rules))]
-fn read_cases(
-    alloc: Global,
-    memory: &ByteMemory,
-    at: u128,
-    repr: IntRepr,
-    offset: u64,
-    cases: &[Case],
-    known: Option<&Laid>,
-) -> Result<Value, ReadError>
-    requires offset { offset ≡ begin_of_payload repr (cases_plain cases.now) }
-    requires can { CanRead at (variant_of repr (cases_plain cases.now)) }
-    requires known { KnownCases (cases_plain cases.now) (option_copied known) }
-    ensures { ReadAs seen (value_at (variant_of repr (cases_plain cases.now)) (held memory.now) at) result }
-{
-    let Some(i) = case_at(memory, at, repr, cases.len()) else {
+    let Some(i) = case_at(memory, at, variant.tag_repr, cases.len()) else {
         return Err(ReadError::NoValue);
     };
     if are_bare(cases) {
         return Ok(Value::Enum(i));
     }
+    let behind = at + payload_begin(known, variant) as u128;
     let part = known_payload(known, cases, i as usize);
-    let payload = read_payload(alloc, memory, at + offset as u128, &cases[i as usize], part)?;
+    let payload = read_payload(alloc, memory, behind, &cases[i as usize], part)?;
     Ok(Value::Case(i, payload))
 }
 

@@ -1,7 +1,7 @@
-use Rattle.std.proofs.Common.{◌≡◌, ◌<◌, ◌+◌, ◌^◌, rules, arith, sym, ap, ◌∙◌, subst, false, Some, Err, length}
+use Rattle.std.proofs.Common.{◌≡◌, ◌<◌, ◌+◌, ◌^◌, rules, arith, sym, ap, ◌∙◌, subst, true, false, Some, None, Err, length}
 use Rattle.std.proofs.Common.{option_map}
 use Rattle.witx_ast.specs.Plain.{plain, Plain, all_bare}
-use Rattle.witx_ast.specs.Views.{tree_of, datatype_tree, members_plain, cases_plain}
+use Rattle.witx_ast.specs.Views.{tree_of, datatype_tree, variant_tree, members_plain, cases_plain}
 use Rattle.witx_ast.specs.declared.types.RecordKind.{RecordKind}
 use Rattle.witx_ast.specs.declared.types.RecordDatatype.{out-RecordDatatype}
 use Rattle.witx_ast.specs.declared.types.Variant.{out-Variant}
@@ -15,7 +15,7 @@ use Rattle.witx_bytes.specs.Reading.{number_at, value_at, members_at}
 use Rattle.witx_bytes.specs.Readings.{CanRead, CanReadCase, ReadAs, case_number}
 use Rattle.witx_bytes.specs.Seen.{seen, seen_in, values_seen}
 use Rattle.witx_bytes.specs.declared.read_error.ReadError.{ReadError}
-use Rattle.witx_bytes.proofs.ReadParts.{ReadTo, read_first, read_within, read_can, read_next, read_stops, can_read_by, case_can_read_by, tuple_can_read, record_can_read, case_below, case_read, case_refused, case_can_read, cases_few}
+use Rattle.witx_bytes.proofs.ReadParts.{ReadTo, read_first, read_within, read_can, read_next, read_stops, can_read_by, case_can_read_by, tuple_can_read, record_can_read, bare_read, case_below, case_read, case_refused, case_can_read, cases_few, no_case_read}
 use Rattle.witx_bytes.proofs.KnownParts.{known_by, payload_known_by, known_tuple, known_record, known_cases}
 use Rattle.witx_bytes.proofs.Members.{write_rules}
 use Rattle.witx_bytes.proofs.Nodes.{nodes, payload_nodes, behind_plain, member_fewer, payload_fewer}
@@ -115,23 +115,6 @@ read_members-overflow_add-end t c =
     let small : c.rounded_up-start.result + c.layout_of-layout.result.size < 2 ^ 64 = omega (arith, start, w, c.requires.can.size, c.layout_of-layout.ensures.size) in
     omega (arith, small)
 
-pub read_variant-read_cases-requires : goal.read_variant-read_cases-requires
-read_variant-read_cases-requires t c =
-    let r = (out-Variant c.args.variant.now).tag_repr in
-    let e = variant-plain c.args.variant.now ∙ ap (λ cs. Plain.variant_of r (cases_plain cs)) (sym c.as_slice-cases.ensures) in (
-      omega (arith, ap nodes e),
-      (
-        c.payload_begin-offset.ensures ∙ ap (λ cs. payload_offset r (cases_plain cs)) (sym c.as_slice-cases.ensures),
-        (can_read_by c.args.at _ _ e c.requires.can, known_cases r _ _ (known_by _ _ _ e c.requires.known)),
-      ),
-    )
-
-pub read_cases-case_at-requires-clause-few : goal.read_cases-case_at-requires-clause-few
-read_cases-case_at-requires-clause-few t c = omega (arith, cases_few c.args.repr c.args.cases.now c.args.at c.requires.can)
-
-pub read_cases-case_at-requires-clause-low : goal.read_cases-case_at-requires-clause-low
-read_cases-case_at-requires-clause-low t c = omega (arith, c.requires.can.end)
-
 pub read_members-loop-i-preserved : goal.read_members-loop-i-preserved
 read_members-loop-i-preserved t c =
     let ms = c.args.members.now in
@@ -157,58 +140,12 @@ read_members-returns-in_err-value t c =
     in
     search (rules, stops)
 
-pub read_cases-bounds-cases-i : goal.read_cases-bounds-cases-i
-read_cases-bounds-cases-i t c =
-    let number : case_number (length c.args.cases.now) (number_at (repr_size c.args.repr) (held c.args.memory.now) c.args.at) ≡ Some c.in-Some.i = search rules in
-    case_below c.args.repr c.args.cases.now (held c.args.memory.now) c.args.at c.in-Some.i number
-
-pub read_cases-read_payload-requires : goal.read_cases-read_payload-requires
-read_cases-read_payload-requires t c =
-    let number : case_number (length c.args.cases.now) (number_at (repr_size c.args.repr) (held c.args.memory.now) c.args.at) ≡ Some c.in-Some.i = search rules in
-    let l : c.in-Some.i < length c.args.cases.now = case_below c.args.repr c.args.cases.now (held c.args.memory.now) c.args.at c.in-Some.i number in (
-      omega (arith, payload_fewer c.args.cases.now c.in-Some.i c.index-cases-i.result l c.index-cases-i.is),
-      (
-        subst (λ o. CanReadCase (c.args.at + o) c.index-cases-i.result.tref) (sym c.requires.offset)
-            (case_can_read c.args.repr c.args.cases.now (held c.args.memory.now) c.args.at c.in-Some.i number c.index-cases-i.result c.index-cases-i.is c.requires.can),
-        c.known_payload-part.ensures c.index-cases-i.result c.index-cases-i.is,
-      ),
-    )
-
-pub read_cases-known_payload-part-requires-clause-some : goal.read_cases-known_payload-part-requires-clause-some
-read_cases-known_payload-part-requires-clause-some t c =
-    let number : case_number (length c.args.cases.now) (number_at (repr_size c.args.repr) (held c.args.memory.now) c.args.at) ≡ Some c.in-Some.i = search rules in
-    case_below c.args.repr c.args.cases.now (held c.args.memory.now) c.args.at c.in-Some.i number
-
 pub read_payload-read_boxed-requires : goal.read_payload-read_boxed-requires
 read_payload-read_boxed-requires t c =
     (omega (arith, ap payload_nodes c.in-Some.is), (case_can_read_by c.args.at _ _ c.in-Some.is c.requires.can, payload_known_by _ _ _ c.in-Some.is c.requires.known))
 
 pub read_boxed-read_type-requires : goal.read_boxed-read_type-requires
 read_boxed-read_type-requires t c = (omega arith, (c.requires.can, c.requires.known))
-
-pub read_cases-returns-in_err-payload : goal.read_cases-returns-in_err-payload
-read_cases-returns-in_err-payload t c =
-    let cs = cases_plain c.args.cases.now in
-    let number : case_number (length c.args.cases.now) (number_at (repr_size c.args.repr) (held c.args.memory.now) c.args.at) ≡ Some c.in-Some.i = search rules in
-    let carries : all_bare (cases_plain c.args.cases.now) ≡ false = search rules in
-    let refused : (e : ReadError) → ReadAs (option_map seen_in) (payload_at c.index-cases-i.result.tref (held c.args.memory.now) (c.args.at + c.args.offset)) (Err e) → ReadAs seen (value_at (Plain.variant_of c.args.repr (cases_plain c.args.cases.now)) (held c.args.memory.now) c.args.at) (Err e) =
-    λ e h. case_refused c.args.repr c.args.cases.now (held c.args.memory.now) c.args.at c.in-Some.i number c.index-cases-i.result c.index-cases-i.is carries e
-    (subst (λ o. ReadAs (option_map seen_in) (payload_at c.index-cases-i.result.tref (held c.args.memory.now) (c.args.at + o)) (Err e)) c.requires.offset h)
-    in
-    search (rules, refused)
-
-pub read_cases-returns : goal.read_cases-returns
-read_cases-returns t c =
-    let number : case_number (length c.args.cases.now) (number_at (repr_size c.args.repr) (held c.args.memory.now) c.args.at) ≡ Some c.in-Some.i = search rules in
-    let carries : all_bare (cases_plain c.args.cases.now) ≡ false = search rules in
-    case_read c.args.repr c.args.cases.now (held c.args.memory.now) c.args.at c.in-Some.i number c.index-cases-i.result c.index-cases-i.is carries c.in_ok-payload.payload
-    (subst (λ o. payload_at c.index-cases-i.result.tref (held c.args.memory.now) (c.args.at + o) ≡ Some (option_map seen_in c.in_ok-payload.payload)) c.requires.offset c.in_ok-payload.ensures)
-
-pub read_cases-returns-in_default : goal.read_cases-returns-in_default
-read_cases-returns-in_default t c = search (rules, read_rules)
-
-pub read_cases-returns-then-are_bare : goal.read_cases-returns-then-are_bare
-read_cases-returns-then-are_bare t c = search (rules, read_rules)
 
 pub read_datatype-returns-in-Record : goal.read_datatype-returns-in-Record
 read_datatype-returns-in-Record t c = search (rules, write_rules)
@@ -254,5 +191,91 @@ read_type-returns t c =
     let e = behind_plain (datatype_tree c.deref.result.now) (tree_of c.args.ty.now) (ap datatype_tree c.deref.ensures ∙ c.type_.ensures) in
     subst (λ t. ReadAs seen (value_at t (held c.args.memory.now) c.args.at) c.read_datatype.result) (sym e) c.read_datatype.ensures
 
+pub read_variant-case_at-requires-clause-few : goal.read_variant-case_at-requires-clause-few
+read_variant-case_at-requires-clause-few t c =
+    let v = c.args.variant.now in
+    let r = (out-Variant v).tag_repr in
+    let cs = c.as_slice-cases.result.now in
+    let e = variant-plain v ∙ ap (λ cs. Plain.variant_of r (cases_plain cs)) (sym c.as_slice-cases.ensures) in
+    omega (arith, cases_few r cs c.args.at (can_read_by c.args.at _ (Plain.variant_of r (cases_plain cs)) e c.requires.can))
+
+pub read_variant-returns-in_default : goal.read_variant-returns-in_default
+read_variant-returns-in_default t c =
+    let v = c.args.variant.now in
+    let r = (out-Variant v).tag_repr in
+    let cs = c.as_slice-cases.result.now in
+    let e = variant-plain v ∙ ap (λ cs. Plain.variant_of r (cases_plain cs)) (sym c.as_slice-cases.ensures) in
+    let m = held c.args.memory.now in
+    let none : case_number (length c.as_slice-cases.result.now) (number_at (repr_size (out-Variant c.args.variant.now).tag_repr) (held c.args.memory.now) c.args.at) ≡ None = search rules in
+    ap (λ t. value_at t m c.args.at) e ∙ no_case_read r cs m c.args.at none
+
+pub read_variant-returns-then-are_bare : goal.read_variant-returns-then-are_bare
+read_variant-returns-then-are_bare t c =
+    let v = c.args.variant.now in
+    let r = (out-Variant v).tag_repr in
+    let cs = c.as_slice-cases.result.now in
+    let e = variant-plain v ∙ ap (λ cs. Plain.variant_of r (cases_plain cs)) (sym c.as_slice-cases.ensures) in
+    let m = held c.args.memory.now in
+    let number : case_number (length c.as_slice-cases.result.now) (number_at (repr_size (out-Variant c.args.variant.now).tag_repr) (held c.args.memory.now) c.args.at) ≡ Some c.in-Some.i = search rules in
+    let bare : all_bare (cases_plain c.as_slice-cases.result.now) ≡ true = search rules in
+    ap (λ t. value_at t m c.args.at) e ∙ bare_read r cs m c.args.at c.in-Some.i number bare
+
+pub read_variant-known_payload-part-requires-clause-known : goal.read_variant-known_payload-part-requires-clause-known
+read_variant-known_payload-part-requires-clause-known t c =
+    let v = c.args.variant.now in
+    let r = (out-Variant v).tag_repr in
+    let cs = c.as_slice-cases.result.now in
+    let e = variant-plain v ∙ ap (λ cs. Plain.variant_of r (cases_plain cs)) (sym c.as_slice-cases.ensures) in
+    known_cases r (cases_plain cs) _ (known_by _ _ _ e c.requires.known)
+
+pub read_variant-read_payload-requires : goal.read_variant-read_payload-requires
+read_variant-read_payload-requires t c =
+    let v = c.args.variant.now in
+    let r = (out-Variant v).tag_repr in
+    let cs = c.as_slice-cases.result.now in
+    let e = variant-plain v ∙ ap (λ cs. Plain.variant_of r (cases_plain cs)) (sym c.as_slice-cases.ensures) in
+    let m = held c.args.memory.now in
+    let number : case_number (length c.as_slice-cases.result.now) (number_at (repr_size (out-Variant c.args.variant.now).tag_repr) (held c.args.memory.now) c.args.at) ≡ Some c.in-Some.i = search rules in
+    let offset = c.payload_begin.ensures ∙ ap (λ cs. payload_offset r (cases_plain cs)) (sym c.as_slice-cases.ensures) in
+    let d = c.index-cases-i.result in
+    let can = can_read_by c.args.at _ (Plain.variant_of r (cases_plain cs)) e c.requires.can in
+    let l : c.in-Some.i < length c.as_slice-cases.result.now = case_below r cs m c.args.at c.in-Some.i number in (
+      omega (arith, ap nodes e, payload_fewer cs c.in-Some.i d l c.index-cases-i.is),
+      (
+        subst (λ o. CanReadCase (c.args.at + o) d.tref) (sym offset) (case_can_read r cs m c.args.at c.in-Some.i number d c.index-cases-i.is can),
+        c.known_payload-part.ensures d c.index-cases-i.is,
+      ),
+    )
+
+pub read_variant-returns-in_err-payload : goal.read_variant-returns-in_err-payload
+read_variant-returns-in_err-payload t c =
+    let v = c.args.variant.now in
+    let r = (out-Variant v).tag_repr in
+    let cs = c.as_slice-cases.result.now in
+    let e = variant-plain v ∙ ap (λ cs. Plain.variant_of r (cases_plain cs)) (sym c.as_slice-cases.ensures) in
+    let m = held c.args.memory.now in
+    let number : case_number (length c.as_slice-cases.result.now) (number_at (repr_size (out-Variant c.args.variant.now).tag_repr) (held c.args.memory.now) c.args.at) ≡ Some c.in-Some.i = search rules in
+    let carries : all_bare (cases_plain c.as_slice-cases.result.now) ≡ false = search rules in
+    let offset = c.payload_begin.ensures ∙ ap (λ cs. payload_offset r (cases_plain cs)) (sym c.as_slice-cases.ensures) in
+    let d = c.index-cases-i.result in
+    let refused : (e : ReadError) → ReadAs (option_map seen_in) (payload_at c.index-cases-i.result.tref (held c.args.memory.now) (c.args.at + c.payload_begin.result)) (Err e)
+    → ReadAs seen (value_at (plain (variant_tree c.args.variant.now)) (held c.args.memory.now) c.args.at) (Err e) =
+    λ error h. subst (λ t. ReadAs seen (value_at t m c.args.at) (Err error)) (sym e) (case_refused r cs m c.args.at c.in-Some.i number d c.index-cases-i.is carries error
+    (subst (λ o. ReadAs (option_map seen_in) (payload_at d.tref m (c.args.at + o)) (Err error)) offset h))
+    in
+    search (rules, refused)
+
 pub read_variant-returns : goal.read_variant-returns
-read_variant-returns t c = search (rules, write_rules)
+read_variant-returns t c =
+    let v = c.args.variant.now in
+    let r = (out-Variant v).tag_repr in
+    let cs = c.as_slice-cases.result.now in
+    let e = variant-plain v ∙ ap (λ cs. Plain.variant_of r (cases_plain cs)) (sym c.as_slice-cases.ensures) in
+    let m = held c.args.memory.now in
+    let number : case_number (length c.as_slice-cases.result.now) (number_at (repr_size (out-Variant c.args.variant.now).tag_repr) (held c.args.memory.now) c.args.at) ≡ Some c.in-Some.i = search rules in
+    let carries : all_bare (cases_plain c.as_slice-cases.result.now) ≡ false = search rules in
+    let offset = c.payload_begin.ensures ∙ ap (λ cs. payload_offset r (cases_plain cs)) (sym c.as_slice-cases.ensures) in
+    let d = c.index-cases-i.result in
+    ap (λ t. value_at t m c.args.at) e
+    ∙ case_read r cs m c.args.at c.in-Some.i number d c.index-cases-i.is carries c.in_ok-payload.payload
+    (subst (λ o. payload_at d.tref m (c.args.at + o) ≡ Some (option_map seen_in c.in_ok-payload.payload)) offset c.in_ok-payload.ensures)

@@ -1,7 +1,7 @@
 use Rattle.std.proofs.Common.{◌+◌, ◌*◌}
 use Rattle.witx_ast.specs.Plain.{plain}
-use Rattle.witx_ast.specs.Views.{tree_of, datatype_tree, record_tree, variant_tree, members_plain, cases_plain}
-use Rattle.witx_bytes.proofs.Nodes.{nodes, field_nodes, arm_nodes, payload_nodes}
+use Rattle.witx_ast.specs.Views.{tree_of, datatype_tree, record_tree, variant_tree, members_plain}
+use Rattle.witx_bytes.proofs.Nodes.{nodes, field_nodes, payload_nodes}
 use Rattle.witx_bytes.specs.Bytes.{held}
 use Rattle.witx_bytes.proofs.ReadParts.{ReadTo}
 use Rattle.witx_bytes.proofs.read.+reading.Given as goal
@@ -29,9 +29,6 @@ decreases-read_members l = 8 * field_nodes (members_plain l.members.now) + 3
 
 abbrev pub decreases-read_variant : goal.decreases-read_variant
 decreases-read_variant l = 8 * nodes (plain (variant_tree l.variant.now))
-
-abbrev pub decreases-read_cases : goal.decreases-read_cases
-decreases-read_cases l = 8 * arm_nodes (cases_plain l.cases.now) + 5
 
 abbrev pub decreases-read_payload : goal.decreases-read_payload
 decreases-read_payload l = 8 * payload_nodes l.case.now.tref + 4
