@@ -20,6 +20,6 @@ pub use lines::layouts_text;
 pub use members::{LayoutError, MemberLayouts, RecordMemberLayout, RecordMembers};
 pub use rounding::{Placed, behind, greater, padded};
 pub use steps::Steps;
-pub use table::{LayoutsError, SizeAligns, layouts, uncounted_layouts};
+pub use table::{LayoutsError, SizeAligns, known_layout, layouts, uncounted_layouts};
 pub use table_lines::ordered_layouts_text;
 pub use tags::{TagTooNarrow, fits_tags};

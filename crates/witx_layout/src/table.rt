@@ -176,7 +176,7 @@ pub fn type_layout<L: Ledger>(
 
 /// The layout of a name, which the table has.
 #[tactic(auto, using(crate::proofs::Nodes::node_rules))]
-fn known_layout(table: &Table, named: &NamedType) -> SizeAlign
+pub fn known_layout(table: &Table, named: &NamedType) -> SizeAlign
     requires { Knows table.now (named_tree named.now) }
     ensures size { result.size ≡ size_of (plain (named_tree named.now)) }
     ensures align { result.align ≡ align_of (plain (named_tree named.now)) }

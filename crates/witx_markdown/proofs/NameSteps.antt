@@ -1,6 +1,6 @@
 -- What is known of the names in a type is known of those in its parts, one member or one case after the other.
 use Rattle.std.specs.Prelude.{◌≡◌, ℕ, ◌+◌, ◌≤◌, ◌<◌, List, [], ◌∷◌, ◌++◌, length, drop, map, Some, None}
-use Rattle.std.proofs.Common.{get_or, append_assoc, append-nil, refl, sym, ◌∙◌}
+use Rattle.std.proofs.Common.{get_or, append_assoc, append-nil, sym, ◌∙◌}
 use Rattle.std.specs.declared.alloc.Global.{Global}
 use Rattle.std.specs.declared.rc.Rc.{Rc}
 use Rattle.witx_ast.specs.Tree.{fields_of, arms_of}

@@ -5,7 +5,6 @@ ghost use Rattle.std.specs.Prelude.{◌≡◌, ◌≤◌, ◌<◌, ◌^◌, Matc
 ghost use Rattle.witx_ast.specs.Tree.{fields_of, arms_of};
 ghost use Rattle.witx_ast.specs.Plain.{plain};
 ghost use Rattle.witx_ast.specs.Views.{tree_of, datatype_tree, named_tree, record_tree, variant_tree, member_field, case_arm, members_plain, cases_plain};
-ghost use Rattle.witx_layout.specs.Known.{Knows};
 ghost use Rattle.witx_layout.specs.Numbers.{size_of, align_of, align_to, members_end, members_align, payloads_size, payloads_align, offsets};
 ghost use Rattle.witx_markdown.specs.NamesKnown.{NamesKnown, FieldNamesKnown, ArmNamesKnown};
 
@@ -14,10 +13,9 @@ use std::alloc::Global;
 use witx_ast::{
     Case, Datatype, NamedType, RecordDatatype, RecordKind, RecordMember, TypeRef, Variant,
 };
-use witx_base::NameMap;
 use witx_layout::{
     Layout, LayoutError, MemberLayouts, RecordMemberLayout, SizeAlign, TooLarge, behind, greater,
-    padded,
+    known_layout, padded,
 };
 
 /// The layout of a type.
@@ -42,20 +40,8 @@ fn named_layout(names: NamedLayouts, named: &NamedType) -> Result<SizeAlign, Too
         (λ _. 2 ^ 64 ≤ size_of (plain (named_tree named.now))) }
 {
     match names {
-        NamedLayouts::Kept(table) => Ok(kept_layout(table, named)),
+        NamedLayouts::Kept(table) => Ok(known_layout(table, named)),
         NamedLayouts::LookedThrough => named.mem_size_align(),
-    }
-}
-
-/// The layout of a name, which is kept.
-fn kept_layout(table: &NameMap<SizeAlign>, named: &NamedType) -> SizeAlign
-    requires { Knows table.now (named_tree named.now) }
-    ensures size { result.size ≡ size_of (plain (named_tree named.now)) }
-    ensures align { result.align ≡ align_of (plain (named_tree named.now)) }
-{
-    match table.get(&named.name) {
-        Some(layout) => *layout,
-        None => unreachable!(),
     }
 }
 
