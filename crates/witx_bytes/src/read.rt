@@ -244,6 +244,8 @@ fn read_payload(
     }
 }
 
+// Within its caller: so what recurses through variants takes little of the stack.
+#[inline(always)]
 #[cycle(reading)]
 #[tactic(auto, using(crate::proofs::ReadParts::read_rules))]
 fn read_boxed(
