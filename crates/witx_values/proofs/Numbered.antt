@@ -1,5 +1,5 @@
 -- Where no two words are spelled alike, a text that is one of them is of that one's kind, wherever it stands.
-use Rattle.std.proofs.Common.{◌≡◌, ℕ, zero, suc, ◌+◌, ◌<◌, Bool, true, false, cond, ◌||◌, List, [], ◌∷◌, length, get_or, map, refl, sym, ap, ◌∙◌, arith}
+use Rattle.std.proofs.Common.{◌≡◌, ℕ, zero, suc, ◌<◌, Bool, true, false, cond, ◌||◌, List, [], ◌∷◌, length, get_or, map, refl, sym, ap, ◌∙◌, arith}
 use Rattle.std.specs.Prelude.{not}
 use Rattle.std.specs.List.{list_any}
 use Rattle.std.proofs.lemmas.Bool.{and_parts}
@@ -7,7 +7,7 @@ use Rattle.witx_base.specs.Texts.{same_text}
 use Rattle.witx_base.proofs.Names.{same-equal}
 use Rattle.witx_grammar.specs.Prediction.{are_distinct}
 use Rattle.witx_values.specs.declared.words.Word as code
-use Rattle.witx_values.specs.Words.{Spelling, spelling_view, kind_spelled, AreApart}
+use Rattle.witx_values.specs.Words.{spelling_view, kind_spelled, AreApart}
 
 not_of : (b : Bool) → not b ≡ true → b ≡ true → ⊥
 not_of true h e = absurd cc
