@@ -5,11 +5,18 @@ import typing
 import deep
 
 ERROR = "(typename $e (enum $a $b))"
+# How many steps behind names the checks of a document take.
+STEPS = 2 ** 23
 
 
 def chain(count):
     """So many names, each of the one before."""
     return "(typename $t0 u8)\n" + "".join(f"(typename $t{it + 1} $t{it})\n" for it in range(count))
+
+
+def constants(names, count):
+    """So many constants of the last name of a chain."""
+    return chain(names) + "".join(f"(@witx const $t{names} $c{it} {it % 256})\n" for it in range(count))
 
 
 def module(functions, name="m"):
@@ -143,6 +150,7 @@ class Product(typing.NamedTuple):
 ADAPT, DOCS, INVOKE, VERIFY, IMPORTS = ["adapt", "/a"], ["docs", "/a"], ["invoke", "m", "f0", "/v", "/a"], ["verify", "/l", "/a"], ["imports", "/l", "/a"]
 POLYFILL, SHIM = ["polyfill", "/n", "/o", "m", "m"], ["shim", "/n", "/o", "m", "m"]
 PRODUCTS = [
+    Product("names in a chain", "constants", ADAPT, of_one(constants), (2_800, 2_800), is_beyond=lambda files, one, other: one * other > STEPS),
     Product("names in a chain", "parameters", ADAPT, of_one(named_parameters), (1_400, 1_400)),
     Product("names in a chain", "lists", ADAPT, of_one(listed_parameters), (1_400, 1_400)),
     Product("bytes of a module's name", "functions", ADAPT, of_one(long_module)),

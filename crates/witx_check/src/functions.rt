@@ -135,6 +135,14 @@ struct Inside {
     results: Params,
 }
 
+/// Takes the steps in which an ABI looks at the results.
+fn take_steps(scope: &Scope<'_>, results: &Params) -> Result<(), OutOfMemory> {
+    match results.as_slice().first() {
+        Some(result) => scope.steps.take_result(&result.tref),
+        None => Ok(()),
+    }
+}
+
 /// The parameters and the results of a function, where its ABI permits these.
 #[tactic(auto, using(crate::proofs::Funcs::inner_rules))]
 fn func_inside(func: &InterfaceFuncSyntax<'_>, scope: &Scope<'_>) -> Result<Inside, CheckError>
@@ -146,6 +154,7 @@ fn func_inside(func: &InterfaceFuncSyntax<'_>, scope: &Scope<'_>) -> Result<Insi
     let mut own = Marks::new(scope.alloc);
     let params = func_params(func, scope, &mut own)?;
     let results = func_results(func, scope, &mut own)?;
+    take_steps(scope, &results)?;
     match abi_of(func.stored).validate(&params, &results) {
         Ok(()) => Ok(Inside { params, results }),
         Err(reason) => Err(abi_fault(scope, reason, func.export_loc.start)),

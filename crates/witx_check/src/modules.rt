@@ -26,7 +26,7 @@ use witx_ast::{
     ModuleImportVariant,
 };
 use witx_base::{Duplicate, Id, OutOfMemory};
-use witx_scope::{CheckError, Marks, Names, Scope, Site, introduce, introduce_mark};
+use witx_scope::{CheckError, Marks, Names, Scope, Site, StepsLeft, introduce, introduce_mark};
 use witx_syntax_tree::{
     CommentSyntax, Documented, ModuleDeclSyntax, ModuleImportSyntax, ModuleSyntax,
 };
@@ -144,6 +144,7 @@ fn checked_items(
 pub fn checked_module(
     names: &mut Names,
     entries: &Entries,
+    steps: &StepsLeft,
     alloc: Global,
     site: Site<'_>,
     decl: &ModuleSyntax<'_>,
@@ -170,6 +171,7 @@ pub fn checked_module(
         entries,
         text,
         path,
+        steps,
         alloc,
     };
     let contents = checked_items(decl.decls.as_slice(), &scope)?;

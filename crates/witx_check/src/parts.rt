@@ -317,6 +317,7 @@ pub fn tag_of(tag: &TypeRef, scope: &Scope<'_>, near: usize) -> Result<Tag, Chec
     ensures names { IfOk result (λ t. t.names ≡ names_in (behind (tree_of tag.now))) }
     ensures fault { IfErr result (λ e. Blames e (tag_check (behind (tree_of tag.now)) ((here_of scope.now).place near))) }
 {
+    scope.steps.take_names(tag)?;
     let datatype = tag.type_();
     match &**datatype {
         Datatype::Variant(variant) => {

@@ -13,7 +13,7 @@ ghost use Rattle.witx_scope.specs.Sites.{place_at, checks_typename, makes_typena
 use crate::types::checked_type;
 use std::alloc::Global;
 use witx_ast::{Entries, NamedType};
-use witx_scope::{CheckError, Names, Scope, Site, introduce, named};
+use witx_scope::{CheckError, Names, Scope, Site, StepsLeft, introduce, named};
 use witx_syntax_tree::TypenameSyntax;
 
 /// The named type of a declaration whose name stands at `place`, and is taken in before the type
@@ -22,6 +22,7 @@ use witx_syntax_tree::TypenameSyntax;
 pub fn checked_typename(
     names: &mut Names,
     entries: &Entries,
+    steps: &StepsLeft,
     alloc: Global,
     site: Site<'_>,
     decl: &TypenameSyntax<'_>,
@@ -49,6 +50,7 @@ pub fn checked_typename(
         entries,
         text,
         path,
+        steps,
         alloc,
     };
     let tref = checked_type(&decl.def, &scope, true, at)?;

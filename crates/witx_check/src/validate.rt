@@ -107,7 +107,7 @@ pub fn validate_typename(
     ensures { Validates (kept_in tables.old) (kept_in tables.new) definitions.old definitions.new (typename_at site.entry decl.now) result }
 {
     let alloc = tables.alloc;
-    match checked_typename(&mut tables.names, &tables.entries, alloc, site, decl) {
+    match checked_typename(&mut tables.names, &tables.entries, &tables.steps, alloc, site, decl) {
         Ok(made) => Ok(keep_typename(definitions, &mut tables.entries, alloc, made)?),
         Err(error) => Err(error),
     }
@@ -124,7 +124,7 @@ pub fn validate_module(
     ensures { Validates (kept_in tables.old) (kept_in tables.new) definitions.old definitions.new (module_at site.entry decl.now) result }
 {
     let alloc = tables.alloc;
-    match checked_module(&mut tables.names, &tables.entries, alloc, site, decl) {
+    match checked_module(&mut tables.names, &tables.entries, &tables.steps, alloc, site, decl) {
         Ok(made) => Ok(keep_module(definitions, &mut tables.entries, alloc, made)?),
         Err(error) => Err(error),
     }

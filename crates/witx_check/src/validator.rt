@@ -15,7 +15,8 @@ use witx_ast::{Definitions, Document, Entries};
 use witx_base::{OutOfMemory, WitxPath};
 use witx_lex::LineCursor;
 use witx_scope::{
-    CheckError, ConstantPlaces, Names, SharedPath, Site, Tables, shared_path, with_shared,
+    CheckError, ConstantPlaces, Names, SharedPath, Site, StepsLeft, Tables, shared_path,
+    with_shared,
 };
 use witx_syntax_tree::{CommentSyntax, DeclSyntax};
 
@@ -39,6 +40,7 @@ impl DocValidation {
                 names: Names::new(alloc),
                 entries: Entries::new(alloc),
                 constants: ConstantPlaces::new(alloc),
+                steps: StepsLeft::new(),
                 alloc,
             },
             path: None,

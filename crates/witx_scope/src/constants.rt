@@ -74,6 +74,7 @@ fn greatest_named(scope: &Scope<'_>, ty: &IdSyntax<'_>) -> Result<u64, CheckErro
     ensures fault { IfErr result (λ e. Blames e (first_fault (integer_name_checks (here_of scope.now) ty.now))) }
 {
     let named = denoted(scope, ty)?;
+    scope.steps.take_names(&named.tref)?;
     match greatest_of(named) {
         Some(largest) => Ok(largest),
         None => {
@@ -146,6 +147,7 @@ pub fn checked_constant(
         entries: &tables.entries,
         text: site.text,
         path: site.path,
+        steps: &tables.steps,
         alloc: tables.alloc,
     };
     let largest = greatest_named(&scope, &decl.item.ty)?;

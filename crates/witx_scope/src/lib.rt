@@ -13,6 +13,7 @@ mod report;
 mod room;
 mod scope;
 mod site;
+mod steps_left;
 mod tables;
 
 pub use cases::{TagNames, case_names, case_with, ordered};
@@ -26,4 +27,5 @@ pub use place::{SharedPath, SharedPlace, shared_path, with_shared};
 pub use room::with_room;
 pub use scope::{Marks, Names, Scope};
 pub use site::Site;
+pub use steps_left::StepsLeft;
 pub use tables::Tables;

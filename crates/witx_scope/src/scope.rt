@@ -3,6 +3,7 @@
 ghost use Rattle.witx_scope.specs.Introduced.{AreIntroduced};
 
 use crate::place::SharedPlace;
+use crate::steps_left::StepsLeft;
 use std::alloc::Global;
 use witx_ast::Entries;
 use witx_base::{NameMap, WitxPath};
@@ -20,6 +21,7 @@ pub struct Scope<'a> {
     pub entries: &'a Entries,
     pub text: &'a str,
     pub path: &'a WitxPath,
+    pub steps: &'a StepsLeft,
     pub alloc: Global,
     ghost introduced: { AreIntroduced names.now entries.now },
 }
