@@ -118,17 +118,29 @@ class Proofs:
         self.count, self.left, self.running = len(names), [*names], []
         self.below = {name: [it for it in below if it in names] for name, below in libraries().items() if name in names}
         self.sizes, self.lanes = {it: size(it) for it in names}, lanes()
+        self.behind = self.chains(names)
         self.free = [make_lane(it, names) for it in range(self.lanes)]
         self.spent, self.done = A_LINE * TOLD, TOLD
+
+    def chains(self, names):
+        """Of each crate how long it takes with all that wait for it, one after the other."""
+        found = dict.fromkeys(names, 0)
+        for name in reversed(names):
+            found[name] += self.sizes[name]
+            for it in self.below[name]:
+                found[it] = max(found[it], found[name])
+        return found
 
     def waits(self, name):
         return any(it in self.left or any(it == other.name for other in self.running) for it in self.below[name])
 
     def start(self):
-        """Starts what can be proved now, with more jobs for each where fewer crates than processors can."""
-        ready = [it for it in self.left if not self.waits(it)][:self.lanes - len(self.running)]
+        """Starts what can be proved now, first what most waits for, which has two jobs at least; each has more where fewer crates
+        than processors can be proved."""
+        ready = sorted((it for it in self.left if not self.waits(it)), key=self.behind.get, reverse=True)[:self.lanes - len(self.running)]
+        longest = max((self.behind[it] for it in [*self.left, *(it.name for it in self.running)]), default=0)
         for name in ready:
-            jobs = max(1, min(4, (self.lanes - len(self.running)) // len(ready)))
+            jobs = max(1 + (self.behind[name] == longest), min(4, (self.lanes - len(self.running)) // len(ready)))
             self.left.remove(name)
             self.running.append(Proof(name, ["lib", "--jobs", str(jobs)], self.free.pop()))
 

@@ -68,8 +68,8 @@ fn put_definitions(
     Ok(())
 }
 
-/// The line of a typename with the first of the layouts; answers the others.
-fn put_typename<'a>(
+/// Appends the line of a typename with the first of the layouts, if there is one; answers the others.
+pub fn put_typename<'a>(
     text: &mut String,
     name: &str,
     layouts: &'a [SizeAlign],
@@ -96,7 +96,8 @@ fn put_typename_line(text: &mut String, name: &str, layout: SizeAlign) -> Result
     text.push('\n')
 }
 
-fn put_constant(text: &mut String, constant: &Constant) -> Result<(), AllocError>
+/// Appends the line of a constant.
+pub fn put_constant(text: &mut String, constant: &Constant) -> Result<(), AllocError>
     ensures { OnOk result (string_bytes text.new ≡ string_bytes text.old ++ constant_line constant.now) }
 {
     let ty = constant.ty.as_str();
@@ -120,7 +121,8 @@ fn put_module<'a>(
     put_items(alloc, text, module.definitions().as_slice(), functions)
 }
 
-fn put_module_line(text: &mut String, name: &str) -> Result<(), AllocError>
+/// Appends the line of a module, which stands before those of its items.
+pub fn put_module_line(text: &mut String, name: &str) -> Result<(), AllocError>
     ensures { OnOk result (string_bytes text.new ≡ string_bytes text.old ++ module_line name.now) }
 {
     text.push_str("module ")?;
@@ -155,7 +157,8 @@ fn put_items<'a>(
     Ok(rest)
 }
 
-fn put_import(text: &mut String, name: &str) -> Result<(), AllocError>
+/// Appends the line of a module's import of a memory.
+pub fn put_import(text: &mut String, name: &str) -> Result<(), AllocError>
     ensures { OnOk result (string_bytes text.new ≡ string_bytes text.old ++ import_line name.now) }
 {
     text.push_str("import ")?;

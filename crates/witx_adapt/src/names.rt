@@ -91,8 +91,9 @@ fn put_words(text: &mut String, types: &[WasmType]) -> Result<(), AllocError>
     put_more_words(text, &types[1..])
 }
 
+/// Appends the types of words, each behind a blank.
 #[tactic(auto, using(crate::proofs::Appending::appending_rules))]
-fn put_more_words(text: &mut String, types: &[WasmType]) -> Result<(), AllocError>
+pub fn put_more_words(text: &mut String, types: &[WasmType]) -> Result<(), AllocError>
     ensures { OnOk result (string_bytes text.new ≡ string_bytes text.old ++ flat_map spaced types.now) }
 {
     for ty in types {

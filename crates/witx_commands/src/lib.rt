@@ -31,5 +31,6 @@ pub use pages::page_of_files;
 pub use parsing::{parsed_or_stop, text_stop};
 pub use polyfill::{mapped_modules, polyfill_files};
 pub use refusal::{Refusal, Stop, stop_of, too_large};
+pub use report::put_function_called;
 pub use status::{DONE, NO_BUNDLE, NO_FORM, NO_MEMORY, REFUSED, UNREAD, UNWRITTEN};
 pub use words::{Command, OwnFile, TwoFiles, command_of, has_form, paths_of};

@@ -161,12 +161,13 @@ fn unlowerable_report(
     ensures { IfOk result (λ text. text ≡ unlowerable_report owner.now function.now place part.now) }
 {
     let mut report = String::new(alloc);
-    put_function(&mut report, owner.as_str(), function.as_str())?;
+    put_function_called(&mut report, owner.as_str(), function.as_str())?;
     put_part(&mut report, part_word(place), part)?;
     Ok(Text::from_string(report))
 }
 
-fn put_function(text: &mut String, owner: &str, function: &str) -> Result<(), AllocError>
+/// Appends which function of which module something is told of.
+pub fn put_function_called(text: &mut String, owner: &str, function: &str) -> Result<(), AllocError>
     ensures { OnOk result (string_bytes text.new ≡ string_bytes text.old ++ function_called owner.now function.now) }
 {
     text.push_str("function `")?;

@@ -1,7 +1,6 @@
 //! Errors of documents, of their layouts and of their pages.
 
 ghost use Rattle.std.specs.Prelude.{◌≡◌, ◌++◌, [], Ok, Some, IfOk, OnOk, codes, string_bytes};
-ghost use Rattle.witx_commands.specs.Reports.{function_called, owner_text};
 ghost use Rattle.witx_error_texts.specs.ErrorTexts.{IsAdaptText, IsRefusalText, IsValidationText, docs_error, document_error, layout_error, layouts_error, tag_text, unknown_type_text, unlowerable_text, unlowered_text};
 ghost use Rattle.witx_scope.specs.Blame.{fault_of};
 ghost use Rattle.witx_scope.specs.Messages.{fault_location};
@@ -10,11 +9,10 @@ ghost use Rattle.witx_walk.specs.ErrorReports.{IsErrorReport};
 use crate::error_text::ErrorText;
 use crate::numbers::{definition_text, located_report, put_part, tag_text};
 use std::alloc::{AllocError, Global};
-use std::fmt::Write;
 use witx_adapt::DocumentError;
 use witx_base::{Id, OutOfMemory, Text};
 use witx_check::{CheckError, ValidationError};
-use witx_commands::AdaptError;
+use witx_commands::{AdaptError, put_function_called};
 use witx_docs::DocsError;
 use witx_files::{Location, MockFs};
 use witx_layout::{LayoutError, LayoutsError, TagTooNarrow, TooLarge};
@@ -164,23 +162,9 @@ fn unlowerable_text(
     ensures { IfOk result (λ text. text ≡ unlowerable_text owner.now function.now place) }
 {
     let mut text = String::new(alloc);
-    put_function(&mut text, owner.as_str(), function.as_str())?;
+    put_function_called(&mut text, owner.as_str(), function.as_str())?;
     put_unlowered(&mut text, place)?;
     Ok(Text::from_string(text))
-}
-
-fn put_function(text: &mut String, owner: &str, function: &str) -> Result<(), AllocError>
-    ensures { OnOk result (string_bytes text.new ≡ string_bytes text.old ++ function_called owner.now function.now) }
-{
-    text.push_str("function `")?;
-    text.push_str(function)?;
-    put_owner(text, owner)
-}
-
-fn put_owner(text: &mut String, owner: &str) -> Result<(), AllocError>
-    ensures { OnOk result (string_bytes text.new ≡ string_bytes text.old ++ owner_text owner.now) }
-{
-    write!(text, "` of module `{owner}`: ")
 }
 
 fn put_unlowered(text: &mut String, place: Place) -> Result<(), AllocError>

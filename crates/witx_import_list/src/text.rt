@@ -1,12 +1,11 @@
 //! The text of a list of imports, a line for each.
 
 ghost use Rattle.std.specs.Prelude.{◌≡◌, ◌++◌, IfOk, OnOk, string_bytes, codes};
-ghost use Rattle.std.specs.List.{flat_map};
-ghost use Rattle.witx_adapt.specs.Names.{in_quotes, spaced};
+ghost use Rattle.witx_adapt.specs.Names.{in_quotes};
 ghost use Rattle.witx_import_list.specs.ListTexts.{quoted_names, group, import_words_line, wasm_import_line, list_text};
 
 use std::alloc::{AllocError, Global};
-use witx_adapt::put_quoted;
+use witx_adapt::{put_more_words, put_quoted};
 use witx_base::{OutOfMemory, Text};
 use witx_imports::{WasmImport, WasmImports};
 use witx_machine::WasmType;
@@ -76,29 +75,6 @@ fn put_group(text: &mut String, head: &str, types: &[WasmType]) -> Result<(), Al
     }
     text.push_str(" (")?;
     text.push_str(head)?;
-    put_words(text, types)?;
+    put_more_words(text, types)?;
     text.push_str(")")
-}
-
-/// Appends words, each behind a blank.
-#[tactic(auto, using(witx_adapt::proofs::Appending::appending_rules))]
-fn put_words(text: &mut String, types: &[WasmType]) -> Result<(), AllocError>
-    ensures { OnOk result (string_bytes text.new ≡ string_bytes text.old ++ flat_map spaced types.now) }
-{
-    for word in types {
-        put_word(text, *word)?;
-    }
-    Ok(())
-}
-
-/// Appends a word behind a blank.
-fn put_word(text: &mut String, word: WasmType) -> Result<(), AllocError>
-    ensures { OnOk result (string_bytes text.new ≡ string_bytes text.old ++ spaced word) }
-{
-    text.push_str(match word {
-        WasmType::I32 => " i32",
-        WasmType::I64 => " i64",
-        WasmType::F32 => " f32",
-        WasmType::F64 => " f64",
-    })
 }

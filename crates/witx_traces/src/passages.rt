@@ -3,15 +3,16 @@
 ghost use Rattle.std.specs.Prelude.{◌≡◌, ◌++◌, ◌∷◌, [], IfOk, OnOk, codes, drop, map, string_bytes};
 ghost use Rattle.witx_ast.specs.Items.{item_tree};
 ghost use Rattle.witx_ast.specs.Definitions.{definition_tree, module_tree};
-ghost use Rattle.witx_adapt.specs.Listings.{constant_line, func_count, listed_func_line, import_line, module_line, listed_typename_lines};
+ghost use Rattle.witx_adapt.specs.Listings.{func_count, listed_func_line, module_line};
 ghost use Rattle.witx_traces.specs.Passages.{draft_of, end_passage, passage_of, passages_of, put, put_definitions, put_func, put_items};
 ghost use Rattle.witx_traces.specs.Traces.{listed, offered};
 
 use std::alloc::Global;
-use std::fmt::Write;
 use std::mem::replace;
-use witx_adapt::{Adapted, AdaptedFunc, put_func_line, put_quoted};
-use witx_ast::{Constant, Definition, InterfaceFunc, Module, ModuleDefinition};
+use witx_adapt::{
+    Adapted, AdaptedFunc, put_constant, put_func_line, put_import, put_module_line, put_typename,
+};
+use witx_ast::{Definition, InterfaceFunc, Module, ModuleDefinition};
 use witx_base::{OutOfMemory, Text};
 use witx_layout::SizeAlign;
 
@@ -94,32 +95,6 @@ fn put_definitions<'a>(
     Ok(())
 }
 
-/// The line of a typename with the first of the layouts; answers the others.
-fn put_typename<'a>(
-    text: &mut String,
-    name: &str,
-    layouts: &'a [SizeAlign],
-) -> Result<&'a [SizeAlign], OutOfMemory>
-    ensures lines { IfOk result (λ rest. string_bytes text.new ≡ string_bytes text.old ++ listed_typename_lines name.now layouts.now) }
-    ensures rest { IfOk result (λ rest. rest.now ≡ drop 1 layouts.now) }
-{
-    if layouts.is_empty() {
-        return Ok(layouts);
-    }
-    let SizeAlign { size, align } = layouts[0];
-    write!(text, "typename {name} size {size} align {align}\n")?;
-    Ok(&layouts[1..])
-}
-
-fn put_constant(text: &mut String, constant: &Constant) -> Result<(), OutOfMemory>
-    ensures { OnOk result (string_bytes text.new ≡ string_bytes text.old ++ constant_line constant.now) }
-{
-    let ty = constant.ty.as_str();
-    let name = constant.name.as_str();
-    let value = constant.value;
-    Ok(write!(text, "const {ty} {name} {value}\n")?)
-}
-
 /// The lines and the passages of a module with the first of the functions; answers the others.
 fn put_module<'a>(
     alloc: Global,
@@ -133,12 +108,6 @@ fn put_module<'a>(
 {
     put_module_line(&mut draft.text, owner.name.as_str())?;
     put_items(alloc, draft, owner.definitions().as_slice(), functions)
-}
-
-fn put_module_line(text: &mut String, name: &str) -> Result<(), OutOfMemory>
-    ensures { OnOk result (string_bytes text.new ≡ string_bytes text.old ++ module_line name.now) }
-{
-    Ok(write!(text, "module {name}\n")?)
 }
 
 #[tactic(auto, using(crate::proofs::PassageSteps::item_rules))]
@@ -165,15 +134,6 @@ fn put_items<'a>(
         }
     }
     Ok(rest)
-}
-
-fn put_import(text: &mut String, name: &str) -> Result<(), OutOfMemory>
-    ensures { OnOk result (string_bytes text.new ≡ string_bytes text.old ++ import_line name.now) }
-{
-    text.push_str("import ")?;
-    put_quoted(text, name)?;
-    text.push_str(" memory\n")?;
-    Ok(())
 }
 
 /// The passage of a function with the first of the functions; answers the others.
