@@ -1,5 +1,5 @@
 -- Traces whose events name only types that fit their tags allocate only what is writable.
-use Rattle.std.specs.Prelude.{◌≡◌, ℕ, ◌+◌, ◌<◌, ◌≤◌, List, [], ◌∷◌, ◌++◌, Bool, true, false, ◌&&◌, Option, Some, None, map, length, drop}
+use Rattle.std.specs.Prelude.{◌≡◌, ℕ, ◌+◌, ◌<◌, ◌≤◌, List, [], ◌∷◌, Bool, true, false, Option, Some, None, map, length, drop}
 use Rattle.std.proofs.Common.{refl, sym, ◌∙◌, get_or}
 use Rattle.witx_ast.specs.Functions.{func_tree, param_field}
 use Rattle.witx_ast.specs.Plain.{plain}

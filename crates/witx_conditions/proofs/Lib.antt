@@ -1,4 +1,5 @@
 pub mod Allocating
+pub mod Counting
 pub mod Fitting
 pub mod Lists
 pub mod Looking

@@ -10,8 +10,8 @@ use Rattle.witx_base.specs.declared.memory.OutOfMemory.{OutOfMemory}
 use Rattle.witx_base.proofs.Names.{same-test}
 use Rattle.witx_ast.specs.Entries.{Fits, by_name}
 use Rattle.witx_ast.proofs.EntryLaws.{is_key, key-swap, fits-empty, fits-more, fits-same}
-use Rattle.witx_ast.specs.Definitions.{entry_tree, introduced}
-use Rattle.witx_conditions.specs.Making.{PutsOne, StandsTwice}
+use Rattle.witx_conditions.specs.Making.{IsEntry, PutsOne, StandsTwice}
+use Rattle.witx_conditions.specs.OwnNames.{HaveOwnNames}
 
 module _ {T : Type 0} (name_of : T → Option (List ℕ)) where
   head-some : (x : T) (xs : List T) (m : List ℕ) → name_of x ≡ Some m → by_name name_of (x ∷ xs) ≡ (m, x) ∷ by_name name_of xs
@@ -69,22 +69,32 @@ module _ {T E : Type 0} (name_of : T → Option (List ℕ)) (tree : E → T) whe
   held-twice : (t : T) (n : List ℕ) (old : List (List ℕ × E)) → name_of t ≡ Some n → is_none (found old n) ≡ false → StandsTwice name_of tree t old
   held-twice t n old e h ts fits rest d = none-of (found old n) (fits.holds n ∙ later-lacks name_of ts t rest n e d) h
 
-  -- what was told of the put
-  pub put-told : (r : Result Bool OutOfMemory) (t : T) (n : List ℕ) (e : E) (old new : List (List ℕ × E)) → name_of t ≡ Some n → tree e ≡ t
+  entry-told : (t : T) (o : Option (List ℕ × E)) (n : List ℕ) (e : E) → IsEntry name_of tree t o → o ≡ Some (n, e) → (name_of t ≡ Some n) × (tree e ≡ t)
+  entry-told t o n e told same = subst (IsEntry name_of tree t) same told
+
+  -- what was told of the put of an entry
+  pub put-told : (r : Result Bool OutOfMemory) (t : T) (o : Option (List ℕ × E)) (n : List ℕ) (e : E) (old new : List (List ℕ × E))
+      → IsEntry name_of tree t o → o ≡ Some (n, e)
       → IfOk r (λ lacked. lacked ≡ true → found old n ≡ None)
       → IfOk r (λ lacked. lacked ≡ true → (q : List ℕ) → found new q ≡ cond (is_key n q) (Some e) (found old q))
       → IfOk r (λ lacked. lacked ≡ true → PutsOne name_of tree t old new)
-  put-told (Ok lacked) t n e old new named same none put = λ h. new-put t n e old new named same (none h) (put h)
-  put-told (Err x) t n e old new named same none put = tt
+  put-told (Ok lacked) t o n e old new told same none put =
+      let k = entry-told t o n e told same in
+      λ h. new-put t n e old new k.0 k.1 (none h) (put h)
+  put-told (Err x) t o n e old new told same none put = tt
 
-  pub twice-told : (r : Result Bool OutOfMemory) (t : T) (n : List ℕ) (old : List (List ℕ × E)) → name_of t ≡ Some n
+  pub twice-told : (r : Result Bool OutOfMemory) (t : T) (o : Option (List ℕ × E)) (n : List ℕ) (e : E) (old : List (List ℕ × E))
+      → IsEntry name_of tree t o → o ≡ Some (n, e)
       → IfOk r (λ lacked. lacked ≡ false → is_none (found old n) ≡ false)
       → IfOk r (λ lacked. lacked ≡ false → StandsTwice name_of tree t old)
-  twice-told (Ok lacked) t n old named held = λ h. held-twice t n old named (held h)
-  twice-told (Err x) t n old named held = tt
+  twice-told (Ok lacked) t o n e old told same held = λ h. held-twice t n old (entry-told t o n e told same).0 (held h)
+  twice-told (Err x) t o n e old told same held = tt
 
-  pub nameless-put : (t : T) (old : List (List ℕ × E)) → name_of t ≡ None → PutsOne name_of tree t old old
-  nameless-put t old e ts fits = fits-same name_of tree ts t old fits e
+  nameless : (t : T) (o : Option (List ℕ × E)) → IsEntry name_of tree t o → o ≡ None → name_of t ≡ None
+  nameless t o told same = subst (IsEntry name_of tree t) same told
+
+  pub nameless-put : (t : T) (o : Option (List ℕ × E)) (old : List (List ℕ × E)) → IsEntry name_of tree t o → o ≡ None → PutsOne name_of tree t old old
+  nameless-put t o old told same ts fits = fits-same name_of tree ts t old fits (nameless t o told same)
 
   -- ---- the definitions, each read as it is
 
@@ -105,9 +115,9 @@ module _ {T E : Type 0} (name_of : T → Option (List ℕ)) (tree : E → T) whe
     fits-next ds i d old new l p fits puts = subst (λ ts. Fits name_of tree ts new) (sym (taken ds i d l p)) (puts (map view (take i ds)) fits)
 
     pub fits-twice : (ds : List D) (i : ℕ) (d : D) (old : List (List ℕ × E)) → i < length ds → d ≡ get_or ds i d → FitsTo ds i old
-        → StandsTwice name_of tree (view d) old → IsDistinct same_text (keys_of (by_name name_of (map view ds))) → ⊥
+        → StandsTwice name_of tree (view d) old → HaveOwnNames name_of (map view ds) → ⊥
     fits-twice ds i d old l p fits twice s =
-        twice (map view (take i ds)) fits (map view (drop (i + 1) ds)) (subst (λ ts. IsDistinct same_text (keys_of (by_name name_of ts))) (split ds i d l p) s)
+        twice (map view (take i ds)) fits (map view (drop (i + 1) ds)) (subst (HaveOwnNames name_of) (split ds i d l p) s)
 
     pub fits-all : (ds : List D) (i : ℕ) (es : List (List ℕ × E)) → length ds ≤ i → FitsTo ds i es → Fits name_of tree (map view ds) es
     fits-all ds i es l fits = subst (λ xs. Fits name_of tree (map view xs) es) (take_all i ds l) fits
@@ -115,8 +125,6 @@ module _ {T E : Type 0} (name_of : T → Option (List ℕ)) (tree : E → T) whe
     pub fits-none : (ds : List D) (es : List (List ℕ × E)) → es ≡ [] → FitsTo ds 0 es
     fits-none ds es e = subst (λ k. Fits name_of tree [] k) (sym e) (fits-empty name_of tree)
 
-pub ruleset put_rules = (put-told, twice-told)
-
-pub ruleset nameless_rules = (nameless-put)
+pub ruleset put_rules = (put-told, twice-told, nameless-put)
 
 pub ruleset made_rules = (fits-next, fits-twice, fits-all, fits-none)

@@ -18,7 +18,7 @@ use Rattle.witx_compat.specs.contracts.conversion.TypePolyfillPartialEq.TheImpl 
 use Rattle.witx_compat.specs.contracts.conversion.ParamPolyfillPartialEq.TheImpl as params
 use Rattle.witx_compat.specs.contracts.conversion.ParamUnknownPartialEq.TheImpl as unknowns
 use Rattle.witx_compat.specs.contracts.functions.FuncPolyfillPartialEq.TheImpl as functions
-use Rattle.witx_compat.specs.Conversions.{Unknown, of_old, of_new, new_to_old, old_to_new}
+use Rattle.witx_compat.specs.Conversions.{of_old, of_new, new_to_old, old_to_new}
 use Rattle.witx_compat.specs.Polyfills.{MappedFunction}
 use Rattle.witx_compat.specs.Views.{conversion_view, mapped_view, unknown_view, function_view}
 use Rattle.witx_compat.proofs.PolyfillCopies.{functions-copied}

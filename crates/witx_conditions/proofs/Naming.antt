@@ -1,7 +1,7 @@
 -- Members, cases, items and parameters, one after the other: whether the names in their types stand.
-use Rattle.std.specs.Prelude.{◌≡◌, ℕ, ◌+◌, ◌<◌, ◌≤◌, List, [], ◌∷◌, Bool, true, false, ◌&&◌, Option, Some, None, map, option_map, length, drop}
+use Rattle.std.specs.Prelude.{◌≡◌, ℕ, ◌+◌, ◌<◌, ◌≤◌, List, ◌∷◌, Bool, true, false, ◌&&◌, Option, Some, None, map, option_map, length, drop}
 use Rattle.std.proofs.Common.{refl, get_or}
-use Rattle.witx_ast.specs.Tree.{Tree, Arm, arm, fields_of, arms_of}
+use Rattle.witx_ast.specs.Tree.{Arm, arm, fields_of, arms_of}
 use Rattle.witx_ast.specs.Views.{tree_of, member_field, case_arm}
 use Rattle.witx_ast.specs.Functions.{param_field}
 use Rattle.witx_ast.specs.Items.{item_tree}

@@ -1,8 +1,7 @@
 -- The tests of names decide what they test; definitions, one after the other, each with those before it.
 use Rattle.std.specs.Prelude.{◌≡◌, ℕ, ◌+◌, ◌<◌, ◌≤◌, List, [], ◌∷◌, ◌++◌, Bool, true, false, ◌&&◌, Option, Some, None, map, length, drop, take}
-use Rattle.std.proofs.Common.{refl, ap, sym, ◌∙◌, get_or, subst}
+use Rattle.std.proofs.Common.{refl, ap, sym, ◌∙◌, get_or}
 use Rattle.std.specs.Bool.{Decides}
-use Rattle.std.specs.List.{flat_map}
 use Rattle.std.proofs.lemmas.List.{drop_more, drop_all, take_more, map-append}
 use Rattle.witx_ast.specs.Closed.{AllNamesStand, ClosedAfter, IsClosed, ItemNamesStand, ParamNamesStand}
 use Rattle.witx_ast.specs.Definitions.{DefinitionTree, typename_of, module_of, constant_of, definition_tree, typename_called}
@@ -13,7 +12,7 @@ use Rattle.witx_ast.specs.SameLaws.{same-to, same-from}
 use Rattle.witx_ast.specs.Tree.{Tree, Fields, Arms, Field, behind}
 use Rattle.witx_ast.specs.declared.definition.Definition.{Definition}
 use Rattle.witx_ast.proofs.Decided.{always, decides-and}
-use Rattle.witx_conditions.specs.NameTests.{all_stand, arms_stand, each_after, fields_stand, is_type_behind, item_stands, items_stand, names_stand, params_stand, type_stands}
+use Rattle.witx_conditions.specs.NameTests.{all_stand, arms_stand, each_after, fields_stand, is_type_behind, items_stand, names_stand, params_stand, type_stands}
 
 -- ---- the tests decide
 

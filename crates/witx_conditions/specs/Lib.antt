@@ -1,3 +1,4 @@
 pub mod FittingEvents
 pub mod Making
 pub mod NameTests
+pub mod OwnNames

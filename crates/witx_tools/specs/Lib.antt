@@ -69,6 +69,7 @@ pub use Rattle.witx_compat.specs.Polyfills
 pub use Rattle.witx_compat.specs.Represents
 pub use Rattle.witx_compat.specs.Views as PolyfillViews
 pub use Rattle.witx_conditions.specs.FittingEvents
+pub use Rattle.witx_conditions.specs.OwnNames
 pub use Rattle.witx_docs.specs.LaidOut
 pub use Rattle.witx_docs.specs.Pages
 pub use Rattle.witx_error_texts.specs.ErrorTexts

@@ -20,7 +20,8 @@ pub use conditions::{
 pub use laws::{commands_of_both, shims_tell_two_refusals, valid_is_not_refused_by_tools};
 pub use program::run_all;
 pub use witx_conditions::{
-    allocate_writable, are_values, document_of, is_closed, is_mapped, is_ordered, takes_values,
+    allocate_writable, are_values, document_of, has_each_entry, is_closed, is_mapped, is_ordered,
+    module_of, takes_values,
 };
 pub use witx_error_texts::ErrorText;
 pub use witx_imports::{
