@@ -42,10 +42,14 @@ pub trait AbiFunc {
         module: &Id,
         bindgen: &mut B,
     ) -> Result<(), AbiError>
-        ensures events { OnOk result (B.told bindgen.new ≡ told_further (B.told bindgen.old) (caller_events «module».now (function self.now))) }
-        ensures front { OnErr result (TellsFront (caller_events «module».now (function self.now)) (B.told bindgen.old) (B.told bindgen.new)) }
-        ensures operands { OnOk result (OperandsInOrder (caller_events «module».now (function self.now)) (B.calls bindgen.old) (B.calls bindgen.new)) }
-        ensures front_operands { OnErr result (FrontInOrder (caller_events «module».now (function self.now)) (B.calls bindgen.old) (B.calls bindgen.new) []) }
+        ensures events { OnOk result (B.told bindgen.new
+            ≡ told_further (B.told bindgen.old) (caller_events «module».now (function self.now))) }
+        ensures front { OnErr result (TellsFront (caller_events «module».now (function self.now))
+            (B.told bindgen.old) (B.told bindgen.new)) }
+        ensures operands { OnOk result (OperandsInOrder (caller_events «module».now (function self.now))
+            (B.calls bindgen.old) (B.calls bindgen.new)) }
+        ensures front_operands { OnErr result (FrontInOrder (caller_events «module».now (function self.now))
+            (B.calls bindgen.old) (B.calls bindgen.new) []) }
         ensures unlowerable { unlowerable_place result ≡ unlowerable (function self.now) }
         ensures untouched { IsSome (unlowerable (function self.now)) → bindgen.new ≡ bindgen.old }
         ensures cause { Counts (is_bindgen_fault result) (B.faults bindgen.old) (B.faults bindgen.new) };
@@ -57,10 +61,14 @@ pub trait AbiFunc {
         module: &Id,
         bindgen: &mut B,
     ) -> Result<(), AbiError>
-        ensures events { OnOk result (B.told bindgen.new ≡ told_further (B.told bindgen.old) (callee_events «module».now (function self.now))) }
-        ensures front { OnErr result (TellsFront (callee_events «module».now (function self.now)) (B.told bindgen.old) (B.told bindgen.new)) }
-        ensures operands { OnOk result (OperandsInOrder (callee_events «module».now (function self.now)) (B.calls bindgen.old) (B.calls bindgen.new)) }
-        ensures front_operands { OnErr result (FrontInOrder (callee_events «module».now (function self.now)) (B.calls bindgen.old) (B.calls bindgen.new) []) }
+        ensures events { OnOk result (B.told bindgen.new
+            ≡ told_further (B.told bindgen.old) (callee_events «module».now (function self.now))) }
+        ensures front { OnErr result (TellsFront (callee_events «module».now (function self.now))
+            (B.told bindgen.old) (B.told bindgen.new)) }
+        ensures operands { OnOk result (OperandsInOrder (callee_events «module».now (function self.now))
+            (B.calls bindgen.old) (B.calls bindgen.new)) }
+        ensures front_operands { OnErr result (FrontInOrder (callee_events «module».now (function self.now))
+            (B.calls bindgen.old) (B.calls bindgen.new) []) }
         ensures unlowerable { unlowerable_place result ≡ unlowerable (function self.now) }
         ensures untouched { IsSome (unlowerable (function self.now)) → bindgen.new ≡ bindgen.old }
         ensures cause { Counts (is_bindgen_fault result) (B.faults bindgen.old) (B.faults bindgen.new) };
@@ -109,10 +117,14 @@ fn play_caller<B: Bindgen>(
     bindgen: &mut B,
 ) -> Result<(), AbiError>
     requires { unlowerable (called func.now) ≡ None }
-    ensures events { OnOk result (B.told bindgen.new ≡ told_further (B.told bindgen.old) (caller_events module_name.now (called func.now))) }
-    ensures front { OnErr result (TellsFront (caller_events module_name.now (called func.now)) (B.told bindgen.old) (B.told bindgen.new)) }
-    ensures operands { OnOk result (OperandsInOrder (caller_events module_name.now (called func.now)) (B.calls bindgen.old) (B.calls bindgen.new)) }
-    ensures front_operands { OnErr result (FrontInOrder (caller_events module_name.now (called func.now)) (B.calls bindgen.old) (B.calls bindgen.new) []) }
+    ensures events { OnOk result (B.told bindgen.new
+        ≡ told_further (B.told bindgen.old) (caller_events module_name.now (called func.now))) }
+    ensures front { OnErr result (TellsFront (caller_events module_name.now (called func.now))
+        (B.told bindgen.old) (B.told bindgen.new)) }
+    ensures operands { OnOk result (OperandsInOrder (caller_events module_name.now (called func.now))
+        (B.calls bindgen.old) (B.calls bindgen.new)) }
+    ensures front_operands { OnErr result (FrontInOrder (caller_events module_name.now (called func.now))
+        (B.calls bindgen.old) (B.calls bindgen.new) []) }
     ensures place { unlowerable_place result ≡ None }
     ensures cause { Counts (is_bindgen_fault result) (B.faults bindgen.old) (B.faults bindgen.new) }
 {
@@ -134,10 +146,14 @@ fn play_call<'a, B: Bindgen>(
     requires lowerable { unlowerable (called func.now) ≡ None }
     requires params { params.now ≡ signature_params (called func.now) }
     requires results { results.now ≡ signature_results (called func.now) }
-    ensures events { OnOk result (B.told bindgen.new ≡ told_further (B.told bindgen.old) (caller_events module_name.now (called func.now))) }
-    ensures front { OnErr result (TellsFront (caller_events module_name.now (called func.now)) (B.told bindgen.old) (B.told bindgen.new)) }
-    ensures operands { OnOk result (OperandsInOrder (caller_events module_name.now (called func.now)) (B.calls bindgen.old) (B.calls bindgen.new)) }
-    ensures front_operands { OnErr result (FrontInOrder (caller_events module_name.now (called func.now)) (B.calls bindgen.old) (B.calls bindgen.new) []) }
+    ensures events { OnOk result (B.told bindgen.new
+        ≡ told_further (B.told bindgen.old) (caller_events module_name.now (called func.now))) }
+    ensures front { OnErr result (TellsFront (caller_events module_name.now (called func.now))
+        (B.told bindgen.old) (B.told bindgen.new)) }
+    ensures operands { OnOk result (OperandsInOrder (caller_events module_name.now (called func.now))
+        (B.calls bindgen.old) (B.calls bindgen.new)) }
+    ensures front_operands { OnErr result (FrontInOrder (caller_events module_name.now (called func.now))
+        (B.calls bindgen.old) (B.calls bindgen.new) []) }
     ensures place { unlowerable_place result ≡ None }
     ensures cause { Counts (is_bindgen_fault result) (B.faults bindgen.old) (B.faults bindgen.new) }
 {
@@ -156,10 +172,14 @@ fn play_callee<'a, B: Bindgen>(
     bindgen: &mut B,
 ) -> Result<(), AbiError>
     requires { unlowerable (called func.now) ≡ None }
-    ensures events { OnOk result (B.told bindgen.new ≡ told_further (B.told bindgen.old) (callee_events module_name.now (called func.now))) }
-    ensures front { OnErr result (TellsFront (callee_events module_name.now (called func.now)) (B.told bindgen.old) (B.told bindgen.new)) }
-    ensures operands { OnOk result (OperandsInOrder (callee_events module_name.now (called func.now)) (B.calls bindgen.old) (B.calls bindgen.new)) }
-    ensures front_operands { OnErr result (FrontInOrder (callee_events module_name.now (called func.now)) (B.calls bindgen.old) (B.calls bindgen.new) []) }
+    ensures events { OnOk result (B.told bindgen.new
+        ≡ told_further (B.told bindgen.old) (callee_events module_name.now (called func.now))) }
+    ensures front { OnErr result (TellsFront (callee_events module_name.now (called func.now))
+        (B.told bindgen.old) (B.told bindgen.new)) }
+    ensures operands { OnOk result (OperandsInOrder (callee_events module_name.now (called func.now))
+        (B.calls bindgen.old) (B.calls bindgen.new)) }
+    ensures front_operands { OnErr result (FrontInOrder (callee_events module_name.now (called func.now))
+        (B.calls bindgen.old) (B.calls bindgen.new) []) }
     ensures place { unlowerable_place result ≡ None }
     ensures cause { Counts (is_bindgen_fault result) (B.faults bindgen.old) (B.faults bindgen.new) }
 {

@@ -43,8 +43,10 @@ pub fn adapt_document(alloc: Global, document: Document) -> Result<Adapted, Refu
     requires ordered { IsOrdered (map definition_tree document.definitions) }
     ensures document { IfOk result (λ adapted. adapted.document ≡ document) }
     ensures layouts { IfOk result (λ adapted. adapted.layouts ≡ all_layouts (map definition_tree document.definitions)) }
-    ensures functions { IfOk result (λ adapted. map entry_of adapted.functions ≡ map entry_for (all_functions (map definition_tree document.definitions))) }
-    ensures faithful { IfOk result (λ adapted. IsClosed (map definition_tree document.definitions) → All IsFaithful adapted.functions) }
+    ensures functions { IfOk result (λ adapted. map entry_of adapted.functions
+        ≡ map entry_for (all_functions (map definition_tree document.definitions))) }
+    ensures faithful { IfOk result (λ adapted. IsClosed (map definition_tree document.definitions)
+        → All IsFaithful adapted.functions) }
     ensures adaptable { OnOk result (IsAdaptable (map definition_tree document.definitions)) }
     ensures refused { IfErr result (λ e. RefusesDocument (map definition_tree document.definitions) e.error) }
     ensures handed_back { IfErr result (λ e. e.document ≡ document) }
@@ -64,8 +66,10 @@ pub fn adapt_document(alloc: Global, document: Document) -> Result<Adapted, Refu
 fn document_parts(alloc: Global, document: &Document) -> Result<Parts, DocumentError>
     requires ordered { IsOrdered (map definition_tree document.now.definitions) }
     ensures layouts { IfOk result (λ parts. parts.layouts ≡ all_layouts (map definition_tree document.now.definitions)) }
-    ensures functions { IfOk result (λ parts. map entry_of parts.functions ≡ map entry_for (all_functions (map definition_tree document.now.definitions))) }
-    ensures faithful { IfOk result (λ parts. IsClosed (map definition_tree document.now.definitions) → All IsFaithful parts.functions) }
+    ensures functions { IfOk result (λ parts. map entry_of parts.functions
+        ≡ map entry_for (all_functions (map definition_tree document.now.definitions))) }
+    ensures faithful { IfOk result (λ parts. IsClosed (map definition_tree document.now.definitions)
+        → All IsFaithful parts.functions) }
     ensures adaptable { OnOk result (IsAdaptable (map definition_tree document.now.definitions)) }
     ensures refused { IfErr result (RefusesDocument (map definition_tree document.now.definitions)) }
 {
@@ -82,9 +86,11 @@ fn document_functions(
     alloc: Global,
     definitions: &[Definition],
 ) -> Result<AdaptedFuncs, DocumentError>
-    ensures functions { IfOk result (λ functions. map entry_of functions ≡ map entry_for (all_functions (map definition_tree definitions.now))) }
+    ensures functions { IfOk result (λ functions. map entry_of functions
+        ≡ map entry_for (all_functions (map definition_tree definitions.now))) }
     ensures lowerable { OnOk result (first_unlowered (all_functions (map definition_tree definitions.now)) ≡ None) }
-    ensures unlowerable { IfErr result (UnlowerableAt (first_unlowered (all_functions (map definition_tree definitions.now)))) }
+    ensures unlowerable { IfErr result
+        (UnlowerableAt (first_unlowered (all_functions (map definition_tree definitions.now)))) }
 {
     let mut functions = Items::new(alloc);
     for definition in definitions {
@@ -101,7 +107,8 @@ fn push_functions(
     ensures functions { OnOk result (map entry_of functions.new ≡ map entry_of functions.old
         ++ map entry_for (owned_functions (definition_tree definition.now))) }
     ensures lowerable { OnOk result (first_unlowered (owned_functions (definition_tree definition.now)) ≡ None) }
-    ensures unlowerable { IfErr result (UnlowerableAt (first_unlowered (owned_functions (definition_tree definition.now)))) }
+    ensures unlowerable { IfErr result
+        (UnlowerableAt (first_unlowered (owned_functions (definition_tree definition.now)))) }
 {
     match definition {
         Definition::Module(module) => push_module(alloc, functions, module),
@@ -135,8 +142,10 @@ fn push_item(
 ) -> Result<(), DocumentError>
     ensures functions { OnOk result (map entry_of functions.new ≡ map entry_of functions.old
         ++ map entry_for (owned_item (module_tree owner.now.value) (item_tree item.now))) }
-    ensures lowerable { OnOk result (first_unlowered (owned_item (module_tree owner.now.value) (item_tree item.now)) ≡ None) }
-    ensures unlowerable { IfErr result (UnlowerableAt (first_unlowered (owned_item (module_tree owner.now.value) (item_tree item.now)))) }
+    ensures lowerable { OnOk result
+        (first_unlowered (owned_item (module_tree owner.now.value) (item_tree item.now)) ≡ None) }
+    ensures unlowerable { IfErr result
+        (UnlowerableAt (first_unlowered (owned_item (module_tree owner.now.value) (item_tree item.now)))) }
 {
     match item {
         ModuleDefinition::Import(_) => Ok(()),
@@ -151,9 +160,12 @@ fn adapt_func(
     owner: &Rc<Module>,
     func: &Rc<InterfaceFunc>,
 ) -> Result<AdaptedFunc, DocumentError>
-    ensures entry { IfOk result (λ entry. entry_of entry ≡ entry_for (record { owner = module_tree owner.now.value; func = func_tree func.now.value })) }
-    ensures lowerable { OnOk result (unlowered (record { owner = module_tree owner.now.value; func = func_tree func.now.value }) ≡ None) }
-    ensures unlowerable { IfErr result (UnlowerableAt (unlowered (record { owner = module_tree owner.now.value; func = func_tree func.now.value }))) }
+    ensures entry { IfOk result (λ entry. entry_of entry
+        ≡ entry_for (record { owner = module_tree owner.now.value; func = func_tree func.now.value })) }
+    ensures lowerable { OnOk result (unlowered
+        (record { owner = module_tree owner.now.value; func = func_tree func.now.value }) ≡ None) }
+    ensures unlowerable { IfErr result (UnlowerableAt
+        (unlowered (record { owner = module_tree owner.now.value; func = func_tree func.now.value }))) }
 {
     if let Err(place) = lowerable(func) {
         return Err(refusal(owner, func, place));
@@ -168,7 +180,8 @@ fn lowered(
     func: &Rc<InterfaceFunc>,
 ) -> Result<AdaptedFunc, OutOfMemory>
     requires { unlowerable (called func.now.value) ≡ None }
-    ensures { IfOk result (λ entry. entry_of entry ≡ entry_for (record { owner = module_tree owner.now.value; func = func_tree func.now.value })) }
+    ensures { IfOk result (λ entry. entry_of entry
+        ≡ entry_for (record { owner = module_tree owner.now.value; func = func_tree func.now.value })) }
 {
     let name = &owner.name;
     let function: &InterfaceFunc = func;

@@ -63,7 +63,8 @@ fn put_finish(text: &mut String, value: bool) -> Result<(), AllocError>
 
 #[tactic(auto, using(witx_ast::proofs::Trees::tree_rules))]
 fn put_space(text: &mut String, slot: usize, ty: &NamedType) -> Result<(), OutOfMemory>
-    ensures { OnOk result (string_bytes text.new ≡ string_bytes text.old ++ (codes "space" ++ number_field slot ++ type_field (named_tree ty.now))) }
+    ensures { OnOk result (string_bytes text.new
+        ≡ string_bytes text.old ++ (codes "space" ++ number_field slot ++ type_field (named_tree ty.now))) }
 {
     text.push_str("space")?;
     put_number(text, slot)?;
@@ -71,7 +72,8 @@ fn put_space(text: &mut String, slot: usize, ty: &NamedType) -> Result<(), OutOf
 }
 
 fn put_step(alloc: Global, text: &mut String, step: &Step) -> Result<(), OutOfMemory>
-    ensures { OnOk result (string_bytes text.new ≡ string_bytes text.old ++ (step_name (kept_step step.now) ++ step_fields (kept_step step.now))) }
+    ensures { OnOk result (string_bytes text.new
+        ≡ string_bytes text.old ++ (step_name (kept_step step.now) ++ step_fields (kept_step step.now))) }
 {
     text.push_str(step_name(step))?;
     put_fields(alloc, text, step)
@@ -191,7 +193,8 @@ fn put_payload(
     word: &str,
     ty: &Option<TypeRef>,
 ) -> Result<(), OutOfMemory>
-    ensures { OnOk result (string_bytes text.new ≡ string_bytes text.old ++ payload_field word.now (option_map tree_of ty.now)) }
+    ensures { OnOk result (string_bytes text.new
+        ≡ string_bytes text.old ++ payload_field word.now (option_map tree_of ty.now)) }
 {
     match ty {
         Some(ty) => {

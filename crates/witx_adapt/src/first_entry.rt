@@ -58,7 +58,8 @@ pub fn first_named(
     module: &Id,
     name: &Id,
 ) -> Result<Option<usize>, OutOfMemory>
-    ensures { IfOk result (λ number. number ≡ spec.first_at first.now.entries (record { «module» = «module».now; name = name.now })) }
+    ensures { IfOk result (λ number. number
+        ≡ spec.first_at first.now.entries (record { «module» = «module».now; name = name.now })) }
 {
     let wanted = function_name(module, name)?;
     Ok(first.get(&wanted).copied())

@@ -74,7 +74,8 @@ pub fn put_typename<'a>(
     name: &str,
     layouts: &'a [SizeAlign],
 ) -> Result<&'a [SizeAlign], AllocError>
-    ensures lines { IfOk result (λ rest. string_bytes text.new ≡ string_bytes text.old ++ listed_typename_lines name.now layouts.now) }
+    ensures lines { IfOk result (λ rest. string_bytes text.new
+        ≡ string_bytes text.old ++ listed_typename_lines name.now layouts.now) }
     ensures rest { IfOk result (λ rest. rest.now ≡ drop 1 layouts.now) }
 {
     if layouts.is_empty() {
@@ -85,7 +86,8 @@ pub fn put_typename<'a>(
 }
 
 fn put_typename_line(text: &mut String, name: &str, layout: SizeAlign) -> Result<(), AllocError>
-    ensures { OnOk result (string_bytes text.new ≡ string_bytes text.old ++ typename_line name.now layout.size layout.align) }
+    ensures { OnOk result (string_bytes text.new
+        ≡ string_bytes text.old ++ typename_line name.now layout.size layout.align) }
 {
     text.push_str("typename ")?;
     text.push_str(name)?;
@@ -190,7 +192,8 @@ fn put_func(
     func: &InterfaceFunc,
     adapted: &AdaptedFunc,
 ) -> Result<(), OutOfMemory>
-    ensures { OnOk result (string_bytes text.new ≡ string_bytes text.old ++ func_lines func.now.name func.now.abi (lowered adapted.now)) }
+    ensures { OnOk result (string_bytes text.new
+        ≡ string_bytes text.old ++ func_lines func.now.name func.now.abi (lowered adapted.now)) }
 {
     put_func_line(
         text,
@@ -209,7 +212,8 @@ pub fn put_func_line(
     params: &[WasmType],
     results: &[WasmType],
 ) -> Result<(), AllocError>
-    ensures { OnOk result (string_bytes text.new ≡ string_bytes text.old ++ listed_func_line func.now.name func.now.abi params.now results.now) }
+    ensures { OnOk result (string_bytes text.new
+        ≡ string_bytes text.old ++ listed_func_line func.now.name func.now.abi params.now results.now) }
 {
     text.push_str("func ")?;
     put_quoted(text, func.name.as_str())?;

@@ -41,7 +41,8 @@ fn put_character(text: &mut String, c: char) -> Result<(), AllocError>
 }
 
 fn put_control(text: &mut String, byte: u8) -> Result<(), AllocError>
-    ensures { OnOk result (string_bytes text.new ≡ string_bytes text.old ++ 92 ∷ digit (byte / 16) ∷ digit (byte % 16) ∷ []) }
+    ensures { OnOk result (string_bytes text.new
+        ≡ string_bytes text.old ++ 92 ∷ digit (byte / 16) ∷ digit (byte % 16) ∷ []) }
 {
     text.push('\\')?;
     text.push(hex_digit(byte / 16))?;
@@ -74,7 +75,8 @@ pub fn put_signature(
 }
 
 fn put_group(text: &mut String, types: &[WasmType]) -> Result<(), AllocError>
-    ensures { OnOk result (string_bytes text.new ≡ string_bytes text.old ++ (codes "(" ++ wasm_words types.now ++ codes ")")) }
+    ensures { OnOk result (string_bytes text.new
+        ≡ string_bytes text.old ++ (codes "(" ++ wasm_words types.now ++ codes ")")) }
 {
     text.push('(')?;
     put_words(text, types)?;

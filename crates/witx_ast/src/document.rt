@@ -67,7 +67,8 @@ impl Document {
     /// The typename of that name; none exactly where the document has none.
     #[tactic(auto, using(crate::proofs::TreeKinds::kind_rules))]
     pub fn typename(&self, name: &Id) -> Option<&Rc<NamedType>>
-        ensures { option_map (λ n. named_tree n.now.value) result ≡ typename_called (map definition_tree self.now.definitions) name.now }
+        ensures { option_map (λ n. named_tree n.now.value) result
+            ≡ typename_called (map definition_tree self.now.definitions) name.now }
     {
         match self.contents.entry(name) {
             Some(Entry::Typename(named)) => Some(named),
@@ -77,7 +78,8 @@ impl Document {
 
     /// The module of that name; none exactly where the document has none.
     pub fn module(&self, name: &Id) -> Option<&Rc<Module>>
-        ensures { option_map (λ m. module_tree m.now.value) result ≡ module_called (map definition_tree self.now.definitions) name.now }
+        ensures { option_map (λ m. module_tree m.now.value) result
+            ≡ module_called (map definition_tree self.now.definitions) name.now }
     {
         match self.contents.entry(name) {
             Some(Entry::Module(module)) => Some(module),

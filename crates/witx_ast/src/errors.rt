@@ -47,7 +47,8 @@ struct Found {
 impl Found {
     fn add_all(&mut self, definitions: &[Definition]) -> Result<(), OutOfMemory>
         requires { TellsTypes self.old.seen self.old.types }
-        ensures { OnOk result (map tree_of self.new.types ≡ and_types (map tree_of self.old.types) (all_errors (map definition_tree definitions.now))) }
+        ensures { OnOk result (map tree_of self.new.types
+            ≡ and_types (map tree_of self.old.types) (all_errors (map definition_tree definitions.now))) }
     {
         for definition in definitions {
             self.add_definition(definition)?;
@@ -58,7 +59,8 @@ impl Found {
     fn add_definition(&mut self, definition: &Definition) -> Result<(), OutOfMemory>
         requires { TellsTypes self.old.seen self.old.types }
         ensures told { OnOk result (TellsTypes self.new.seen self.new.types) }
-        ensures types { OnOk result (map tree_of self.new.types ≡ and_types (map tree_of self.old.types) (definition_errors (definition_tree definition.now))) }
+        ensures types { OnOk result (map tree_of self.new.types
+            ≡ and_types (map tree_of self.old.types) (definition_errors (definition_tree definition.now))) }
     {
         match definition {
             Definition::Module(module) => self.add_items(module.definitions().as_slice()),
@@ -69,7 +71,8 @@ impl Found {
     fn add_items(&mut self, items: &[ModuleDefinition]) -> Result<(), OutOfMemory>
         requires { TellsTypes self.old.seen self.old.types }
         ensures told { OnOk result (TellsTypes self.new.seen self.new.types) }
-        ensures types { OnOk result (map tree_of self.new.types ≡ and_types (map tree_of self.old.types) (item_errors (map item_tree items.now))) }
+        ensures types { OnOk result (map tree_of self.new.types
+            ≡ and_types (map tree_of self.old.types) (item_errors (map item_tree items.now))) }
     {
         for item in items {
             if let ModuleDefinition::Func(func) = item {

@@ -195,7 +195,8 @@ impl Module {
 
     /// The function of that name; none exactly where the module has none.
     pub fn func(&self, name: &Id) -> Option<&Rc<InterfaceFunc>>
-        ensures { option_map (λ f. func_tree f.now.value) result ≡ func_called (map item_tree self.now.contents.definitions) name.now }
+        ensures { option_map (λ f. func_tree f.now.value) result
+            ≡ func_called (map item_tree self.now.contents.definitions) name.now }
     {
         self.contents.func(name)
     }

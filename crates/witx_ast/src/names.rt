@@ -117,7 +117,8 @@ fn put_list(out: &mut String, tref: &TypeRef) -> Result<(), OutOfMemory>
 #[cycle(naming)]
 #[tactic(auto, using(crate::proofs::Naming::name_rules))]
 fn put_around(out: &mut String, opening: &str, tref: &TypeRef) -> Result<(), OutOfMemory>
-    ensures { IfOk result (λ _. string_bytes out.new ≡ string_bytes out.old ++ (opening.now ++ type_text (tree_of tref.now) ++ codes ">")) }
+    ensures { IfOk result (λ _. string_bytes out.new
+        ≡ string_bytes out.old ++ (opening.now ++ type_text (tree_of tref.now) ++ codes ">")) }
 {
     put(out, opening)?;
     put_type(out, tref)?;
@@ -138,7 +139,8 @@ fn put_record(out: &mut String, record_type: &RecordDatatype) -> Result<(), OutO
 #[cycle(naming)]
 #[tactic(auto, using(crate::proofs::Naming::name_rules))]
 fn put_tuple(out: &mut String, members: &[RecordMember]) -> Result<(), OutOfMemory>
-    ensures { IfOk result (λ _. string_bytes out.new ≡ string_bytes out.old ++ tuple_text (member_texts (fields_of (map member_field members.now)))) }
+    ensures { IfOk result (λ _. string_bytes out.new
+        ≡ string_bytes out.old ++ tuple_text (member_texts (fields_of (map member_field members.now)))) }
 {
     put(out, "(")?;
     put_members(out, members)?;
@@ -148,7 +150,8 @@ fn put_tuple(out: &mut String, members: &[RecordMember]) -> Result<(), OutOfMemo
 #[cycle(naming)]
 #[tactic(auto, using(crate::proofs::Naming::name_rules))]
 fn put_members(out: &mut String, members: &[RecordMember]) -> Result<(), OutOfMemory>
-    ensures { IfOk result (λ _. string_bytes out.new ≡ string_bytes out.old ++ comma_joined (member_texts (fields_of (map member_field members.now)))) }
+    ensures { IfOk result (λ _. string_bytes out.new
+        ≡ string_bytes out.old ++ comma_joined (member_texts (fields_of (map member_field members.now)))) }
 {
     let mut first = true;
     for member in members {
@@ -161,7 +164,8 @@ fn put_members(out: &mut String, members: &[RecordMember]) -> Result<(), OutOfMe
 #[cycle(naming)]
 #[tactic(auto, using(crate::proofs::Naming::name_rules))]
 fn put_member(out: &mut String, first: bool, member: &RecordMember) -> Result<(), OutOfMemory>
-    ensures { IfOk result (λ _. string_bytes out.new ≡ string_bytes out.old ++ (separator first ++ type_text (tree_of member.now.tref))) }
+    ensures { IfOk result (λ _. string_bytes out.new
+        ≡ string_bytes out.old ++ (separator first ++ type_text (tree_of member.now.tref))) }
 {
     if !first {
         put(out, ", ")?;
@@ -186,7 +190,8 @@ fn put_variant(out: &mut String, variant: &Variant) -> Result<(), OutOfMemory>
 #[cycle(naming)]
 #[tactic(auto, using(crate::proofs::Naming::name_rules))]
 fn put_result(out: &mut String, cases: &[Case]) -> Result<(), OutOfMemory>
-    ensures { IfOk result (λ _. string_bytes out.new ≡ string_bytes out.old ++ result_text (payload_texts (arms_of (map case_arm cases.now)))) }
+    ensures { IfOk result (λ _. string_bytes out.new
+        ≡ string_bytes out.old ++ result_text (payload_texts (arms_of (map case_arm cases.now)))) }
 {
     put(out, "Result<")?;
     put_payloads(out, cases)?;
@@ -196,7 +201,8 @@ fn put_result(out: &mut String, cases: &[Case]) -> Result<(), OutOfMemory>
 #[cycle(naming)]
 #[tactic(auto, using(crate::proofs::Naming::name_rules))]
 fn put_payloads(out: &mut String, cases: &[Case]) -> Result<(), OutOfMemory>
-    ensures { IfOk result (λ _. string_bytes out.new ≡ string_bytes out.old ++ comma_joined (payload_texts (arms_of (map case_arm cases.now)))) }
+    ensures { IfOk result (λ _. string_bytes out.new
+        ≡ string_bytes out.old ++ comma_joined (payload_texts (arms_of (map case_arm cases.now)))) }
 {
     let mut first = true;
     for case in cases {
@@ -209,7 +215,8 @@ fn put_payloads(out: &mut String, cases: &[Case]) -> Result<(), OutOfMemory>
 #[cycle(naming)]
 #[tactic(auto, using(crate::proofs::Naming::name_rules))]
 fn put_payload(out: &mut String, first: bool, case: &Case) -> Result<(), OutOfMemory>
-    ensures { IfOk result (λ _. string_bytes out.new ≡ string_bytes out.old ++ (separator first ++ payload_text (option_map tree_of case.now.tref))) }
+    ensures { IfOk result (λ _. string_bytes out.new
+        ≡ string_bytes out.old ++ (separator first ++ payload_text (option_map tree_of case.now.tref))) }
 {
     if !first {
         put(out, ", ")?;

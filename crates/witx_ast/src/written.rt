@@ -72,7 +72,8 @@ fn feed_members<H: Hasher>(members: &[RecordMember], state: &mut H)
 
 #[cycle(written)]
 fn feed_member<H: Hasher>(member: &RecordMember, state: &mut H)
-    ensures { state.new ≡ fold H.write state.old (member_writes member.now.name (type_writes (tree_of member.now.tref)) member.now.docs) }
+    ensures { state.new ≡ fold H.write state.old
+        (member_writes member.now.name (type_writes (tree_of member.now.tref)) member.now.docs) }
 {
     state.write_u8(1);
     member.name.hash(state);
@@ -92,7 +93,8 @@ fn feed_cases<H: Hasher>(cases: &[Case], state: &mut H)
 
 #[cycle(written)]
 fn feed_case<H: Hasher>(case: &Case, state: &mut H)
-    ensures { state.new ≡ fold H.write state.old (case_writes case.now.name (option_map (λ t. type_writes (tree_of t)) case.now.tref) case.now.docs) }
+    ensures { state.new ≡ fold H.write state.old
+        (case_writes case.now.name (option_map (λ t. type_writes (tree_of t)) case.now.tref) case.now.docs) }
 {
     feed_payload(&case.tref, state);
     case.name.hash(state);

@@ -125,7 +125,8 @@ impl<V: Drop> NameMap<V> {
     /// Puts a value at a name, in place of the one that is there; a refused insert changes nothing.
     pub fn insert(&mut self, key: Id, value: V) -> Result<(), OutOfMemory>
         ensures entries { OnOk result (self.new ≡ insert_entry (slice_cmp nat_cmp) self.old key value) }
-        ensures found { (q : _) → OnOk result (found self.new q ≡ cond (is_eq (slice_cmp nat_cmp key q)) (Some value) (found self.old q)) }
+        ensures found { (q : _) → OnOk result (found self.new q
+            ≡ cond (is_eq (slice_cmp nat_cmp key q)) (Some value) (found self.old q)) }
         ensures unchanged { OnErr result (self.new ≡ self.old) }
     {
         self.map.insert(key, value)?;
@@ -136,7 +137,8 @@ impl<V: Drop> NameMap<V> {
     /// where there is no memory, the map stays. The name is searched once.
     pub fn insert_new(&mut self, key: Id, value: V) -> Result<bool, OutOfMemory>
         ensures told { IfOk result (λ lacked. lacked ≡ is_none (found self.old key)) }
-        ensures entries { OnOk result (self.new ≡ (if is_none (found self.old key) then insert_entry (slice_cmp nat_cmp) self.old key value else self.old)) }
+        ensures entries { OnOk result (self.new ≡ (if is_none (found self.old key) then insert_entry
+            (slice_cmp nat_cmp) self.old key value else self.old)) }
         ensures unchanged { OnErr result (self.new ≡ self.old) }
     {
         match self.map.entry(key)? {

@@ -22,7 +22,8 @@ fn cut_first(text: &str) -> Option<(&str, &str)>
 
 /// What stands before the last slash, and behind it.
 fn cut_last(text: &str) -> Option<(&str, &str)>
-    ensures { MatchOption result (parts_of text.now ≡ text.now ∷ []) (λ x. parts_of text.now ≡ parts_of x.0.now ++ x.1.now ∷ []) }
+    ensures { MatchOption result (parts_of text.now ≡ text.now ∷ []) (λ x. parts_of text.now
+        ≡ parts_of x.0.now ++ x.1.now ∷ []) }
 {
     text.rsplit_once('/')
 }
@@ -57,7 +58,8 @@ pub fn name_in(text: &str) -> Option<&str>
 
 /// What stands above the last part, as it is written, where `front` stands before the slash.
 fn above<'a>(front: &'a str, last: &str) -> Option<&'a str>
-    ensures { option_copied result ≡ (if length front.now == 0 then (if length last.now == 0 then None else Some (47 ∷ [])) else Some front.now) }
+    ensures { option_copied result ≡ (if length front.now
+        == 0 then (if length last.now == 0 then None else Some (47 ∷ [])) else Some front.now) }
 {
     if !front.is_empty() {
         return Some(front);
@@ -158,7 +160,8 @@ fn is_kept_piece(piece: &str) -> bool
 
 #[tactic(auto, using(crate::proofs::Written::written_rules))]
 fn put_kept(text: &mut String, pieces: &[&str]) -> Result<(), AllocError>
-    ensures { IfOk result (λ _. string_bytes text.new ≡ string_bytes text.old ++ behind_slashes (kept_parts (map (λ x. x.now) pieces.now))) }
+    ensures { IfOk result (λ _. string_bytes text.new
+        ≡ string_bytes text.old ++ behind_slashes (kept_parts (map (λ x. x.now) pieces.now))) }
 {
     for piece in pieces {
         if is_kept_piece(piece) {

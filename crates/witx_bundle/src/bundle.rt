@@ -96,7 +96,8 @@ fn put_file(
     front: &str,
 ) -> Result<(), OutOfMemory>
     requires { front.now ≡ text_before (lines_of more.now) }
-    ensures { IfOk result (λ _. (q : Path) → text_in files.new q ≡ with_line line.now (lines_of more.now) (text_in files.old) q) }
+    ensures { IfOk result (λ _. (q : Path)
+        → text_in files.new q ≡ with_line line.now (lines_of more.now) (text_in files.old) q) }
 {
     match header_rest(line) {
         Some(rest) => {

@@ -9,7 +9,8 @@ use witx_base::{OutOfMemory, WitxPath};
 
 /// The first line of a text and what stands behind its line feed; nothing where the text is one line.
 pub fn cut_line(text: &str) -> Option<(&str, &str)>
-    ensures lines { MatchOption result (lines_of text.now ≡ text.now ∷ []) (λ x. lines_of text.now ≡ x.0.now ∷ lines_of x.1.now) }
+    ensures lines { MatchOption result (lines_of text.now ≡ text.now ∷ []) (λ x. lines_of text.now
+        ≡ x.0.now ∷ lines_of x.1.now) }
     ensures spelled { IfSome result (λ x. text.now ≡ x.0.now ++ 10 ∷ x.1.now) }
 {
     text.split_once('\n')

@@ -11,7 +11,7 @@ use Rattle.witx_ast.specs.Values as plain
 use Rattle.witx_ast.specs.ValueTests.{is_value}
 use Rattle.witx_machine.specs.Cells.{values_of}
 use Rattle.witx_bytes.specs.Seen.{seen}
-use Rattle.witx_bytes.specs.Writes.{CanWrite, IsScalar}
+use Rattle.witx_bytes.specs.Writes.{CanWrite, HasNoParts}
 use Rattle.witx_bytes.specs.declared.value.Value.{Value, out-Value, roll-Value, the_lemmas}
 use Rattle.witx_bytes.specs.declared.value.Value.TheOpen.{Value-F}
 use Rattle.witx_bytes.specs.declared.value.Value.TheVariants as value
@@ -152,7 +152,7 @@ pub other_variant : (r : IntRepr) (cs : Arms) (v : Value) → CanWrite (Plain.va
 other_variant r cs v h n k = other (Plain.variant_of r cs) (seen v) h (not_variant r cs v n k)
 
 -- a type that has no parts, whose value is of none of its kinds
-pub other_scalar : (t : Plain) (v : Value) → IsScalar t → CanWrite t (seen v) → ((k : BuiltinType) (n : ℤ) → v ≡ value.Num k n → ⊥) → ((n : ℕ) → v ≡ value.Handle n → ⊥)
+pub other_scalar : (t : Plain) (v : Value) → HasNoParts t → CanWrite t (seen v) → ((k : BuiltinType) (n : ℤ) → v ≡ value.Num k n → ⊥) → ((n : ℕ) → v ≡ value.Handle n → ⊥)
     → ((n : ℕ) → v ≡ value.Pointer n → ⊥) → ((n : ℕ) → v ≡ value.ConstPointer n → ⊥) → ((a l : ℕ) → v ≡ value.List a l → ⊥) → ⊥
 other_scalar (Plain.builtin b) v s h number handle pointer const list = other (Plain.builtin b) (seen v) h (not_builtin b v number)
 other_scalar Plain.handle v s h number handle pointer const list = other Plain.handle (seen v) h (not_handle v handle)

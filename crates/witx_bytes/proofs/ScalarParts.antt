@@ -12,7 +12,7 @@ use Rattle.witx_machine.specs.Words.{wrapped}
 use Rattle.witx_bytes.specs.Bytes.{Bytes, Image, image_written}
 use Rattle.witx_bytes.specs.Images.{image, little}
 use Rattle.witx_bytes.specs.Seen.{seen}
-use Rattle.witx_bytes.specs.Writes.{CanWrite, IsScalar, Writes}
+use Rattle.witx_bytes.specs.Writes.{CanWrite, HasNoParts, Writes}
 use Rattle.witx_bytes.specs.declared.value.Value.{Value}
 use Rattle.witx_bytes.specs.declared.value.Value.TheVariants as value
 use Rattle.witx_bytes.proofs.Seen.{seen-Num, seen-List}
@@ -22,17 +22,17 @@ abbrev number_image : BuiltinType → ℤ → Image
 number_image k n = little (builtin_size k) (wrapped (256 ^ builtin_size k) n)
 
 -- a scalar type that has a number is its builtin
-number_type : (t : Plain) (k : BuiltinType) (n : ℤ) → IsScalar t → is_value t (plain.number k n) ≡ true → t ≡ Plain.builtin k
+number_type : (t : Plain) (k : BuiltinType) (n : ℤ) → HasNoParts t → is_value t (plain.number k n) ≡ true → t ≡ Plain.builtin k
 number_type (Plain.builtin b) k n s h = ap Plain.builtin (sym ((builtins-decide k b).0 (both (same_builtin k b) (in_range b n) h).0))
 number_type (Plain.record_of kind ms) k n s h = absurd s
 number_type t k n s h = absurd (false-true h)
 
-list_image : (t : Plain) (a l : ℕ) → IsScalar t → is_value t (plain.list_at a l) ≡ true → image t (plain.list_at a l) ≡ little 4 a ++ little 4 l
+list_image : (t : Plain) (a l : ℕ) → HasNoParts t → is_value t (plain.list_at a l) ≡ true → image t (plain.list_at a l) ≡ little 4 a ++ little 4 l
 list_image (Plain.list_of t) a l s h = refl
 list_image (Plain.record_of kind ms) a l s h = absurd s
 list_image t a l s h = absurd (false-true h)
 
-module _ (t : Plain) (v : Value) (s : IsScalar t) (h : CanWrite t (seen v)) where
+module _ (t : Plain) (v : Value) (s : HasNoParts t) (h : CanWrite t (seen v)) where
   is_of : (u : plain.Value) → seen v ≡ u → is_value t u ≡ true
   is_of u e = ap (is_value t) (sym e) ∙ h.value
 

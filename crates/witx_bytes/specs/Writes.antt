@@ -23,10 +23,10 @@ pub record CanWritePayload (cs : Arms) (i : ℕ) (o : Option Value) : Type 0 whe
   pub fit : arms_fit cs ≡ true
 
 -- a type that has no parts
-abbrev pub IsScalar : Plain → Type 0
-IsScalar (Plain.record_of kind ms) = ⊥
-IsScalar (Plain.variant_of repr cs) = ⊥
-IsScalar t = Unit {0}
+abbrev pub HasNoParts : Plain → Type 0
+HasNoParts (Plain.record_of kind ms) = ⊥
+HasNoParts (Plain.variant_of repr cs) = ⊥
+HasNoParts t = Unit {0}
 
 -- the range ends within 2^32, and its bytes are held
 pub record HasRange (at size : ℕ) (m : Bytes) : Type 0 where

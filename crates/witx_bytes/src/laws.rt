@@ -20,18 +20,22 @@ pub fn image_has_the_size()
 
 /// Bytes spell at most one value of a type that fits its tags.
 pub fn at_most_one_value()
-    ensures { (t : Plain) (memory : Bytes) (at : ℕ) (v w : Value) → AllFit t → Spells memory at t v → Spells memory at t w → v ≡ w }
+    ensures { (t : Plain) (memory : Bytes) (at : ℕ) (v w : Value) → AllFit t → Spells memory at t v
+        → Spells memory at t w → v ≡ w }
 {}
 
 /// What is written spells its value, and no byte outside the range changes.
 pub fn writing_is_spelling()
-    ensures spelled { (t : Plain) (v : Value) (m k : Bytes) (at : ℕ) → IsValue t v → Writes at (image t v) m k → Spells k at t v }
-    ensures outside { (t : Plain) (v : Value) (m k : Bytes) (at x : ℕ) → IsValue t v → Writes at (image t v) m k → (x < at) ⊎ (at + size_of t ≤ x) → k x ≡ m x }
+    ensures spelled { (t : Plain) (v : Value) (m k : Bytes) (at : ℕ) → IsValue t v → Writes at (image t v) m k
+        → Spells k at t v }
+    ensures outside { (t : Plain) (v : Value) (m k : Bytes) (at x : ℕ) → IsValue t v
+        → Writes at (image t v) m k → (x < at) ⊎ (at + size_of t ≤ x) → k x ≡ m x }
 {}
 
 /// What is read of a type that fits its tags is the value that the bytes spell.
 pub fn reading_is_spelling()
-    ensures { (t : Plain) (m : Bytes) (at : ℕ) (v : Value) → AreBytes m → AllFit t → value_at t m at ≡ Some v ↔ Spells m at t v }
+    ensures { (t : Plain) (m : Bytes) (at : ℕ) (v : Value) → AreBytes m → AllFit t
+        → value_at t m at ≡ Some v ↔ Spells m at t v }
 {}
 
 /// Alike types, whose plain trees are equal, have the same values with the same images.

@@ -168,7 +168,8 @@ pub fn are_bare(cases: &[Case]) -> bool
 /// Flags are as many as there are members.
 #[tactic(auto, using(crate::proofs::Belonging::value_rules))]
 fn are_flags(members: &[RecordMember], value: &Value) -> bool
-    ensures { (r : IntRepr) → result ≡ is_of (record_of (RecordKind.Bitflags r) (members_plain members.now)) (seen value.now) }
+    ensures { (r : IntRepr)
+        → result ≡ is_of (record_of (RecordKind.Bitflags r) (members_plain members.now)) (seen value.now) }
 {
     match value {
         Value::Flags(flags) => flags.len() == members.len(),

@@ -44,7 +44,8 @@ pub fn read_value(
     requires sized { size_of (plain (tree_of ty.now)) < 2 ^ 64 }
     ensures value { IfOk result (λ value. Spells (held memory.now) at (plain (tree_of ty.now)) (seen value)) }
     ensures reads { ReadAs seen (value_at (plain (tree_of ty.now)) (held memory.now) at) result }
-    ensures no_value { result ≡ Err ReadError.NoValue → (value : PlainValue) → ¬ (Spells (held memory.now) at (plain (tree_of ty.now)) value) }
+    ensures no_value { result ≡ Err ReadError.NoValue → (value : PlainValue)
+        → ¬ (Spells (held memory.now) at (plain (tree_of ty.now)) value) }
 {
     memory.bounds();
     match lay_out(alloc, ty) {
@@ -257,7 +258,8 @@ fn read_boxed(
 ) -> Result<Option<Box<Value>>, ReadError>
     requires can { CanRead at (plain (tree_of ty.now)) }
     requires known { KnownOf (plain (tree_of ty.now)) (option_copied known) }
-    ensures { ReadAs (option_map seen_in) (option_map Some (value_at (plain (tree_of ty.now)) (held memory.now) at)) result }
+    ensures { ReadAs (option_map seen_in)
+        (option_map Some (value_at (plain (tree_of ty.now)) (held memory.now) at)) result }
 {
     let value = read_type(alloc, memory, at, ty, known)?;
     let boxed = boxed(alloc, value)?;
@@ -288,7 +290,8 @@ fn read_flags(
     members: &[RecordMember],
 ) -> Result<Value, ReadError>
     requires { at < 2 ^ 66 }
-    ensures { ReadAs seen (value_at (record_of (RecordKind.Bitflags repr) (members_plain members.now)) (held memory.now) at) result }
+    ensures { ReadAs seen (value_at (record_of (RecordKind.Bitflags repr) (members_plain members.now))
+        (held memory.now) at) result }
 {
     match read_number(memory, at, repr.mem_align() as u64) {
         Some(bits) => flags_of(alloc, bits, members.len()),

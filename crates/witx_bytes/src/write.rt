@@ -15,7 +15,7 @@ ghost use Rattle.witx_bytes.specs.ByteMachine.{has_room};
 ghost use Rattle.witx_bytes.specs.Laids.{IsLaid, KnownOf, KnownMembers, KnownCases};
 ghost use Rattle.witx_bytes.specs.Payloads.{case_image};
 ghost use Rattle.witx_bytes.specs.Seen.{seen, seen_in};
-ghost use Rattle.witx_bytes.specs.Writes.{CanWrite, CanWriteAll, CanWritePayload, HasRange, IsScalar, Writes};
+ghost use Rattle.witx_bytes.specs.Writes.{CanWrite, CanWriteAll, CanWritePayload, HasRange, HasNoParts, Writes};
 
 use crate::laid::Laid;
 use crate::memory::ByteMemory;
@@ -33,7 +33,8 @@ pub fn write_value(memory: &mut ByteMemory, at: u32, ty: &TypeRef, value: &Value
     requires value { is_of (plain (tree_of ty.now)) (seen value.now) ≡ true }
     requires writable { fits (plain (tree_of ty.now)) ≡ true }
     requires room { has_room (plain (tree_of ty.now)) at (held memory.old) ≡ true }
-    ensures { (x : ℕ) → held memory.new x ≡ image_written at (image (plain (tree_of ty.now)) (seen value.now)) (held memory.old) x }
+    ensures { (x : ℕ) → held memory.new x
+        ≡ image_written at (image (plain (tree_of ty.now)) (seen value.now)) (held memory.old) x }
 {
     write_type(memory, at as u64, ty, None, value);
 }
@@ -44,7 +45,8 @@ pub fn write_laid(memory: &mut ByteMemory, at: u32, ty: &TypeRef, laid: &Laid, v
     requires writable { fits (plain (tree_of ty.now)) ≡ true }
     requires room { has_room (plain (tree_of ty.now)) at (held memory.old) ≡ true }
     requires laid { IsLaid (plain (tree_of ty.now)) laid.now }
-    ensures { (x : ℕ) → held memory.new x ≡ image_written at (image (plain (tree_of ty.now)) (seen value.now)) (held memory.old) x }
+    ensures { (x : ℕ) → held memory.new x
+        ≡ image_written at (image (plain (tree_of ty.now)) (seen value.now)) (held memory.old) x }
 {
     write_type(memory, at as u64, ty, Some(laid), value);
 }
@@ -123,7 +125,8 @@ fn write_members(
     requires values { CanWriteAll (members_plain members.now) (values_of (map seen values.now)) }
     requires room { HasRange at (members_end 0 (members_plain members.now)) (held memory.old) }
     requires known { KnownMembers (members_plain members.now) (option_copied known) }
-    ensures { Writes at (members_image 0 (members_plain members.now) (values_of (map seen values.now))) (held memory.old) (held memory.new) }
+    ensures { Writes at (members_image 0 (members_plain members.now) (values_of (map seen values.now)))
+        (held memory.old) (held memory.new) }
 {
     let mut end = 0;
     for i in 0..members.len() {
@@ -178,7 +181,8 @@ fn write_payload(
     requires value { CanWritePayload (cases_plain cases.now) i (option_map seen_in payload.now) }
     requires room { HasRange at (payloads_size (cases_plain cases.now)) (held memory.old) }
     requires known { KnownCases (cases_plain cases.now) (option_copied known) }
-    ensures { Writes at (case_image (cases_plain cases.now) i (option_map seen_in payload.now)) (held memory.old) (held memory.new) }
+    ensures { Writes at (case_image (cases_plain cases.now) i (option_map seen_in payload.now))
+        (held memory.old) (held memory.new) }
 {
     if let Some(value) = payload {
         let part = known_payload(known, cases, i as usize);
@@ -199,7 +203,8 @@ fn write_flags(
 )
     requires value { CanWrite (record_of (RecordKind.Bitflags repr) (members_plain members.now)) (seen value.now) }
     requires room { HasRange at (repr_size repr) (held memory.old) }
-    ensures { Writes at (image (record_of (RecordKind.Bitflags repr) (members_plain members.now)) (seen value.now)) (held memory.old) (held memory.new) }
+    ensures { Writes at (image (record_of (RecordKind.Bitflags repr) (members_plain members.now))
+        (seen value.now)) (held memory.old) (held memory.new) }
 {
     match value {
         Value::Flags(flags) => write_number(
@@ -216,7 +221,7 @@ fn write_flags(
 #[inline(never)]
 fn write_scalar(memory: &mut ByteMemory, at: u64, datatype: &Datatype, value: &Value)
     requires value { CanWrite (plain (datatype_tree datatype.now)) (seen value.now) }
-    requires scalar { IsScalar (plain (datatype_tree datatype.now)) }
+    requires scalar { HasNoParts (plain (datatype_tree datatype.now)) }
     requires room { HasRange at (size_of (plain (datatype_tree datatype.now))) (held memory.old) }
     ensures { Writes at (image (plain (datatype_tree datatype.now)) (seen value.now))
         (held memory.old) (held memory.new) }

@@ -39,7 +39,8 @@ pub extern "C" fn witx_run(
     err: &mut [u8],
     lengths: &mut WitxLengths,
 ) -> u8
-    ensures { (given : List (List ℕ)) × (text : List ℕ) × (notes : List ℕ) × AreWords words.now given × IsRunInMemory given input.now result text notes
+    ensures { (given : List (List ℕ)) × (text : List ℕ) × (notes : List ℕ) × AreWords words.now given
+        × IsRunInMemory given input.now result text notes
         × (out.new ≡ over_front text out.old) × (lengths.new.out ≡ length text) × (err.new ≡ over_front notes err.old) × (lengths.new.err ≡ length notes) }
 {
     let written = run_in_memory(alloc, words, input);

@@ -26,7 +26,8 @@ pub struct Written {
 /// Runs the words in the bytes over the input. Where they aren't UTF-8 there are none, so that the program
 /// answers as to words without a form.
 pub fn run_in_memory(alloc: Global, words: &[u8], input: &[u8]) -> Written
-    ensures { (given : List (List ℕ)) × AreWords words.now given × IsRunInMemory given input.now result.status result.out.items result.err.items }
+    ensures { (given : List (List ℕ)) × AreWords words.now given
+        × IsRunInMemory given input.now result.status result.out.items result.err.items }
 {
     match from_utf8(words) {
         Ok(text) => run_text(alloc, text, input),

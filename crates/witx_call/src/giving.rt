@@ -41,7 +41,8 @@ impl Placement {
     /// Gives the next range, of zeros, for a type; none where it would end above 2^20.
     #[tactic(auto, using(crate::proofs::PlacementLemmas::placement_rules))]
     pub fn give(&mut self, ty: &Rc<NamedType>) -> Result<Option<u32>, OutOfMemory>
-        ensures { IfOk result (λ at. option_map (λ a. (word_i32 a, room_of self.new)) at ≡ room_given (named_tree ty.now.value) (room_of self.old)) }
+        ensures { IfOk result (λ at. option_map (λ a. (word_i32 a, room_of self.new)) at
+            ≡ room_given (named_tree ty.now.value) (room_of self.old)) }
     {
         match range_len(ty) {
             Some(len) => self.give_sized(ty, len),
@@ -54,7 +55,8 @@ impl Placement {
         requires size { len ≡ range_size (plain (named_tree ty.now.value)) }
         requires some { 0 < len }
         requires few { len ≤ 2 ^ 20 }
-        ensures { IfOk result (λ at. option_map (λ a. (word_i32 a, room_of self.new)) at ≡ room_given (named_tree ty.now.value) (room_of self.old)) }
+        ensures { IfOk result (λ at. option_map (λ a. (word_i32 a, room_of self.new)) at
+            ≡ room_given (named_tree ty.now.value) (room_of self.old)) }
     {
         let at = self.next;
         let end = at + len;

@@ -44,7 +44,8 @@ pub(crate) fn put_value(text: &mut String, value: &Value) -> Result<(), OutOfMem
 #[cycle(texts)]
 #[tactic(auto, using(crate::proofs::Texts::text_rules))]
 fn put_members(text: &mut String, values: &[Value]) -> Result<(), OutOfMemory>
-    ensures { OnOk result (string_bytes text.new ≡ string_bytes text.old ++ (codes "(" ++ values_text 0 (values_seen values.now) ++ codes ")")) }
+    ensures { OnOk result (string_bytes text.new
+        ≡ string_bytes text.old ++ (codes "(" ++ values_text 0 (values_seen values.now) ++ codes ")")) }
 {
     text.push_str("(")?;
     put_values(text, values)?;
@@ -69,7 +70,8 @@ fn put_values(text: &mut String, values: &[Value]) -> Result<(), OutOfMemory>
 #[cycle(texts)]
 #[tactic(auto, using(crate::proofs::Texts::text_rules))]
 fn put_case(text: &mut String, case: u32, payload: &Option<Box<Value>>) -> Result<(), OutOfMemory>
-    ensures { OnOk result (string_bytes text.new ≡ string_bytes text.old ++ case_text case (option_map seen_in payload.now)) }
+    ensures { OnOk result (string_bytes text.new
+        ≡ string_bytes text.old ++ case_text case (option_map seen_in payload.now)) }
 {
     match payload {
         Some(value) => put_case_with(text, case, value),
@@ -83,7 +85,8 @@ fn put_case(text: &mut String, case: u32, payload: &Option<Box<Value>>) -> Resul
 #[cycle(texts)]
 #[tactic(auto, using(crate::proofs::Texts::text_rules))]
 fn put_case_with(text: &mut String, case: u32, value: &Value) -> Result<(), OutOfMemory>
-    ensures { OnOk result (string_bytes text.new ≡ string_bytes text.old ++ (codes "(#" ++ decimal case ++ codes " " ++ text_of (seen value.now) ++ codes ")")) }
+    ensures { OnOk result (string_bytes text.new ≡ string_bytes text.old
+        ++ (codes "(#" ++ decimal case ++ codes " " ++ text_of (seen value.now) ++ codes ")")) }
 {
     write!(text, "(#{case} ")?;
     put_value(text, value)?;
@@ -109,7 +112,8 @@ fn put_number(text: &mut String, number: u32) -> Result<(), OutOfMemory>
 
 #[inline(never)]
 fn put_list(text: &mut String, address: u32, length: u32) -> Result<(), OutOfMemory>
-    ensures { OnOk result (string_bytes text.new ≡ string_bytes text.old ++ (codes "@" ++ decimal address ++ codes "+" ++ decimal length)) }
+    ensures { OnOk result (string_bytes text.new
+        ≡ string_bytes text.old ++ (codes "@" ++ decimal address ++ codes "+" ++ decimal length)) }
 {
     write!(text, "@{address}+{length}")?;
     Ok(())
@@ -126,7 +130,8 @@ fn put_index(text: &mut String, case: u32) -> Result<(), OutOfMemory>
 /// Appends flags in brackets.
 #[inline(never)]
 fn put_flags(text: &mut String, flags: &[bool]) -> Result<(), OutOfMemory>
-    ensures { OnOk result (string_bytes text.new ≡ string_bytes text.old ++ (codes "[" ++ flags_text 0 flags.now ++ codes "]")) }
+    ensures { OnOk result (string_bytes text.new
+        ≡ string_bytes text.old ++ (codes "[" ++ flags_text 0 flags.now ++ codes "]")) }
 {
     text.push_str("[")?;
     put_each_flag(text, flags)?;

@@ -38,7 +38,8 @@ fn push_param(
     tref: TypeRef,
     comments: &CommentSyntax<'_>,
 ) -> Result<(), OutOfMemory>
-    ensures { OnOk result (map param_field params.new ≡ map param_field params.old ++ made_field name (tree_of tref) comments.now ∷ []) }
+    ensures { OnOk result (map param_field params.new
+        ≡ map param_field params.old ++ made_field name (tree_of tref) comments.now ∷ []) }
 {
     let docs = comments.docs(alloc)?;
     params.push(InterfaceFuncParam { name, tref, docs })?;
@@ -55,7 +56,8 @@ pub fn checked_params(
     ensures ok { OnOk result (first_fault (field_checks (here_of scope.now) names.old (fields_view fields.now)) ≡ None) }
     ensures tree { IfOk result (λ ps. map param_field ps ≡ fields_meant (here_of scope.now) (fields_view fields.now)) }
     ensures kept { OnOk result ((q : _) → found names.new q ≡ found (fields_scope names.old (fields_view fields.now)) q) }
-    ensures fault { IfErr result (λ e. Blames e (first_fault (field_checks (here_of scope.now) names.old (fields_view fields.now)))) }
+    ensures fault { IfErr result
+        (λ e. Blames e (first_fault (field_checks (here_of scope.now) names.old (fields_view fields.now)))) }
 {
     let mut params: Params = with_room(scope.alloc, fields.len())?;
     for field in fields {
@@ -77,7 +79,8 @@ pub fn checked_results(
 ) -> Result<Params, CheckError>
     ensures ok { OnOk result (first_fault (result_checks (here_of scope.now) names.old (fields_view fields.now)) ≡ None) }
     ensures tree { IfOk result (λ ps. map param_field ps ≡ fields_meant (here_of scope.now) (fields_view fields.now)) }
-    ensures fault { IfErr result (λ e. Blames e (first_fault (result_checks (here_of scope.now) names.old (fields_view fields.now)))) }
+    ensures fault { IfErr result (λ e. Blames e
+        (first_fault (result_checks (here_of scope.now) names.old (fields_view fields.now)))) }
 {
     let mut results: Params = with_room(scope.alloc, fields.len())?;
     for field in fields {
@@ -97,7 +100,8 @@ fn func_name(
     ensures ok { OnOk result (new_mark (here_of scope.now) taken.old func.now.export func.now.export_loc.start ≡ None) }
     ensures id { IfOk result (λ id. id ≡ func.now.export) }
     ensures kept { (q : _) → OnOk result (found taken.new q ≡ found (with_export func.now taken.old) q) }
-    ensures fault { IfErr result (λ e. Blames e (new_mark (here_of scope.now) taken.old func.now.export func.now.export_loc.start)) }
+    ensures fault { IfErr result
+        (λ e. Blames e (new_mark (here_of scope.now) taken.old func.now.export func.now.export_loc.start)) }
 {
     introduce_mark(taken, scope, func.export.as_str(), func.export_loc.start)
 }
@@ -111,7 +115,8 @@ fn func_params(
     ensures ok { OnOk result (first_fault (field_checks (here_of scope.now) [] (fields_view func.now.params)) ≡ None) }
     ensures tree { IfOk result (λ ps. map param_field ps ≡ fields_meant (here_of scope.now) (fields_view func.now.params)) }
     ensures kept { OnOk result ((q : _) → found own.new q ≡ found (fields_scope [] (fields_view func.now.params)) q) }
-    ensures fault { IfErr result (λ e. Blames e (first_fault (field_checks (here_of scope.now) [] (fields_view func.now.params)))) }
+    ensures fault { IfErr result
+        (λ e. Blames e (first_fault (field_checks (here_of scope.now) [] (fields_view func.now.params)))) }
 {
     checked_params(func.params.as_slice(), scope, own)
 }
@@ -121,9 +126,12 @@ fn func_results(
     scope: &Scope<'_>,
     own: &mut Marks,
 ) -> Result<Params, CheckError>
-    ensures ok { OnOk result (first_fault (result_checks (here_of scope.now) own.old (fields_view func.now.results)) ≡ None) }
-    ensures tree { IfOk result (λ ps. map param_field ps ≡ fields_meant (here_of scope.now) (fields_view func.now.results)) }
-    ensures fault { IfErr result (λ e. Blames e (first_fault (result_checks (here_of scope.now) own.old (fields_view func.now.results)))) }
+    ensures ok { OnOk result
+        (first_fault (result_checks (here_of scope.now) own.old (fields_view func.now.results)) ≡ None) }
+    ensures tree { IfOk result (λ ps. map param_field ps
+        ≡ fields_meant (here_of scope.now) (fields_view func.now.results)) }
+    ensures fault { IfErr result (λ e. Blames e
+        (first_fault (result_checks (here_of scope.now) own.old (fields_view func.now.results)))) }
 {
     checked_results(func.results.as_slice(), scope, own)
 }
@@ -147,8 +155,10 @@ fn take_steps(scope: &Scope<'_>, results: &Params) -> Result<(), OutOfMemory> {
 #[tactic(auto, using(crate::proofs::Funcs::inner_rules))]
 fn func_inside(func: &InterfaceFuncSyntax<'_>, scope: &Scope<'_>) -> Result<Inside, CheckError>
     ensures ok { OnOk result (first_fault (checks_inside (here_of scope.now) func.now) ≡ None) }
-    ensures params { IfOk result (λ made. map param_field made.params ≡ fields_meant (here_of scope.now) (fields_view func.now.params)) }
-    ensures results { IfOk result (λ made. map param_field made.results ≡ fields_meant (here_of scope.now) (fields_view func.now.results)) }
+    ensures params { IfOk result (λ made. map param_field made.params
+        ≡ fields_meant (here_of scope.now) (fields_view func.now.params)) }
+    ensures results { IfOk result (λ made. map param_field made.results
+        ≡ fields_meant (here_of scope.now) (fields_view func.now.results)) }
     ensures fault { IfErr result (λ e. Blames e (first_fault (checks_inside (here_of scope.now) func.now))) }
 {
     let mut own = Marks::new(scope.alloc);

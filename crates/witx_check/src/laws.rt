@@ -11,7 +11,8 @@ ghost use Rattle.witx_check.specs.Validators.{nothing_kept};
 /// the declarations so far say.
 #[tactic(auto, using(crate::proofs::ByPosition::position_rules))]
 pub fn names_by_position()
-    ensures { (names : _) (es : _) (past : _) (own : _) (p : _) → KeepsNames names es past → kept_sense ((own, p) ∷ names) es ≡ denotes past own }
+    ensures { (names : _) (es : _) (past : _) (own : _) (p : _) → KeepsNames names es past
+        → kept_sense ((own, p) ∷ names) es ≡ denotes past own }
 {}
 
 /// A new validator keeps what no declaration leaves.

@@ -47,8 +47,10 @@ fn checked_import(
     ensures ok { OnOk result (new_mark (here_of scope.now) marks.old import.now.name import.now.name_loc.start ≡ None) }
     ensures name { IfOk result (λ made. made.name ≡ import.now.name) }
     ensures docs { IfOk result (λ made. made.docs ≡ documentation_of (comments_view comments.now)) }
-    ensures kept { (q : _) → OnOk result (found marks.new q ≡ found ((import.now.name, import.now.name_loc.start) ∷ marks.old) q) }
-    ensures fault { IfErr result (λ e. Blames e (new_mark (here_of scope.now) marks.old import.now.name import.now.name_loc.start)) }
+    ensures kept { (q : _) → OnOk result (found marks.new q
+        ≡ found ((import.now.name, import.now.name_loc.start) ∷ marks.old) q) }
+    ensures fault { IfErr result
+        (λ e. Blames e (new_mark (here_of scope.now) marks.old import.now.name import.now.name_loc.start)) }
 {
     let name = introduce_mark(marks, scope, import.name.as_str(), import.name_loc.start)?;
     Ok(ModuleImport {
@@ -68,7 +70,8 @@ fn checked_item(
     ensures ok { OnOk result (first_fault (item_checks (here_of scope.now) marks.old (noted_decl decl.now).decl) ≡ None) }
     ensures tree { IfOk result (λ made. item_tree made ≡ item_meant (here_of scope.now) (noted_decl decl.now)) }
     ensures kept { (q : _) → OnOk result (found marks.new q ≡ found (with_name (noted_decl decl.now).decl marks.old) q) }
-    ensures fault { IfErr result (λ e. Blames e (first_fault (item_checks (here_of scope.now) marks.old (noted_decl decl.now).decl))) }
+    ensures fault { IfErr result (λ e. Blames e
+        (first_fault (item_checks (here_of scope.now) marks.old (noted_decl decl.now).decl))) }
 {
     match &decl.item {
         ModuleDeclSyntax::Import(import) => {
@@ -106,7 +109,8 @@ fn item_entry(item: &ModuleDefinition) -> Result<ModuleEntry, OutOfMemory>
 #[tactic(auto, using(crate::proofs::ModuleItems::entry_rules))]
 fn add_item(contents: &mut Contents, item: ModuleDefinition) -> Result<(), OutOfMemory>
     ensures definitions { OnOk result (contents.new.definitions ≡ contents.old.definitions ++ item ∷ []) }
-    ensures entries { (q : _) → OnOk result (option_map entry_item (found contents.new.entries q) ≡ item_with contents.old.entries (item_tree item) q) }
+    ensures entries { (q : _) → OnOk result (option_map entry_item (found contents.new.entries q)
+        ≡ item_with contents.old.entries (item_tree item) q) }
 {
     let name = item_name(&item)?;
     let entry = item_entry(&item)?;
@@ -122,7 +126,8 @@ fn checked_items(
     scope: &Scope<'_>,
 ) -> Result<Contents, CheckError>
     ensures ok { OnOk result (first_fault (items_checks (here_of scope.now) [] (items_in decls.now)) ≡ None) }
-    ensures tree { IfOk result (λ made. map item_tree made.definitions ≡ map (item_meant (here_of scope.now)) (items_in decls.now)) }
+    ensures tree { IfOk result (λ made. map item_tree made.definitions
+        ≡ map (item_meant (here_of scope.now)) (items_in decls.now)) }
     ensures fits { IfOk result (λ made. ItemsFit made.definitions made.entries) }
     ensures fault { IfErr result (λ e. Blames e (first_fault (items_checks (here_of scope.now) [] (items_in decls.now)))) }
 {
@@ -155,9 +160,12 @@ pub fn checked_module(
     ensures tree { IfOk result (λ m. module_tree m ≡ makes_module names.old entries.now site.entry decl.now) }
     ensures name { IfOk result (λ m. m.name ≡ decl.now.name.name.now) }
     ensures fault { IfErr result (λ e. Blames e (first_fault (checks_module names.old entries.now site.entry decl.now))) }
-    ensures kept { (q : _) → OnOk result (found names.new q ≡ found ((decl.now.name.name.now, place_at site.entry decl.now.name) ∷ names.old) q) }
-    ensures refused { IfErr result (λ e. IsCheckFault e → RefusesDeclaration names.old names.new decl.now.name.name.now (place_at site.entry decl.now.name)) }
-    ensures left { OnErr result (TakesAtMost names.old names.new decl.now.name.name.now (place_at site.entry decl.now.name)) }
+    ensures kept { (q : _) → OnOk result (found names.new q
+        ≡ found ((decl.now.name.name.now, place_at site.entry decl.now.name) ∷ names.old) q) }
+    ensures refused { IfErr result (λ e. IsCheckFault e → RefusesDeclaration names.old names.new
+        decl.now.name.name.now (place_at site.entry decl.now.name)) }
+    ensures left { OnErr result
+        (TakesAtMost names.old names.new decl.now.name.name.now (place_at site.entry decl.now.name)) }
 {
     let Site {
         text,

@@ -180,7 +180,8 @@ pub fn push_member(
     tref: TypeRef,
     comments: &CommentSyntax<'_>,
 ) -> Result<(), OutOfMemory>
-    ensures { OnOk result (map member_field members.new ≡ map member_field members.old ++ made_field name (tree_of tref) comments.now ∷ []) }
+    ensures { OnOk result (map member_field members.new
+        ≡ map member_field members.old ++ made_field name (tree_of tref) comments.now ∷ []) }
 {
     let docs = comments.docs(alloc)?;
     members.push(RecordMember { name, tref, docs })?;
@@ -196,7 +197,8 @@ pub fn push_case(
     tref: Option<TypeRef>,
     comments: &CommentSyntax<'_>,
 ) -> Result<(), OutOfMemory>
-    ensures { OnOk result (map case_arm cases.new ≡ map case_arm cases.old ++ made_arm name (option_map tree_of tref) comments.now ∷ []) }
+    ensures { OnOk result (map case_arm cases.new
+        ≡ map case_arm cases.old ++ made_arm name (option_map tree_of tref) comments.now ∷ []) }
 {
     let docs = comments.docs(alloc)?;
     cases.push(Case { name, tref, docs })?;
@@ -210,7 +212,8 @@ fn noted_cases(
 ) -> Result<Cases, CheckError>
     ensures ok { OnOk result (first_fault (member_checks (here_of scope.now) [] (member_views members.now)) ≡ None) }
     ensures tree { IfOk result (λ cs. map case_arm cs ≡ map member_arm (member_views members.now)) }
-    ensures fault { IfErr result (λ e. Blames e (first_fault (member_checks (here_of scope.now) [] (member_views members.now)))) }
+    ensures fault { IfErr result
+        (λ e. Blames e (first_fault (member_checks (here_of scope.now) [] (member_views members.now)))) }
 {
     let mut names = Marks::new(scope.alloc);
     let mut cases: Cases = with_room(scope.alloc, members.len())?;
@@ -230,7 +233,8 @@ fn noted_flags(
     requires { tree_of bool_type.now ≡ bool_tree }
     ensures ok { OnOk result (first_fault (member_checks (here_of scope.now) [] (member_views flags.now)) ≡ None) }
     ensures tree { IfOk result (λ ms. map member_field ms ≡ map flag_field (member_views flags.now)) }
-    ensures fault { IfErr result (λ e. Blames e (first_fault (member_checks (here_of scope.now) [] (member_views flags.now)))) }
+    ensures fault { IfErr result
+        (λ e. Blames e (first_fault (member_checks (here_of scope.now) [] (member_views flags.now)))) }
 {
     let mut names = Marks::new(scope.alloc);
     let mut members: Members = with_room(scope.alloc, flags.len())?;
@@ -249,9 +253,11 @@ pub fn checked_enum(
     scope: &Scope<'_>,
     near: usize,
 ) -> Result<TypeRef, CheckError>
-    ensures ok { OnOk result (first_fault (enum_checks (here_of scope.now) ((here_of scope.now).place near) syntax.now) ≡ None) }
+    ensures ok { OnOk result
+        (first_fault (enum_checks (here_of scope.now) ((here_of scope.now).place near) syntax.now) ≡ None) }
     ensures tree { IfOk result (λ t. tree_of t ≡ enum_tree syntax.now.repr (member_views syntax.now.members)) }
-    ensures fault { IfErr result (λ e. Blames e (first_fault (enum_checks (here_of scope.now) ((here_of scope.now).place near) syntax.now))) }
+    ensures fault { IfErr result (λ e. Blames e
+        (first_fault (enum_checks (here_of scope.now) ((here_of scope.now).place near) syntax.now))) }
 {
     let tag_repr = checked_repr(&syntax.repr, scope, near)?;
     let cases = noted_cases(syntax.members.as_slice(), scope)?;
@@ -265,9 +271,11 @@ pub fn checked_flags(
     scope: &Scope<'_>,
     near: usize,
 ) -> Result<TypeRef, CheckError>
-    ensures ok { OnOk result (first_fault (flags_checks (here_of scope.now) ((here_of scope.now).place near) syntax.now) ≡ None) }
+    ensures ok { OnOk result
+        (first_fault (flags_checks (here_of scope.now) ((here_of scope.now).place near) syntax.now) ≡ None) }
     ensures tree { IfOk result (λ t. tree_of t ≡ flags_tree syntax.now.repr (member_views syntax.now.flags)) }
-    ensures fault { IfErr result (λ e. Blames e (first_fault (flags_checks (here_of scope.now) ((here_of scope.now).place near) syntax.now))) }
+    ensures fault { IfErr result (λ e. Blames e
+        (first_fault (flags_checks (here_of scope.now) ((here_of scope.now).place near) syntax.now))) }
 {
     let repr = checked_repr(&syntax.repr, scope, near)?;
     let bool_type = bool_type(scope.alloc)?;
@@ -385,9 +393,11 @@ fn take_case(
     scope: &Scope<'_>,
     at: usize,
 ) -> Result<(), CheckError>
-    ensures ok { OnOk result (case_check (Some names.now) (keys_of seen.old) name.now ((here_of scope.now).place at) ≡ None) }
+    ensures ok { OnOk result
+        (case_check (Some names.now) (keys_of seen.old) name.now ((here_of scope.now).place at) ≡ None) }
     ensures kept { (q : _) → OnOk result (found seen.new q ≡ found ((name.now, at) ∷ seen.old) q) }
-    ensures fault { IfErr result (λ e. Blames e (case_check (Some names.now) (keys_of seen.old) name.now ((here_of scope.now).place at))) }
+    ensures fault { IfErr result (λ e. Blames e
+        (case_check (Some names.now) (keys_of seen.old) name.now ((here_of scope.now).place at))) }
 {
     if names.has(name) && !is_marked(seen, name) {
         Ok(mark(seen, name.copy()?, at)?)

@@ -33,9 +33,12 @@ pub fn checked_typename(
     ensures tree { IfOk result (λ n. named_tree n ≡ makes_typename names.old entries.now site.entry decl.now) }
     ensures name { IfOk result (λ n. n.name ≡ decl.now.ident.name.now) }
     ensures fault { IfErr result (λ e. Blames e (first_fault (checks_typename names.old entries.now site.entry decl.now))) }
-    ensures kept { (q : _) → OnOk result (found names.new q ≡ found ((decl.now.ident.name.now, place_at site.entry decl.now.ident) ∷ names.old) q) }
-    ensures refused { IfErr result (λ e. IsCheckFault e → RefusesDeclaration names.old names.new decl.now.ident.name.now (place_at site.entry decl.now.ident)) }
-    ensures left { OnErr result (TakesAtMost names.old names.new decl.now.ident.name.now (place_at site.entry decl.now.ident)) }
+    ensures kept { (q : _) → OnOk result (found names.new q
+        ≡ found ((decl.now.ident.name.now, place_at site.entry decl.now.ident) ∷ names.old) q) }
+    ensures refused { IfErr result (λ e. IsCheckFault e → RefusesDeclaration names.old names.new
+        decl.now.ident.name.now (place_at site.entry decl.now.ident)) }
+    ensures left { OnErr result
+        (TakesAtMost names.old names.new decl.now.ident.name.now (place_at site.entry decl.now.ident)) }
 {
     let Site {
         text,

@@ -120,7 +120,8 @@ fn checked_rows(
 ) -> Result<Members, CheckError>
     ensures ok { OnOk result (first_fault (field_checks (here_of scope.now) [] (fields_view fields.now)) ≡ None) }
     ensures tree { IfOk result (λ ms. map member_field ms ≡ fields_meant (here_of scope.now) (fields_view fields.now)) }
-    ensures fault { IfErr result (λ e. Blames e (first_fault (field_checks (here_of scope.now) [] (fields_view fields.now)))) }
+    ensures fault { IfErr result
+        (λ e. Blames e (first_fault (field_checks (here_of scope.now) [] (fields_view fields.now)))) }
 {
     let mut names = Marks::new(scope.alloc);
     let mut members: Members = with_room(scope.alloc, fields.len())?;
@@ -139,9 +140,11 @@ fn checked_tuple(
     scope: &Scope<'_>,
     near: usize,
 ) -> Result<TypeRef, CheckError>
-    ensures ok { OnOk result (first_fault (tuple_checks (here_of scope.now) ((here_of scope.now).place near) syntax.now) ≡ None) }
+    ensures ok { OnOk result
+        (first_fault (tuple_checks (here_of scope.now) ((here_of scope.now).place near) syntax.now) ≡ None) }
     ensures tree { IfOk result (λ t. tree_of t ≡ tuple_meant (here_of scope.now) syntax.now) }
-    ensures fault { IfErr result (λ e. Blames e (first_fault (tuple_checks (here_of scope.now) ((here_of scope.now).place near) syntax.now))) }
+    ensures fault { IfErr result (λ e. Blames e
+        (first_fault (tuple_checks (here_of scope.now) ((here_of scope.now).place near) syntax.now))) }
 {
     let members = checked_parts(syntax.types.as_slice(), scope, near)?;
     let kind = RecordKind::Tuple;
@@ -158,9 +161,11 @@ fn checked_parts(
     scope: &Scope<'_>,
     near: usize,
 ) -> Result<Members, CheckError>
-    ensures ok { OnOk result (first_fault (each_type_checks (here_of scope.now) ((here_of scope.now).place near) (types_view types.now)) ≡ None) }
+    ensures ok { OnOk result (first_fault (each_type_checks (here_of scope.now)
+        ((here_of scope.now).place near) (types_view types.now)) ≡ None) }
     ensures tree { IfOk result (λ ms. map member_field ms ≡ types_meant (here_of scope.now) 0 (types_view types.now)) }
-    ensures fault { IfErr result (λ e. Blames e (first_fault (each_type_checks (here_of scope.now) ((here_of scope.now).place near) (types_view types.now)))) }
+    ensures fault { IfErr result (λ e. Blames e (first_fault
+        (each_type_checks (here_of scope.now) ((here_of scope.now).place near) (types_view types.now)))) }
 {
     let mut members: Members = with_room(scope.alloc, types.len())?;
     for i in 0..types.len() {
@@ -178,9 +183,11 @@ fn checked_maybe(
     scope: &Scope<'_>,
     near: usize,
 ) -> Result<Option<TypeRef>, CheckError>
-    ensures ok { OnOk result (first_fault (maybe_checks (here_of scope.now) ((here_of scope.now).place near) (boxed_view of.now)) ≡ None) }
+    ensures ok { OnOk result (first_fault
+        (maybe_checks (here_of scope.now) ((here_of scope.now).place near) (boxed_view of.now)) ≡ None) }
     ensures tree { IfOk result (λ t. option_map tree_of t ≡ maybe_tree (here_of scope.now) (boxed_view of.now)) }
-    ensures fault { IfErr result (λ e. Blames e (first_fault (maybe_checks (here_of scope.now) ((here_of scope.now).place near) (boxed_view of.now)))) }
+    ensures fault { IfErr result (λ e. Blames e (first_fault
+        (maybe_checks (here_of scope.now) ((here_of scope.now).place near) (boxed_view of.now)))) }
 {
     match of {
         Some(of) => Ok(Some(checked_type(of, scope, false, near)?)),
@@ -194,9 +201,11 @@ fn checked_payload(
     scope: &Scope<'_>,
     near: usize,
 ) -> Result<Option<TypeRef>, CheckError>
-    ensures ok { OnOk result (first_fault (maybe_checks (here_of scope.now) ((here_of scope.now).place near) (payload_view of.now)) ≡ None) }
+    ensures ok { OnOk result (first_fault
+        (maybe_checks (here_of scope.now) ((here_of scope.now).place near) (payload_view of.now)) ≡ None) }
     ensures tree { IfOk result (λ t. option_map tree_of t ≡ maybe_tree (here_of scope.now) (payload_view of.now)) }
-    ensures fault { IfErr result (λ e. Blames e (first_fault (maybe_checks (here_of scope.now) ((here_of scope.now).place near) (payload_view of.now)))) }
+    ensures fault { IfErr result (λ e. Blames e (first_fault
+        (maybe_checks (here_of scope.now) ((here_of scope.now).place near) (payload_view of.now)))) }
 {
     match of {
         Some(of) => Ok(Some(checked_type(of, scope, false, near)?)),
@@ -210,9 +219,11 @@ fn checked_expected(
     scope: &Scope<'_>,
     near: usize,
 ) -> Result<TypeRef, CheckError>
-    ensures ok { OnOk result (first_fault (expected_checks (here_of scope.now) ((here_of scope.now).place near) syntax.now) ≡ None) }
+    ensures ok { OnOk result (first_fault
+        (expected_checks (here_of scope.now) ((here_of scope.now).place near) syntax.now) ≡ None) }
     ensures tree { IfOk result (λ t. tree_of t ≡ expected_meant (here_of scope.now) syntax.now) }
-    ensures fault { IfErr result (λ e. Blames e (first_fault (expected_checks (here_of scope.now) ((here_of scope.now).place near) syntax.now))) }
+    ensures fault { IfErr result (λ e. Blames e
+        (first_fault (expected_checks (here_of scope.now) ((here_of scope.now).place near) syntax.now))) }
 {
     let ok = checked_maybe(&syntax.ok, scope, near)?;
     let err = checked_maybe(&syntax.err, scope, near)?;
@@ -229,7 +240,8 @@ fn union_cases(
     near: usize,
 ) -> Result<Cases, CheckError>
     ensures ok { OnOk result (first_fault (part_checks (here_of scope.now) near types.now) ≡ None) }
-    ensures tree { IfOk result (λ cs. map case_arm cs ≡ union_arms (here_of scope.now) names.now 0 (union_fields_view types.now)) }
+    ensures tree { IfOk result (λ cs. map case_arm cs
+        ≡ union_arms (here_of scope.now) names.now 0 (union_fields_view types.now)) }
     ensures fault { IfErr result (λ e. Blames e (first_fault (part_checks (here_of scope.now) near types.now))) }
 {
     let mut cases: Cases = with_room(scope.alloc, types.len())?;
@@ -252,7 +264,8 @@ fn variant_cases(
 ) -> Result<Cases, CheckError>
     ensures ok { OnOk result (first_fault (case_checks (here_of scope.now) names.now [] (cases_view cases.now)) ≡ None) }
     ensures tree { IfOk result (λ cs. map case_arm cs ≡ case_arms (here_of scope.now) (cases_view cases.now)) }
-    ensures fault { IfErr result (λ e. Blames e (first_fault (case_checks (here_of scope.now) names.now [] (cases_view cases.now)))) }
+    ensures fault { IfErr result
+        (λ e. Blames e (first_fault (case_checks (here_of scope.now) names.now [] (cases_view cases.now)))) }
 {
     let mut seen = Marks::new(scope.alloc);
     let mut made: Cases = with_room(scope.alloc, cases.len())?;
@@ -271,9 +284,11 @@ fn checked_tag(
     scope: &Scope<'_>,
     near: usize,
 ) -> Result<Tag, CheckError>
-    ensures ok { OnOk result (first_fault (all_tag_checks (here_of scope.now) ((here_of scope.now).place near) (boxed_view of.now)) ≡ None) }
+    ensures ok { OnOk result (first_fault
+        (all_tag_checks (here_of scope.now) ((here_of scope.now).place near) (boxed_view of.now)) ≡ None) }
     ensures tree { IfOk result (λ t. t.repr ≡ tag_repr (maybe_tree (here_of scope.now) (boxed_view of.now))) }
-    ensures fault { IfErr result (λ e. Blames e (first_fault (all_tag_checks (here_of scope.now) ((here_of scope.now).place near) (boxed_view of.now)))) }
+    ensures fault { IfErr result (λ e. Blames e (first_fault
+        (all_tag_checks (here_of scope.now) ((here_of scope.now).place near) (boxed_view of.now)))) }
     ensures names { IfOk result (λ t. t.names ≡ tag_names (maybe_tree (here_of scope.now) (boxed_view of.now))) }
 {
     match of {
@@ -295,9 +310,11 @@ fn checked_union(
     scope: &Scope<'_>,
     near: usize,
 ) -> Result<TypeRef, CheckError>
-    ensures ok { OnOk result (first_fault (union_checks (here_of scope.now) ((here_of scope.now).place near) syntax.now) ≡ None) }
+    ensures ok { OnOk result
+        (first_fault (union_checks (here_of scope.now) ((here_of scope.now).place near) syntax.now) ≡ None) }
     ensures tree { IfOk result (λ t. tree_of t ≡ union_meant (here_of scope.now) syntax.now) }
-    ensures fault { IfErr result (λ e. Blames e (first_fault (union_checks (here_of scope.now) ((here_of scope.now).place near) syntax.now))) }
+    ensures fault { IfErr result (λ e. Blames e
+        (first_fault (union_checks (here_of scope.now) ((here_of scope.now).place near) syntax.now))) }
 {
     let tag = checked_tag(&syntax.tag, scope, near)?;
     checked_size(&tag.names, syntax.fields.len(), scope, near)?;
@@ -312,9 +329,11 @@ fn checked_variant(
     scope: &Scope<'_>,
     near: usize,
 ) -> Result<TypeRef, CheckError>
-    ensures ok { OnOk result (first_fault (variant_checks (here_of scope.now) ((here_of scope.now).place near) syntax.now) ≡ None) }
+    ensures ok { OnOk result (first_fault
+        (variant_checks (here_of scope.now) ((here_of scope.now).place near) syntax.now) ≡ None) }
     ensures tree { IfOk result (λ t. tree_of t ≡ variant_meant (here_of scope.now) syntax.now) }
-    ensures fault { IfErr result (λ e. Blames e (first_fault (variant_checks (here_of scope.now) ((here_of scope.now).place near) syntax.now))) }
+    ensures fault { IfErr result (λ e. Blames e
+        (first_fault (variant_checks (here_of scope.now) ((here_of scope.now).place near) syntax.now))) }
 {
     let tag = checked_tag(&syntax.tag, scope, near)?;
     checked_size(&tag.names, syntax.cases.len(), scope, near)?;

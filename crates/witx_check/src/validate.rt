@@ -28,8 +28,10 @@ fn finish(
     entry: Entry,
 ) -> Result<(), OutOfMemory>
     ensures definitions { OnOk result (definitions.new ≡ definitions.old ++ definition ∷ []) }
-    ensures senses { (q : _) → OnOk result (entry_sense_of (found entries.new q) ≡ sense_with entries.old name (entry_sense_of (Some entry)) q) }
-    ensures trees { (q : _) → OnOk result (option_map entry_tree (found entries.new q) ≡ tree_with entries.old name (entry_tree entry) q) }
+    ensures senses { (q : _) → OnOk result (entry_sense_of (found entries.new q)
+        ≡ sense_with entries.old name (entry_sense_of (Some entry)) q) }
+    ensures trees { (q : _) → OnOk result (option_map entry_tree (found entries.new q)
+        ≡ tree_with entries.old name (entry_tree entry) q) }
     ensures unchanged { OnErr result (definitions.new ≡ definitions.old) }
     ensures entries_unchanged { OnErr result (entries.new ≡ entries.old) }
 {
@@ -52,9 +54,12 @@ fn keep_typename(
     alloc: Global,
     made: NamedType,
 ) -> Result<(), OutOfMemory>
-    ensures appended { OnOk result (map definition_tree definitions.new ≡ map definition_tree definitions.old ++ made_typename made ∷ []) }
-    ensures senses { (q : _) → OnOk result (entry_sense_of (found entries.new q) ≡ sense_with entries.old made.name (Some (a_type (named_tree made))) q) }
-    ensures trees { (q : _) → OnOk result (option_map entry_tree (found entries.new q) ≡ tree_with entries.old made.name (made_typename made) q) }
+    ensures appended { OnOk result (map definition_tree definitions.new
+        ≡ map definition_tree definitions.old ++ made_typename made ∷ []) }
+    ensures senses { (q : _) → OnOk result (entry_sense_of (found entries.new q)
+        ≡ sense_with entries.old made.name (Some (a_type (named_tree made))) q) }
+    ensures trees { (q : _) → OnOk result (option_map entry_tree (found entries.new q)
+        ≡ tree_with entries.old made.name (made_typename made) q) }
     ensures unchanged { OnErr result (definitions.new ≡ definitions.old) }
     ensures entries_unchanged { OnErr result (entries.new ≡ entries.old) }
 {
@@ -78,9 +83,12 @@ fn keep_module(
     alloc: Global,
     made: Module,
 ) -> Result<(), OutOfMemory>
-    ensures appended { OnOk result (map definition_tree definitions.new ≡ map definition_tree definitions.old ++ module_of (module_tree made) ∷ []) }
-    ensures senses { (q : _) → OnOk result (entry_sense_of (found entries.new q) ≡ sense_with entries.old made.name (Some a_module) q) }
-    ensures trees { (q : _) → OnOk result (option_map entry_tree (found entries.new q) ≡ tree_with entries.old made.name (module_of (module_tree made)) q) }
+    ensures appended { OnOk result (map definition_tree definitions.new
+        ≡ map definition_tree definitions.old ++ module_of (module_tree made) ∷ []) }
+    ensures senses { (q : _) → OnOk result (entry_sense_of (found entries.new q)
+        ≡ sense_with entries.old made.name (Some a_module) q) }
+    ensures trees { (q : _) → OnOk result (option_map entry_tree (found entries.new q)
+        ≡ tree_with entries.old made.name (module_of (module_tree made)) q) }
     ensures unchanged { OnErr result (definitions.new ≡ definitions.old) }
     ensures entries_unchanged { OnErr result (entries.new ≡ entries.old) }
 {
@@ -104,10 +112,18 @@ pub fn validate_typename(
     definitions: &mut Definitions,
 ) -> Result<(), CheckError>
     requires { site.place ≡ place_at site decl.now.ident }
-    ensures { Validates (kept_in tables.old) (kept_in tables.new) definitions.old definitions.new (typename_at site.entry decl.now) result }
+    ensures { Validates (kept_in tables.old) (kept_in tables.new) definitions.old definitions.new
+        (typename_at site.entry decl.now) result }
 {
     let alloc = tables.alloc;
-    match checked_typename(&mut tables.names, &tables.entries, &tables.steps, alloc, site, decl) {
+    match checked_typename(
+        &mut tables.names,
+        &tables.entries,
+        &tables.steps,
+        alloc,
+        site,
+        decl,
+    ) {
         Ok(made) => Ok(keep_typename(definitions, &mut tables.entries, alloc, made)?),
         Err(error) => Err(error),
     }
@@ -121,10 +137,18 @@ pub fn validate_module(
     definitions: &mut Definitions,
 ) -> Result<(), CheckError>
     requires { site.place ≡ place_at site decl.now.name }
-    ensures { Validates (kept_in tables.old) (kept_in tables.new) definitions.old definitions.new (module_at site.entry decl.now) result }
+    ensures { Validates (kept_in tables.old) (kept_in tables.new) definitions.old definitions.new
+        (module_at site.entry decl.now) result }
 {
     let alloc = tables.alloc;
-    match checked_module(&mut tables.names, &tables.entries, &tables.steps, alloc, site, decl) {
+    match checked_module(
+        &mut tables.names,
+        &tables.entries,
+        &tables.steps,
+        alloc,
+        site,
+        decl,
+    ) {
         Ok(made) => Ok(keep_module(definitions, &mut tables.entries, alloc, made)?),
         Err(error) => Err(error),
     }
@@ -138,7 +162,8 @@ pub fn validate_constant(
     definitions: &mut Definitions,
 ) -> Result<(), CheckError>
     requires { site.place ≡ place_at site decl.now.item.name }
-    ensures { Validates (kept_in tables.old) (kept_in tables.new) definitions.old definitions.new (constant_at site.entry decl.now) result }
+    ensures { Validates (kept_in tables.old) (kept_in tables.new) definitions.old definitions.new
+        (constant_at site.entry decl.now) result }
 {
     take_constant(tables, site, decl, definitions)
 }

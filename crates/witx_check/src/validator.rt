@@ -79,7 +79,8 @@ impl DocValidation {
         comments: &CommentSyntax<'_>,
         definitions: &mut Definitions,
     ) -> Result<(), CheckError>
-        ensures validates { TakesIn self.old self.new definitions.old definitions.new (site_of lines.old path.now comments.now decl.now) result }
+        ensures validates { TakesIn self.old self.new definitions.old definitions.new
+            (site_of lines.old path.now comments.now decl.now) result }
         ensures text { lines.new.text.now ≡ lines.old.text.now }
     {
         let text = lines.text;
@@ -141,7 +142,8 @@ impl<'a> DocValidationScope<'a> {
         comments: &CommentSyntax<'_>,
         definitions: &mut Definitions,
     ) -> Result<(), CheckError>
-        ensures validates { Validates (kept_at self.old) (kept_at self.new) definitions.old definitions.new (site_in self.old comments.now decl.now) result }
+        ensures validates { Validates (kept_at self.old) (kept_at self.new) definitions.old definitions.new
+            (site_in self.old comments.now decl.now) result }
         ensures same_reference { self.new.doc.ghost_name ≡ self.old.doc.ghost_name }
         ensures text { self.new.text.now ≡ self.old.text.now }
         ensures path { self.new.path.now ≡ self.old.path.now }

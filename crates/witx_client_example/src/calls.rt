@@ -58,7 +58,8 @@ fn called_with(
     given: &GivenValues,
 ) -> Result<Invoked, ClientError>
     requires callable { IsCallable entry.now }
-    requires given { Gives (function_of (func_tree entry.now.func.value)) lines.now (map seen given.now.args) (option_map seen given.now.reply) }
+    requires given { Gives (function_of (func_tree entry.now.func.value)) lines.now (map seen given.now.args)
+        (option_map seen given.now.reply) }
     ensures { IfOk result (Carries entry.now lines.now) }
 {
     given_values_meet_conditions(entry, lines, given);

@@ -115,7 +115,8 @@ fn common_targets<'a>(a: &'a TypeRef, b: &'a TypeRef) -> Option<(&'a TypeRef, &'
 
 #[tactic(auto, using(crate::proofs::Mapping::convert_rules))]
 fn targets_of<'a>(a: &'a Datatype, b: &'a Datatype) -> Option<(&'a TypeRef, &'a TypeRef)>
-    ensures { option_map (λ p. (tree_of p.0.now, tree_of p.1.now)) result ≡ targets (datatype_tree a.now) (datatype_tree b.now) }
+    ensures { option_map (λ p. (tree_of p.0.now, tree_of p.1.now)) result
+        ≡ targets (datatype_tree a.now) (datatype_tree b.now) }
 {
     match (a, b) {
         (Datatype::List(x), Datatype::List(y)) => Some((x, y)),

@@ -40,7 +40,8 @@ impl FuncPolyfill {
         old: Rc<InterfaceFunc>,
     ) -> Result<FuncPolyfill, OutOfMemory>
         ensures functions { IfOk result (λ made. (made.new.value ≡ new.value) × (made.old.value ≡ old.value)) }
-        ensures mapped { IfOk result (λ made. function_view made ≡ function_mapped (func_tree new.value) (func_tree old.value)) }
+        ensures mapped { IfOk result (λ made. function_view made
+            ≡ function_mapped (func_tree new.value) (func_tree old.value)) }
     {
         let params = half_of(
             alloc,

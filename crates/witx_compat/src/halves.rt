@@ -93,7 +93,8 @@ fn all_unknown(
     targets: &[InterfaceFuncParam],
 ) -> Result<ParamUnknowns, OutOfMemory>
     requires { IsTable by_name.now (map param_field targets.now) }
-    ensures { IfOk result (λ made. map unknown_view made ≡ without (unknown_source part) (map param_field targets.now) (map param_field sources.now)
+    ensures { IfOk result (λ made. map unknown_view made
+        ≡ without (unknown_source part) (map param_field targets.now) (map param_field sources.now)
         ++ without (unknown_target part) (map (target_of part) (map mapped_view mapped.now)) (map param_field targets.now)) }
 {
     let taken = table_of_targets(alloc, part, mapped)?;

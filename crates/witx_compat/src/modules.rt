@@ -120,7 +120,8 @@ impl Polyfill {
         old: &Document,
         module_mapping: &ModuleMap,
     ) -> Result<Polyfill, PolyfillError>
-        ensures { let answer = polyfill_answer (map definition_tree new.now.definitions) (map definition_tree old.now.definitions) module_mapping.now in
+        ensures { let answer = polyfill_answer (map definition_tree new.now.definitions)
+            (map definition_tree old.now.definitions) module_mapping.now in
             MatchResult result (λ made. answer ≡ Ok (map module_view made.modules)) (IsPolyfillRefusal answer) }
     {
         let mut modules = Items::new(alloc);
@@ -141,7 +142,8 @@ fn put_module(
     new_name: &Id,
     old_name: &Id,
 ) -> Result<(), PolyfillError>
-    ensures { let answer = pair_answer (map definition_tree new.now.definitions) (map definition_tree old.now.definitions) (new_name.now, old_name.now) in
+    ensures { let answer = pair_answer (map definition_tree new.now.definitions)
+        (map definition_tree old.now.definitions) (new_name.now, old_name.now) in
         MatchResult result (λ _. put_before (map module_view made.old) answer ≡ Ok (map module_view made.new)) (IsPolyfillRefusal answer) }
 {
     made.push(one_module(alloc, new, old, new_name, old_name)?)?;
@@ -157,7 +159,8 @@ fn one_module(
     new_name: &Id,
     old_name: &Id,
 ) -> Result<ModulePolyfill, PolyfillError>
-    ensures { let answer = pair_answer (map definition_tree new.now.definitions) (map definition_tree old.now.definitions) (new_name.now, old_name.now) in
+    ensures { let answer = pair_answer (map definition_tree new.now.definitions)
+        (map definition_tree old.now.definitions) (new_name.now, old_name.now) in
         MatchResult result (λ made. answer ≡ Ok (module_view made)) (IsPolyfillRefusal answer) }
 {
     let Some(new_module) = new.module(new_name) else {

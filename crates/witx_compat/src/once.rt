@@ -39,7 +39,8 @@ impl ModulePolyfill {
 impl Polyfill {
     /// The conversions of the mapped modules, in order, each once.
     pub fn type_polyfills(&self, alloc: Global) -> Result<TypePolyfills, OutOfMemory>
-        ensures { IfOk result (λ types. map conversion_view types ≡ each_once (flat_map module_conversions (map module_view self.now.modules))) }
+        ensures { IfOk result (λ types. map conversion_view types
+            ≡ each_once (flat_map module_conversions (map module_view self.now.modules))) }
     {
         let mut found = Found::new(alloc);
         found.add_modules(self.modules.as_slice())?;
@@ -114,7 +115,8 @@ impl Found {
     fn add(&mut self, conversion: &TypePolyfill) -> Result<(), OutOfMemory>
         requires { TellsPairs self.old.seen self.old.types }
         ensures told { OnOk result (TellsPairs self.new.seen self.new.types) }
-        ensures types { OnOk result (map conversion_view self.new.types ≡ with_conversion (map conversion_view self.old.types) (conversion_view conversion.now)) }
+        ensures types { OnOk result (map conversion_view self.new.types
+            ≡ with_conversion (map conversion_view self.old.types) (conversion_view conversion.now)) }
     {
         if self.seen.insert(conversion.copy()?)? {
             self.types.push(conversion.copy()?)?;

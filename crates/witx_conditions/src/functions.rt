@@ -24,7 +24,8 @@ pub fn is_mapped(alloc: Global, mapped: &FuncPolyfill) -> Result<bool, OutOfMemo
 
 /// The two functions, mapped to each other.
 fn made_again(alloc: Global, mapped: &FuncPolyfill) -> Result<FuncPolyfill, OutOfMemory>
-    ensures functions { IfOk result (λ made. (made.new.value ≡ mapped.now.new.value) × (made.old.value ≡ mapped.now.old.value)) }
+    ensures functions { IfOk result (λ made. (made.new.value ≡ mapped.now.new.value)
+        × (made.old.value ≡ mapped.now.old.value)) }
     ensures mapped { IfOk result (λ made. function_view made
         ≡ function_mapped (func_tree mapped.now.new.value) (func_tree mapped.now.old.value)) }
 {

@@ -14,7 +14,8 @@ use witx_base::Id;
 /// Whether a typename of that name, for an equal type, is the first of that name among these definitions.
 #[tactic(auto, using(crate::proofs::Looking::stand_rules))]
 pub(crate) fn stands_before(before: &[Definition], named: &NamedType) -> bool
-    ensures { result ≡ is_type_behind (typename_called (map definition_tree before.now) named.now.name) (tree_of named.now.tref) }
+    ensures { result ≡ is_type_behind (typename_called (map definition_tree before.now) named.now.name)
+        (tree_of named.now.tref) }
 {
     match typename_in(before, &named.name) {
         Some(found) => are_alike(found, named),

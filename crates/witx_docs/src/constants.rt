@@ -20,7 +20,8 @@ pub fn constants_by_type<'a>(
     alloc: Global,
     definitions: &'a [Definition],
 ) -> Result<ConstantsByType<'a>, OutOfMemory>
-    ensures { IfOk result (λ constants. StandByType constants.entries (constants_in (map definition_tree definitions.now))) }
+    ensures { IfOk result
+        (λ constants. StandByType constants.entries (constants_in (map definition_tree definitions.now))) }
 {
     let mut constants = ConstantsByType::new(alloc);
     for definition in definitions {
@@ -38,7 +39,8 @@ fn add_constant<'a>(
     constants: &mut ConstantsByType<'a>,
     constant: &'a Constant,
 ) -> Result<(), OutOfMemory>
-    ensures { (name : List ℕ) → OnOk result (standing constants.new.entries name ≡ standing constants.old.entries name ++ constants_of name (constant.now ∷ [])) }
+    ensures { (name : List ℕ) → OnOk result (standing constants.new.entries name
+        ≡ standing constants.old.entries name ++ constants_of name (constant.now ∷ [])) }
 {
     let mut own = constants.remove(&constant.ty).unwrap_or(Items::new(alloc));
     own.push(constant)?;

@@ -28,7 +28,8 @@ fn put_conversion(
     conversion: &TypePolyfill,
     answer: RepEquality,
 ) -> Result<(), OutOfMemory>
-    ensures { OnOk result (string_bytes out.new ≡ string_bytes out.old ++ conversion_line answer (conversion_view conversion.now)) }
+    ensures { OnOk result (string_bytes out.new
+        ≡ string_bytes out.old ++ conversion_line answer (conversion_view conversion.now)) }
 {
     let mark = mark_of(answer);
     match conversion {
@@ -56,7 +57,8 @@ fn put_directed(
     to: &TypeRef,
     mark: &str,
 ) -> Result<(), OutOfMemory>
-    ensures { OnOk result (string_bytes out.new ≡ string_bytes out.old ++ directed giver.now (tree_of from.now) receiver.now (tree_of to.now) mark.now) }
+    ensures { OnOk result (string_bytes out.new ≡ string_bytes out.old
+        ++ directed giver.now (tree_of from.now) receiver.now (tree_of to.now) mark.now) }
 {
     out.push_str("* ")?;
     put_owned_type(out, giver, from)?;
@@ -95,7 +97,8 @@ fn put_unless_alike(
     first: bool,
     conversion: &TypePolyfill,
 ) -> Result<bool, OutOfMemory>
-    ensures line { OnOk result (string_bytes out.new ≡ string_bytes out.old ++ unless_alike first (conversion_view conversion.now)) }
+    ensures line { OnOk result (string_bytes out.new
+        ≡ string_bytes out.old ++ unless_alike first (conversion_view conversion.now)) }
     ensures still { IfOk result (λ still. still ≡ (is_same (conversion_answer (conversion_view conversion.now)) && first)) }
 {
     let answer = conversion.repeq();

@@ -33,7 +33,8 @@ pub fn put_document(
     definitions: &[Definition],
 ) -> Result<(), LayoutError>
     requires { InDefinitions (NamesKnown names) (map definition_tree definitions.now) }
-    ensures nodes { OnOk result (branch.new ≡ sprouted branch.old at.now.node (document_parts at.now.heading (map definition_tree definitions.now))) }
+    ensures nodes { OnOk result (branch.new ≡ sprouted branch.old at.now.node
+        (document_parts at.now.heading (map definition_tree definitions.now))) }
     ensures refusal { Judged (too_large (document_laid_out (map definition_tree definitions.now))) result }
 {
     let inner = at.heading.new_level_down();
@@ -82,7 +83,8 @@ fn put_typename(
     requires { NamesKnown names (tree_of named.now.tref) }
     ensures nodes { OnOk result (branch.new ≡ sprouted branch.old parent
         (typename_with heading (standing constants.now.entries named.now.name) named.now.name (tree_of named.now.tref) named.now.docs)) }
-    ensures refusal { Judged (too_large (size_of (plain (tree_of named.now.tref)) ∷ laid_out (tree_of named.now.tref))) result }
+    ensures refusal { Judged (too_large (size_of (plain (tree_of named.now.tref))
+        ∷ laid_out (tree_of named.now.tref))) result }
 {
     let numbers = typename_layout(names, named)?;
     let content = typename_content(branch.allocator(), named, numbers)?;
@@ -99,7 +101,8 @@ fn put_typename(
 /// The layout of a typename.
 fn typename_layout(names: NamedLayouts, named: &NamedType) -> Result<SizeAlign, LayoutError>
     requires { NamesKnown names (tree_of named.now.tref) }
-    ensures exact { IfOk result (λ v. (v.size ≡ size_of (plain (tree_of named.now.tref))) × (v.align ≡ align_of (plain (tree_of named.now.tref)))) }
+    ensures exact { IfOk result (λ v. (v.size ≡ size_of (plain (tree_of named.now.tref)))
+        × (v.align ≡ align_of (plain (tree_of named.now.tref)))) }
     ensures refusal { Judged (too_large (size_of (plain (tree_of named.now.tref)) ∷ [])) result }
 {
     match type_layout(names, &named.tref) {
@@ -114,7 +117,8 @@ fn typename_content(
     named: &NamedType,
     numbers: SizeAlign,
 ) -> Result<MdContent, OutOfMemory>
-    ensures { IfOk result (λ content. content ≡ typename_shown named.now.name (tree_of named.now.tref) named.now.docs numbers.size numbers.align) }
+    ensures { IfOk result (λ content. content
+        ≡ typename_shown named.now.name (tree_of named.now.tref) named.now.docs numbers.size numbers.align) }
 {
     let name = named.name.as_str();
     let docs = typename_text(alloc, named.docs.as_str(), numbers)?;
@@ -157,7 +161,8 @@ fn put_constants(
     constants: &ConstantsByType,
     name: &Id,
 ) -> Result<(), OutOfMemory>
-    ensures { OnOk result (branch.new ≡ sprouted branch.old at.now.node (constants_part at.now.heading (standing constants.now.entries name.now))) }
+    ensures { OnOk result (branch.new ≡ sprouted branch.old at.now.node
+        (constants_part at.now.heading (standing constants.now.entries name.now))) }
 {
     match constants.get(name) {
         Some(own) => put_constants_part(branch, at, own.as_slice()),
@@ -172,7 +177,8 @@ fn put_constants_part(
     at: &Place,
     constants: &[&Constant],
 ) -> Result<(), OutOfMemory>
-    ensures { OnOk result (branch.new ≡ sprouted branch.old at.now.node (constants_part at.now.heading (map (λ c. c.now) constants.now))) }
+    ensures { OnOk result (branch.new
+        ≡ sprouted branch.old at.now.node (constants_part at.now.heading (map (λ c. c.now) constants.now))) }
 {
     match constants {
         [] => Ok(()),
@@ -234,7 +240,8 @@ fn put_modules(
     definitions: &[Definition],
 ) -> Result<(), LayoutError>
     requires { InDefinitions (NamesKnown names) (map definition_tree definitions.now) }
-    ensures nodes { OnOk result (branch.new ≡ sprouted branch.old parent (module_nodes heading (map definition_tree definitions.now))) }
+    ensures nodes { OnOk result (branch.new
+        ≡ sprouted branch.old parent (module_nodes heading (map definition_tree definitions.now))) }
     ensures refusal { Judged (too_large (modules_laid_out (map definition_tree definitions.now))) result }
 {
     for definition in definitions {
@@ -252,7 +259,8 @@ fn put_module_if(
     definition: &Definition,
 ) -> Result<(), LayoutError>
     requires { InDefinition (NamesKnown names) (definition_tree definition.now) }
-    ensures nodes { OnOk result (branch.new ≡ sprouted branch.old parent (module_node heading (definition_tree definition.now))) }
+    ensures nodes { OnOk result (branch.new
+        ≡ sprouted branch.old parent (module_node heading (definition_tree definition.now))) }
     ensures refusal { Judged (too_large (module_laid_out (definition_tree definition.now))) result }
 {
     match definition {
@@ -271,7 +279,8 @@ fn put_named_module(
     shown_module: &Module,
 ) -> Result<(), LayoutError>
     requires { InItems (NamesKnown names) (module_tree shown_module.now).items }
-    ensures nodes { OnOk result (branch.new ≡ sprouted branch.old parent (module_node heading (module_of (module_tree shown_module.now)))) }
+    ensures nodes { OnOk result (branch.new
+        ≡ sprouted branch.old parent (module_node heading (module_of (module_tree shown_module.now)))) }
     ensures refusal { Judged (too_large (items_laid_out (module_tree shown_module.now).items)) result }
 {
     let content = module_section(branch.allocator(), shown_module.name.as_str())?;

@@ -116,7 +116,8 @@ impl Written for FuncPolyfill {
 
 /// Whether the names are equal, where the parts are compatible or not.
 fn is_full(function: &FuncPolyfill, compatible: bool) -> bool
-    ensures { result ≡ (same_bytes (func_tree function.now.new.value).name (func_tree function.now.old.value).name && compatible) }
+    ensures { result ≡ (same_bytes (func_tree function.now.new.value).name
+        (func_tree function.now.old.value).name && compatible) }
 {
     function.new.name == function.old.name && compatible
 }
@@ -143,7 +144,8 @@ fn put_behind_colon(out: &mut String, text: &str) -> Result<(), OutOfMemory>
 /// The lines of a function's parts, and whether all that is mapped is compatible and nothing is unknown.
 #[tactic(auto, using(crate::proofs::FunctionParts::part_rules))]
 fn put_parts(out: &mut String, function: &FuncPolyfill) -> Result<bool, OutOfMemory>
-    ensures lines { OnOk result (string_bytes out.new ≡ string_bytes out.old ++ flat_map part_line (mapped_function_parts (function_view function.now))) }
+    ensures lines { OnOk result (string_bytes out.new
+        ≡ string_bytes out.old ++ flat_map part_line (mapped_function_parts (function_view function.now))) }
     ensures compatible { IfOk result (λ compatible. compatible ≡ has_compatible_parts (function_view function.now)) }
 {
     let params = put_all_mapped(out, "param", function.mapped_params.as_slice())?;
@@ -156,7 +158,8 @@ fn put_parts(out: &mut String, function: &FuncPolyfill) -> Result<bool, OutOfMem
 /// Whether all that is mapped is compatible and nothing is unknown, where the mapped parameters are
 /// compatible or not, and the mapped results.
 fn are_compatible(function: &FuncPolyfill, params: bool, results: bool) -> bool
-    ensures { result ≡ (params && (length function.now.unknown_params == 0) && results && (length function.now.unknown_results == 0)) }
+    ensures { result ≡ (params && (length function.now.unknown_params
+        == 0) && results && (length function.now.unknown_results == 0)) }
 {
     params && function.unknown_params.is_empty() && results && function.unknown_results.is_empty()
 }
@@ -165,7 +168,8 @@ fn are_compatible(function: &FuncPolyfill, params: bool, results: bool) -> bool
 /// once.
 #[tactic(auto, using(crate::proofs::FunctionParts::mapped_rules))]
 fn put_all_mapped(out: &mut String, word: &str, all: &[ParamPolyfill]) -> Result<bool, OutOfMemory>
-    ensures lines { OnOk result (string_bytes out.new ≡ string_bytes out.old ++ flat_map part_line (map (mapped_part word.now) (map mapped_view all.now))) }
+    ensures lines { OnOk result (string_bytes out.new ≡ string_bytes out.old
+        ++ flat_map part_line (map (mapped_part word.now) (map mapped_view all.now))) }
     ensures compatible { IfOk result (λ compatible. compatible ≡ list_all is_compatible (map mapped_view all.now)) }
 {
     let mut compatible = true;
@@ -188,7 +192,8 @@ fn put_mapped_part(
     word: &str,
     mapped: &ParamPolyfill,
 ) -> Result<bool, OutOfMemory>
-    ensures line { OnOk result (string_bytes out.new ≡ string_bytes out.old ++ part_line (mapped_part word.now (mapped_view mapped.now))) }
+    ensures line { OnOk result (string_bytes out.new
+        ≡ string_bytes out.old ++ part_line (mapped_part word.now (mapped_view mapped.now))) }
     ensures compatible { IfOk result (λ compatible. compatible ≡ is_compatible (mapped_view mapped.now)) }
 {
     let answer = mapped.repeq();
@@ -204,7 +209,8 @@ fn put_compared(
     answer: RepEquality,
     compatible: bool,
 ) -> Result<(), OutOfMemory>
-    ensures { OnOk result (string_bytes out.new ≡ string_bytes out.old ++ part_line (compared_part word.now compatible answer (mapped_view mapped.now))) }
+    ensures { OnOk result (string_bytes out.new ≡ string_bytes out.old
+        ++ part_line (compared_part word.now compatible answer (mapped_view mapped.now))) }
 {
     if compatible {
         out.push_str("\n    - ")?;
@@ -224,7 +230,8 @@ fn put_compatible(out: &mut String, word: &str, name: &str) -> Result<(), OutOfM
 /// The lines of what is not mapped.
 #[tactic(auto, using(crate::proofs::FunctionParts::unknown_rules))]
 fn put_all_unknown(out: &mut String, word: &str, all: &[ParamUnknown]) -> Result<(), OutOfMemory>
-    ensures { OnOk result (string_bytes out.new ≡ string_bytes out.old ++ flat_map part_line (map (unknown_part word.now) (map unknown_view all.now))) }
+    ensures { OnOk result (string_bytes out.new ≡ string_bytes out.old
+        ++ flat_map part_line (map (unknown_part word.now) (map unknown_view all.now))) }
 {
     for unknown in all {
         put_unknown(out, word, unknown)?;
@@ -234,7 +241,8 @@ fn put_all_unknown(out: &mut String, word: &str, all: &[ParamUnknown]) -> Result
 
 #[tactic(auto, using(crate::proofs::FunctionParts::unknown_rules))]
 fn put_unknown(out: &mut String, word: &str, unknown: &ParamUnknown) -> Result<(), OutOfMemory>
-    ensures { OnOk result (string_bytes out.new ≡ string_bytes out.old ++ part_line (unknown_part word.now (unknown_view unknown.now))) }
+    ensures { OnOk result (string_bytes out.new
+        ≡ string_bytes out.old ++ part_line (unknown_part word.now (unknown_view unknown.now))) }
 {
     out.push_str("\n    - ")?;
     put_lacking(out, unknown.which(), word, unknown.param().name.as_str())
@@ -242,7 +250,8 @@ fn put_unknown(out: &mut String, word: &str, unknown: &ParamUnknown) -> Result<(
 
 /// Whose part it is, what it is called, and that the other function has none of its name.
 fn put_lacking(out: &mut String, owner: &str, word: &str, name: &str) -> Result<(), OutOfMemory>
-    ensures { OnOk result (string_bytes out.new ≡ string_bytes out.old ++ (owner.now ++ codes " " ++ word.now ++ nothing_found name.now)) }
+    ensures { OnOk result (string_bytes out.new
+        ≡ string_bytes out.old ++ (owner.now ++ codes " " ++ word.now ++ nothing_found name.now)) }
 {
     put_two_words(out, owner, word)?;
     put_nothing_found(out, name)?;

@@ -97,7 +97,8 @@ pub fn put_module(
     shown_module: &Module,
 ) -> Result<(), LayoutError>
     requires { InItems (NamesKnown names) (map item_tree shown_module.now.contents.definitions) }
-    ensures nodes { OnOk result (branch.new ≡ sprouted branch.old at.now.node (module_parts at.now.heading (module_tree shown_module.now))) }
+    ensures nodes { OnOk result (branch.new
+        ≡ sprouted branch.old at.now.node (module_parts at.now.heading (module_tree shown_module.now))) }
     ensures refusal { Judged (too_large (items_laid_out (map item_tree shown_module.now.contents.definitions))) result }
 {
     let inner = at.heading.new_level_down();
@@ -167,7 +168,8 @@ fn put_funcs(
     definitions: &[ModuleDefinition],
 ) -> Result<(), LayoutError>
     requires { InItems (NamesKnown names) (map item_tree definitions.now) }
-    ensures nodes { OnOk result (branch.new ≡ sprouted branch.old parent (func_nodes heading (map item_tree definitions.now))) }
+    ensures nodes { OnOk result (branch.new
+        ≡ sprouted branch.old parent (func_nodes heading (map item_tree definitions.now))) }
     ensures refusal { Judged (too_large (items_laid_out (map item_tree definitions.now))) result }
 {
     for definition in definitions {

@@ -22,7 +22,8 @@ pub trait Parts {
     ghost numbers_of: { Self → List ℕ };
 
     fn put_parts(&self, branch: &mut Branch, at: &Place) -> Result<(), LayoutError>
-        ensures nodes { OnOk result (branch.new ≡ sprouted branch.old at.now.node (nodes_of self.now at.now.heading (option_map (λ id. id.now) at.now.id))) }
+        ensures nodes { OnOk result (branch.new ≡ sprouted branch.old at.now.node
+            (nodes_of self.now at.now.heading (option_map (λ id. id.now) at.now.id))) }
         ensures refusal { Judged (too_large (numbers_of self.now)) result };
 }
 
@@ -33,7 +34,8 @@ pub fn grow<P: Parts>(tree: &mut MdTree, node: usize, of: &P) -> Result<(), Docs
     ensures nodes { OnOk result (tree.new ≡ generated tree.old node (content_at tree.old.contents node)
         (P.nodes_of of.now (heading_below tree.old node) (content_id (content_at tree.old.contents node)))) }
     ensures accepted { OnOk result (number_refusal (P.numbers_of of.now) ≡ None) }
-    ensures refusal { IfErr result (λ refused. (refused ≡ DocsError.OutOfMemory) ⊎ (number_refusal (P.numbers_of of.now) ≡ Some refused)) }
+    ensures refusal { IfErr result (λ refused. (refused ≡ DocsError.OutOfMemory)
+        ⊎ (number_refusal (P.numbers_of of.now) ≡ Some refused)) }
     ensures unchanged { OnErr result (tree.new ≡ tree.old) }
 {
     let branch = branch_below(tree, node, of)?;
@@ -44,7 +46,8 @@ pub fn grow<P: Parts>(tree: &mut MdTree, node: usize, of: &P) -> Result<(), Docs
 /// The parts as a branch that begins with the tree's next number.
 fn branch_below<P: Parts>(tree: &MdTree, node: usize, of: &P) -> Result<Branch, LayoutError>
     requires { node < length tree.now.contents }
-    ensures branch { IfOk result (λ branch. branch ≡ sprouted (record { first = length tree.now.contents; parents = []; contents = [] }) node
+    ensures branch { IfOk result (λ branch. branch
+        ≡ sprouted (record { first = length tree.now.contents; parents = []; contents = [] }) node
         (P.nodes_of of.now (heading_below tree.now node) (content_id (content_at tree.now.contents node)))) }
     ensures refusal { Judged (too_large (P.numbers_of of.now)) result }
 {

@@ -22,7 +22,8 @@ use witx_markdown::{NamedLayouts, type_layout};
 pub fn kept_layouts(alloc: Global, document: &Document) -> Result<NameMap<SizeAlign>, LayoutError>
     requires { IsClosed (map definition_tree document.now.definitions) }
     ensures known { IfOk result (λ table. InDefinitions (Knows table) (map definition_tree document.now.definitions)) }
-    ensures refusal { IfErr result (refusal_fits (too_large (document_laid_out (map definition_tree document.now.definitions)))) }
+    ensures refusal { IfErr result
+        (refusal_fits (too_large (document_laid_out (map definition_tree document.now.definitions)))) }
 {
     names_are_distinct(document);
     layouts_of(alloc, document.definitions().as_slice())

@@ -138,7 +138,8 @@ fn put_linked_content(
     known: &KnownIds,
     content: &MdContent,
 ) -> Result<(), OutOfMemory>
-    ensures text { OnOk result (string_bytes out.new ≡ string_bytes out.old ++ content_text (with_links (keys_of known.now) content.now)) }
+    ensures text { OnOk result (string_bytes out.new
+        ≡ string_bytes out.old ++ content_text (with_links (keys_of known.now) content.now)) }
     ensures missing { OnOk result (missing_links.new ≡ missing_links.old ++ missing_in (keys_of known.now) content.now) }
 {
     match content {
@@ -160,7 +161,8 @@ fn put_linked_docs(
     known: &KnownIds,
     docs: &str,
 ) -> Result<(), OutOfMemory>
-    ensures text { OnOk result (string_bytes out.new ≡ string_bytes out.old ++ docs_text (linked (keys_of known.now) docs.now)) }
+    ensures text { OnOk result (string_bytes out.new
+        ≡ string_bytes out.old ++ docs_text (linked (keys_of known.now) docs.now)) }
     ensures missing { OnOk result (missing_links.new ≡ missing_links.old ++ missing (keys_of known.now) docs.now) }
 {
     put(out, "\n")?;

@@ -72,7 +72,8 @@ pub fn put_datatype(
 
 /// Adds the section of a handle, under which nothing stands.
 pub fn put_handle(branch: &mut Branch, at: &Place) -> Result<(), LayoutError>
-    ensures nodes { OnOk result (branch.new ≡ sprouted branch.old at.now.node (lone_node (section_of at.now.heading (codes "Supertypes")))) }
+    ensures nodes { OnOk result (branch.new
+        ≡ sprouted branch.old at.now.node (lone_node (section_of at.now.heading (codes "Supertypes")))) }
     ensures refusal { Judged false result }
 {
     Ok(put_section(branch, at, "Supertypes")?)
@@ -106,8 +107,10 @@ fn begins<'a>(
     record_type: &'a RecordDatatype,
 ) -> Result<MemberLayouts<'a>, LayoutError>
     requires { NamesKnown names (record_tree record_type.now) }
-    ensures members { IfOk result (λ layouts. map (λ m. m.member.now) layouts ≡ (out-RecordDatatype record_type.now).members) }
-    ensures begins { IfOk result (λ layouts. map (λ m. m.offset) layouts ≡ offsets 0 (members_plain (out-RecordDatatype record_type.now).members)) }
+    ensures members { IfOk result (λ layouts. map (λ m. m.member.now) layouts
+        ≡ (out-RecordDatatype record_type.now).members) }
+    ensures begins { IfOk result (λ layouts. map (λ m. m.offset) layouts
+        ≡ offsets 0 (members_plain (out-RecordDatatype record_type.now).members)) }
     ensures refusal { Judged (too_large (record_numbers (out-RecordDatatype record_type.now).kind
         (fields_of (map member_field (out-RecordDatatype record_type.now).members)))) result }
 {
@@ -183,7 +186,8 @@ fn member_text(
 
 /// A line of its own that shows a number, below documentation.
 fn with_number(alloc: Global, docs: &str, word: &str, number: usize) -> Result<Text, OutOfMemory>
-    ensures { IfOk result (λ text. text ≡ docs.now ++ (codes "\n" ++ word.now ++ codes ": " ++ decimal number ++ codes "\n")) }
+    ensures { IfOk result (λ text. text
+        ≡ docs.now ++ (codes "\n" ++ word.now ++ codes ": " ++ decimal number ++ codes "\n")) }
 {
     let mut out = String::new(alloc);
     put(&mut out, docs)?;
@@ -315,7 +319,8 @@ fn put_layout_if(
     requires { NamesKnown names (variant_tree variant.now) }
     ensures nodes { OnOk result (branch.new ≡ sprouted branch.old at.now.node
         (variant_layout at.now.heading (out-Variant variant.now).tag_repr (arms_of (map case_arm (out-Variant variant.now).cases)))) }
-    ensures refusal { Judged (too_large (payload_numbers (out-Variant variant.now).tag_repr (arms_of (map case_arm (out-Variant variant.now).cases)))) result }
+    ensures refusal { Judged (too_large (payload_numbers (out-Variant variant.now).tag_repr
+        (arms_of (map case_arm (out-Variant variant.now).cases)))) result }
 {
     if variant.is_enum() {
         return Ok(());
@@ -328,7 +333,8 @@ fn put_layout_if(
 /// The layout of a variant.
 fn whole_layout(names: NamedLayouts, variant: &Variant) -> Result<SizeAlign, LayoutError>
     requires { NamesKnown names (variant_tree variant.now) }
-    ensures exact { IfOk result (λ v. (v.size ≡ size_of (plain (variant_tree variant.now))) × (v.align ≡ align_of (plain (variant_tree variant.now)))) }
+    ensures exact { IfOk result (λ v. (v.size ≡ size_of (plain (variant_tree variant.now)))
+        × (v.align ≡ align_of (plain (variant_tree variant.now)))) }
     ensures refusal { Judged (too_large (size_of (plain (variant_tree variant.now)) ∷ [])) result }
 {
     match variant_layout(names, variant) {
@@ -345,7 +351,8 @@ fn put_layout(
     whole: SizeAlign,
     tag: usize,
 ) -> Result<(), OutOfMemory>
-    ensures { OnOk result (branch.new ≡ sprouted branch.old at.now.node (layout_nodes at.now.heading whole.size whole.align tag)) }
+    ensures { OnOk result (branch.new
+        ≡ sprouted branch.old at.now.node (layout_nodes at.now.heading whole.size whole.align tag)) }
 {
     put_section(branch, at, "Variant Layout")?;
     put_number(branch, at.node, "size", whole.size)?;

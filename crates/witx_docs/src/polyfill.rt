@@ -33,7 +33,8 @@ fn put_heading(out: &mut String, new: &str, old: &str) -> Result<(), OutOfMemory
 /// The functions, one below the other.
 #[tactic(auto, using(crate::proofs::Viewed::function_rules))]
 fn put_functions(out: &mut String, functions: &[FuncPolyfill]) -> Result<(), OutOfMemory>
-    ensures { OnOk result (string_bytes out.new ≡ string_bytes out.old ++ lines function_text (map function_view functions.now)) }
+    ensures { OnOk result (string_bytes out.new
+        ≡ string_bytes out.old ++ lines function_text (map function_view functions.now)) }
 {
     let mut first = true;
     for function in functions {

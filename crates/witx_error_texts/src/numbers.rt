@@ -50,7 +50,8 @@ fn put_file(text: &mut String, path: &str) -> Result<(), AllocError>
 }
 
 fn put_line(text: &mut String, line: usize, column: usize) -> Result<(), AllocError>
-    ensures { OnOk result (string_bytes text.new ≡ string_bytes text.old ++ (codes ":" ++ (decimal line ++ (codes ":" ++ decimal column)))) }
+    ensures { OnOk result (string_bytes text.new
+        ≡ string_bytes text.old ++ (codes ":" ++ (decimal line ++ (codes ":" ++ decimal column)))) }
 {
     write!(text, ":{line}:{column}")
 }

@@ -67,7 +67,8 @@ fn put_one<'a>(
     names: usize,
     types: usize,
 ) -> Result<(), OutOfMemory>
-    ensures { OnOk result (waiting_extent waiting.new.items ≡ waiting_extent waiting.old.items + extent (tree_of tref.now)) }
+    ensures { OnOk result (waiting_extent waiting.new.items
+        ≡ waiting_extent waiting.old.items + extent (tree_of tref.now)) }
 {
     waiting.push(Waiting { tref, names, types })?;
     Ok(())
@@ -116,7 +117,8 @@ fn put_members<'a>(
     names: usize,
     types: usize,
 ) -> Result<(), OutOfMemory>
-    ensures { OnOk result (waiting_extent waiting.new.items ≡ waiting_extent waiting.old.items + members_extent members.now) }
+    ensures { OnOk result (waiting_extent waiting.new.items
+        ≡ waiting_extent waiting.old.items + members_extent members.now) }
 {
     for member in members {
         put_one(waiting, &member.tref, names, types)?;
@@ -131,7 +133,8 @@ fn put_payloads<'a>(
     names: usize,
     types: usize,
 ) -> Result<(), OutOfMemory>
-    ensures { OnOk result (waiting_extent waiting.new.items ≡ waiting_extent waiting.old.items + payloads_extent cases.now) }
+    ensures { OnOk result (waiting_extent waiting.new.items
+        ≡ waiting_extent waiting.old.items + payloads_extent cases.now) }
 {
     for case in cases {
         put_payload(waiting, case, names, types)?;

@@ -69,7 +69,8 @@ fn heading(alloc: Global, path: &WitxPath) -> Result<String, AllocError>
 }
 
 fn put_source(text: &mut String, number: usize, line: &str, column: usize) -> Result<(), AllocError>
-    ensures { IfOk result (λ _. string_bytes text.new ≡ (string_bytes text.old ++ numbered_line number line.now) ++ caret column) }
+    ensures { IfOk result (λ _. string_bytes text.new
+        ≡ (string_bytes text.old ++ numbered_line number line.now) ++ caret column) }
 {
     put_line(text, number, line)?;
     put_caret(text, column)

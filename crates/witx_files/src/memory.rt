@@ -40,7 +40,8 @@ impl MockFs {
     /// The path has this text from now on, and every other path what it had; a refused insert changes
     /// nothing.
     pub fn insert(&mut self, path: WitxPath, text: Text) -> Result<(), OutOfMemory>
-        ensures put { OnOk result ((q : Path) → text_in self.new q ≡ (if same_path path q then Some text else text_in self.old q)) }
+        ensures put { OnOk result ((q : Path)
+            → text_in self.new q ≡ (if same_path path q then Some text else text_in self.old q)) }
         ensures kept { OnErr result (self.new ≡ self.old) }
     {
         let shared = text.share()?;

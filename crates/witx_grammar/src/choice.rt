@@ -38,7 +38,8 @@ pub fn nothing_known<'a, T: Kind, N: Kind, P: Kind>(
 
 /// How many tokens the lookahead of the symbols takes, where the tokens begin with it.
 fn fits<T: Kind, N: Kind>(symbols: &[Symbol<T, N>], tokens: &[T]) -> Option<usize>
-    ensures { result ≡ (if begins_with T.eq (lookahead symbols.now) tokens.now then Some (length (lookahead symbols.now)) else None) }
+    ensures { result ≡ (if begins_with T.eq (lookahead symbols.now) tokens.now then Some
+        (length (lookahead symbols.now)) else None) }
 {
     for (i, symbol) in symbols.iter().enumerate() {
         match symbol {
@@ -135,7 +136,8 @@ pub fn choose<'a, T: Kind, N: Kind, P: Kind>(
     requires one_rule_each { HasOneRuleEach N.eq table.now.rules.now }
     requires known { AreKnown T.eq N.eq (grammar table.now) known.old.items }
     ensures known { AreKnown T.eq N.eq (grammar table.now) known.new.items }
-    ensures choice { option_map (λ c. rewrite_view wanted c.0.now) result ≡ choose_of T.eq N.eq (grammar table.now) wanted tokens.now }
+    ensures choice { option_map (λ c. rewrite_view wanted c.0.now) result
+        ≡ choose_of T.eq N.eq (grammar table.now) wanted tokens.now }
     ensures comes_next { IfSome result (λ c. begins_with T.eq (lookahead c.0.now.symbols.now) tokens.now ≡ true) }
     ensures front { IfSome result (λ c. c.1 ≡ length (lookahead c.0.now.symbols.now)) }
 {

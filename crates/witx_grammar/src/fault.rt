@@ -66,7 +66,8 @@ fn push_ways<T: Kind, N: Kind, P: Kind>(
     out: &mut Vec<Vec<Symbol<T, N>>>,
 ) -> Result<(), AllocError>
     requires { HasOneRuleEach N.eq table.now.rules.now }
-    ensures { IfOk result (λ _. all_wants out.new.items ≡ all_wants out.old.items ++ ways T.eq N.eq (grammar table.now) depth kind want.now) }
+    ensures { IfOk result (λ _. all_wants out.new.items
+        ≡ all_wants out.old.items ++ ways T.eq N.eq (grammar table.now) depth kind want.now) }
 {
     if want.is_empty() {
         return Ok(());
@@ -121,7 +122,8 @@ fn all_after<T: Kind, N: Kind, P: Kind>(
     wants: &[Vec<Symbol<T, N>>],
 ) -> Result<Vec<Vec<Symbol<T, N>>>, AllocError>
     requires { HasOneRuleEach N.eq table.now.rules.now }
-    ensures { IfOk result (λ v. all_wants v.items ≡ all_ways T.eq N.eq (grammar table.now) DEPTH kind (all_wants wants.now)) }
+    ensures { IfOk result (λ v. all_wants v.items
+        ≡ all_ways T.eq N.eq (grammar table.now) DEPTH kind (all_wants wants.now)) }
 {
     let mut out = Vec::new(alloc);
     for want in wants {

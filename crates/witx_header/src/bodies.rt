@@ -59,7 +59,8 @@ fn put_side(
     params: &[InterfaceFuncParam],
     calls: Items<Handed>,
 ) -> Result<(), OutOfMemory>
-    ensures { OnOk result (string_bytes text.new ≡ string_bytes text.old ++ side_text (map param_field params.now) (map call_of calls)) }
+    ensures { OnOk result (string_bytes text.new
+        ≡ string_bytes text.old ++ side_text (map param_field params.now) (map call_of calls)) }
 {
     text.push_str("/* The caller's side:\n")?;
     put_values(text, params)?;
@@ -101,7 +102,8 @@ fn put_value(text: &mut String, place: usize, param: &InterfaceFuncParam) -> Res
 }
 
 fn put_place(text: &mut String, place: usize) -> Result<(), AllocError>
-    ensures { OnOk result (string_bytes text.new ≡ string_bytes text.old ++ (codes "    // value" ++ decimal place ++ codes ": ")) }
+    ensures { OnOk result (string_bytes text.new
+        ≡ string_bytes text.old ++ (codes "    // value" ++ decimal place ++ codes ": ")) }
 {
     write!(text, "    // value{place}: ")
 }

@@ -37,7 +37,8 @@ fn put_behind(
     before: char,
     character: char,
 ) -> Result<(), AllocError>
-    ensures { OnOk result (string_bytes text.new ≡ string_bytes text.old ++ (kept_apart before character ++ comment_character margin.now character)) }
+    ensures { OnOk result (string_bytes text.new
+        ≡ string_bytes text.old ++ (kept_apart before character ++ comment_character margin.now character)) }
 {
     text.push_str(between(before, character))?;
     put_character(text, margin, character)

@@ -65,7 +65,8 @@ fn put_prototype(
     results: &[WasmType],
     noreturn: bool,
 ) -> Result<(), AllocError>
-    ensures { OnOk result (string_bytes text.new ≡ string_bytes text.old ++ prototype owner.now name.now params.now results.now noreturn) }
+    ensures { OnOk result (string_bytes text.new
+        ≡ string_bytes text.old ++ prototype owner.now name.now params.now results.now noreturn) }
 {
     put_declared(text, owner, name, results)?;
     put_params(text, params)?;
@@ -99,7 +100,8 @@ fn result_text(results: &[WasmType]) -> &'static str
 }
 
 fn put_params(text: &mut String, params: &[WasmType]) -> Result<(), AllocError>
-    ensures { OnOk result (string_bytes text.new ≡ string_bytes text.old ++ (codes "(" ++ params_text params.now ++ codes ") __attribute__((\n")) }
+    ensures { OnOk result (string_bytes text.new
+        ≡ string_bytes text.old ++ (codes "(" ++ params_text params.now ++ codes ") __attribute__((\n")) }
 {
     text.push_str("(")?;
     put_words(text, params)?;

@@ -28,7 +28,8 @@ use witx_layout::LayoutError;
 pub fn header_text(alloc: Global, document: &Document) -> Result<Text, LayoutError>
     ensures text { IfOk result (λ text. text ≡ header_of (map definition_tree document.now.definitions)) }
     ensures fits { OnOk result (All (λ n. n < 2 ^ 64) (header_numbers (map definition_tree document.now.definitions))) }
-    ensures too_large { result ≡ Err LayoutError.TooLarge → Any (λ n. 2 ^ 64 ≤ n) (header_numbers (map definition_tree document.now.definitions)) }
+    ensures too_large { result ≡ Err LayoutError.TooLarge
+        → Any (λ n. 2 ^ 64 ≤ n) (header_numbers (map definition_tree document.now.definitions)) }
 {
     let mut text = String::new(alloc);
     put(
@@ -53,9 +54,11 @@ fn put_definitions(
     text: &mut String,
     definitions: &[Definition],
 ) -> Result<(), LayoutError>
-    ensures lines { OnOk result (string_bytes text.new ≡ string_bytes text.old ++ flat_map c_definition_lines (map definition_tree definitions.now)) }
+    ensures lines { OnOk result (string_bytes text.new
+        ≡ string_bytes text.old ++ flat_map c_definition_lines (map definition_tree definitions.now)) }
     ensures fits { OnOk result (All (λ n. n < 2 ^ 64) (header_numbers (map definition_tree definitions.now))) }
-    ensures too_large { result ≡ Err LayoutError.TooLarge → Any (λ n. 2 ^ 64 ≤ n) (header_numbers (map definition_tree definitions.now)) }
+    ensures too_large { result ≡ Err LayoutError.TooLarge
+        → Any (λ n. 2 ^ 64 ≤ n) (header_numbers (map definition_tree definitions.now)) }
 {
     for definition in definitions {
         put_definition(alloc, text, definition)?;
@@ -69,9 +72,11 @@ fn put_definition(
     text: &mut String,
     definition: &Definition,
 ) -> Result<(), LayoutError>
-    ensures lines { OnOk result (string_bytes text.new ≡ string_bytes text.old ++ c_definition_lines (definition_tree definition.now)) }
+    ensures lines { OnOk result (string_bytes text.new
+        ≡ string_bytes text.old ++ c_definition_lines (definition_tree definition.now)) }
     ensures fits { OnOk result (All (λ n. n < 2 ^ 64) (definition_numbers (definition_tree definition.now))) }
-    ensures too_large { result ≡ Err LayoutError.TooLarge → Any (λ n. 2 ^ 64 ≤ n) (definition_numbers (definition_tree definition.now)) }
+    ensures too_large { result ≡ Err LayoutError.TooLarge
+        → Any (λ n. 2 ^ 64 ≤ n) (definition_numbers (definition_tree definition.now)) }
 {
     match definition {
         Definition::Typename(named) => put_typename(alloc, text, named),
@@ -81,9 +86,11 @@ fn put_definition(
 }
 
 fn put_typename(alloc: Global, text: &mut String, named: &NamedType) -> Result<(), LayoutError>
-    ensures lines { OnOk result (string_bytes text.new ≡ string_bytes text.old ++ header_typename_lines named.now.name (tree_of named.now.tref) named.now.docs) }
+    ensures lines { OnOk result (string_bytes text.new ≡ string_bytes text.old
+        ++ header_typename_lines named.now.name (tree_of named.now.tref) named.now.docs) }
     ensures fits { OnOk result (All (λ n. n < 2 ^ 64) (typename_numbers (tree_of named.now.tref))) }
-    ensures too_large { result ≡ Err LayoutError.TooLarge → Any (λ n. 2 ^ 64 ≤ n) (typename_numbers (tree_of named.now.tref)) }
+    ensures too_large { result ≡ Err LayoutError.TooLarge
+        → Any (λ n. 2 ^ 64 ≤ n) (typename_numbers (tree_of named.now.tref)) }
 {
     put_declared(text, named)?;
     put_layout(alloc, text, named.name.as_str(), &named.tref)?;
@@ -92,7 +99,8 @@ fn put_typename(alloc: Global, text: &mut String, named: &NamedType) -> Result<(
 
 /// Appends a typename's typedef and values, below its documentation.
 fn put_declared(text: &mut String, named: &NamedType) -> Result<(), OutOfMemory>
-    ensures { OnOk result (string_bytes text.new ≡ string_bytes text.old ++ declared_lines named.now.name (tree_of named.now.tref) named.now.docs) }
+    ensures { OnOk result (string_bytes text.new
+        ≡ string_bytes text.old ++ declared_lines named.now.name (tree_of named.now.tref) named.now.docs) }
 {
     put_comment(text, "", named.docs.as_str())?;
     put_typedef(text, named.name.as_str(), &named.tref)?;
@@ -125,7 +133,8 @@ fn put_items(
     owner: &Id,
     items: &[ModuleDefinition],
 ) -> Result<(), OutOfMemory>
-    ensures { OnOk result (string_bytes text.new ≡ string_bytes text.old ++ flat_map (c_item_lines owner.now) (map item_tree items.now)) }
+    ensures { OnOk result (string_bytes text.new
+        ≡ string_bytes text.old ++ flat_map (c_item_lines owner.now) (map item_tree items.now)) }
 {
     for item in items {
         put_item(alloc, text, owner, item)?;

@@ -25,7 +25,8 @@ pub fn put_layout(
     name: &str,
     tref: &TypeRef,
 ) -> Result<(), LayoutError>
-    ensures lines { OnOk result (string_bytes text.new ≡ string_bytes text.old ++ c_layout_lines name.now (tree_of tref.now)) }
+    ensures lines { OnOk result (string_bytes text.new
+        ≡ string_bytes text.old ++ c_layout_lines name.now (tree_of tref.now)) }
     ensures fits { OnOk result (All (λ n. n < 2 ^ 64) (typename_numbers (tree_of tref.now))) }
     ensures too_large { result ≡ Err LayoutError.TooLarge → Any (λ n. 2 ^ 64 ≤ n) (typename_numbers (tree_of tref.now)) }
 {
@@ -62,7 +63,8 @@ fn put_offsets(
     name: &str,
     tref: &TypeRef,
 ) -> Result<(), LayoutError>
-    ensures lines { OnOk result (string_bytes text.new ≡ string_bytes text.old ++ c_part_offsets name.now (tree_of tref.now)) }
+    ensures lines { OnOk result (string_bytes text.new
+        ≡ string_bytes text.old ++ c_part_offsets name.now (tree_of tref.now)) }
     ensures fits { OnOk result (All (λ n. n < 2 ^ 64) (offset_numbers (tree_of tref.now))) }
     ensures too_large { result ≡ Err LayoutError.TooLarge → Any (λ n. 2 ^ 64 ≤ n) (offset_numbers (tree_of tref.now)) }
 {
@@ -79,9 +81,11 @@ fn put_offsets_of(
     name: &str,
     datatype: &Datatype,
 ) -> Result<(), LayoutError>
-    ensures lines { OnOk result (string_bytes text.new ≡ string_bytes text.old ++ c_part_offsets name.now (datatype_tree datatype.now)) }
+    ensures lines { OnOk result (string_bytes text.new
+        ≡ string_bytes text.old ++ c_part_offsets name.now (datatype_tree datatype.now)) }
     ensures fits { OnOk result (All (λ n. n < 2 ^ 64) (offset_numbers (datatype_tree datatype.now))) }
-    ensures too_large { result ≡ Err LayoutError.TooLarge → Any (λ n. 2 ^ 64 ≤ n) (offset_numbers (datatype_tree datatype.now)) }
+    ensures too_large { result ≡ Err LayoutError.TooLarge
+        → Any (λ n. 2 ^ 64 ≤ n) (offset_numbers (datatype_tree datatype.now)) }
 {
     match datatype {
         Datatype::Record(record) => put_record_offsets(alloc, text, name, record),
@@ -101,9 +105,11 @@ fn put_record_offsets(
     name: &str,
     record_type: &RecordDatatype,
 ) -> Result<(), LayoutError>
-    ensures lines { OnOk result (string_bytes text.new ≡ string_bytes text.old ++ c_part_offsets name.now (record_tree record_type.now)) }
+    ensures lines { OnOk result (string_bytes text.new
+        ≡ string_bytes text.old ++ c_part_offsets name.now (record_tree record_type.now)) }
     ensures fits { OnOk result (All (λ n. n < 2 ^ 64) (offset_numbers (record_tree record_type.now))) }
-    ensures too_large { result ≡ Err LayoutError.TooLarge → Any (λ n. 2 ^ 64 ≤ n) (offset_numbers (record_tree record_type.now)) }
+    ensures too_large { result ≡ Err LayoutError.TooLarge
+        → Any (λ n. 2 ^ 64 ≤ n) (offset_numbers (record_tree record_type.now)) }
 {
     match record_type.kind {
         RecordKind::Bitflags(_) => Ok(()),
@@ -118,9 +124,11 @@ fn put_members(
     name: &str,
     record_type: &RecordDatatype,
 ) -> Result<(), LayoutError>
-    ensures lines { OnOk result (string_bytes text.new ≡ string_bytes text.old ++ record_offsets name.now (record_fields record_type.now)) }
+    ensures lines { OnOk result (string_bytes text.new
+        ≡ string_bytes text.old ++ record_offsets name.now (record_fields record_type.now)) }
     ensures fits { OnOk result (All (λ n. n < 2 ^ 64) (offsets 0 (plain_fields (record_fields record_type.now)))) }
-    ensures too_large { result ≡ Err LayoutError.TooLarge → Any (λ n. 2 ^ 64 ≤ n) (offsets 0 (plain_fields (record_fields record_type.now))) }
+    ensures too_large { result ≡ Err LayoutError.TooLarge
+        → Any (λ n. 2 ^ 64 ≤ n) (offsets 0 (plain_fields (record_fields record_type.now))) }
 {
     let layouts = record_type.member_layout(alloc)?;
     Ok(put_each_offset(text, name, layouts.as_slice())?)
@@ -146,7 +154,8 @@ fn put_member_offset(
     member: &str,
     offset: usize,
 ) -> Result<(), OutOfMemory>
-    ensures { OnOk result (string_bytes text.new ≡ string_bytes text.old ++ offset_line name.now (member_name member.now) offset) }
+    ensures { OnOk result (string_bytes text.new
+        ≡ string_bytes text.old ++ offset_line name.now (member_name member.now) offset) }
 {
     put_offset_begin(text, name)?;
     put_member_name(text, member)?;
@@ -155,7 +164,8 @@ fn put_member_offset(
 
 #[tactic(auto, using(crate::proofs::Numbered::number_rules))]
 fn put_variant_offset(text: &mut String, name: &str, variant: &Variant) -> Result<(), OutOfMemory>
-    ensures { OnOk result (string_bytes text.new ≡ string_bytes text.old ++ c_part_offsets name.now (variant_tree variant.now)) }
+    ensures { OnOk result (string_bytes text.new
+        ≡ string_bytes text.old ++ c_part_offsets name.now (variant_tree variant.now)) }
 {
     if variant.is_enum() {
         return Ok(());
@@ -174,7 +184,8 @@ fn put_union_offset(text: &mut String, name: &str, offset: usize) -> Result<(), 
 }
 
 fn put_offset_begin(text: &mut String, name: &str) -> Result<(), AllocError>
-    ensures { OnOk result (string_bytes text.new ≡ string_bytes text.old ++ (codes "_Static_assert(offsetof(" ++ typedef_name name.now ++ codes ", ")) }
+    ensures { OnOk result (string_bytes text.new ≡ string_bytes text.old
+        ++ (codes "_Static_assert(offsetof(" ++ typedef_name name.now ++ codes ", ")) }
 {
     text.push_str("_Static_assert(offsetof(")?;
     put_typedef_name(text, name)?;
@@ -182,7 +193,8 @@ fn put_offset_begin(text: &mut String, name: &str) -> Result<(), AllocError>
 }
 
 fn put_offset_end(text: &mut String, offset: usize) -> Result<(), OutOfMemory>
-    ensures { OnOk result (string_bytes text.new ≡ string_bytes text.old ++ (codes ") == " ++ decimal offset ++ codes ", \"offset\");\n")) }
+    ensures { OnOk result (string_bytes text.new
+        ≡ string_bytes text.old ++ (codes ") == " ++ decimal offset ++ codes ", \"offset\");\n")) }
 {
     write!(text, ") == {offset}, \"offset\");\n")?;
     Ok(())

@@ -37,7 +37,8 @@ fn put_event(
     operands: &[Variable],
     results: &[Variable],
 ) -> Result<(), AllocError>
-    ensures { OnOk result (string_bytes text.new ≡ string_bytes text.old ++ call_line (call_for (event_of event.now ∷ []) operands.now results.now)) }
+    ensures { OnOk result (string_bytes text.new
+        ≡ string_bytes text.old ++ call_line (call_for (event_of event.now ∷ []) operands.now results.now)) }
 {
     match event {
         Event::Emit(step) => put_step(alloc, text, step, operands, results),
@@ -57,7 +58,8 @@ fn put_room(text: &mut String, slot: usize, ty: &NamedType) -> Result<(), AllocE
 }
 
 fn put_slot(text: &mut String, slot: usize) -> Result<(), AllocError>
-    ensures { OnOk result (string_bytes text.new ≡ string_bytes text.old ++ (codes " space" ++ decimal slot ++ codes ";\n")) }
+    ensures { OnOk result (string_bytes text.new
+        ≡ string_bytes text.old ++ (codes " space" ++ decimal slot ++ codes ";\n")) }
 {
     write!(text, " space{slot};\n")
 }
@@ -72,7 +74,8 @@ fn put_end(text: &mut String, operands: &[Variable]) -> Result<(), AllocError>
 }
 
 fn put_value_end(text: &mut String, variable: Variable) -> Result<(), AllocError>
-    ensures { OnOk result (string_bytes text.new ≡ string_bytes text.old ++ (codes "    // end, gives " ++ variable_text variable ++ codes "\n")) }
+    ensures { OnOk result (string_bytes text.new
+        ≡ string_bytes text.old ++ (codes "    // end, gives " ++ variable_text variable ++ codes "\n")) }
 {
     text.push_str("    // end, gives ")?;
     put_variable(text, variable)?;
@@ -87,7 +90,8 @@ fn put_step(
     operands: &[Variable],
     results: &[Variable],
 ) -> Result<(), AllocError>
-    ensures { OnOk result (string_bytes text.new ≡ string_bytes text.old ++ step_line (kept_step step.now) operands.now results.now) }
+    ensures { OnOk result (string_bytes text.new
+        ≡ string_bytes text.old ++ step_line (kept_step step.now) operands.now results.now) }
 {
     match cast_word(step) {
         Some(word) => put_cast(text, word, operands, results),
@@ -138,7 +142,8 @@ fn put_own(
     operands: &[Variable],
     results: &[Variable],
 ) -> Result<(), AllocError>
-    ensures { OnOk result (string_bytes text.new ≡ string_bytes text.old ++ own_line (kept_step step.now) operands.now results.now) }
+    ensures { OnOk result (string_bytes text.new
+        ≡ string_bytes text.old ++ own_line (kept_step step.now) operands.now results.now) }
 {
     match step {
         Step::GetArg { nth } => put_numbered(text, "__auto_type", results, "value", *nth),
@@ -211,7 +216,8 @@ fn put_named_cast(
     operands: &[Variable],
     results: &[Variable],
 ) -> Result<(), AllocError>
-    ensures { OnOk result (string_bytes text.new ≡ string_bytes text.old ++ cast_line (type_text (named_tree ty.now)) operands.now results.now) }
+    ensures { OnOk result (string_bytes text.new
+        ≡ string_bytes text.old ++ cast_line (type_text (named_tree ty.now)) operands.now results.now) }
 {
     let word = named_word(alloc, ty)?;
     put_cast(text, word.as_str(), operands, results)
@@ -225,7 +231,8 @@ fn put_pointer_cast(
     operands: &[Variable],
     results: &[Variable],
 ) -> Result<(), AllocError>
-    ensures { OnOk result (string_bytes text.new ≡ string_bytes text.old ++ cast_line (type_text (tree_of ty.now) ++ star.now) operands.now results.now) }
+    ensures { OnOk result (string_bytes text.new ≡ string_bytes text.old
+        ++ cast_line (type_text (tree_of ty.now) ++ star.now) operands.now results.now) }
 {
     let word = pointer_word(alloc, ty, star)?;
     put_cast(text, word.as_str(), operands, results)
@@ -238,7 +245,8 @@ fn put_load(
     operands: &[Variable],
     results: &[Variable],
 ) -> Result<(), AllocError>
-    ensures { OnOk result (string_bytes text.new ≡ string_bytes text.old ++ load_line (type_text (named_tree ty.now)) operands.now results.now) }
+    ensures { OnOk result (string_bytes text.new
+        ≡ string_bytes text.old ++ load_line (type_text (named_tree ty.now)) operands.now results.now) }
 {
     let word = named_word(alloc, ty)?;
     put_load_of(text, word.as_str(), operands, results)
@@ -283,7 +291,8 @@ fn put_numbered(
     name: &str,
     number: usize,
 ) -> Result<(), AllocError>
-    ensures { OnOk result (string_bytes text.new ≡ string_bytes text.old ++ (declared word.now results.now ++ (name.now ++ decimal number ++ codes ";\n"))) }
+    ensures { OnOk result (string_bytes text.new ≡ string_bytes text.old
+        ++ (declared word.now results.now ++ (name.now ++ decimal number ++ codes ";\n"))) }
 {
     put_declared(text, word, results)?;
     write!(text, "{name}{number};\n")
@@ -409,7 +418,8 @@ fn put_call(
     operands: &[Variable],
     results: &[Variable],
 ) -> Result<(), AllocError>
-    ensures { OnOk result (string_bytes text.new ≡ string_bytes text.old ++ wasm_line owner.now name.now words.now operands.now results.now) }
+    ensures { OnOk result (string_bytes text.new
+        ≡ string_bytes text.old ++ wasm_line owner.now name.now words.now operands.now results.now) }
 {
     put_call_begin(text, words)?;
     put_call_text(text, owner, name, operands)?;
@@ -427,7 +437,8 @@ fn put_call_begin(text: &mut String, words: &[WasmType]) -> Result<(), AllocErro
 }
 
 fn put_word_returned(text: &mut String, word: &str) -> Result<(), AllocError>
-    ensures { OnOk result (string_bytes text.new ≡ string_bytes text.old ++ (codes "    " ++ word.now ++ codes " returned = ")) }
+    ensures { OnOk result (string_bytes text.new
+        ≡ string_bytes text.old ++ (codes "    " ++ word.now ++ codes " returned = ")) }
 {
     write!(text, "    {word} returned = ")
 }
@@ -460,7 +471,8 @@ fn put_call_end(
 }
 
 fn put_kept_word(text: &mut String, results: &[Variable]) -> Result<(), AllocError>
-    ensures { OnOk result (string_bytes text.new ≡ string_bytes text.old ++ (codes ", " ++ variables_text results.now ++ codes " = returned;\n")) }
+    ensures { OnOk result (string_bytes text.new
+        ≡ string_bytes text.old ++ (codes ", " ++ variables_text results.now ++ codes " = returned;\n")) }
 {
     text.push_str(", ")?;
     put_variables(text, results)?;
@@ -478,7 +490,8 @@ fn put_return(text: &mut String, operands: &[Variable]) -> Result<(), AllocError
 }
 
 fn put_return_of(text: &mut String, operands: &[Variable]) -> Result<(), AllocError>
-    ensures { OnOk result (string_bytes text.new ≡ string_bytes text.old ++ (codes "    return " ++ variables_text operands.now ++ codes ";\n")) }
+    ensures { OnOk result (string_bytes text.new
+        ≡ string_bytes text.old ++ (codes "    return " ++ variables_text operands.now ++ codes ";\n")) }
 {
     text.push_str("    return ")?;
     put_variables(text, operands)?;

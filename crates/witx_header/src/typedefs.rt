@@ -37,7 +37,8 @@ fn put_body(text: &mut String, name: &str, tref: &TypeRef) -> Result<(), AllocEr
 
 #[tactic(auto, using(crate::proofs::Typing::typing_rules))]
 fn put_value(text: &mut String, name: &str, datatype: &Datatype) -> Result<(), AllocError>
-    ensures { OnOk result (string_bytes text.new ≡ string_bytes text.old ++ body_text name.now (datatype_tree datatype.now)) }
+    ensures { OnOk result (string_bytes text.new
+        ≡ string_bytes text.old ++ body_text name.now (datatype_tree datatype.now)) }
 {
     match datatype {
         Datatype::Record(record) => put_record_body(text, name, record),
@@ -56,7 +57,8 @@ fn put_record_body(
     name: &str,
     record_type: &RecordDatatype,
 ) -> Result<(), AllocError>
-    ensures { OnOk result (string_bytes text.new ≡ string_bytes text.old ++ body_text name.now (record_tree record_type.now)) }
+    ensures { OnOk result (string_bytes text.new
+        ≡ string_bytes text.old ++ body_text name.now (record_tree record_type.now)) }
 {
     match record_type.kind {
         RecordKind::Bitflags(repr) => text.push_str(repr_word(repr)),
@@ -73,7 +75,8 @@ fn put_struct_body(
     name: &str,
     members: &[RecordMember],
 ) -> Result<(), AllocError>
-    ensures { OnOk result (string_bytes text.new ≡ string_bytes text.old ++ struct_body name.now (fields_of (map member_field members.now))) }
+    ensures { OnOk result (string_bytes text.new
+        ≡ string_bytes text.old ++ struct_body name.now (fields_of (map member_field members.now))) }
 {
     put_struct_begin(text, name)?;
     put_member_lines(text, members)?;
@@ -90,7 +93,8 @@ fn put_struct_begin(text: &mut String, name: &str) -> Result<(), AllocError>
 
 #[tactic(auto, using(crate::proofs::Typing::typing_rules))]
 fn put_member_lines(text: &mut String, members: &[RecordMember]) -> Result<(), AllocError>
-    ensures { OnOk result (string_bytes text.new ≡ string_bytes text.old ++ member_lines (fields_of (map member_field members.now))) }
+    ensures { OnOk result (string_bytes text.new
+        ≡ string_bytes text.old ++ member_lines (fields_of (map member_field members.now))) }
 {
     for member in members {
         put_part_lines(
@@ -112,7 +116,8 @@ fn put_part_lines(
     name: &str,
     docs: &str,
 ) -> Result<(), AllocError>
-    ensures { OnOk result (string_bytes text.new ≡ string_bytes text.old ++ c_part_lines margin.now (type_text (tree_of tref.now)) name.now docs.now) }
+    ensures { OnOk result (string_bytes text.new ≡ string_bytes text.old
+        ++ c_part_lines margin.now (type_text (tree_of tref.now)) name.now docs.now) }
 {
     put_comment(text, margin, docs)?;
     text.push_str(margin)?;
@@ -144,7 +149,8 @@ fn put_tagged_body(
     tag: &str,
     cases: &[Case],
 ) -> Result<(), AllocError>
-    ensures { OnOk result (string_bytes text.new ≡ string_bytes text.old ++ tagged_body name.now tag.now (arms_of (map case_arm cases.now))) }
+    ensures { OnOk result (string_bytes text.new
+        ≡ string_bytes text.old ++ tagged_body name.now tag.now (arms_of (map case_arm cases.now))) }
 {
     put_struct_begin(text, name)?;
     write!(text, "    {tag} tag;\n    union {{\n")?;
@@ -154,7 +160,8 @@ fn put_tagged_body(
 
 #[tactic(auto, using(crate::proofs::Typing::typing_rules))]
 fn put_payload_lines(text: &mut String, cases: &[Case]) -> Result<(), AllocError>
-    ensures { OnOk result (string_bytes text.new ≡ string_bytes text.old ++ payload_lines (arms_of (map case_arm cases.now))) }
+    ensures { OnOk result (string_bytes text.new
+        ≡ string_bytes text.old ++ payload_lines (arms_of (map case_arm cases.now))) }
 {
     for case in cases {
         put_case_payload(text, case)?;
@@ -163,7 +170,8 @@ fn put_payload_lines(text: &mut String, cases: &[Case]) -> Result<(), AllocError
 }
 
 fn put_case_payload(text: &mut String, case: &Case) -> Result<(), AllocError>
-    ensures { OnOk result (string_bytes text.new ≡ string_bytes text.old ++ case_payload case.now.name (option_map tree_of case.now.tref) case.now.docs) }
+    ensures { OnOk result (string_bytes text.new ≡ string_bytes text.old
+        ++ case_payload case.now.name (option_map tree_of case.now.tref) case.now.docs) }
 {
     match &case.tref {
         Some(tref) => put_part_lines(

@@ -96,7 +96,8 @@ fn put_record(text: &mut String, record_type: &RecordDatatype) -> Result<(), All
 #[cycle(typing)]
 #[tactic(auto, using(crate::proofs::Typing::typing_rules))]
 fn put_struct(text: &mut String, members: &[RecordMember]) -> Result<(), AllocError>
-    ensures { OnOk result (string_bytes text.new ≡ string_bytes text.old ++ struct_text (members_text (fields_of (map member_field members.now)))) }
+    ensures { OnOk result (string_bytes text.new
+        ≡ string_bytes text.old ++ struct_text (members_text (fields_of (map member_field members.now)))) }
 {
     text.push_str("struct { ")?;
     put_members(text, members)?;
@@ -106,7 +107,8 @@ fn put_struct(text: &mut String, members: &[RecordMember]) -> Result<(), AllocEr
 #[cycle(typing)]
 #[tactic(auto, using(crate::proofs::Typing::typing_rules))]
 fn put_members(text: &mut String, members: &[RecordMember]) -> Result<(), AllocError>
-    ensures { OnOk result (string_bytes text.new ≡ string_bytes text.old ++ members_text (fields_of (map member_field members.now))) }
+    ensures { OnOk result (string_bytes text.new
+        ≡ string_bytes text.old ++ members_text (fields_of (map member_field members.now))) }
 {
     for member in members {
         put_part(text, &member.tref, member.name.as_str())?;
@@ -117,7 +119,8 @@ fn put_members(text: &mut String, members: &[RecordMember]) -> Result<(), AllocE
 #[cycle(typing)]
 #[tactic(auto, using(crate::proofs::Typing::typing_rules))]
 fn put_part(text: &mut String, tref: &TypeRef, name: &str) -> Result<(), AllocError>
-    ensures { OnOk result (string_bytes text.new ≡ string_bytes text.old ++ member_text (type_text (tree_of tref.now)) name.now) }
+    ensures { OnOk result (string_bytes text.new
+        ≡ string_bytes text.old ++ member_text (type_text (tree_of tref.now)) name.now) }
 {
     put_type(text, tref)?;
     text.push(' ')?;
@@ -140,7 +143,8 @@ fn put_variant(text: &mut String, variant: &Variant) -> Result<(), AllocError>
 #[cycle(typing)]
 #[tactic(auto, using(crate::proofs::Typing::typing_rules))]
 fn put_tagged(text: &mut String, tag: &str, cases: &[Case]) -> Result<(), AllocError>
-    ensures { OnOk result (string_bytes text.new ≡ string_bytes text.old ++ tagged_text tag.now (payloads_text (arms_of (map case_arm cases.now)))) }
+    ensures { OnOk result (string_bytes text.new
+        ≡ string_bytes text.old ++ tagged_text tag.now (payloads_text (arms_of (map case_arm cases.now)))) }
 {
     text.push_str("struct { ")?;
     text.push_str(tag)?;
@@ -152,7 +156,8 @@ fn put_tagged(text: &mut String, tag: &str, cases: &[Case]) -> Result<(), AllocE
 #[cycle(typing)]
 #[tactic(auto, using(crate::proofs::Typing::typing_rules))]
 fn put_payloads(text: &mut String, cases: &[Case]) -> Result<(), AllocError>
-    ensures { OnOk result (string_bytes text.new ≡ string_bytes text.old ++ payloads_text (arms_of (map case_arm cases.now))) }
+    ensures { OnOk result (string_bytes text.new
+        ≡ string_bytes text.old ++ payloads_text (arms_of (map case_arm cases.now))) }
 {
     for case in cases {
         put_payload(text, case)?;
@@ -163,7 +168,8 @@ fn put_payloads(text: &mut String, cases: &[Case]) -> Result<(), AllocError>
 #[cycle(typing)]
 #[tactic(auto, using(crate::proofs::Typing::typing_rules))]
 fn put_payload(text: &mut String, case: &Case) -> Result<(), AllocError>
-    ensures { OnOk result (string_bytes text.new ≡ string_bytes text.old ++ c_payload_text case.now.name (option_map tree_of case.now.tref)) }
+    ensures { OnOk result (string_bytes text.new
+        ≡ string_bytes text.old ++ c_payload_text case.now.name (option_map tree_of case.now.tref)) }
 {
     match &case.tref {
         Some(tref) => put_part(text, tref, case.name.as_str()),

@@ -27,7 +27,8 @@ pub fn put_values(text: &mut String, name: &str, tref: &TypeRef) -> Result<(), A
 
 #[tactic(auto, using(crate::proofs::Typing::typing_rules))]
 fn put_values_of(text: &mut String, name: &str, datatype: &Datatype) -> Result<(), AllocError>
-    ensures { OnOk result (string_bytes text.new ≡ string_bytes text.old ++ value_lines name.now (datatype_tree datatype.now)) }
+    ensures { OnOk result (string_bytes text.new
+        ≡ string_bytes text.old ++ value_lines name.now (datatype_tree datatype.now)) }
 {
     match datatype {
         Datatype::Record(record) => put_flags_of(text, name, record),
@@ -46,7 +47,8 @@ fn put_flags_of(
     name: &str,
     record_type: &RecordDatatype,
 ) -> Result<(), AllocError>
-    ensures { OnOk result (string_bytes text.new ≡ string_bytes text.old ++ value_lines name.now (record_tree record_type.now)) }
+    ensures { OnOk result (string_bytes text.new
+        ≡ string_bytes text.old ++ value_lines name.now (record_tree record_type.now)) }
 {
     match record_type.kind {
         RecordKind::Bitflags(repr) => put_flags(text, name, repr, record_type.members.as_slice()),
@@ -61,7 +63,8 @@ fn put_flags(
     repr: IntRepr,
     members: &[RecordMember],
 ) -> Result<(), AllocError>
-    ensures { OnOk result (string_bytes text.new ≡ string_bytes text.old ++ flag_lines name.now repr 0 (fields_of (map member_field members.now))) }
+    ensures { OnOk result (string_bytes text.new
+        ≡ string_bytes text.old ++ flag_lines name.now repr 0 (fields_of (map member_field members.now))) }
 {
     for (place, member) in members.iter().enumerate() {
         put_flag(text, name, repr, place, member)?;
@@ -76,7 +79,8 @@ fn put_flag(
     place: usize,
     member: &RecordMember,
 ) -> Result<(), AllocError>
-    ensures { OnOk result (string_bytes text.new ≡ string_bytes text.old ++ flag_line name.now repr place member.now.name member.now.docs) }
+    ensures { OnOk result (string_bytes text.new
+        ≡ string_bytes text.old ++ flag_line name.now repr place member.now.name member.now.docs) }
 {
     put_comment(text, "", member.docs.as_str())?;
     put_define(text, name, member.name.as_str())?;
@@ -93,14 +97,16 @@ fn put_bit(text: &mut String, repr: IntRepr, place: usize) -> Result<(), AllocEr
 
 #[tactic(auto, using(crate::proofs::Typing::typing_rules))]
 fn put_cases_of(text: &mut String, name: &str, variant: &Variant) -> Result<(), AllocError>
-    ensures { OnOk result (string_bytes text.new ≡ string_bytes text.old ++ value_lines name.now (variant_tree variant.now)) }
+    ensures { OnOk result (string_bytes text.new
+        ≡ string_bytes text.old ++ value_lines name.now (variant_tree variant.now)) }
 {
     put_cases(text, name, variant.tag_repr, variant.cases.as_slice())
 }
 
 #[tactic(auto, using(crate::proofs::Typing::typing_rules))]
 fn put_cases(text: &mut String, name: &str, repr: IntRepr, cases: &[Case]) -> Result<(), AllocError>
-    ensures { OnOk result (string_bytes text.new ≡ string_bytes text.old ++ case_lines name.now repr 0 (map case_arm cases.now)) }
+    ensures { OnOk result (string_bytes text.new
+        ≡ string_bytes text.old ++ case_lines name.now repr 0 (map case_arm cases.now)) }
 {
     for (place, case) in cases.iter().enumerate() {
         put_case(text, name, repr, place, case)?;
@@ -115,7 +121,8 @@ fn put_case(
     place: usize,
     case: &Case,
 ) -> Result<(), AllocError>
-    ensures { OnOk result (string_bytes text.new ≡ string_bytes text.old ++ case_line name.now repr place case.now.name case.now.docs) }
+    ensures { OnOk result (string_bytes text.new
+        ≡ string_bytes text.old ++ case_line name.now repr place case.now.name case.now.docs) }
 {
     put_comment(text, "", case.docs.as_str())?;
     put_define(text, name, case.name.as_str())?;

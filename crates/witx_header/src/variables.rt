@@ -19,7 +19,8 @@ pub fn put_variables(text: &mut String, variables: &[Variable]) -> Result<(), Al
 }
 
 fn put_first(text: &mut String, first: Variable, more: &[Variable]) -> Result<(), AllocError>
-    ensures { OnOk result (string_bytes text.new ≡ string_bytes text.old ++ (variable_text first ++ flat_map behind_comma more.now)) }
+    ensures { OnOk result (string_bytes text.new
+        ≡ string_bytes text.old ++ (variable_text first ++ flat_map behind_comma more.now)) }
 {
     put_variable(text, first)?;
     put_more(text, more)?;

@@ -43,7 +43,8 @@ fn prepare<S: Source>(alloc: Global, words: &[Text], source: &mut S) -> Result<O
 
 /// The output of a run over files: the header alone.
 fn output_of(alloc: Global, words: &[Text], files: &mut MockFs) -> Result<Output, Stop>
-    ensures output { IfOk result (λ o. (o.notes ≡ []) × (o.adapted ≡ None) × IsHeader files.old (paths_of words.now) o.text) }
+    ensures output { IfOk result (λ o. (o.notes ≡ []) × (o.adapted ≡ None)
+        × IsHeader files.old (paths_of words.now) o.text) }
     ensures stopped { IfErr result (StopsWith (HeaderFails files.old (paths_of words.now))) }
 {
     match header_of_files(alloc, words, files) {

@@ -45,7 +45,8 @@ pub fn put_line(
     params: &[WasmType],
     results: &[WasmType],
 ) -> Result<(), AllocError>
-    ensures { OnOk result (string_bytes text.new ≡ string_bytes text.old ++ import_words_line «module».now name.now params.now results.now) }
+    ensures { OnOk result (string_bytes text.new
+        ≡ string_bytes text.old ++ import_words_line «module».now name.now params.now results.now) }
 {
     text.push_str("(import ")?;
     put_names(text, module, name)?;

@@ -44,7 +44,10 @@ pub fn at_most_one_import_list_fault()
 /// The faults of imports are exactly those that one of the imports has, in the order of the imports,
 /// one at most for each: nothing that is offered has its names, or the first that does is another one.
 pub fn import_faults_are_exact()
-    ensures only { (offered imports : List WasmImport) (f : ImportFault) → In f (import_faults offered imports) → IsFaultAmong offered imports f }
-    ensures all { (offered imports : List WasmImport) (f : ImportFault) → IsFaultAmong offered imports f → In f (import_faults offered imports) }
-    ensures ordered { (offered imports : List WasmImport) → AllPairs (λ f g. import_number f < import_number g) (import_faults offered imports) }
+    ensures only { (offered imports : List WasmImport) (f : ImportFault)
+        → In f (import_faults offered imports) → IsFaultAmong offered imports f }
+    ensures all { (offered imports : List WasmImport) (f : ImportFault) → IsFaultAmong offered imports f
+        → In f (import_faults offered imports) }
+    ensures ordered { (offered imports : List WasmImport)
+        → AllPairs (λ f g. import_number f < import_number g) (import_faults offered imports) }
 {}

@@ -91,7 +91,8 @@ pub trait Bindgen {
         requires results { results.old.items ≡ [] }
         ensures filled { OnOk result (vec_len results.new ≡ results_count (step_of inst.now)) }
         ensures event { told self.new ≡ told_after result (emit (step_of inst.now)) (told self.old) }
-        ensures call { calls self.new ≡ told_after result (emitted (step_of inst.now) operands.old.items results.new.items) (calls self.old) }
+        ensures call { calls self.new ≡ told_after result
+            (emitted (step_of inst.now) operands.old.items results.new.items) (calls self.old) }
         ensures cause { Counts (is_fault result) (faults self.old) (faults self.new) };
 
     /// Makes room for a result of this type, under the number of a slot.

@@ -71,7 +71,8 @@ impl Bindgen for FailingBindgen {
         requires results { results.old.items ≡ [] }
         ensures filled { OnOk result (vec_len results.new ≡ results_count (step_of inst.now)) }
         ensures zeros { OnOk result (All (λ operand. operand ≡ 0) results.new.items) }
-        ensures event { Some (map event_of self.new.trace.events) ≡ told_after result (emit (step_of inst.now)) (Some (map event_of self.old.trace.events)) }
+        ensures event { Some (map event_of self.new.trace.events)
+            ≡ told_after result (emit (step_of inst.now)) (Some (map event_of self.old.trace.events)) }
         ensures call { None ≡ told_after result (emitted (step_of inst.now) operands.old.items results.new.items) None }
         ensures cause { Counts (is_fault result) self.old.calls.faults self.new.calls.faults }
         ensures fails { is_fault result ≡ fails_next self.old.calls }
@@ -94,7 +95,8 @@ impl Bindgen for FailingBindgen {
     }
 
     fn push_block(&mut self) -> Result<(), BindgenError>
-        ensures event { Some (map event_of self.new.trace.events) ≡ told_after result push (Some (map event_of self.old.trace.events)) }
+        ensures event { Some (map event_of self.new.trace.events)
+            ≡ told_after result push (Some (map event_of self.old.trace.events)) }
         ensures call { None ≡ told_after {A = GeneratorCall ℕ} result began None }
         ensures cause { Counts (is_fault result) self.old.calls.faults self.new.calls.faults }
         ensures fails { is_fault result ≡ fails_next self.old.calls }
@@ -105,7 +107,8 @@ impl Bindgen for FailingBindgen {
     }
 
     fn finish_block(&mut self, operand: Option<u8>) -> Result<(), BindgenError>
-        ensures event { Some (map event_of self.new.trace.events) ≡ told_after result (finish (is_some operand)) (Some (map event_of self.old.trace.events)) }
+        ensures event { Some (map event_of self.new.trace.events)
+            ≡ told_after result (finish (is_some operand)) (Some (map event_of self.old.trace.events)) }
         ensures call { None ≡ told_after result (ended operand) None }
         ensures cause { Counts (is_fault result) self.old.calls.faults self.new.calls.faults }
         ensures fails { is_fault result ≡ fails_next self.old.calls }

@@ -18,7 +18,8 @@ use witx_base::OutOfMemory;
 
 /// Makes room for what the return pointers point to, and pushes their addresses.
 pub fn make_spaces<'a>(plan: &mut Plan<'a>, pointers: &Pointers<'a>) -> Result<(), OutOfMemory>
-    ensures { IfOk result (λ _. planned_events plan.new ≡ planned_events plan.old ++ traces.make_spaces 0 (pointer_types pointers.now)) }
+    ensures { IfOk result (λ _. planned_events plan.new
+        ≡ planned_events plan.old ++ traces.make_spaces 0 (pointer_types pointers.now)) }
 {
     for (slot, pointer) in pointers.as_slice().iter().enumerate() {
         let ty = *pointer;
@@ -54,7 +55,8 @@ fn lift_ok<'a>(
     pointers: &Pointers<'a>,
 ) -> Result<(), OutOfMemory>
     requires { pointer_types pointers.now ≡ ok_pointers (payload_tree ok) }
-    ensures { IfOk result (λ _. planned_events plan.new ≡ planned_events plan.old ++ traces.ok_lifted (payload_tree ok.entry)) }
+    ensures { IfOk result (λ _. planned_events plan.new
+        ≡ planned_events plan.old ++ traces.ok_lifted (payload_tree ok.entry)) }
 {
     match ok {
         Some(tref) => {
@@ -78,7 +80,8 @@ fn pack<'a>(plan: &mut Plan<'a>, tref: &TypeRef, amt: usize) -> Result<(), OutOf
 
 /// Loads through all return pointers, in order.
 pub fn load_all<'a>(plan: &mut Plan<'a>, pointers: &Pointers<'a>) -> Result<(), OutOfMemory>
-    ensures { IfOk result (λ _. planned_events plan.new ≡ planned_events plan.old ++ traces.load_all 0 (pointer_types pointers.now)) }
+    ensures { IfOk result (λ _. planned_events plan.new
+        ≡ planned_events plan.old ++ traces.load_all 0 (pointer_types pointers.now)) }
 {
     for (n, pointer) in pointers.as_slice().iter().enumerate() {
         let ty = *pointer;

@@ -51,7 +51,8 @@ pub fn add<'a>(plan: &mut Plan<'a>, event: Planned<'a>) -> Result<(), OutOfMemor
 /// Appends an instruction to the plan.
 #[tactic(auto, using(crate::proofs::Plans::plan_rules))]
 pub fn put<'a>(plan: &mut Plan<'a>, instruction: Instruction<'a>) -> Result<(), OutOfMemory>
-    ensures { IfOk result (λ _. planned_events plan.new ≡ planned_events plan.old ++ machine.emit (step_of instruction.entry) ∷ []) }
+    ensures { IfOk result (λ _. planned_events plan.new
+        ≡ planned_events plan.old ++ machine.emit (step_of instruction.entry) ∷ []) }
 {
     add(plan, Planned::Emit(instruction))
 }
@@ -62,7 +63,8 @@ pub fn play<B: Bindgen>(alloc: Global, plan: &Plan<'_>, bindgen: &mut B) -> Resu
     ensures events { OnOk result (B.told bindgen.new ≡ told_further (B.told bindgen.old) (planned_events plan.now)) }
     ensures front { OnErr result (TellsFront (planned_events plan.now) (B.told bindgen.old) (B.told bindgen.new)) }
     ensures operands { OnOk result (OperandsInOrder (planned_events plan.now) (B.calls bindgen.old) (B.calls bindgen.new)) }
-    ensures front_operands { OnErr result (FrontInOrder (planned_events plan.now) (B.calls bindgen.old) (B.calls bindgen.new) []) }
+    ensures front_operands { OnErr result
+        (FrontInOrder (planned_events plan.now) (B.calls bindgen.old) (B.calls bindgen.new) []) }
     ensures place { unlowerable_place result ≡ None }
     ensures cause { Counts (is_bindgen_fault result) (B.faults bindgen.old) (B.faults bindgen.new) }
 {
@@ -84,8 +86,10 @@ fn play_one<B: Bindgen>(
     ensures height { OnOk result (height_after (planned_event planned.now) (vec_len stack.old) ≡ Some (vec_len stack.new)) }
     ensures event { OnOk result (B.told bindgen.new ≡ told_further (B.told bindgen.old) (planned_event planned.now ∷ [])) }
     ensures front { OnErr result (TellsFront (planned_event planned.now ∷ []) (B.told bindgen.old) (B.told bindgen.new)) }
-    ensures operands { OnOk result (InOrder (planned_event planned.now ∷ []) (B.calls bindgen.old) (B.calls bindgen.new) stack.old.items stack.new.items) }
-    ensures front_operands { OnErr result (FrontInOrder (planned_event planned.now ∷ []) (B.calls bindgen.old) (B.calls bindgen.new) stack.old.items) }
+    ensures operands { OnOk result (InOrder (planned_event planned.now
+        ∷ []) (B.calls bindgen.old) (B.calls bindgen.new) stack.old.items stack.new.items) }
+    ensures front_operands { OnErr result (FrontInOrder (planned_event planned.now
+        ∷ []) (B.calls bindgen.old) (B.calls bindgen.new) stack.old.items) }
     ensures cause { Counts (is_fault result) (B.faults bindgen.old) (B.faults bindgen.new) }
 {
     match planned {
@@ -103,8 +107,10 @@ fn finish<B: Bindgen>(stack: &mut Vec<B::Operand>, bindgen: &mut B) -> Result<()
     ensures height { OnOk result (height_after (machine.finish true) (vec_len stack.old) ≡ Some (vec_len stack.new)) }
     ensures event { OnOk result (B.told bindgen.new ≡ told_further (B.told bindgen.old) (machine.finish true ∷ [])) }
     ensures front { OnErr result (TellsFront (machine.finish true ∷ []) (B.told bindgen.old) (B.told bindgen.new)) }
-    ensures operands { OnOk result (InOrder (machine.finish true ∷ []) (B.calls bindgen.old) (B.calls bindgen.new) stack.old.items stack.new.items) }
-    ensures front_operands { OnErr result (FrontInOrder (machine.finish true ∷ []) (B.calls bindgen.old) (B.calls bindgen.new) stack.old.items) }
+    ensures operands { OnOk result (InOrder (machine.finish true
+        ∷ []) (B.calls bindgen.old) (B.calls bindgen.new) stack.old.items stack.new.items) }
+    ensures front_operands { OnErr result (FrontInOrder (machine.finish true
+        ∷ []) (B.calls bindgen.old) (B.calls bindgen.new) stack.old.items) }
     ensures cause { Counts (is_fault result) (B.faults bindgen.old) (B.faults bindgen.new) }
 {
     let operand = stack.pop();
@@ -119,12 +125,16 @@ fn emit<B: Bindgen>(
     bindgen: &mut B,
 ) -> Result<(), BindgenError>
     requires { operands_count (step_of instruction.now) ≤ vec_len stack.old }
-    ensures height { OnOk result (height_after (machine.emit (step_of instruction.now)) (vec_len stack.old) ≡ Some (vec_len stack.new)) }
-    ensures event { OnOk result (B.told bindgen.new ≡ told_further (B.told bindgen.old) (machine.emit (step_of instruction.now) ∷ [])) }
-    ensures front { OnErr result (TellsFront (machine.emit (step_of instruction.now) ∷ []) (B.told bindgen.old) (B.told bindgen.new)) }
+    ensures height { OnOk result (height_after (machine.emit (step_of instruction.now)) (vec_len stack.old)
+        ≡ Some (vec_len stack.new)) }
+    ensures event { OnOk result (B.told bindgen.new
+        ≡ told_further (B.told bindgen.old) (machine.emit (step_of instruction.now) ∷ [])) }
+    ensures front { OnErr result (TellsFront (machine.emit (step_of instruction.now)
+        ∷ []) (B.told bindgen.old) (B.told bindgen.new)) }
     ensures operands { OnOk result
         (InOrder (machine.emit (step_of instruction.now) ∷ []) (B.calls bindgen.old) (B.calls bindgen.new) stack.old.items stack.new.items) }
-    ensures front_operands { OnErr result (FrontInOrder (machine.emit (step_of instruction.now) ∷ []) (B.calls bindgen.old) (B.calls bindgen.new) stack.old.items) }
+    ensures front_operands { OnErr result (FrontInOrder (machine.emit (step_of instruction.now)
+        ∷ []) (B.calls bindgen.old) (B.calls bindgen.new) stack.old.items) }
     ensures cause { Counts (is_fault result) (B.faults bindgen.old) (B.faults bindgen.new) }
 {
     let rest = stack.len() - instruction.operands_len();

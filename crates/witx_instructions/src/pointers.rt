@@ -83,7 +83,8 @@ fn ok_pointers<'a>(alloc: Global, ok: Option<&'a TypeRef>) -> Result<Pointers<'a
 #[tactic(auto, using(witx_ast::proofs::TreeKinds::kind_rules, crate::proofs::PointerTypes::pointer_rules))]
 fn push_pointers<'a>(pointers: &mut Pointers<'a>, tref: &'a TypeRef) -> Result<(), OutOfMemory>
     requires { can_be_ok (Some (tree_of tref.now)) ≡ true }
-    ensures { IfOk result (λ _. pointer_types pointers.new ≡ pointer_types pointers.old ++ ok_pointers (Some (tree_of tref.now))) }
+    ensures { IfOk result (λ _. pointer_types pointers.new
+        ≡ pointer_types pointers.old ++ ok_pointers (Some (tree_of tref.now))) }
 {
     match tuple_members(tref) {
         Some(members) => push_members(pointers, members),
@@ -94,7 +95,8 @@ fn push_pointers<'a>(pointers: &mut Pointers<'a>, tref: &'a TypeRef) -> Result<(
 #[tactic(auto, using(crate::proofs::PointerTypes::pointer_rules))]
 fn push_members<'a>(pointers: &mut Pointers<'a>, members: &'a Members) -> Result<(), OutOfMemory>
     requires { all_names (map (λ m. tree_of m.tref) members.now) ≡ true }
-    ensures { IfOk result (λ _. pointer_types pointers.new ≡ pointer_types pointers.old ++ map (λ m. tree_of m.tref) members.now) }
+    ensures { IfOk result (λ _. pointer_types pointers.new
+        ≡ pointer_types pointers.old ++ map (λ m. tree_of m.tref) members.now) }
 {
     for member in members.as_slice() {
         push_named(pointers, &member.tref)?;

@@ -72,7 +72,8 @@ impl Bindgen for Trace {
         requires results { results.old.items ≡ [] }
         ensures filled { OnOk result (vec_len results.new ≡ results_count (step_of inst.now)) }
         ensures zeros { OnOk result (All (λ operand. operand ≡ 0) results.new.items) }
-        ensures event { Some (map event_of self.new.events) ≡ told_after result (emit (step_of inst.now)) (Some (map event_of self.old.events)) }
+        ensures event { Some (map event_of self.new.events)
+            ≡ told_after result (emit (step_of inst.now)) (Some (map event_of self.old.events)) }
         ensures call { None ≡ told_after result (emitted (step_of inst.now) _operands.old.items results.new.items) None }
         ensures cause { Counts (is_fault result) 0 0 }
     {
@@ -94,7 +95,8 @@ impl Bindgen for Trace {
     }
 
     fn finish_block(&mut self, operand: Option<u8>) -> Result<(), BindgenError>
-        ensures event { Some (map event_of self.new.events) ≡ told_after result (finish (is_some operand)) (Some (map event_of self.old.events)) }
+        ensures event { Some (map event_of self.new.events)
+            ≡ told_after result (finish (is_some operand)) (Some (map event_of self.old.events)) }
         ensures call { None ≡ told_after result (ended operand) None }
         ensures cause { Counts (is_fault result) 0 0 }
     {

@@ -55,7 +55,8 @@ pub(crate) fn read_flags<'a>(
     count: usize,
     text: &'a [u8],
 ) -> Result<(Bools, &'a [u8]), ReadError>
-    ensures { ReadAs (taken (λ bs. bs)) (option_and_then (closed 93) (option_and_then (flags_read 0 count) (past 91 text.now))) result }
+    ensures { ReadAs (taken (λ bs. bs))
+        (option_and_then (closed 93) (option_and_then (flags_read 0 count) (past 91 text.now))) result }
 {
     let Some(inside) = after(b'[', text) else {
         return Err(ReadError::NoValue);

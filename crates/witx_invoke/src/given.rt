@@ -39,8 +39,10 @@ pub fn read_values(
 ) -> Result<GivenValues, ValuesError>
     requires single { length func.now.results ≤ 1 }
     requires fits { function_fits (func_tree func.now) ≡ true }
-    ensures given { IfOk result (λ given. Gives (function_of (func_tree func.now)) text.now (map seen given.args) (option_map seen given.reply)) }
-    ensures line { (n : ℕ) → result ≡ Err (ValuesError.Line n) → FirstFault 1 (line_types (function_of (func_tree func.now))) text.now n }
+    ensures given { IfOk result (λ given. Gives (function_of (func_tree func.now)) text.now
+        (map seen given.args) (option_map seen given.reply)) }
+    ensures line { (n : ℕ) → result ≡ Err (ValuesError.Line n)
+        → FirstFault 1 (line_types (function_of (func_tree func.now))) text.now n }
 {
     check_types(alloc, func)?;
     let params = func.params.as_slice();
@@ -69,7 +71,8 @@ fn read_lines<'a>(
     requires few { before + length params.now < 2 ^ 64 }
     requires fits { types_fit (map param_field params.now) ≡ true }
     ensures read { IfOk result (λ p. AreLines (line_param_types params.now) text.now (map seen p.0) p.1.now) }
-    ensures line { (n : ℕ) → result ≡ Err (ValuesError.Line n) → (more : List Tree) → FirstFault (before + 1) (line_param_types params.now ++ more) text.now n }
+    ensures line { (n : ℕ) → result ≡ Err (ValuesError.Line n) → (more : List Tree)
+        → FirstFault (before + 1) (line_param_types params.now ++ more) text.now n }
 {
     let mut values = Values::new(alloc);
     let mut rest = text;

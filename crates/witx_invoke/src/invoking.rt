@@ -44,7 +44,8 @@ pub fn invoke(
     args: &Values,
     reply: Option<&Value>,
 ) -> Result<Invoked, InvokeError>
-    requires { CanRun entry.now.module.value.name (called entry.now.func.value) (map event_of entry.now.caller.events) (map event_of entry.now.callee.events)
+    requires { CanRun entry.now.module.value.name (called entry.now.func.value)
+        (map event_of entry.now.caller.events) (map event_of entry.now.callee.events)
         (map seen args.now) (reply_of seen reply) }
     ensures answer { IfOk result (IsAnswer entry.now.module.value.name (called entry.now.func.value)
         (map event_of entry.now.caller.events) (map event_of entry.now.callee.events) (map seen args.now) (reply_of seen reply.entry)) }
@@ -72,7 +73,8 @@ fn invoke_traces(
     args: &[Value],
     reply: Option<&Value>,
 ) -> Result<Invoked, InvokeError>
-    requires { CanRun owner.now (called func.now) (map event_of caller.now) (map event_of callee.now) (map seen args.now) (reply_of seen reply) }
+    requires { CanRun owner.now (called func.now) (map event_of caller.now) (map event_of callee.now)
+        (map seen args.now) (reply_of seen reply) }
     ensures answer { IfOk result
         (IsAnswer owner.now (called func.now) (map event_of caller.now) (map event_of callee.now) (map seen args.now) (reply_of seen reply.entry)) }
     ensures refused { IfErr result

@@ -89,7 +89,8 @@ pub(crate) fn lift_flags(
     named: &NamedType,
     word: Word,
 ) -> Result<Option<Value>, OutOfMemory>
-    ensures { IfOk result (λ value. option_map seen value ≡ cells.lift (flags_by ty (named_tree named.now)) (word_view word)) }
+    ensures { IfOk result (λ value. option_map seen value
+        ≡ cells.lift (flags_by ty (named_tree named.now)) (word_view word)) }
 {
     let Some((repr, count)) = flags_repr(&named.tref) else {
         return Ok(None);

@@ -26,7 +26,8 @@ pub(crate) fn load(
     ty: &NamedType,
     word: Word,
 ) -> Result<Option<Value>, OutOfMemory>
-    ensures { IfOk result (λ value. option_map seen value ≡ placing.get (named_tree ty.now) (word_view word) (room_of placement.now)) }
+    ensures { IfOk result (λ value. option_map seen value
+        ≡ placing.get (named_tree ty.now) (word_view word) (room_of placement.now)) }
 {
     let Some(at) = i32_number(word) else {
         return Ok(None);

@@ -158,7 +158,8 @@ pub(crate) fn lower_flags(
     named: &NamedType,
     value: &Value,
 ) -> Result<Option<Word>, OutOfMemory>
-    ensures { IfOk result (λ word. option_map word_view word ≡ cells.lower (flags_of ty (named_tree named.now)) (seen value.now)) }
+    ensures { IfOk result (λ word. option_map word_view word
+        ≡ cells.lower (flags_of ty (named_tree named.now)) (seen value.now)) }
 {
     let Some((repr, _count)) = flags_repr(&named.tref) else {
         return Ok(None);
@@ -193,7 +194,8 @@ fn flags_word(repr: IntRepr, value: &Value) -> Result<Option<Word>, OutOfMemory>
 }
 
 fn flags_number(repr: IntRepr, flags: &[bool]) -> Result<Option<Word>, OutOfMemory>
-    ensures { IfOk result (λ word. option_map word_view word ≡ Some (record { type = type_of_word repr; bits = bits_of_flags flags.now })) }
+    ensures { IfOk result (λ word. option_map word_view word
+        ≡ Some (record { type = type_of_word repr; bits = bits_of_flags flags.now })) }
 {
     match bits_of(flags) {
         Some(bits) => Ok(Some(Word {

@@ -21,7 +21,8 @@ pub(crate) fn picks(
     err: Option<&TypeRef>,
     value: Value,
 ) -> Result<Option<Picked<Value>>, OutOfMemory>
-    ensures { IfOk result (λ picked. option_map (picked_of seen) picked ≡ cells.picks (type_tree ok.entry) (type_tree err.entry) (seen value)) }
+    ensures { IfOk result (λ picked. option_map (picked_of seen) picked
+        ≡ cells.picks (type_tree ok.entry) (type_tree err.entry) (seen value)) }
 {
     match value {
         Value::Case(case, payload) => pick_case(ok, err, case, payload),
@@ -63,7 +64,8 @@ fn pick(
     ty: Option<&TypeRef>,
     payload: Option<Box<Value>>,
 ) -> Result<Option<Picked<Value>>, OutOfMemory>
-    ensures { IfOk result (λ picked. option_map (picked_of seen) picked ≡ picked_case error (type_tree ty.entry) (option_map seen_in payload)) }
+    ensures { IfOk result (λ picked. option_map (picked_of seen) picked
+        ≡ picked_case error (type_tree ty.entry) (option_map seen_in payload)) }
 {
     match (ty, payload) {
         (None, None) => Ok(Some(Picked {
@@ -85,7 +87,8 @@ fn pick_value(
     ty: &TypeRef,
     value: Box<Value>,
 ) -> Result<Option<Picked<Value>>, OutOfMemory>
-    ensures { IfOk result (λ picked. option_map (picked_of seen) picked ≡ picked_case error (Some (tree_of ty.now)) (Some (seen_in value))) }
+    ensures { IfOk result (λ picked. option_map (picked_of seen) picked
+        ≡ picked_case error (Some (tree_of ty.now)) (Some (seen_in value))) }
 {
     if !is_value(ty, &value) {
         drop(value);

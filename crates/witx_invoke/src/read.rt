@@ -81,7 +81,8 @@ fn read_bits<'a>(
     members: &[RecordMember],
     text: &'a [u8],
 ) -> Result<(Value, &'a [u8]), ReadError>
-    ensures { (r : IntRepr) → ReadAs (taken seen) (type_at (record_of (RecordKind.Bitflags r) (members_plain members.now)) text.now) result }
+    ensures { (r : IntRepr) → ReadAs (taken seen)
+        (type_at (record_of (RecordKind.Bitflags r) (members_plain members.now)) text.now) result }
 {
     let (flags, rest) = read_flags(alloc, members.len(), text)?;
     Ok((Value::Flags(flags), rest))
@@ -124,7 +125,8 @@ fn read_enclosed<'a>(
     text: &'a [u8],
     deep: u32,
 ) -> Result<(Values, &'a [u8]), ReadError>
-    ensures { ReadAs (taken values_seen) (option_and_then (closed 41) (option_and_then (members_at 0 (members_plain members.now)) (past 40 text.now))) result }
+    ensures { ReadAs (taken values_seen) (option_and_then (closed 41)
+        (option_and_then (members_at 0 (members_plain members.now)) (past 40 text.now))) result }
 {
     let Some(inside) = after(b'(', text) else {
         return Err(ReadError::NoValue);
@@ -198,7 +200,8 @@ fn read_cases<'a>(
     text: &'a [u8],
     deep: u32,
 ) -> Result<(Value, &'a [u8]), ReadError>
-    ensures { ReadAs (taken seen) (cases_at (all_bare (cases_plain cases.now)) (payload_at (cases_plain cases.now)) text.now) result }
+    ensures { ReadAs (taken seen)
+        (cases_at (all_bare (cases_plain cases.now)) (payload_at (cases_plain cases.now)) text.now) result }
 {
     if are_bare(cases) {
         return read_enum(text);
@@ -218,7 +221,8 @@ fn read_carrying<'a>(
     text: &'a [u8],
     deep: u32,
 ) -> Result<(Value, &'a [u8]), ReadError>
-    ensures { (s : List ℕ) → ReadAs (taken seen) (case_behind (Some text.now) (payload_at (cases_plain cases.now)) s) result }
+    ensures { (s : List ℕ)
+        → ReadAs (taken seen) (case_behind (Some text.now) (payload_at (cases_plain cases.now)) s) result }
 {
     let Some((case, behind)) = read_index(text) else {
         return Err(ReadError::NoValue);

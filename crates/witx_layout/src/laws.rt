@@ -45,7 +45,8 @@ pub fn members_lie_apart(record_type: &RecordDatatype)
 /// if they were a plain record.
 #[tactic(auto, using(crate::proofs::LawProofs::law_rules))]
 pub fn offsets_are_multiples(record_type: &RecordDatatype)
-    ensures { let members = members_plain (out-RecordDatatype record_type.now).members in AreMultiples (offsets 0 members) members }
+    ensures { let members = members_plain (out-RecordDatatype record_type.now).members in
+        AreMultiples (offsets 0 members) members }
 {}
 
 /// The payload of each case lies behind the tag, at a multiple of its alignment, and ends within the

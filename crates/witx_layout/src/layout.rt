@@ -46,7 +46,8 @@ pub trait Layout {
 
     /// The size and the alignment.
     fn mem_size_align(&self) -> Result<SizeAlign, TooLarge>
-        ensures exact { IfOk result (λ v. (v.size ≡ size_of (plain_tree self.now)) × (v.align ≡ align_of (plain_tree self.now))) }
+        ensures exact { IfOk result (λ v. (v.size ≡ size_of (plain_tree self.now))
+            × (v.align ≡ align_of (plain_tree self.now))) }
         ensures too_large { IsErr result ↔ (2 ^ 64 ≤ size_of (plain_tree self.now)) };
 
     /// The size.

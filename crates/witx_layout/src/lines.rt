@@ -24,8 +24,10 @@ use witx_base::{OutOfMemory, Text};
 /// where names are looked through. It is too large exactly where the size of a typename is.
 pub fn layouts_text(alloc: Global, document: &Document) -> Result<Text, LayoutError>
     ensures text { IfOk result (λ text. text ≡ text_of_layouts (map definition_tree document.now.definitions)) }
-    ensures fits { OnOk result (All (λ size. size < 2 ^ 64) (typename_sizes (map definition_tree document.now.definitions))) }
-    ensures too_large { result ≡ Err LayoutError.TooLarge → Any (λ size. 2 ^ 64 ≤ size) (typename_sizes (map definition_tree document.now.definitions)) }
+    ensures fits { OnOk result
+        (All (λ size. size < 2 ^ 64) (typename_sizes (map definition_tree document.now.definitions))) }
+    ensures too_large { result ≡ Err LayoutError.TooLarge
+        → Any (λ size. 2 ^ 64 ≤ size) (typename_sizes (map definition_tree document.now.definitions)) }
 {
     let mut out = String::new(alloc);
     put_typenames(alloc, &mut out, document.definitions().as_slice())?;
@@ -39,9 +41,11 @@ fn put_typenames(
     out: &mut String,
     definitions: &[Definition],
 ) -> Result<(), LayoutError>
-    ensures text { OnOk result (string_bytes out.new ≡ string_bytes out.old ++ text_of_layouts (map definition_tree definitions.now)) }
+    ensures text { OnOk result (string_bytes out.new
+        ≡ string_bytes out.old ++ text_of_layouts (map definition_tree definitions.now)) }
     ensures fits { OnOk result (All (λ size. size < 2 ^ 64) (typename_sizes (map definition_tree definitions.now))) }
-    ensures too_large { result ≡ Err LayoutError.TooLarge → Any (λ size. 2 ^ 64 ≤ size) (typename_sizes (map definition_tree definitions.now)) }
+    ensures too_large { result ≡ Err LayoutError.TooLarge
+        → Any (λ size. 2 ^ 64 ≤ size) (typename_sizes (map definition_tree definitions.now)) }
 {
     for definition in definitions {
         put_definition(alloc, out, definition)?;
@@ -55,9 +59,11 @@ fn put_definition(
     out: &mut String,
     definition: &Definition,
 ) -> Result<(), LayoutError>
-    ensures lines { OnOk result (string_bytes out.new ≡ string_bytes out.old ++ definition_lines (definition_tree definition.now)) }
+    ensures lines { OnOk result (string_bytes out.new
+        ≡ string_bytes out.old ++ definition_lines (definition_tree definition.now)) }
     ensures fits { OnOk result (All (λ size. size < 2 ^ 64) (definition_sizes (definition_tree definition.now))) }
-    ensures too_large { result ≡ Err LayoutError.TooLarge → Any (λ size. 2 ^ 64 ≤ size) (definition_sizes (definition_tree definition.now)) }
+    ensures too_large { result ≡ Err LayoutError.TooLarge
+        → Any (λ size. 2 ^ 64 ≤ size) (definition_sizes (definition_tree definition.now)) }
 {
     match definition {
         Definition::Typename(named) => put_typename(alloc, out, named),
@@ -68,7 +74,8 @@ fn put_definition(
 /// The line of a typename, and below it the lines of its parts.
 #[tactic(auto, using(crate::proofs::Written::line_rules))]
 fn put_typename(alloc: Global, out: &mut String, named: &NamedType) -> Result<(), LayoutError>
-    ensures lines { OnOk result (string_bytes out.new ≡ string_bytes out.old ++ typename_lines named.now.name (plain (named_tree named.now))) }
+    ensures lines { OnOk result (string_bytes out.new
+        ≡ string_bytes out.old ++ typename_lines named.now.name (plain (named_tree named.now))) }
     ensures fits { OnOk result (size_of (plain (named_tree named.now)) < 2 ^ 64) }
     ensures too_large { result ≡ Err LayoutError.TooLarge → 2 ^ 64 ≤ size_of (plain (named_tree named.now)) }
 {
@@ -80,7 +87,8 @@ fn put_typename(alloc: Global, out: &mut String, named: &NamedType) -> Result<()
 /// The lines of a type's parts: a record's members, flags' representation, a variant's tag and payload.
 #[tactic(auto, using(crate::proofs::Written::line_rules))]
 fn put_parts(alloc: Global, out: &mut String, datatype: &Datatype) -> Result<(), LayoutError>
-    ensures lines { OnOk result (string_bytes out.new ≡ string_bytes out.old ++ part_lines (plain (datatype_tree datatype.now))) }
+    ensures lines { OnOk result (string_bytes out.new
+        ≡ string_bytes out.old ++ part_lines (plain (datatype_tree datatype.now))) }
     ensures too_large { result ≡ Err LayoutError.TooLarge → 2 ^ 64 ≤ size_of (plain (datatype_tree datatype.now)) }
 {
     match datatype {
@@ -106,7 +114,8 @@ fn put_members(
 ) -> Result<(), LayoutError>
     ensures lines { OnOk result (string_bytes out.new ≡ string_bytes out.old
         ++ field_lines (members_plain (out-RecordDatatype record_type.now).members) (offsets 0 (members_plain (out-RecordDatatype record_type.now).members))) }
-    ensures too_large { result ≡ Err LayoutError.TooLarge → 2 ^ 64 ≤ members_end 0 (members_plain (out-RecordDatatype record_type.now).members) }
+    ensures too_large { result ≡ Err LayoutError.TooLarge
+        → 2 ^ 64 ≤ members_end 0 (members_plain (out-RecordDatatype record_type.now).members) }
 {
     let layouts = record_type.member_layout(alloc)?;
     put_fields(out, layouts.as_slice())?;
@@ -126,7 +135,8 @@ fn put_fields(out: &mut String, layouts: &[RecordMemberLayout]) -> Result<(), Ou
 
 /// Appends `typename NAME size S align A`.
 pub fn put_numbers(out: &mut String, name: &str, numbers: SizeAlign) -> Result<(), OutOfMemory>
-    ensures { OnOk result (string_bytes out.new ≡ string_bytes out.old ++ typename_line name.now numbers.size numbers.align) }
+    ensures { OnOk result (string_bytes out.new
+        ≡ string_bytes out.old ++ typename_line name.now numbers.size numbers.align) }
 {
     let size = numbers.size;
     let align = numbers.align;

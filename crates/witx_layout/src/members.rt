@@ -60,9 +60,11 @@ pub trait RecordMembers {
     /// It is too large exactly where an offset is; the end of the last member doesn't count.
     fn member_layout(&self, alloc: Global) -> Result<MemberLayouts<'_>, LayoutError>
         ensures members { IfOk result (λ layouts. map (λ m. m.member.now) layouts ≡ members self.now) }
-        ensures begins { IfOk result (λ layouts. map (λ m. m.offset) layouts ≡ offsets_from 0 (members_plain (members self.now))) }
+        ensures begins { IfOk result (λ layouts. map (λ m. m.offset) layouts
+            ≡ offsets_from 0 (members_plain (members self.now))) }
         ensures fits { OnOk result (All (λ offset. offset < 2 ^ 64) (offsets_from 0 (members_plain (members self.now)))) }
-        ensures too_large { result ≡ Err LayoutError.TooLarge → Any (λ offset. 2 ^ 64 ≤ offset) (offsets_from 0 (members_plain (members self.now))) };
+        ensures too_large { result ≡ Err LayoutError.TooLarge
+            → Any (λ offset. 2 ^ 64 ≤ offset) (offsets_from 0 (members_plain (members self.now))) };
 }
 
 impl RecordMembers for RecordDatatype {
@@ -81,7 +83,8 @@ fn placed<'a>(alloc: Global, members: &'a [RecordMember]) -> Result<MemberLayout
     ensures members { IfOk result (λ layouts. map (λ m. m.member.now) layouts ≡ members.now) }
     ensures begins { IfOk result (λ layouts. map (λ m. m.offset) layouts ≡ offsets_from 0 (members_plain members.now)) }
     ensures fits { OnOk result (All (λ offset. offset < 2 ^ 64) (offsets_from 0 (members_plain members.now))) }
-    ensures too_large { result ≡ Err LayoutError.TooLarge → Any (λ offset. 2 ^ 64 ≤ offset) (offsets_from 0 (members_plain members.now)) }
+    ensures too_large { result ≡ Err LayoutError.TooLarge
+        → Any (λ offset. 2 ^ 64 ≤ offset) (offsets_from 0 (members_plain members.now)) }
 {
     let mut layouts = MemberLayouts::new(alloc);
     let mut end = Some(0);
@@ -106,7 +109,8 @@ fn next_begin(end: Option<usize>, alignment: usize) -> Option<usize>
 
 /// Where a part ends that begins at the offset; none where that exceeds `usize::MAX`.
 fn end_of(offset: usize, tref: &TypeRef) -> Option<usize>
-    ensures { MatchOption result (2 ^ 64 ≤ offset + size_of (plain (tree_of tref.now))) (λ n. n ≡ offset + size_of (plain (tree_of tref.now))) }
+    ensures { MatchOption result (2 ^ 64 ≤ offset + size_of (plain (tree_of tref.now))) (λ n. n
+        ≡ offset + size_of (plain (tree_of tref.now))) }
 {
     match tref.mem_size() {
         Ok(size) => offset.checked_add(size),

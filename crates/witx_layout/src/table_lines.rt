@@ -40,8 +40,10 @@ type Lines = NameMap<Text>;
 pub fn ordered_layouts_text(alloc: Global, document: &Document) -> Result<Text, LayoutError>
     requires ordered { IsOrdered (map definition_tree document.now.definitions) }
     ensures text { IfOk result (λ text. text ≡ text_of_layouts (map definition_tree document.now.definitions)) }
-    ensures fits { OnOk result (All (λ size. size < 2 ^ 64) (typename_sizes (map definition_tree document.now.definitions))) }
-    ensures too_large { result ≡ Err LayoutError.TooLarge → Any (λ size. 2 ^ 64 ≤ size) (typename_sizes (map definition_tree document.now.definitions)) }
+    ensures fits { OnOk result
+        (All (λ size. size < 2 ^ 64) (typename_sizes (map definition_tree document.now.definitions))) }
+    ensures too_large { result ≡ Err LayoutError.TooLarge
+        → Any (λ size. 2 ^ 64 ≤ size) (typename_sizes (map definition_tree document.now.definitions)) }
 {
     text_from::<Brand>(alloc, document, Blank::new(1))
 }
@@ -57,8 +59,10 @@ fn text_from<L: Ledger>(
     requires parts { blank.parts ≡ L.parts }
     requires some { 0 < blank.parts }
     ensures text { IfOk result (λ text. text ≡ text_of_layouts (map definition_tree document.now.definitions)) }
-    ensures fits { OnOk result (All (λ size. size < 2 ^ 64) (typename_sizes (map definition_tree document.now.definitions))) }
-    ensures too_large { result ≡ Err LayoutError.TooLarge → Any (λ size. 2 ^ 64 ≤ size) (typename_sizes (map definition_tree document.now.definitions)) }
+    ensures fits { OnOk result
+        (All (λ size. size < 2 ^ 64) (typename_sizes (map definition_tree document.now.definitions))) }
+    ensures too_large { result ≡ Err LayoutError.TooLarge
+        → Any (λ size. 2 ^ 64 ≤ size) (typename_sizes (map definition_tree document.now.definitions)) }
 {
     names_are_distinct(document);
     let mut steps = Steps::<L>::new(blank);
@@ -82,9 +86,11 @@ fn put_all<L: Ledger>(
 ) -> Result<(), LayoutError>
     requires ordered { IsOrdered (map definition_tree definitions.now) }
     requires distinct { IsDistinct same_text (keys_of (by_name introduced (map definition_tree definitions.now))) }
-    ensures text { OnOk result (string_bytes out.new ≡ string_bytes out.old ++ text_of_layouts (map definition_tree definitions.now)) }
+    ensures text { OnOk result (string_bytes out.new
+        ≡ string_bytes out.old ++ text_of_layouts (map definition_tree definitions.now)) }
     ensures fits { OnOk result (All (λ size. size < 2 ^ 64) (typename_sizes (map definition_tree definitions.now))) }
-    ensures too_large { result ≡ Err LayoutError.TooLarge → Any (λ size. 2 ^ 64 ≤ size) (typename_sizes (map definition_tree definitions.now)) }
+    ensures too_large { result ≡ Err LayoutError.TooLarge
+        → Any (λ size. 2 ^ 64 ≤ size) (typename_sizes (map definition_tree definitions.now)) }
 {
     let mut table = NameMap::new(alloc);
     let mut lines = NameMap::new(alloc);
@@ -109,9 +115,11 @@ fn put_known<L: Ledger>(
     requires lined { DefinitionHasLines lines.old (definition_tree definition.now) }
     ensures table { OnOk result (IsEntered table.old (definition_tree definition.now) table.new) }
     ensures kept { OnOk result (IsLined lines.old (definition_tree definition.now) lines.new) }
-    ensures lines { OnOk result (string_bytes out.new ≡ string_bytes out.old ++ definition_lines (definition_tree definition.now)) }
+    ensures lines { OnOk result (string_bytes out.new
+        ≡ string_bytes out.old ++ definition_lines (definition_tree definition.now)) }
     ensures fits { OnOk result (All (λ size. size < 2 ^ 64) (definition_sizes (definition_tree definition.now))) }
-    ensures too_large { result ≡ Err LayoutError.TooLarge → Any (λ size. 2 ^ 64 ≤ size) (definition_sizes (definition_tree definition.now)) }
+    ensures too_large { result ≡ Err LayoutError.TooLarge
+        → Any (λ size. 2 ^ 64 ≤ size) (definition_sizes (definition_tree definition.now)) }
 {
     let Definition::Typename(named) = definition else {
         return Ok(());
@@ -177,7 +185,8 @@ fn put_known_parts<L: Ledger>(
     steps: &mut Steps<L>,
 ) -> Result<(), LayoutError>
     requires { Knows table.now (datatype_tree datatype.now) }
-    ensures lines { OnOk result (string_bytes out.new ≡ string_bytes out.old ++ part_lines (plain (datatype_tree datatype.now))) }
+    ensures lines { OnOk result (string_bytes out.new
+        ≡ string_bytes out.old ++ part_lines (plain (datatype_tree datatype.now))) }
     ensures too_large { result ≡ Err LayoutError.TooLarge → 2 ^ 64 ≤ size_of (plain (datatype_tree datatype.now)) }
 {
     match datatype {
@@ -208,7 +217,8 @@ fn put_known_members<L: Ledger>(
     steps: &mut Steps<L>,
 ) -> Result<(), LayoutError>
     requires { KnowsFields table.now (fields_of (map member_field members.now)) }
-    ensures lines { OnOk result (string_bytes out.new ≡ string_bytes out.old ++ field_lines (members_plain members.now) (offsets 0 (members_plain members.now))) }
+    ensures lines { OnOk result (string_bytes out.new ≡ string_bytes out.old
+        ++ field_lines (members_plain members.now) (offsets 0 (members_plain members.now))) }
     ensures too_large { result ≡ Err LayoutError.TooLarge → 2 ^ 64 ≤ members_end 0 (members_plain members.now) }
 {
     let mut end = 0;
@@ -230,7 +240,8 @@ fn put_known_member<L: Ledger>(
     requires { Knows table.now (tree_of member.now.tref) }
     ensures line { OnOk result (string_bytes out.new ≡ string_bytes out.old
         ++ field_line member.now.name (rounded reached (align_of (plain (tree_of member.now.tref))))) }
-    ensures end { IfOk result (λ end. end ≡ rounded reached (align_of (plain (tree_of member.now.tref))) + size_of (plain (tree_of member.now.tref))) }
+    ensures end { IfOk result (λ end. end ≡ rounded reached
+        (align_of (plain (tree_of member.now.tref))) + size_of (plain (tree_of member.now.tref))) }
     ensures too_large { result ≡ Err LayoutError.TooLarge
         → 2 ^ 64 ≤ rounded reached (align_of (plain (tree_of member.now.tref))) + size_of (plain (tree_of member.now.tref)) }
 {

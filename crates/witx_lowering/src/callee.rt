@@ -29,7 +29,8 @@ pub fn plan_callee<'a>(
 ) -> Result<(), OutOfMemory>
     requires lowerable { unlowerable (called func.now) ≡ None }
     requires pointers { pointer_types pointers.now ≡ return_pointers (called func.now) }
-    ensures { IfOk result (λ _. planned_events plan.new ≡ planned_events plan.old ++ traces.callee_events module_name.now (called func.now)) }
+    ensures { IfOk result (λ _. planned_events plan.new
+        ≡ planned_events plan.old ++ traces.callee_events module_name.now (called func.now)) }
 {
     let first = lift_params(plan, &func.params)?;
     let module = module_name.as_str();
@@ -53,7 +54,8 @@ fn word_count(func: &InterfaceFunc) -> usize
 // Answers the number of words: that of the first return pointer.
 fn lift_params<'a>(plan: &mut Plan<'a>, params: &'a Params) -> Result<usize, OutOfMemory>
     requires { position (λ t. not (can_be_param t)) (param_types params.now) ≡ None }
-    ensures events { IfOk result (λ _. planned_events plan.new ≡ planned_events plan.old ++ traces.lift_params 0 (param_types params.now)) }
+    ensures events { IfOk result (λ _. planned_events plan.new
+        ≡ planned_events plan.old ++ traces.lift_params 0 (param_types params.now)) }
     ensures words { IfOk result (λ words. words ≡ length (words_of_params (param_types params.now))) }
 {
     let mut word = 0;
@@ -67,7 +69,8 @@ fn lift_params<'a>(plan: &mut Plan<'a>, params: &'a Params) -> Result<usize, Out
 // Gets the words of a parameter, and answers the number of the next word. So many words that they
 // can't be numbered have no place in memory either.
 fn get_words<'a>(plan: &mut Plan<'a>, word: usize, tref: &TypeRef) -> Result<usize, OutOfMemory>
-    ensures events { IfOk result (λ _. planned_events plan.new ≡ planned_events plan.old ++ traces.get_args word (param_words (plain (tree_of tref.now)))) }
+    ensures events { IfOk result (λ _. planned_events plan.new
+        ≡ planned_events plan.old ++ traces.get_args word (param_words (plain (tree_of tref.now)))) }
     ensures next { IfOk result (λ next. next ≡ word + length (param_words (plain (tree_of tref.now)))) }
 {
     put(plan, Instruction::GetArg { nth: word })?;
@@ -88,7 +91,8 @@ fn lower_results<'a>(
 ) -> Result<(), OutOfMemory>
     requires lowerable { unlowerable_result abi (param_types results.now) ≡ None }
     requires pointers { pointer_types pointers.now ≡ pointers_under abi (param_types results.now) }
-    ensures { IfOk result (λ _. planned_events plan.new ≡ planned_events plan.old ++ traces.lower_under abi first (param_types results.now)) }
+    ensures { IfOk result (λ _. planned_events plan.new
+        ≡ planned_events plan.old ++ traces.lower_under abi first (param_types results.now)) }
 {
     match abi {
         Abi::Preview1 => lower_first(plan, results, first, pointers),
@@ -104,7 +108,8 @@ fn lower_first<'a>(
 ) -> Result<(), OutOfMemory>
     requires lowerable { unlowerable_result Preview1 (param_types results.now) ≡ None }
     requires pointers { pointer_types pointers.now ≡ pointers_of (param_types results.now) }
-    ensures { IfOk result (λ _. planned_events plan.new ≡ planned_events plan.old ++ traces.lower_of first (param_types results.now)) }
+    ensures { IfOk result (λ _. planned_events plan.new
+        ≡ planned_events plan.old ++ traces.lower_of first (param_types results.now)) }
 {
     match results.get(0) {
         Some(only) => lower_result(plan, &only.tref, first, pointers),
@@ -120,7 +125,8 @@ fn lower_result<'a>(
 ) -> Result<(), OutOfMemory>
     requires lowerable { can_be_result Preview1 (tree_of tref.now) ≡ true }
     requires pointers { pointer_types pointers.now ≡ pointers_by (result_cases (tree_of tref.now)) }
-    ensures { IfOk result (λ _. planned_events plan.new ≡ planned_events plan.old ++ traces.lower_by (result_cases (tree_of tref.now)) first (tree_of tref.now)) }
+    ensures { IfOk result (λ _. planned_events plan.new ≡ planned_events plan.old
+        ++ traces.lower_by (result_cases (tree_of tref.now)) first (tree_of tref.now)) }
 {
     match result_cases(tref) {
         Some(variant) => lower_cases(plan, ok_type(variant), err_type(variant), first, pointers),
@@ -137,7 +143,8 @@ fn lower_cases<'a>(
 ) -> Result<(), OutOfMemory>
     requires err { can_be_err (payload_tree err) ≡ true }
     requires pointers { pointer_types pointers.now ≡ ok_pointers (payload_tree ok) }
-    ensures { IfOk result (λ _. planned_events plan.new ≡ planned_events plan.old ++ traces.lower_cases (payload_tree ok.entry) (payload_tree err.entry) first) }
+    ensures { IfOk result (λ _. planned_events plan.new ≡ planned_events plan.old
+        ++ traces.lower_cases (payload_tree ok.entry) (payload_tree err.entry) first) }
 {
     lower_ok_block(plan, ok, first, pointers)?;
     lower_err_block(plan, err)?;
@@ -151,7 +158,8 @@ fn lower_ok_block<'a>(
     pointers: &Pointers<'a>,
 ) -> Result<(), OutOfMemory>
     requires { pointer_types pointers.now ≡ ok_pointers (payload_tree ok) }
-    ensures { IfOk result (λ _. planned_events plan.new ≡ planned_events plan.old ++ traces.block_events (traces.ok_lowered first (payload_tree ok.entry)) false) }
+    ensures { IfOk result (λ _. planned_events plan.new ≡ planned_events plan.old
+        ++ traces.block_events (traces.ok_lowered first (payload_tree ok.entry)) false) }
 {
     add(plan, Planned::Push)?;
     lower_ok(plan, ok, first, pointers)?;
@@ -165,7 +173,8 @@ fn lower_ok<'a>(
     pointers: &Pointers<'a>,
 ) -> Result<(), OutOfMemory>
     requires { pointer_types pointers.now ≡ ok_pointers (payload_tree ok) }
-    ensures { IfOk result (λ _. planned_events plan.new ≡ planned_events plan.old ++ traces.ok_lowered first (payload_tree ok.entry)) }
+    ensures { IfOk result (λ _. planned_events plan.new
+        ≡ planned_events plan.old ++ traces.ok_lowered first (payload_tree ok.entry)) }
 {
     match ok {
         Some(tref) => {
@@ -194,7 +203,8 @@ fn store_all<'a>(
     first: usize,
     pointers: &Pointers<'a>,
 ) -> Result<(), OutOfMemory>
-    ensures { IfOk result (λ _. planned_events plan.new ≡ planned_events plan.old ++ traces.store_all first (pointer_types pointers.now)) }
+    ensures { IfOk result (λ _. planned_events plan.new
+        ≡ planned_events plan.old ++ traces.store_all first (pointer_types pointers.now)) }
 {
     let types = pointers.as_slice();
     let mut left = types.len();
@@ -225,7 +235,8 @@ fn lower_err_block<'a>(plan: &mut Plan<'a>, err: Option<&'a TypeRef>) -> Result<
 
 fn lower_err<'a>(plan: &mut Plan<'a>, err: Option<&'a TypeRef>) -> Result<(), OutOfMemory>
     requires { can_be_err (payload_tree err) ≡ true }
-    ensures { IfOk result (λ _. planned_events plan.new ≡ planned_events plan.old ++ traces.err_lowered (payload_tree err.entry)) }
+    ensures { IfOk result (λ _. planned_events plan.new
+        ≡ planned_events plan.old ++ traces.err_lowered (payload_tree err.entry)) }
 {
     match err {
         Some(tref) => {

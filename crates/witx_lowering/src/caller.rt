@@ -31,7 +31,8 @@ pub fn plan_caller<'a>(
     requires pointers { pointer_types pointers.now ≡ return_pointers (called func.now) }
     requires params { params.now ≡ signature_params (called func.now) }
     requires results { results.now ≡ signature_results (called func.now) }
-    ensures { IfOk result (λ _. planned_events plan.new ≡ planned_events plan.old ++ traces.caller_events module_name.now (called func.now)) }
+    ensures { IfOk result (λ _. planned_events plan.new
+        ≡ planned_events plan.old ++ traces.caller_events module_name.now (called func.now)) }
 {
     lower_params(plan, &func.params)?;
     make_spaces(plan, pointers)?;
@@ -53,7 +54,8 @@ pub fn plan_caller<'a>(
 
 fn lower_params<'a>(plan: &mut Plan<'a>, params: &'a Params) -> Result<(), OutOfMemory>
     requires { position (λ t. not (can_be_param t)) (param_types params.now) ≡ None }
-    ensures { IfOk result (λ _. planned_events plan.new ≡ planned_events plan.old ++ traces.lower_params 0 (param_types params.now)) }
+    ensures { IfOk result (λ _. planned_events plan.new
+        ≡ planned_events plan.old ++ traces.lower_params 0 (param_types params.now)) }
 {
     for (nth, param) in params.as_slice().iter().enumerate() {
         put(plan, Instruction::GetArg { nth })?;
@@ -70,7 +72,8 @@ fn lift_results<'a>(
 ) -> Result<(), OutOfMemory>
     requires lowerable { unlowerable_result abi (param_types results.now) ≡ None }
     requires pointers { pointer_types pointers.now ≡ pointers_under abi (param_types results.now) }
-    ensures { IfOk result (λ _. planned_events plan.new ≡ planned_events plan.old ++ traces.lift_under abi (param_types results.now)) }
+    ensures { IfOk result (λ _. planned_events plan.new
+        ≡ planned_events plan.old ++ traces.lift_under abi (param_types results.now)) }
 {
     match abi {
         Abi::Preview1 => lift_first(plan, results, pointers),
@@ -85,7 +88,8 @@ fn lift_first<'a>(
 ) -> Result<(), OutOfMemory>
     requires lowerable { unlowerable_result Preview1 (param_types results.now) ≡ None }
     requires pointers { pointer_types pointers.now ≡ pointers_of (param_types results.now) }
-    ensures { IfOk result (λ _. planned_events plan.new ≡ planned_events plan.old ++ traces.lift_of (param_types results.now)) }
+    ensures { IfOk result (λ _. planned_events plan.new
+        ≡ planned_events plan.old ++ traces.lift_of (param_types results.now)) }
 {
     match results.get(0) {
         Some(only) => lift_result(plan, &only.tref, pointers),
@@ -100,7 +104,8 @@ fn lift_result<'a>(
 ) -> Result<(), OutOfMemory>
     requires lowerable { can_be_result Preview1 (tree_of tref.now) ≡ true }
     requires pointers { pointer_types pointers.now ≡ pointers_by (result_cases (tree_of tref.now)) }
-    ensures { IfOk result (λ _. planned_events plan.new ≡ planned_events plan.old ++ traces.lift_by (result_cases (tree_of tref.now)) (tree_of tref.now)) }
+    ensures { IfOk result (λ _. planned_events plan.new
+        ≡ planned_events plan.old ++ traces.lift_by (result_cases (tree_of tref.now)) (tree_of tref.now)) }
 {
     match result_cases(tref) {
         Some(variant) => lift_cases(plan, ok_type(variant), err_type(variant), pointers),
@@ -116,7 +121,8 @@ fn lift_cases<'a>(
 ) -> Result<(), OutOfMemory>
     requires err { can_be_err (payload_tree err) ≡ true }
     requires pointers { pointer_types pointers.now ≡ ok_pointers (payload_tree ok) }
-    ensures { IfOk result (λ _. planned_events plan.new ≡ planned_events plan.old ++ traces.lift_cases (payload_tree ok.entry) (payload_tree err.entry)) }
+    ensures { IfOk result (λ _. planned_events plan.new
+        ≡ planned_events plan.old ++ traces.lift_cases (payload_tree ok.entry) (payload_tree err.entry)) }
 {
     lift_ok_block(plan, ok, pointers)?;
     lift_err_block(plan, err)?;
@@ -140,7 +146,8 @@ fn lift_err_block<'a>(plan: &mut Plan<'a>, err: Option<&'a TypeRef>) -> Result<(
 
 fn lift_err<'a>(plan: &mut Plan<'a>, err: Option<&'a TypeRef>) -> Result<(), OutOfMemory>
     requires { can_be_err (payload_tree err) ≡ true }
-    ensures { IfOk result (λ _. planned_events plan.new ≡ planned_events plan.old ++ traces.err_lifted (payload_tree err.entry)) }
+    ensures { IfOk result (λ _. planned_events plan.new
+        ≡ planned_events plan.old ++ traces.err_lifted (payload_tree err.entry)) }
 {
     match err {
         Some(tref) => {

@@ -23,7 +23,8 @@ pub fn words_in(alloc: Global, func: &InterfaceFunc) -> Result<WasmTypes, OutOfM
 
 // A word for each return pointer.
 fn push_pointers(words: &mut WasmTypes, abi: Abi, results: &Params) -> Result<(), OutOfMemory>
-    ensures { IfOk result (λ _. words.new ≡ words.old ++ map (λ t. WasmType.I32) (pointers_under abi (param_types results.now))) }
+    ensures { IfOk result (λ _. words.new
+        ≡ words.old ++ map (λ t. WasmType.I32) (pointers_under abi (param_types results.now))) }
 {
     match abi {
         Abi::Preview1 => push_ok_pointers(words, results),

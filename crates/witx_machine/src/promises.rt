@@ -14,7 +14,8 @@ ghost use Rattle.witx_machine.specs.Outcomes.{AtMostOneOutcome};
 /// The two traces of a function that can be lowered, and whose types fit their tags, are faithful:
 /// caller against callee passes any arguments and brings any reply back.
 pub fn traces_are_faithful()
-    ensures { (module_name : List ℕ) (func : FunctionTree) → IsTrue (lowerable (function_of func)) → IsTrue (function_fits func) →
+    ensures { (module_name : List ℕ) (func : FunctionTree) → IsTrue (lowerable (function_of func))
+        → IsTrue (function_fits func) →
         Faithful module_name (function_of func) (caller_events module_name (function_of func)) (callee_events module_name (function_of func)) }
 {}
 

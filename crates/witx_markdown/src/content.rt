@@ -49,7 +49,8 @@ impl MdNamedType {
         name: &str,
         docs: &str,
     ) -> Result<MdNamedType, OutOfMemory>
-        ensures { IfOk result (λ n. n ≡ record { heading = heading; id = id.now; name = name.now; docs = docs.now; ty = None }) }
+        ensures { IfOk result (λ n. n
+            ≡ record { heading = heading; id = id.now; name = name.now; docs = docs.now; ty = None }) }
     {
         let id = Text::new(alloc, id)?;
         let name = Text::new(alloc, name)?;
@@ -90,7 +91,8 @@ impl MdFunc {
         name: &str,
         docs: &str,
     ) -> Result<MdFunc, OutOfMemory>
-        ensures { IfOk result (λ f. f ≡ record { heading = heading; id = id.now; name = name.now; inputs = []; outputs = []; docs = docs.now }) }
+        ensures { IfOk result (λ f. f ≡ record
+            { heading = heading; id = id.now; name = name.now; inputs = []; outputs = []; docs = docs.now }) }
     {
         let id = Text::new(alloc, id)?;
         let name = Text::new(alloc, name)?;

@@ -143,7 +143,8 @@ pub fn placed<'a>(
     requires { FieldNamesKnown names (fields_of (map member_field members.now)) }
     ensures members { IfOk result (λ layouts. map (λ m. m.member.now) layouts ≡ members.now) }
     ensures begins { IfOk result (λ layouts. map (λ m. m.offset) layouts ≡ offsets 0 (members_plain members.now)) }
-    ensures fits { OnOk result (align_to (members_end 0 (members_plain members.now)) (members_align (members_plain members.now)) < 2 ^ 64) }
+    ensures fits { OnOk result (align_to (members_end 0 (members_plain members.now))
+        (members_align (members_plain members.now)) < 2 ^ 64) }
     ensures too_large { result ≡ Err LayoutError.TooLarge
         → 2 ^ 64 ≤ align_to (members_end 0 (members_plain members.now)) (members_align (members_plain members.now)) }
 {

@@ -19,7 +19,8 @@ pub type KnownIds = NameMap<()>;
 
 /// The ids of contents.
 pub fn known_ids(alloc: Global, contents: &[MdContent]) -> Result<KnownIds, OutOfMemory>
-    ensures { IfOk result (λ known. (id : List ℕ) → list_any (same_text id) (keys_of known) ≡ list_any (same_text id) (ids contents.now)) }
+    ensures { IfOk result (λ known. (id : List ℕ)
+        → list_any (same_text id) (keys_of known) ≡ list_any (same_text id) (ids contents.now)) }
 {
     let mut known = KnownIds::new(alloc);
     for content in contents {

@@ -65,7 +65,11 @@ impl MdTree {
     pub fn new_child(&mut self, parent: usize, item: MdContent) -> Result<usize, OutOfMemory>
         requires { parent < length self.old.contents }
         ensures number { IfOk result (λ number. number ≡ length self.old.contents) }
-        ensures child { OnOk result (self.new ≡ record { parents = self.old.parents ++ Some parent ∷ []; contents = self.old.contents ++ item ∷ [] }) }
+        ensures child { OnOk result (self.new ≡ record {
+          parents = self.old.parents
+              ++ Some parent ∷ [];
+          contents = self.old.contents ++ item ∷ [];
+        }) }
         ensures unchanged { OnErr result (self.new ≡ self.old) }
     {
         let number = self.contents.len();
@@ -138,7 +142,11 @@ pub fn header_below(tree: &MdTree, node: usize) -> MdHeading
 #[tactic(auto, using(crate::proofs::Ancestry::tree_rules))]
 pub fn graft(tree: &mut MdTree, branch: Branch) -> Result<(), OutOfMemory>
     requires { HaveParents (length tree.old.contents) branch.parents × (length branch.contents ≡ length branch.parents) }
-    ensures nodes { OnOk result (tree.new ≡ record { parents = tree.old.parents ++ branch.parents; contents = tree.old.contents ++ branch.contents }) }
+    ensures nodes { OnOk result (tree.new ≡ record {
+      parents = tree.old.parents
+          ++ branch.parents;
+      contents = tree.old.contents ++ branch.contents;
+    }) }
     ensures unchanged { OnErr result (tree.new ≡ tree.old) }
 {
     let number = tree.contents.len();
@@ -155,7 +163,8 @@ pub fn graft(tree: &mut MdTree, branch: Branch) -> Result<(), OutOfMemory>
 /// Appends the texts of these nodes, one after the other.
 fn put_nodes(out: &mut String, contents: &[MdContent], nodes: &[usize]) -> Result<(), OutOfMemory>
     requires { All (λ n. n < length contents.now) nodes.now }
-    ensures { OnOk result (string_bytes out.new ≡ string_bytes out.old ++ flat_map (λ n. content_text (content_at contents.now n)) nodes.now) }
+    ensures { OnOk result (string_bytes out.new
+        ≡ string_bytes out.old ++ flat_map (λ n. content_text (content_at contents.now n)) nodes.now) }
 {
     for node in nodes {
         put_content(out, &contents[*node])?;

@@ -18,10 +18,13 @@ use witx_walk::{WitxError, parse};
 /// itself. Where some files mean the document and it is plain, that is a document with equal entries once
 /// all documentation is emptied, or want of memory.
 pub fn print_and_parse(alloc: Global, document: &Document) -> Result<Document, WitxError>
-    ensures answer { IsSourceAnswer (printed.document_text (map definition_tree document.now.definitions)) (answer_of result) }
-    ensures verdict { IsSourceVerdict (printed.document_text (map definition_tree document.now.definitions)) (answer_of result) }
+    ensures answer { IsSourceAnswer (printed.document_text (map definition_tree document.now.definitions))
+        (answer_of result) }
+    ensures verdict { IsSourceVerdict (printed.document_text (map definition_tree document.now.definitions))
+        (answer_of result) }
     ensures one_file { IfErr result IsOfOneFile }
-    ensures reads_back { IsMeant (map definition_tree document.now.definitions) → IsPlain (map definition_tree document.now.definitions)
+    ensures reads_back { IsMeant (map definition_tree document.now.definitions)
+        → IsPlain (map definition_tree document.now.definitions)
         → IsReadBack (map definition_tree document.now.definitions) (answer_of result) }
 {
     printed_texts_mean_the_same();

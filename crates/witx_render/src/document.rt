@@ -26,7 +26,8 @@ pub fn document_text(alloc: Global, document: &Document) -> Result<Text, OutOfMe
 
 /// The value's expression and a line feed.
 fn put_line<T: ToSExpr>(alloc: Global, text: &mut String, value: &T) -> Result<(), OutOfMemory>
-    ensures { OnOk result (string_bytes text.new ≡ string_bytes text.old ++ (text_of (T.expression value.now) ++ codes "\n")) }
+    ensures { OnOk result (string_bytes text.new
+        ≡ string_bytes text.old ++ (text_of (T.expression value.now) ++ codes "\n")) }
 {
     let shown = value.to_sexpr(alloc)?;
     write!(text, "{shown}\n")?;
@@ -39,7 +40,8 @@ fn put_typenames(
     text: &mut String,
     definitions: &[Definition],
 ) -> Result<(), OutOfMemory>
-    ensures { OnOk result (string_bytes text.new ≡ string_bytes text.old ++ lines_where is_typename (map definition_tree definitions.now)) }
+    ensures { OnOk result (string_bytes text.new
+        ≡ string_bytes text.old ++ lines_where is_typename (map definition_tree definitions.now)) }
 {
     for definition in definitions {
         match definition {
@@ -60,7 +62,8 @@ fn put_modules(
     text: &mut String,
     definitions: &[Definition],
 ) -> Result<(), OutOfMemory>
-    ensures { OnOk result (string_bytes text.new ≡ string_bytes text.old ++ lines_where is_module (map definition_tree definitions.now)) }
+    ensures { OnOk result (string_bytes text.new
+        ≡ string_bytes text.old ++ lines_where is_module (map definition_tree definitions.now)) }
 {
     for definition in definitions {
         match definition {

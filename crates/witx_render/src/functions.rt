@@ -29,7 +29,8 @@ fn bare_import(
     name: &str,
     variant: ModuleImportVariant,
 ) -> Result<SExpr, OutOfMemory>
-    ensures { IfOk result (λ e. expr_view e ≡ vec (word (codes "import") ▹ quote name.now ▹ vec (word (codes "memory") ▹ nil) ▹ nil)) }
+    ensures { IfOk result (λ e. expr_view e
+        ≡ vec (word (codes "import") ▹ quote name.now ▹ vec (word (codes "memory") ▹ nil) ▹ nil)) }
 {
     let wanted = match variant {
         ModuleImportVariant::Memory => "memory",
@@ -96,7 +97,8 @@ fn push_params(
     text: &str,
     params: &[InterfaceFuncParam],
 ) -> Result<(), OutOfMemory>
-    ensures { OnOk result (map expr_view items.new ≡ map expr_view items.old ++ map (param_expr text.now) (map param_field params.now)) }
+    ensures { OnOk result (map expr_view items.new
+        ≡ map expr_view items.old ++ map (param_expr text.now) (map param_field params.now)) }
 {
     for param in params {
         items.push(param_sexpr(alloc, text, param)?)?;

@@ -57,7 +57,8 @@ fn push_imports(
     items: &mut SExprs,
     definitions: &[ModuleDefinition],
 ) -> Result<(), OutOfMemory>
-    ensures { OnOk result (map expr_view items.new ≡ map expr_view items.old ++ map item_expr (filter is_import (map item_tree definitions.now))) }
+    ensures { OnOk result (map expr_view items.new
+        ≡ map expr_view items.old ++ map item_expr (filter is_import (map item_tree definitions.now))) }
 {
     for definition in definitions {
         match definition {
@@ -78,7 +79,8 @@ fn push_funcs(
     items: &mut SExprs,
     definitions: &[ModuleDefinition],
 ) -> Result<(), OutOfMemory>
-    ensures { OnOk result (map expr_view items.new ≡ map expr_view items.old ++ map item_expr (filter is_func (map item_tree definitions.now))) }
+    ensures { OnOk result (map expr_view items.new
+        ≡ map expr_view items.old ++ map item_expr (filter is_func (map item_tree definitions.now))) }
 {
     for definition in definitions {
         match definition {

@@ -131,7 +131,8 @@ fn members_sexpr(
     kind: RecordKind,
     members: &[RecordMember],
 ) -> Result<SExpr, OutOfMemory>
-    ensures { IfOk result (λ e. expr_view e ≡ record_expr kind (exprs_of (map (member_item kind) (map member_field members.now)))) }
+    ensures { IfOk result (λ e. expr_view e
+        ≡ record_expr kind (exprs_of (map (member_item kind) (map member_field members.now)))) }
 {
     let mut items = record_head(alloc, kind)?;
     for member in members {
@@ -207,7 +208,8 @@ fn cases_sexpr(
     tag: IntRepr,
     cases: &[Case],
 ) -> Result<SExpr, OutOfMemory>
-    ensures { IfOk result (λ e. expr_view e ≡ variant_expr false is_enum tag (exprs_of (map (case_item is_enum) (map case_arm cases.now)))) }
+    ensures { IfOk result (λ e. expr_view e
+        ≡ variant_expr false is_enum tag (exprs_of (map (case_item is_enum) (map case_arm cases.now)))) }
 {
     let mut items = variant_head(alloc, is_enum, tag)?;
     for case in cases {
@@ -238,7 +240,8 @@ fn case_sexpr(alloc: Global, is_enum: bool, shown_case: &Case) -> Result<SExpr, 
 #[cycle(types)]
 #[tactic(auto, using(crate::proofs::TypesShown::shown_rules))]
 fn bare_case(alloc: Global, is_enum: bool, shown_case: &Case) -> Result<SExpr, OutOfMemory>
-    ensures { IfOk result (λ e. expr_view e ≡ case_expr is_enum shown_case.now.name (payload_exprs (option_map tree_of shown_case.now.tref))) }
+    ensures { IfOk result (λ e. expr_view e
+        ≡ case_expr is_enum shown_case.now.name (payload_exprs (option_map tree_of shown_case.now.tref))) }
 {
     if is_enum {
         return shown_case.name.to_sexpr(alloc);

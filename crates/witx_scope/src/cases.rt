@@ -84,7 +84,8 @@ impl TagNames {
 /// Puts a name at its place, unless it has one.
 #[tactic(auto, using(crate::proofs::NamePlaces::first_rules))]
 fn put_first(places: &mut Places, name: &Id, place: usize) -> Result<(), OutOfMemory>
-    ensures { (n : _) → OnOk result (found places.new n ≡ option_or (found places.old n) (cond (is_eq (slice_cmp nat_cmp name.now n)) (Some place) None)) }
+    ensures { (n : _) → OnOk result (found places.new n
+        ≡ option_or (found places.old n) (cond (is_eq (slice_cmp nat_cmp name.now n)) (Some place) None)) }
 {
     if places.get(name).is_some() {
         return Ok(());

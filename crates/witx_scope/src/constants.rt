@@ -121,8 +121,10 @@ fn checked_value(
     value: u64,
     largest: u64,
 ) -> Result<(), CheckError>
-    ensures ok { OnOk result (value_check name.now.name.now value ((here_of scope.now).place name.now.span.start) (Some largest) ≡ None) }
-    ensures fault { IfErr result (λ e. Blames e (value_check name.now.name.now value ((here_of scope.now).place name.now.span.start) (Some largest))) }
+    ensures ok { OnOk result (value_check name.now.name.now value
+        ((here_of scope.now).place name.now.span.start) (Some largest) ≡ None) }
+    ensures fault { IfErr result (λ e. Blames e (value_check name.now.name.now value
+        ((here_of scope.now).place name.now.span.start) (Some largest))) }
 {
     if value <= largest {
         Ok(())
@@ -140,7 +142,8 @@ pub fn checked_constant(
     requires { site.now.place ≡ place_at site.now decl.now.item.name }
     ensures ok { OnOk result (first_fault (checks_constant (kept_in tables.now) site.now decl.now.item) ≡ None) }
     ensures constant { IfOk result (λ c. c ≡ made_constant decl.now) }
-    ensures fault { IfErr result (λ e. Blames e (first_fault (checks_constant (kept_in tables.now) site.now decl.now.item))) }
+    ensures fault { IfErr result
+        (λ e. Blames e (first_fault (checks_constant (kept_in tables.now) site.now decl.now.item))) }
 {
     let scope = Scope {
         names: &tables.names,

@@ -193,7 +193,8 @@ pub fn known(alloc: Global, name: &Id, at: &SharedPlace, before: &SharedPlace) -
 
 /// The name stands inside the declaration already, at the offset `before`.
 pub fn known_mark(scope: &Scope<'_>, name: &Id, at: usize, before: usize) -> CheckError
-    ensures { Blames result (Some (fault.name_already_exists name.now ((here_of scope.now).place at) ((here_of scope.now).place before))) }
+    ensures { Blames result (Some (fault.name_already_exists name.now ((here_of scope.now).place at)
+        ((here_of scope.now).place before))) }
 {
     match (
         Text::new(scope.alloc, name.as_str()),

@@ -32,7 +32,8 @@ fn keep_place(
     key: ConstantName,
     place: SharedPlace,
 ) -> Result<(), OutOfMemory>
-    ensures places { (ty n : List ℕ) → OnOk result (constant_place places.new.entries ty n ≡ place_under places.old.entries key place ty n) }
+    ensures places { (ty n : List ℕ) → OnOk result (constant_place places.new.entries ty n
+        ≡ place_under places.old.entries key place ty n) }
     ensures unchanged { OnErr result (places.new.entries ≡ places.old.entries) }
 {
     places.insert(key, place)?;
@@ -48,8 +49,10 @@ fn keep_constant(
     constant: Constant,
     definitions: &mut Definitions,
 ) -> Result<(), OutOfMemory>
-    ensures appended { OnOk result (map definition_tree definitions.new ≡ map definition_tree definitions.old ++ constant_of constant ∷ []) }
-    ensures places { (ty n : List ℕ) → OnOk result (constant_place places.new.entries ty n ≡ place_with places.old.entries constant place ty n) }
+    ensures appended { OnOk result (map definition_tree definitions.new
+        ≡ map definition_tree definitions.old ++ constant_of constant ∷ []) }
+    ensures places { (ty n : List ℕ) → OnOk result (constant_place places.new.entries ty n
+        ≡ place_with places.old.entries constant place ty n) }
     ensures unchanged { OnErr result (definitions.new ≡ definitions.old) }
     ensures places_unchanged { OnErr result (places.new.entries ≡ places.old.entries) }
 {
@@ -74,9 +77,14 @@ pub fn take_constant(
 ) -> Result<(), CheckError>
     requires { site.place ≡ place_at site decl.now.item.name }
     ensures ok { OnOk result (first_fault (checks_constant (kept_in tables.old) site.entry decl.now.item) ≡ None) }
-    ensures appended { OnOk result (map definition_tree definitions.new ≡ map definition_tree definitions.old ++ constant_of (made_constant decl.now) ∷ []) }
-    ensures places { (ty n : List ℕ) → OnOk result (constant_place tables.new.constants.entries ty n ≡ place_with tables.old.constants.entries (made_constant decl.now) (place_at site.entry decl.now.item.name) ty n) }
-    ensures fault { IfErr result (λ e. Blames e (first_fault (checks_constant (kept_in tables.old) site.entry decl.now.item))) }
+    ensures appended { OnOk result (map definition_tree definitions.new
+        ≡ map definition_tree definitions.old ++ constant_of (made_constant decl.now) ∷ []) }
+    ensures places { (ty n : List ℕ)
+        → OnOk result (constant_place tables.new.constants.entries ty n
+        ≡ place_with tables.old.constants.entries (made_constant decl.now)
+        (place_at site.entry decl.now.item.name) ty n) }
+    ensures fault { IfErr result
+        (λ e. Blames e (first_fault (checks_constant (kept_in tables.old) site.entry decl.now.item))) }
     ensures unchanged { OnErr result (definitions.new ≡ definitions.old) }
     ensures places_unchanged { OnErr result (tables.new.constants.entries ≡ tables.old.constants.entries) }
     ensures names { tables.new.names ≡ tables.old.names }

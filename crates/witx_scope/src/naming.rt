@@ -16,7 +16,8 @@ pub fn named(
     comments: &CommentSyntax<'_>,
     alloc: Global,
 ) -> Result<NamedType, OutOfMemory>
-    ensures { IfOk result (λ made. made ≡ record { name = name; tref = tref; docs = documentation_of (comments_view comments.now) }) }
+    ensures { IfOk result (λ made. made
+        ≡ record { name = name; tref = tref; docs = documentation_of (comments_view comments.now) }) }
 {
     let docs = comments.docs(alloc)?;
     Ok(NamedType { name, tref, docs })

@@ -111,7 +111,8 @@ fn quoted(alloc: Global, words: &str, name: &str) -> Result<String, AllocError>
 
 /// The report of a repeated name, whose second place is the earlier one.
 fn repeated(alloc: Global, place: &str, message: &str, second: &str) -> Result<Text, OutOfMemory>
-    ensures { IfOk result (λ text. text ≡ place.now ++ (codes "\n" ++ (message.now ++ (codes "\nOriginally defined at:\n" ++ second.now)))) }
+    ensures { IfOk result (λ text. text
+        ≡ place.now ++ (codes "\n" ++ (message.now ++ (codes "\nOriginally defined at:\n" ++ second.now)))) }
 {
     let report = format!(in alloc; "{place}\n{message}\nOriginally defined at:\n{second}")?;
     Ok(Text::from_string(report))

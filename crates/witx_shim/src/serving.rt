@@ -27,8 +27,10 @@ use witx_machine::shims_are_faithful;
 pub fn shim(alloc: Global, poly: &FuncPolyfill) -> Result<Shim, ShimError>
     requires { function_view poly.now ≡ function_mapped (func_tree poly.now.new.value) (func_tree poly.now.old.value) }
     ensures refused { AnswersRefusal (refusal_of (function_view poly.now)) result }
-    ensures pass { IfOk result (λ made. words_passed (func_tree poly.now.old.value) (func_tree poly.now.new.value) ≡ Some made.pass) }
-    ensures arrives { IfOk result (λ made. EachArrives (func_tree poly.now.old.value) (func_tree poly.now.new.value) made.pass) }
+    ensures pass { IfOk result (λ made. words_passed (func_tree poly.now.old.value)
+        (func_tree poly.now.new.value) ≡ Some made.pass) }
+    ensures arrives { IfOk result
+        (λ made. EachArrives (func_tree poly.now.old.value) (func_tree poly.now.new.value) made.pass) }
 {
     shims_are_faithful();
     functions_are_read_as_their_trees();

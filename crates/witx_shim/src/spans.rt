@@ -58,7 +58,8 @@ impl Spans {
     /// The span of one more parameter, behind those of the others.
     #[tactic(auto, using(crate::proofs::SpanSteps::put_rules, crate::proofs::Names::refusal_rules))]
     fn add(&mut self, param: &InterfaceFuncParam) -> Result<(), ShimError>
-        ensures names { AnswersRefusal (cond (is_some (span_called self.old.by_name param.now.name)) (Some (repeated param.now.name)) None) result }
+        ensures names { AnswersRefusal (cond (is_some (span_called self.old.by_name param.now.name))
+            (Some (repeated param.now.name)) None) result }
         ensures spans { (name : List ℕ) → OnOk result (span_called self.new.by_name name
             ≡ cond (same_bytes param.now.name name) (Some (numbers self.old.count (length (param_words (plain (tree_of param.now.tref))))))
             (span_called self.old.by_name name)) }

@@ -132,7 +132,8 @@ impl Cells {
     /// address, or nothing stands there.
     #[tactic(auto, using(crate::proofs::CellLemmas::cell_rules))]
     pub fn get(&self, ty: &NamedType, word: &Word) -> Result<Option<Rc<Symbol>>, OutOfMemory>
-        ensures { IfOk result (λ symbol. option_of symbol ≡ get_symbol (named_tree ty.now) (word_seen word.now) (memory_of self.now)) }
+        ensures { IfOk result (λ symbol. option_of symbol
+            ≡ get_symbol (named_tree ty.now) (word_seen word.now) (memory_of self.now)) }
     {
         match word {
             Word::Given(k) => match self.cells.get(*k) {
@@ -151,7 +152,8 @@ impl Cells {
     /// it did; else nothing changes.
     #[tactic(auto, using(crate::proofs::CellLemmas::cell_rules))]
     pub fn set(&mut self, ty: &NamedType, word: &Word, symbol: Rc<Symbol>) -> bool
-        ensures stored { when result (Some (memory_of self.new)) ≡ set_symbol (named_tree ty.now) (word_seen word.now) (shared_of symbol) (memory_of self.old) }
+        ensures stored { when result (Some (memory_of self.new))
+            ≡ set_symbol (named_tree ty.now) (word_seen word.now) (shared_of symbol) (memory_of self.old) }
         ensures kept { result ≡ false → self.new ≡ self.old }
     {
         match word {

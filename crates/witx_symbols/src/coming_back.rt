@@ -204,7 +204,8 @@ fn member_count(ty: &TypeRef) -> usize
 }
 
 fn err_returns(err: Option<&TypeRef>, payload: &Symbol, cells: &Cells, words: &[Word]) -> bool
-    ensures { result ≡ err_returns (payload_tree err.entry) (symbol_of payload.now) (memory_of cells.now) (words_of words.now) }
+    ensures { result ≡ err_returns (payload_tree err.entry) (symbol_of payload.now) (memory_of cells.now)
+        (words_of words.now) }
 {
     match err {
         Some(ty) => param_are(cells, ty, payload, words),

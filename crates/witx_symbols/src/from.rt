@@ -35,7 +35,8 @@ pub(crate) fn parts_from(
     members: &[RecordMember],
     source: &Rc<Source>,
 ) -> Result<Vec<Rc<Symbol>>, OutOfMemory>
-    ensures { IfOk result (λ parts. symbols_read parts.items ≡ parts_from (members_plain members.now) (source_of source.now.value) 0) }
+    ensures { IfOk result (λ parts. symbols_read parts.items
+        ≡ parts_from (members_plain members.now) (source_of source.now.value) 0) }
 {
     let mut parts = Vec::new(alloc);
     for i in 0..members.len() {
@@ -50,7 +51,8 @@ fn part_from(
     whole: &Rc<Source>,
     place: usize,
 ) -> Result<Rc<Symbol>, OutOfMemory>
-    ensures { IfOk result (λ made. shared_of made ≡ symbol_from (plain (tree_of member.now.tref)) (part (source_of whole.now.value) place)) }
+    ensures { IfOk result (λ made. shared_of made
+        ≡ symbol_from (plain (tree_of member.now.tref)) (part (source_of whole.now.value) place)) }
 {
     let whole = Rc::clone(whole)?;
     let source = Rc::new(alloc, Source::Part { whole, place })?;

@@ -47,7 +47,8 @@ fn word_count(ty: &TypeRef) -> usize
 
 /// Whether these words are those of a value of a type: its address, or its own words.
 pub(crate) fn param_are(cells: &Cells, ty: &TypeRef, symbol: &Symbol, words: &[Word]) -> bool
-    ensures { result ≡ param_are (memory_of cells.now) (plain (tree_of ty.now)) (symbol_of symbol.now) (words_of words.now) }
+    ensures { result ≡ param_are (memory_of cells.now) (plain (tree_of ty.now)) (symbol_of symbol.now)
+        (words_of words.now) }
 {
     if is_by_address(ty) {
         holds_one(cells, symbol, words)

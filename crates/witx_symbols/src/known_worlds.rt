@@ -66,7 +66,8 @@ pub fn known(
     error: bool,
     payload: Option<&TypeRef>,
 ) -> Result<World, OutOfMemory>
-    ensures { IfOk result (λ world. world_of world ≡ world_known abi (shared_of reply.now) error (payload_tree payload.entry)) }
+    ensures { IfOk result (λ world. world_of world
+        ≡ world_known abi (shared_of reply.now) error (payload_tree payload.entry)) }
 {
     let load = payload_from(alloc, payload)?;
     Ok(World {

@@ -21,7 +21,8 @@ pub fn a_yes_is_faithful()
 
 /// The two traces that are defined for a function get a yes, where it can be lowered and its types fit their tags.
 pub fn own_traces_get_a_yes()
-    ensures { (module_name : List ℕ) (func : FunctionTree) → IsTrue (lowerable (function_of func)) → IsTrue (function_fits func) →
+    ensures { (module_name : List ℕ) (func : FunctionTree) → IsTrue (lowerable (function_of func))
+        → IsTrue (function_fits func) →
         verdict module_name (function_of func) (caller_events module_name (function_of func)) (callee_events module_name (function_of func)) ≡ Verdict.Yes }
 {}
 

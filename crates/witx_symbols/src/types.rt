@@ -64,7 +64,8 @@ fn members_alike(a: &[RecordMember], b: &[RecordMember]) -> bool
 
 #[cycle(alike)]
 fn member_alike(a: &RecordMember, b: &RecordMember) -> bool
-    ensures { result ≡ same_bytes a.now.name b.now.name && same_plain (plain (tree_of a.now.tref)) (plain (tree_of b.now.tref)) }
+    ensures { result ≡ same_bytes a.now.name b.now.name && same_plain (plain (tree_of a.now.tref))
+        (plain (tree_of b.now.tref)) }
 {
     a.name == b.name && alike(&a.tref, &b.tref)
 }
@@ -87,7 +88,8 @@ fn cases_alike(a: &[Case], b: &[Case]) -> bool
 
 #[cycle(alike)]
 fn case_alike(a: &Case, b: &Case) -> bool
-    ensures { result ≡ same_bytes a.now.name b.now.name && payloads_alike (option_map tree_of a.now.tref) (option_map tree_of b.now.tref) }
+    ensures { result ≡ same_bytes a.now.name b.now.name && payloads_alike (option_map tree_of a.now.tref)
+        (option_map tree_of b.now.tref) }
 {
     a.name == b.name && payloads_alike(&a.tref, &b.tref)
 }

@@ -67,7 +67,8 @@ fn same_atom(own: &Datatype, other: &Datatype) -> bool
 #[cycle(whole)]
 #[tactic(auto, using(crate::proofs::WholeLemmas::whole_rules))]
 fn same_tuple(members: &[RecordMember], other: &Datatype) -> bool
-    ensures { result ≡ same_whole (Plain.record_of RecordKind.Tuple (members_plain members.now)) (plain (datatype_tree other.now)) }
+    ensures { result ≡ same_whole (Plain.record_of RecordKind.Tuple (members_plain members.now))
+        (plain (datatype_tree other.now)) }
 {
     match other {
         Datatype::Record(record) => {
@@ -181,7 +182,8 @@ impl Origin<'_> {
 #[cycle(origin)]
 #[tactic(auto, using(crate::proofs::OriginLemmas::origin_rules))]
 pub(crate) fn origin_of<'a>(symbol: &'a Symbol, ty: &TypeRef) -> Origin<'a>
-    ensures { (z : symbols.Source) → same_symbol (symbol_of symbol.now) (symbol_from (plain (tree_of ty.now)) z) ≡ comes_from result z }
+    ensures { (z : symbols.Source)
+        → same_symbol (symbol_of symbol.now) (symbol_from (plain (tree_of ty.now)) z) ≡ comes_from result z }
 {
     match symbol {
         Symbol::Atom { source, ty: own } => origin_of_whole(source, own, ty),
@@ -196,7 +198,8 @@ pub(crate) fn origin_of<'a>(symbol: &'a Symbol, ty: &TypeRef) -> Origin<'a>
 
 #[tactic(auto, using(crate::proofs::OriginLemmas::origin_rules))]
 fn origin_of_whole<'a>(source: &'a Source, own: &TypeRef, ty: &TypeRef) -> Origin<'a>
-    ensures { (z : symbols.Source) → same_symbol (symbol_from (plain (tree_of own.now)) (source_of source.now)) (symbol_from (plain (tree_of ty.now)) z)
+    ensures { (z : symbols.Source) → same_symbol (symbol_from (plain (tree_of own.now))
+        (source_of source.now)) (symbol_from (plain (tree_of ty.now)) z)
         ≡ comes_from result z }
 {
     if !same_whole(own, ty) {
@@ -212,7 +215,8 @@ fn origin_of_whole<'a>(source: &'a Source, own: &TypeRef, ty: &TypeRef) -> Origi
 #[cycle(origin)]
 #[tactic(auto, using(crate::proofs::OriginLemmas::origin_rules))]
 fn origin_of_tuple<'a>(parts: &'a [Rc<Symbol>], datatype: &Datatype) -> Origin<'a>
-    ensures { (z : symbols.Source) → same_symbol (tuple (symbols_read parts.now)) (symbol_from (plain (datatype_tree datatype.now)) z) ≡ comes_from result z }
+    ensures { (z : symbols.Source) → same_symbol (tuple (symbols_read parts.now))
+        (symbol_from (plain (datatype_tree datatype.now)) z) ≡ comes_from result z }
 {
     match datatype {
         Datatype::Record(record) => {
@@ -234,7 +238,8 @@ fn origin_of_tuple<'a>(parts: &'a [Rc<Symbol>], datatype: &Datatype) -> Origin<'
 #[cycle(origin)]
 #[tactic(auto, using(crate::proofs::OriginLemmas::origin_rules))]
 fn origin_of_parts<'a>(parts: &'a [Rc<Symbol>], members: &[RecordMember]) -> Origin<'a>
-    ensures { (z : symbols.Source) → same_members (symbols_read parts.now) (parts_from (members_plain members.now) z 0) ≡ comes_from result z }
+    ensures { (z : symbols.Source) → same_members (symbols_read parts.now)
+        (parts_from (members_plain members.now) z 0) ≡ comes_from result z }
 {
     if parts.len() != members.len() {
         return Origin::Nowhere;

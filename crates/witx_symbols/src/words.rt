@@ -71,7 +71,8 @@ impl Word {
 
 /// The one word of a symbol by a conversion; none where its type doesn't have it.
 pub fn lower(conversion: &Conversion<'_>, symbol: &Rc<Symbol>) -> Result<Option<Word>, OutOfMemory>
-    ensures { IfOk result (λ word. option_map word_seen word ≡ lower_symbol (scalar_of conversion.now) (shared_of symbol.now)) }
+    ensures { IfOk result (λ word. option_map word_seen word
+        ≡ lower_symbol (scalar_of conversion.now) (shared_of symbol.now)) }
 {
     if converts(conversion, symbol) {
         Ok(Some(Word::Of {
@@ -101,7 +102,8 @@ pub fn lift(conversion: &Conversion<'_>, word: &Word) -> Result<Option<Rc<Symbol
 
 /// The address and the length of a symbol of a list type; none of another symbol.
 pub fn list_words(symbol: &Rc<Symbol>) -> Result<Option<(Word, Word)>, OutOfMemory>
-    ensures { IfOk result (λ words. option_map (λ p. (word_seen p.0, word_seen p.1)) words ≡ symbol_list_words (shared_of symbol.now)) }
+    ensures { IfOk result (λ words. option_map (λ p. (word_seen p.0, word_seen p.1)) words
+        ≡ symbol_list_words (shared_of symbol.now)) }
 {
     if is_a_list(symbol) {
         let address = Word::Address(Rc::clone(symbol)?);
@@ -148,7 +150,8 @@ pub fn parts_of(
     count: usize,
     symbol: &Symbol,
 ) -> Result<Option<Vec<Rc<Symbol>>>, OutOfMemory>
-    ensures { IfOk result (λ parts. option_map (λ vs. shared_symbols vs.items) parts ≡ symbol_parts count (symbol_of symbol.now)) }
+    ensures { IfOk result (λ parts. option_map (λ vs. shared_symbols vs.items) parts
+        ≡ symbol_parts count (symbol_of symbol.now)) }
 {
     match symbol {
         Symbol::Tuple(parts) => copied_parts(alloc, count, parts.as_slice()),
@@ -167,7 +170,8 @@ fn copied_parts(
     count: usize,
     parts: &[Rc<Symbol>],
 ) -> Result<Option<Vec<Rc<Symbol>>>, OutOfMemory>
-    ensures { IfOk result (λ copied. option_map (λ vs. shared_symbols vs.items) copied ≡ symbol_parts count (tuple (symbols_read parts.now))) }
+    ensures { IfOk result (λ copied. option_map (λ vs. shared_symbols vs.items) copied
+        ≡ symbol_parts count (tuple (symbols_read parts.now))) }
 {
     if parts.len() == count {
         Ok(Some(copies(alloc, parts)?))

@@ -160,7 +160,8 @@ fn payload_of(
     ty: Option<&TypeRef>,
     load: &Option<Rc<Symbol>>,
 ) -> Result<Option<Option<(Rc<Symbol>, Option<Rc<NamedType>>)>>, OutOfMemory>
-    ensures { IfOk result (λ payload. option_map payload_pair payload ≡ payload_is (type_tree ty.entry) (option_of load.now)) }
+    ensures { IfOk result (λ payload. option_map payload_pair payload
+        ≡ payload_is (type_tree ty.entry) (option_of load.now)) }
 {
     match (ty, load) {
         (None, None) => Ok(Some(None)),

@@ -50,11 +50,13 @@ pub fn types_are_compared_without_places<'a>()
 /// Declarations and what they are made of are equal exactly where they read the same without places,
 /// and a copy equals its original. Kinds of imports are equal where they are the same.
 pub fn declarations_are_compared_without_places<'a>()
-    ensures comments { Compares ⟦<CommentSyntax<'a> as PartialEq>⟧.eq ⟦<CommentSyntax<'a> as Duplicate>⟧.is_copy comments_view }
+    ensures comments { Compares ⟦<CommentSyntax<'a> as PartialEq>⟧.eq
+        ⟦<CommentSyntax<'a> as Duplicate>⟧.is_copy comments_view }
     ensures import_types { (a b : ImportTypeSyntax) → Decides (⟦<ImportTypeSyntax as PartialEq>⟧.eq a b) (a ≡ b) }
     ensures imports { Compares ⟦<ModuleImportSyntax as PartialEq>⟧.eq ⟦<ModuleImportSyntax as Duplicate>⟧.is_copy
         (λ x. unplaced_decl (decl_view (decl.Import x))) }
-    ensures functions { Compares ⟦<InterfaceFuncSyntax<'a> as PartialEq>⟧.eq ⟦<InterfaceFuncSyntax<'a> as Duplicate>⟧.is_copy
+    ensures functions { Compares ⟦<InterfaceFuncSyntax<'a> as PartialEq>⟧.eq
+        ⟦<InterfaceFuncSyntax<'a> as Duplicate>⟧.is_copy
         (λ x. unplaced_decl (decl_view (decl.Func x))) }
     ensures module_items { Compares ⟦<ModuleDeclSyntax<'a> as PartialEq>⟧.eq ⟦<ModuleDeclSyntax<'a> as Duplicate>⟧.is_copy
         (λ x. unplaced_decl (decl_view x)) }
@@ -62,7 +64,8 @@ pub fn declarations_are_compared_without_places<'a>()
         (λ x. unplaced_item (declaration_view (declaration.Typename x))) }
     ensures modules { Compares ⟦<ModuleSyntax<'a> as PartialEq>⟧.eq ⟦<ModuleSyntax<'a> as Duplicate>⟧.is_copy
         (λ x. unplaced_item (declaration_view (declaration.Module x))) }
-    ensures constants { Compares ⟦<ConstSyntax<'a> as PartialEq>⟧.eq ⟦<ConstSyntax<'a> as Duplicate>⟧.is_copy constant_reading }
+    ensures constants { Compares ⟦<ConstSyntax<'a> as PartialEq>⟧.eq ⟦<ConstSyntax<'a> as Duplicate>⟧.is_copy
+        constant_reading }
     ensures declarations { Compares ⟦<DeclSyntax<'a> as PartialEq>⟧.eq ⟦<DeclSyntax<'a> as Duplicate>⟧.is_copy
         (λ x. unplaced_item (declaration_view x)) }
     ensures items { Compares ⟦<TopLevelSyntax<'a> as PartialEq>⟧.eq ⟦<TopLevelSyntax<'a> as Duplicate>⟧.is_copy

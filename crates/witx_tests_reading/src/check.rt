@@ -203,7 +203,8 @@ fn document_of_one(
     decl: &DeclSyntax<'_>,
     comments: &CommentSyntax<'_>,
 ) -> Result<Document, CheckError>
-    ensures { IfOk result (λ d. map definition_tree d.definitions ≡ definition_alone (site text.now path.now comments.now decl.now) ∷ []) }
+    ensures { IfOk result (λ d. map definition_tree d.definitions
+        ≡ definition_alone (site text.now path.now comments.now decl.now) ∷ []) }
 {
     nothing_by_position();
     let mut definitions = Definitions::new(alloc);

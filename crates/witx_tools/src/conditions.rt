@@ -61,7 +61,8 @@ pub fn adapted_meets_conditions(adapted: &Adapted)
 /// Values that lines give a function that can be called: the call can be made, whichever reference holds the reply.
 pub fn given_values_meet_conditions(entry: &AdaptedFunc, lines: &str, given: &GivenValues)
     requires callable { IsCallable entry.now }
-    requires given { Gives (function_of (func_tree entry.now.func.value)) lines.now (map seen given.now.args) (option_map seen given.now.reply) }
+    requires given { Gives (function_of (func_tree entry.now.func.value)) lines.now (map seen given.now.args)
+        (option_map seen given.now.reply) }
     ensures { (reply : Option (Bor Value)) → option_map (λ v. v.now) reply ≡ given.now.reply
         → CanRun entry.now.module.value.name (called entry.now.func.value) (map event_of entry.now.caller.events) (map event_of entry.now.callee.events)
         (map seen given.now.args) (reply_of seen reply) }

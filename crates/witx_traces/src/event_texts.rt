@@ -157,7 +157,8 @@ fn read_number_step(
     word: NumberWord,
     tail: &str,
 ) -> Result<Option<Event>, OutOfMemory>
-    ensures { (types : Types) → IfOk result (λ o. SaidBy types (line_word.Number word) (Some tail.now) (option_map event_of o)) }
+    ensures { (types : Types)
+        → IfOk result (λ o. SaidBy types (line_word.Number word) (Some tail.now) (option_map event_of o)) }
 {
     match read_number(alloc, tail)? {
         Some(number) => Ok(Some(Event::Emit(number_step(word, number)))),
@@ -172,7 +173,8 @@ fn read_named_step(
     word: NamedWord,
     tail: &str,
 ) -> Result<Option<Event>, OutOfMemory>
-    ensures { IfOk result (λ o. SaidBy (known_in types.now) (line_word.Named word) (Some tail.now) (option_map event_of o)) }
+    ensures { IfOk result
+        (λ o. SaidBy (known_in types.now) (line_word.Named word) (Some tail.now) (option_map event_of o)) }
 {
     match types.typename(alloc, tail)? {
         Some(named) => Ok(Some(Event::Emit(named_step(word, named.clone()?)))),
@@ -187,7 +189,8 @@ fn read_shown_step(
     word: ShownWord,
     tail: &str,
 ) -> Result<Option<Event>, OutOfMemory>
-    ensures { IfOk result (λ o. SaidBy (known_in types.now) (line_word.Shown word) (Some tail.now) (option_map event_of o)) }
+    ensures { IfOk result
+        (λ o. SaidBy (known_in types.now) (line_word.Shown word) (Some tail.now) (option_map event_of o)) }
 {
     match types.shown(alloc, tail)? {
         Some(ty) => Ok(Some(Event::Emit(shown_step(word, ty)))),
@@ -275,7 +278,8 @@ fn read_call_interface(
     types: &KnownTypes<'_>,
     tail: &str,
 ) -> Result<Option<Event>, OutOfMemory>
-    ensures { IfOk result (λ o. SaidBy (known_in types.now) line_word.CallInterface (Some tail.now) (option_map event_of o)) }
+    ensures { IfOk result
+        (λ o. SaidBy (known_in types.now) line_word.CallInterface (Some tail.now) (option_map event_of o)) }
 {
     let Some((module, name, rest)) = read_names(alloc, tail)? else {
         return Ok(None);
@@ -359,7 +363,8 @@ fn read_payload(
     types: &KnownTypes<'_>,
     text: Option<&str>,
 ) -> Result<Option<Option<TypeRef>>, OutOfMemory>
-    ensures { IfOk result (λ o. PayloadAt (known_in types.now) (option_copied text.entry) (option_map (λ t. option_map tree_of t) o)) }
+    ensures { IfOk result (λ o. PayloadAt (known_in types.now) (option_copied text.entry)
+        (option_map (λ t. option_map tree_of t) o)) }
 {
     match text {
         Some(text) => match types.payload(alloc, text)? {

@@ -15,14 +15,16 @@ pub(crate) fn behind<'a>(text: &'a str, front: &str) -> Option<&'a str>
 
 /// The first line, and what follows its line feed; none where there is no line feed.
 pub(crate) fn cut_line(text: &str) -> Option<(&str, &str)>
-    ensures { MatchOption result (one_line text.now ≡ true) (λ x. (text.now ≡ ended x.0.now ++ x.1.now) × (one_line x.0.now ≡ true)) }
+    ensures { MatchOption result (one_line text.now ≡ true) (λ x. (text.now ≡ ended x.0.now ++ x.1.now)
+        × (one_line x.0.now ≡ true)) }
 {
     text.split_once('\n')
 }
 
 /// What stands before the first space, and behind it; none where there is no space.
 pub(crate) fn cut_word(text: &str) -> Option<(&str, &str)>
-    ensures { MatchOption result (no_blank text.now ≡ true) (λ x. (text.now ≡ x.0.now ++ 32 ∷ x.1.now) × (no_blank x.0.now ≡ true)) }
+    ensures { MatchOption result (no_blank text.now ≡ true) (λ x. (text.now ≡ x.0.now ++ 32 ∷ x.1.now)
+        × (no_blank x.0.now ≡ true)) }
 {
     text.split_once(' ')
 }

@@ -88,7 +88,8 @@ fn typename<'a>(
     document: &'a Document,
     text: &str,
 ) -> Result<Option<&'a Rc<NamedType>>, OutOfMemory>
-    ensures { IfOk result (λ o. option_map (λ n. named_tree n.now.value) o ≡ typename_called (map definition_tree document.now.definitions) text.now) }
+    ensures { IfOk result (λ o. option_map (λ n. named_tree n.now.value) o
+        ≡ typename_called (map definition_tree document.now.definitions) text.now) }
 {
     let name = Id::new(alloc, text)?;
     Ok(document.typename(&name))
@@ -171,7 +172,8 @@ fn push_type<'a>(
     candidates: &mut Vec<Candidate<'a>>,
     ty: Option<&'a TypeRef>,
 ) -> Result<(), OutOfMemory>
-    ensures { OnOk result (map candidate_type candidates.new.items ≡ map candidate_type candidates.old.items ++ option_to_list (payload_tree ty.entry)) }
+    ensures { OnOk result (map candidate_type candidates.new.items
+        ≡ map candidate_type candidates.old.items ++ option_to_list (payload_tree ty.entry)) }
 {
     match ty {
         Some(ty) => {
@@ -188,7 +190,8 @@ fn push_target<'a>(
     candidates: &mut Vec<Candidate<'a>>,
     ty: &'a TypeRef,
 ) -> Result<(), OutOfMemory>
-    ensures { OnOk result (map candidate_type candidates.new.items ≡ map candidate_type candidates.old.items ++ target (tree_of ty.now)) }
+    ensures { OnOk result (map candidate_type candidates.new.items
+        ≡ map candidate_type candidates.old.items ++ target (tree_of ty.now)) }
 {
     push_type(alloc, candidates, target(ty))
 }
@@ -230,7 +233,8 @@ fn push_targets<'a>(
     candidates: &mut Vec<Candidate<'a>>,
     params: &'a [InterfaceFuncParam],
 ) -> Result<(), OutOfMemory>
-    ensures { OnOk result (map candidate_type candidates.new.items ≡ map candidate_type candidates.old.items ++ flat_map target (param_types params.now)) }
+    ensures { OnOk result (map candidate_type candidates.new.items
+        ≡ map candidate_type candidates.old.items ++ flat_map target (param_types params.now)) }
 {
     for param in params {
         push_target(alloc, candidates, &param.tref)?;

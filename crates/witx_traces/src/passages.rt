@@ -117,7 +117,8 @@ fn put_items<'a>(
     items: &[ModuleDefinition],
     functions: &'a [AdaptedFunc],
 ) -> Result<&'a [AdaptedFunc], OutOfMemory>
-    ensures put { IfOk result (λ rest. draft_of draft.new ≡ put_items (map item_tree items.now) (map offered functions.now) (draft_of draft.old)) }
+    ensures put { IfOk result (λ rest. draft_of draft.new
+        ≡ put_items (map item_tree items.now) (map offered functions.now) (draft_of draft.old)) }
     ensures rest { IfOk result (λ rest. rest.now ≡ drop (func_count (map item_tree items.now)) functions.now) }
 {
     let mut rest = functions;
@@ -143,7 +144,8 @@ fn put_func<'a>(
     func: &InterfaceFunc,
     functions: &'a [AdaptedFunc],
 ) -> Result<&'a [AdaptedFunc], OutOfMemory>
-    ensures put { IfOk result (λ rest. draft_of draft.new ≡ put_func func.now.name func.now.abi (map offered functions.now) (draft_of draft.old)) }
+    ensures put { IfOk result (λ rest. draft_of draft.new
+        ≡ put_func func.now.name func.now.abi (map offered functions.now) (draft_of draft.old)) }
     ensures rest { IfOk result (λ rest. rest.now ≡ drop 1 functions.now) }
 {
     if functions.is_empty() {

@@ -192,7 +192,8 @@ fn read_pair<'t>(
         → BeginPlainly (stretches (map definition_tree document.now.definitions) ps) last
         → StopsAt (stretches (map definition_tree document.now.definitions) ps) last p.1.now rest
         → StopsAt (stretches (map definition_tree document.now.definitions) (passage_of passage.now ∷ ps)) last text.now rest) }
-    ensures stopped { (ps : List PassageText) (last : List ℕ) → BeginPlainly (stretches (map definition_tree document.now.definitions) ps) last
+    ensures stopped { (ps : List PassageText) (last : List ℕ)
+        → BeginPlainly (stretches (map definition_tree document.now.definitions) ps) last
         → IfErr result (TellsOfStop (StopsAt (stretches (map definition_tree document.now.definitions) (passage_of passage.now ∷ ps)) last text.now)) }
 {
     let types = KnownTypes::new(alloc, document, &passage.entry.func)?;
@@ -212,7 +213,8 @@ fn read_side<'t>(
     requires { IsFixed fixed.now }
     ensures events { IfOk result (λ p. text.now ≡ fixed.now ++ (event_lines (map event_of p.0) ++ p.1.now)) }
     ensures lines { IfOk result (λ p. AllByRecursion (IsSayable (known_in types.now)) (map event_of p.0)) }
-    ensures behind { IfOk result (λ p. (ss : List Stretch) (last rest : List ℕ) → BeginPlainly ss last → StopsAt ss last p.1.now rest
+    ensures behind { IfOk result (λ p. (ss : List Stretch) (last rest : List ℕ) → BeginPlainly ss last
+        → StopsAt ss last p.1.now rest
         → StopsAt (record { fixed = fixed.now; types = known_in types.now } ∷ ss) last text.now rest) }
     ensures stopped { (ss : List Stretch) (last : List ℕ) → BeginPlainly ss last
         → IfErr result (TellsOfStop (StopsAt (record { fixed = fixed.now; types = known_in types.now } ∷ ss) last text.now)) }
@@ -262,7 +264,8 @@ fn read_events<'t>(
 ) -> Result<(Events, &'t str), Stopped<'t>>
     ensures events { IfOk result (λ p. text.now ≡ event_lines (map event_of p.0) ++ p.1.now) }
     ensures lines { IfOk result (λ p. AllByRecursion (IsSayable (known_in types.now)) (map event_of p.0)) }
-    ensures behind { IfOk result (λ p. (ss : List Stretch) (last rest : List ℕ) → BeginPlainly ss last → StopsAt ss last p.1.now rest
+    ensures behind { IfOk result (λ p. (ss : List Stretch) (last rest : List ℕ) → BeginPlainly ss last
+        → StopsAt ss last p.1.now rest
         → StopsAt (events_of (known_in types.now) ∷ ss) last text.now rest) }
     ensures stopped { (ss : List Stretch) (last : List ℕ) → BeginPlainly ss last
         → IfErr result (TellsOfStop (StopsAt (events_of (known_in types.now) ∷ ss) last text.now)) }

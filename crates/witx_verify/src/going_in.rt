@@ -21,7 +21,8 @@ pub(crate) fn passes(
     arguments: &[Rc<Symbol>],
     words: &[Word],
 ) -> bool
-    ensures { result ≡ passes (memory_of cells.now) (pointer_types pointers.now) (param_types params.now) (shared_symbols arguments.now) (words_of words.now) }
+    ensures { result ≡ passes (memory_of cells.now) (pointer_types pointers.now) (param_types params.now)
+        (shared_symbols arguments.now) (words_of words.now) }
 {
     if params.len() != arguments.len() {
         return false;

@@ -43,7 +43,8 @@ fn worlds_of_cases(
     reply: &Rc<Symbol>,
     variant: &Variant,
 ) -> Result<Vec<World>, OutOfMemory>
-    ensures { IfOk result (λ made. worlds_read made.items ≡ worlds_by abi (Some (shared_of reply.now)) (Some (variant_arms variant.now))) }
+    ensures { IfOk result (λ made. worlds_read made.items
+        ≡ worlds_by abi (Some (shared_of reply.now)) (Some (variant_arms variant.now))) }
 {
     let mut worlds = Vec::new(alloc);
     let count = variant.cases.len();

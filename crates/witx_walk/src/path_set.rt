@@ -42,8 +42,10 @@ impl PathSet {
 
     /// Adds a path.
     pub fn insert(&mut self, path: &WitxPath) -> Result<(), OutOfMemory>
-        ensures known { OnOk result ((q : Path) → has_path self.new.paths q ≡ cond (same_path path.now q) true (has_path self.old.paths q)) }
-        ensures count { OnOk result (has_path self.old.paths path.now ≡ false → btree_set_len self.new.paths ≡ btree_set_len self.old.paths + 1) }
+        ensures known { OnOk result ((q : Path)
+            → has_path self.new.paths q ≡ cond (same_path path.now q) true (has_path self.old.paths q)) }
+        ensures count { OnOk result (has_path self.old.paths path.now ≡ false
+            → btree_set_len self.new.paths ≡ btree_set_len self.old.paths + 1) }
     {
         self.paths.insert(path.copy()?)?;
         Ok(())

@@ -167,7 +167,8 @@ fn take_handed<I: WitxIo>(
 ) -> Result<(), WitxError>
     ensures files { I.files io.new ≡ I.files io.old }
     ensures aliases { I.aliases io.new ≡ I.aliases io.old }
-    ensures cause { Caused (λ p. (p ≡ path.now) × (file_name p ≡ None)) (I.files io.old) (I.faults io.old) (I.faults io.new) result }
+    ensures cause { Caused (λ p. (p ≡ path.now)
+        × (file_name p ≡ None)) (I.files io.old) (I.faults io.old) (I.faults io.new) result }
     ensures well { IsWell walk.old → OnOk result (IsWell walk.new) }
     ensures told { WhereTold (I.files io.old) (I.aliases io.old) (λ w.
         (left taken : List Path) (declared : List Declared)
@@ -193,7 +194,8 @@ fn take_all<I: WitxIo>(
 ) -> Result<(), WitxError>
     ensures files { I.files io.new ≡ I.files io.old }
     ensures aliases { I.aliases io.new ≡ I.aliases io.old }
-    ensures cause { Caused (λ p. Contains paths.now p × (file_name p ≡ None)) (I.files io.old) (I.faults io.old) (I.faults io.new) result }
+    ensures cause { Caused (λ p. Contains paths.now p
+        × (file_name p ≡ None)) (I.files io.old) (I.faults io.old) (I.faults io.new) result }
     ensures well { IsWell walk.old → OnOk result (IsWell walk.new) }
     ensures told { WhereTold (I.files io.old) (I.aliases io.old) (λ w.
         (taken : List Path) (declared : List Declared)
@@ -220,10 +222,12 @@ fn new_walk(alloc: Global) -> Result<Walking, WitxError>
 fn read_all<I: WitxIo>(alloc: Global, paths: &[WitxPath], io: &mut I) -> Result<Document, WitxError>
     ensures files { I.files io.new ≡ I.files io.old }
     ensures aliases { I.aliases io.new ≡ I.aliases io.old }
-    ensures cause { Caused (λ p. Contains paths.now p × (file_name p ≡ None)) (I.files io.old) (I.faults io.old) (I.faults io.new) result }
+    ensures cause { Caused (λ p. Contains paths.now p
+        × (file_name p ≡ None)) (I.files io.old) (I.faults io.old) (I.faults io.new) result }
     ensures ordered { IfOk result (λ document. IsOrdered (map definition_tree document.definitions)) }
     ensures closed { IfOk result (λ document. IsClosed (map definition_tree document.definitions)) }
-    ensures answer { IsWalkAnswer (I.files io.old) (I.aliases io.old) paths.now (I.faults io.old) (I.faults io.new) (answer_of result) }
+    ensures answer { IsWalkAnswer (I.files io.old) (I.aliases io.old) paths.now (I.faults io.old)
+        (I.faults io.new) (answer_of result) }
 {
     let mut walk = new_walk(alloc)?;
     take_all(alloc, &mut walk, paths, io)?;
@@ -245,10 +249,12 @@ pub fn parse_witx_with<I: WitxIo>(
 ) -> Result<Document, WitxError>
     ensures files { I.files io.new ≡ I.files io.old }
     ensures aliases { I.aliases io.new ≡ I.aliases io.old }
-    ensures cause { Caused (λ p. Contains paths.now p × (file_name p ≡ None)) (I.files io.old) (I.faults io.old) (I.faults io.new) result }
+    ensures cause { Caused (λ p. Contains paths.now p
+        × (file_name p ≡ None)) (I.files io.old) (I.faults io.old) (I.faults io.new) result }
     ensures ordered { IfOk result (λ document. IsOrdered (map definition_tree document.definitions)) }
     ensures closed { IfOk result (λ document. IsClosed (map definition_tree document.definitions)) }
-    ensures answer { IsWalkAnswer (I.files io.old) (I.aliases io.old) paths.now (I.faults io.old) (I.faults io.new) (answer_of result) }
+    ensures answer { IsWalkAnswer (I.files io.old) (I.aliases io.old) paths.now (I.faults io.old)
+        (I.faults io.new) (answer_of result) }
     ensures verdict { IsVerdictOf (I.files io.old) (I.aliases io.old) paths.now (answer_of result) }
 {
     read_all(alloc, paths, io)
