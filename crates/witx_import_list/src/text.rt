@@ -1,7 +1,6 @@
 //! The text of a list of imports, a line for each.
 
-ghost use Rattle.std.specs.Prelude.{◌≡◌, ◌++◌, IfOk, OnOk, string_bytes, codes};
-ghost use Rattle.witx_adapt.specs.Names.{in_quotes};
+ghost use Rattle.std.specs.Prelude.{◌≡◌, ◌++◌, IfOk, OnOk, string_bytes};
 ghost use Rattle.witx_import_list.specs.ListTexts.{quoted_names, group, import_words_line, wasm_import_line, list_text};
 
 use std::alloc::{AllocError, Global};
