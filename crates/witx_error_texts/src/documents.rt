@@ -11,7 +11,7 @@ use crate::numbers::{definition_text, located_report, put_part, tag_text};
 use std::alloc::{AllocError, Global};
 use witx_adapt::DocumentError;
 use witx_base::{Id, OutOfMemory, Text};
-use witx_check::{CheckError, ValidationError};
+use witx_check::ValidationError;
 use witx_commands::{AdaptError, put_function_called};
 use witx_docs::DocsError;
 use witx_files::{Location, MockFs};
