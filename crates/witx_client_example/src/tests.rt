@@ -1,8 +1,10 @@
 //! The client on one text.
 
-use crate::{ClientError, adapted_text, first_call, own_traces_hold, shims_of};
+use crate::{ClientError, adapted_text, first_call, given_traces, own_traces_hold, shims_of};
 use std::alloc::Global;
-use witx_tools::{Adapted, Id, Invoked, ModuleMap, OutOfMemory, Word};
+use witx_tools::{
+    Adapted, Duplicate, Id, Invoked, Module, ModuleMap, OutOfMemory, Word, listing, module_of,
+};
 
 const TEXT: &str = "\
 (typename $size u32)
@@ -54,6 +56,47 @@ fn whole_way(alloc: Global) -> Result<bool, ClientError> {
 #[test]
 fn the_whole_way(rt: HostRuntime) {
     assert!(rt; whole_way(rt.alloc()).is_ok_and(|held| held));
+}
+
+/// Whether a document's own listing gives traces, and none as soon as an entry is gone.
+fn gives_with_each_entry(alloc: Global) -> Result<bool, ClientError> {
+    let mut adapted = adapted_text(alloc, TEXT)?;
+    let text = listing(alloc, &adapted)?;
+    let whole = given_traces(alloc, &adapted, text.as_str())?.is_some();
+    adapted.functions.truncate(0);
+    Ok(whole && given_traces(alloc, &adapted, text.as_str())?.is_none())
+}
+
+#[test]
+fn an_entry_for_each_function(rt: HostRuntime) {
+    assert!(rt; gives_with_each_entry(rt.alloc()).is_ok_and(|held| held));
+}
+
+/// The module of the items of another under the name `log`, or of those twice.
+fn module_again(alloc: Global, of: &Module, twice: bool) -> Result<Option<Module>, OutOfMemory> {
+    let mut items = of.definitions().copy()?;
+    if twice {
+        for item in of.definitions().as_slice() {
+            items.push(item.copy()?)?;
+        }
+    }
+    module_of(alloc, log(alloc)?, items, of.docs.copy()?)
+}
+
+/// Whether the module of a text is made once more of its items, and none is of its items twice.
+fn is_made_once(alloc: Global) -> Result<bool, ClientError> {
+    let adapted = adapted_text(alloc, TEXT)?;
+    let Some(log) = adapted.document.module(&log(alloc)?) else {
+        return Ok(false);
+    };
+    let made = module_again(alloc, log, false)?;
+    let twice = module_again(alloc, log, true)?;
+    Ok(twice.is_none() && made.is_some_and(|made| made == **log))
+}
+
+#[test]
+fn a_module_by_hand(rt: HostRuntime) {
+    assert!(rt; is_made_once(rt.alloc()).is_ok_and(|held| held));
 }
 
 /// Texts that are refused, and what is told of them.

@@ -1,15 +1,17 @@
 //! A listing, read back and checked.
 
-ghost use Rattle.std.specs.Prelude.{◌≡◌, IfOk, map, true};
+ghost use Rattle.std.specs.Prelude.{◌≡◌, IfOk, IfSome, None, map, true};
 ghost use Rattle.witx_tools.specs.EventViews.{called, event_of};
 ghost use Rattle.witx_tools.specs.Faithful.{Faithful};
+ghost use Rattle.witx_tools.specs.ListedTraces.{GivesTraces, HasEachEntry, listed};
+ghost use Rattle.witx_tools.specs.Passages.{sides_of};
 ghost use Rattle.witx_client_example.specs.Whole.{IsWhole};
 
 use crate::error::{ClientError, refused};
 use std::alloc::Global;
 use witx_tools::{
-    Adapted, AdaptedFunc, OutOfMemory, TracePair, Verdict, adapted_meets_conditions, listing,
-    read_traces, verify,
+    Adapted, AdaptedFunc, OutOfMemory, TracePair, TracePairs, Verdict, adapted_meets_conditions,
+    has_each_entry, listing, read_traces, verify,
 };
 
 /// Whether the traces that the document's own listing shows hold, function by function.
@@ -20,6 +22,26 @@ pub fn own_traces_hold(alloc: Global, adapted: &Adapted) -> Result<bool, ClientE
     adapted_meets_conditions(adapted);
     match read_traces(alloc, adapted, text.as_str()) {
         Ok(pairs) => Ok(all_hold(alloc, adapted.functions.as_slice(), pairs.as_slice())?),
+        Err(error) => Err(refused(alloc, &error)),
+    }
+}
+
+/// The traces that a text gives for a document that anyone adapted; none where it hasn't an entry for each function.
+pub fn given_traces(
+    alloc: Global,
+    adapted: &Adapted,
+    text: &str,
+) -> Result<Option<TracePairs>, ClientError>
+    ensures given { IfOk result (λ o. IfSome o (λ pairs.
+        GivesTraces (listed adapted.now) text.now (map sides_of pairs))) }
+    ensures each { IfOk result (λ o. IfSome o (λ _. HasEachEntry (listed adapted.now))) }
+    ensures lacks { IfOk result (λ o. o ≡ None → HasEachEntry (listed adapted.now) → ⊥) }
+{
+    if !has_each_entry(adapted) {
+        return Ok(None);
+    }
+    match read_traces(alloc, adapted, text) {
+        Ok(pairs) => Ok(Some(pairs)),
         Err(error) => Err(refused(alloc, &error)),
     }
 }

@@ -1,4 +1,4 @@
-//! Documents, functions and values made by hand, and what the tests of conditions say of them.
+//! Documents, functions, values and entries by hand, and what the tests of conditions say of them.
 
 use std::alloc::Global;
 use std::rc::Rc;
@@ -7,8 +7,8 @@ use witx_base::{Duplicate, OutOfMemory};
 use witx_bytes::{Value, Values};
 use witx_fixtures_run::func_of;
 use witx_tools::{
-    FuncPolyfill, adapt_document, allocate_writable, are_values, document_of, is_closed, is_mapped,
-    is_ordered, parse, takes_values,
+    FuncPolyfill, adapt_document, allocate_writable, are_values, document_of, has_each_entry,
+    is_closed, is_mapped, is_ordered, parse, takes_values,
 };
 
 /// Texts, and of the document of their definitions the other way round whether it is ordered, and closed.
@@ -143,4 +143,40 @@ fn all_writable(alloc: Global, text: &str) -> Option<bool> {
 #[test]
 fn traces_that_take_writable(rt: HostRuntime) {
     assert!(rt; all_writable(rt.alloc(), TAKES_A_BYTE).unwrap_or(false));
+}
+
+const TWO_FUNCTIONS: &str = r#"
+(module $m (import "memory" (memory)) (@interface func (export "f")))
+(module $n (@interface func (export "f")))
+"#;
+
+/// Texts, how many entries are kept, and whether there is one for each function then.
+#[rattlefmt::skip]
+const ENTRIES: &[(&str, usize, bool)] = &[
+    ("(typename $a u8)", 0, true),
+    (TAKES_A_BYTE, 1, true),
+    (TAKES_A_BYTE, 0, false),
+    (TWO_FUNCTIONS, 2, true),
+    (TWO_FUNCTIONS, 1, false),
+];
+
+fn keeps_each(alloc: Global, text: &str, kept: usize) -> Option<bool> {
+    let document = parse(alloc, text).ok()?;
+    let mut adapted = adapt_document(alloc, document).ok()?;
+    adapted.functions.truncate(kept);
+    Some(has_each_entry(&adapted))
+}
+
+fn all_keep(alloc: Global) -> bool {
+    for (text, kept, each) in ENTRIES {
+        if keeps_each(alloc, text, *kept) != Some(*each) {
+            return false;
+        }
+    }
+    true
+}
+
+#[test]
+fn entries_of_functions(rt: HostRuntime) {
+    assert!(rt; all_keep(rt.alloc()));
 }
