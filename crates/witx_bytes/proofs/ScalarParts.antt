@@ -7,12 +7,12 @@ use Rattle.witx_ast.specs.Plain.{Plain}
 use Rattle.witx_ast.specs.Values as plain
 use Rattle.witx_ast.specs.ValueTests.{is_value, in_range}
 use Rattle.witx_ast.proofs.AlikeLaws.{builtins-decide}
-use Rattle.witx_layout.specs.Numbers.{builtin_size}
+use Rattle.witx_layout.specs.Numbers.{builtin_size, size_of}
 use Rattle.witx_machine.specs.Words.{wrapped}
 use Rattle.witx_bytes.specs.Bytes.{Bytes, Image, image_written}
 use Rattle.witx_bytes.specs.Images.{image, little}
 use Rattle.witx_bytes.specs.Seen.{seen}
-use Rattle.witx_bytes.specs.Writes.{CanWrite, HasNoParts, Writes}
+use Rattle.witx_bytes.specs.Writes.{CanWrite, HasNoParts, HasRange, Writes}
 use Rattle.witx_bytes.specs.declared.value.Value.{Value}
 use Rattle.witx_bytes.specs.declared.value.Value.TheVariants as value
 use Rattle.witx_bytes.proofs.Seen.{seen-Num, seen-List}
@@ -42,6 +42,9 @@ module _ (t : Plain) (v : Value) (s : HasNoParts t) (h : CanWrite t (seen v)) wh
 
     pub number_in_range : in_range k n ≡ true
     number_in_range = (both (same_builtin k k) (in_range k n) (subst (λ t. is_value t (plain.number k n) ≡ true) is_builtin (is_of (plain.number k n) (ap seen e ∙ seen-Num k n)))).1
+
+    pub number_room : (at width : ℕ) (m : Bytes) → width ≡ builtin_size k → HasRange at (size_of t) m → HasRange at width m
+    number_room at width m w h = subst (λ size. HasRange at size m) (ap size_of is_builtin ∙ sym w) h
 
     number_pictured : image t (seen v) ≡ number_image k n
     number_pictured = ap (image t) (ap seen e ∙ seen-Num k n) ∙ ap (λ t. image t (plain.number k n)) is_builtin

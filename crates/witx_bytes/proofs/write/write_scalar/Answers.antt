@@ -5,13 +5,18 @@ use Rattle.witx_layout.specs.Numbers.{builtin_size}
 use Rattle.witx_machine.specs.Words.{wrapped}
 use Rattle.witx_bytes.specs.Bytes.{held}
 use Rattle.witx_bytes.proofs.Parts.{other_scalar}
-use Rattle.witx_bytes.proofs.ScalarParts.{number_in_range, number_written, list_written}
+use Rattle.witx_bytes.proofs.ScalarParts.{number_in_range, number_room, number_written, list_written}
 use Rattle.witx_bytes.proofs.write.write_scalar.Goals as goal
 
 pub number_bits-requires : goal.number_bits-requires
 number_bits-requires c =
     let ranged = number_in_range (plain (datatype_tree c.args.datatype.now)) c.args.value.now c.requires.scalar c.requires.value c.in-Num.ty c.in-Num.number c.in-Num.is in
     search (rules, ranged)
+
+pub write_number-requires : goal.write_number-requires
+write_number-requires c =
+    number_room (plain (datatype_tree c.args.datatype.now)) c.args.value.now c.requires.scalar c.requires.value c.in-Num.ty c.in-Num.number c.in-Num.is
+    c.args.at c.mem_align.result (held c.args.memory.now) c.mem_align.ensures c.requires.room
 
 pub unreachable-requires : goal.unreachable-requires
 unreachable-requires c =
