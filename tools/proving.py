@@ -1,4 +1,4 @@
-"""Proves crates side by side, each as soon as those below it are: `./witx --prove`, which then builds the program of them.
+"""Proves crates side by side, each as soon as those below it are: `./witx --prove`, which also builds the programs of them.
 
 `rt lib`, which proves a crate, lets no other run into the crates below it. So each of those that run side by side has a copy of
 the sources of its own, a lane; `rt` takes a library that is proved in one lane, of the same text, into all others and into the
@@ -24,8 +24,9 @@ MEMORY = 4 << 30
 # Where the lanes of this repository lie.
 CACHE = os.environ.get("XDG_CACHE_HOME") or os.path.expanduser("~/.cache")
 LANES = f"{CACHE}/witx-proofs/{hashlib.sha256(TOP.encode()).hexdigest()[:16]}"
-# Seconds of a processor for a line of code, and as many lines as if a proof of them had told it.
-A_LINE, TOLD = 0.2, 3000
+# Seconds of a processor for a line of code, and as many lines as if a proof of them had told it; and as many lines as a
+# program's build takes as long as, since it goes through the code of all below.
+A_LINE, TOLD, A_BUILD = 0.2, 3000, 1200
 
 
 def say(line):
@@ -44,6 +45,8 @@ def lanes():
 
 def stands(name):
     """Whether a crate is proved, as far as the times of its files and of those below it tell."""
+    if name in PROGRAMS:
+        return programs.proved(name) is not None
     stamp = f"{TOP}/crates/{name}/out/rlib/stamp"
     return os.path.exists(stamp) and os.stat(stamp).st_mtime >= programs.changed(name, "src", "specs", "proofs")
 
@@ -53,7 +56,7 @@ def size(name):
     if stands(name):
         return 0
     files = [f"{at}/{it}" for at, _, names in os.walk(f"{TOP}/crates/{name}/src") for it in names]
-    return 100 + sum(open(it, "rb").read().count(b"\n") for it in files)
+    return 100 + A_BUILD * (name in PROGRAMS) + sum(open(it, "rb").read().count(b"\n") for it in files)
 
 
 def sources(top, names):
@@ -87,10 +90,14 @@ def make_lane(number, names):
 
 
 class Proof:
-    """A run of `rt` in a crate's folder below a top, with what it says in a file."""
+    """A run of `rt` in a crate's folder below a top, which proves it, with what it says in a file."""
 
-    def __init__(self, name, words, top=TOP):
+    def __init__(self, name, top=TOP, jobs=1):
         self.name, self.top, self.began = name, top, time.time()
+        self.program = f"crates/{name}/out/{name}" if name in PROGRAMS else None
+        if self.program and os.path.exists(f"{top}/{self.program}"):
+            os.remove(f"{top}/{self.program}")
+        words = ["run", "--jobs", str(jobs), "--", *PROGRAMS[name]] if self.program else ["lib", "--jobs", str(jobs)]
         self.said = tempfile.TemporaryFile("w+", errors="replace")
         self.run = subprocess.Popen(["rt", *words], cwd=f"{top}/crates/{name}", stdin=subprocess.DEVNULL, stdout=self.said, stderr=self.said)
 
@@ -99,12 +106,23 @@ class Proof:
         return self.said.read()
 
     def holds(self):
-        """Whether the run, once it has ended, has proved the crate; if not, what it said last is told."""
-        if self.run.wait() == 0:
+        """Whether the run, once it has ended, has proved the crate; if not, what it said last is told. A program has run then,
+        and so it may have ended with any status."""
+        status = self.run.wait()
+        if os.path.exists(f"{self.top}/{self.program}") if self.program else status == 0:
             return True
         sys.stderr.write("".join(self.text().splitlines(True)[-20:]))
         say(f"{self.name} NOT PROVED")
         return False
+
+    def is_taken(self):
+        """Whether the repository has what was proved in a lane. Whatever changed in it since this began is newer."""
+        if not self.program:
+            return Proof(self.name).holds()
+        os.makedirs(os.path.dirname(f"{TOP}/{self.program}"), exist_ok=True)
+        shutil.copy(f"{self.top}/{self.program}", f"{TOP}/{self.program}")
+        os.utime(f"{TOP}/{self.program}", (self.began, self.began))
+        return True
 
     def stop(self):
         self.run.terminate()
@@ -112,7 +130,7 @@ class Proof:
 
 
 class Proofs:
-    """The proofs of some libraries: which are left, which run, in which lanes, and how long those took that have ended."""
+    """The proofs of some crates: which are left, which run, in which lanes, and how long those took that have ended."""
 
     def __init__(self, names):
         self.count, self.left, self.running = len(names), [*names], []
@@ -135,14 +153,14 @@ class Proofs:
         return any(it in self.left or any(it == other.name for other in self.running) for it in self.below[name])
 
     def start(self):
-        """Starts what can be proved now, first what most waits for, which has two jobs at least; each has more where fewer crates
-        than processors can be proved."""
+        """Starts what can be proved now, first what most waits for, where what is nearly as long as the longest has two jobs at
+        least; each has more where fewer crates than processors can be proved."""
         ready = sorted((it for it in self.left if not self.waits(it)), key=self.behind.get, reverse=True)[:self.lanes - len(self.running)]
         longest = max((self.behind[it] for it in [*self.left, *(it.name for it in self.running)]), default=0)
         for name in ready:
-            jobs = max(1 + (self.behind[name] == longest), min(4, (self.lanes - len(self.running)) // len(ready)))
+            jobs = max(1 + (4 * self.behind[name] >= 3 * longest), min(4, (self.lanes - len(self.running)) // len(ready)))
             self.left.remove(name)
-            self.running.append(Proof(name, ["lib", "--jobs", str(jobs)], self.free.pop()))
+            self.running.append(Proof(name, self.free.pop(), jobs))
 
     def minutes_left(self):
         """How long it takes still: all on these processors, or the longest chain one after the other."""
@@ -159,8 +177,7 @@ class Proofs:
         """Tells of a proof that has ended, and gives whether it is one."""
         self.running.remove(proof)
         self.free.append(proof.top)
-        # (the repository takes the library from the lane)
-        if not proof.holds() or not Proof(proof.name, ["lib"]).holds():
+        if not proof.holds() or not proof.is_taken():
             return False
         is_new = "logic=proved" in proof.text()
         self.spent += (time.time() - proof.began) * is_new
@@ -184,8 +201,8 @@ class Proofs:
                 it.stop()
 
 
-def prove_libraries(names):
-    """Proves libraries, with a line for each. Gives whether all are proved."""
+def prove_crates(names):
+    """Proves crates, with a line for each, and builds those that are programs. Gives whether all are proved."""
     if not shutil.which("rt"):
         say("the Rattle kit's command `rt`, which proves and builds, isn't on the path")
         return False
@@ -198,32 +215,14 @@ def prove_libraries(names):
     return True
 
 
-def build(name, words, began):
-    """Proves and builds a program. Whatever changed since this began is newer than it is."""
-    path = f"{TOP}/crates/{name}/out/{name}"
-    if os.path.exists(path):
-        os.remove(path)
-    proof = Proof(name, ["run", "--", *words])
-    try:
-        proof.run.wait()
-    finally:
-        proof.stop()
-    if not os.path.exists(path):
-        sys.stderr.write("".join(proof.text().splitlines(True)[-20:]))
-        say(f"{name} NOT PROVED")
-        return False
-    os.utime(path, (began, began))
-    return True
-
-
 def prove():
     """Proves and builds the programs. Gives the status for the script: 70 where something isn't proved."""
-    if all(map(programs.proved, PROGRAMS)):
+    wanted = [it for it in PROGRAMS if not programs.proved(it)]
+    if not wanted:
         say("the program is proved and built")
         return 0
     began = time.time()
-    below = [it for it in with_libraries(*PROGRAMS) if it not in PROGRAMS]
-    if not prove_libraries(below) or not all(build(name, words, began) for name, words in PROGRAMS.items()):
+    if not prove_crates(with_libraries(*wanted)):
         say("not everything is proved, so the program is not built")
         return 70
     say(f"proved and built in {round((time.time() - began) / 60)} minutes: crates/witx_cli/out/witx_cli")
