@@ -81,8 +81,9 @@ PLACES = {
     "result": ("(result $r (expected {0} (error $e)))", "(#0 {0})", lambda it: around(it, ERROR, cases=2)),
     "stored": ("(result $r {0}) (@witx stored)", "{0}", lambda it: it),
 }
-# Sizes that double at each step end at 2^64, and values that do are written out to so many steps.
-GROWING, LARGEST, SPELLED = ("doubled tuples", "doubled records"), 60, 18
+# Sizes that double at each step end at 2^64, which the first type begins at these powers of two; so many steps are timed, and
+# values are written out to so many.
+GROWING, BEGINS, LARGEST, SPELLED = ("doubled tuples", "doubled records"), {"u8": 0, "u16": 1}, 60, 18
 # What these have isn't the name of a type, so that none of them is given back in an `expected`.
 NAMELESS = ("tuples, 40 a name", "tuples, 99 a name", "doubled lists")
 # Lines of events in front and behind, that are repeated in a function's listing.
@@ -168,7 +169,7 @@ class Document:
 
     def is_adapted(self):
         """Whether the document can be adapted: it is valid, and its sizes end below 2^64."""
-        return self.is_valid() and not (self.kind in GROWING and self.count > LARGEST)
+        return self.is_valid() and not (self.kind in GROWING and self.count + BEGINS[self.first] >= 64)
 
     def is_spelled(self):
         """Whether the line of a value has that of the type, whose text isn't too long."""
