@@ -1,9 +1,10 @@
 """Proves crates side by side, each as soon as those below it are: `./witx --prove`, which also builds the programs of them.
 
 `rt lib`, which proves a crate, lets no other run into the crates below it. So each of those that run side by side has a copy of
-the sources of its own, a lane; `rt` takes a library that is proved in one lane, of the same text, into all others and into the
-repository. What it leaves in out/ stands until a source changes, also for whoever works in the crates above; and the lanes stay
-until all is proved, with what was checked of a crate in which this is stopped. So it can be stopped and begun again."""
+the sources of its own, a lane. What a lane leaves in a crate's out/ goes into the repository, and the library, which `rt` knows
+by the text that it was made of, into all lanes. It stands until a source changes, also for whoever works in the crates above; and
+the lanes stay until all is proved, with what was checked of a crate in which this is stopped. So it can be stopped and begun
+again."""
 import functools
 import hashlib
 import os
@@ -89,6 +90,30 @@ def make_lane(number, names):
     return lane
 
 
+def replace(old, new):
+    """Puts a file or folder at another path, in place of what is there."""
+    clear(new)
+    shutil.move(old, new)
+
+
+def lend(folder, copy):
+    """Makes a folder's copy, of names of the same files where that can be: nothing writes into a library that is made."""
+    clear(copy)
+    try:
+        shutil.copytree(folder, copy, copy_function=os.link)
+    except (OSError, shutil.Error):
+        clear(copy)
+        shutil.copytree(folder, copy)
+
+
+def clear(path):
+    """Takes away a file or folder, if there is one."""
+    if os.path.isdir(path):
+        shutil.rmtree(path)
+    elif os.path.lexists(path):
+        os.remove(path)
+
+
 class Proof:
     """A run of `rt` in a crate's folder below a top, which proves it, with what it says in a file."""
 
@@ -115,14 +140,17 @@ class Proof:
         say(f"{self.name} NOT PROVED")
         return False
 
-    def is_taken(self):
-        """Whether the repository has what was proved in a lane. Whatever changed in it since this began is newer."""
-        if not self.program:
-            return Proof(self.name).holds()
-        os.makedirs(os.path.dirname(f"{TOP}/{self.program}"), exist_ok=True)
-        shutil.copy(f"{self.top}/{self.program}", f"{TOP}/{self.program}")
-        os.utime(f"{TOP}/{self.program}", (self.began, self.began))
-        return True
+    def give(self, lanes):
+        """Hands what was proved in a lane to the repository, and the library to all lanes. Whatever changed in the repository
+        since this began is newer."""
+        out = f"crates/{self.name}/out"
+        os.makedirs(f"{TOP}/{out}", exist_ok=True)
+        for part in os.listdir(f"{self.top}/{out}"):
+            replace(f"{self.top}/{out}/{part}", f"{TOP}/{out}/{part}")
+        made = self.program or f"{out}/rlib/stamp"
+        os.utime(f"{TOP}/{made}", (self.began, self.began))
+        for lane in lanes if not self.program else []:
+            lend(f"{TOP}/{out}/rlib", f"{lane}/{out}/rlib")
 
     def stop(self):
         self.run.terminate()
@@ -137,7 +165,12 @@ class Proofs:
         self.below = {name: [it for it in below if it in names] for name, below in libraries().items() if name in names}
         self.sizes, self.lanes = {it: size(it) for it in names}, lanes()
         self.behind = self.chains(names)
-        self.free = [make_lane(it, names) for it in range(self.lanes)]
+        self.all = [make_lane(it, names) for it in range(self.lanes)]
+        self.free = [*self.all]
+        for name in names:
+            if name not in PROGRAMS and stands(name):
+                for lane in self.all:
+                    lend(f"{TOP}/crates/{name}/out/rlib", f"{lane}/crates/{name}/out/rlib")
         self.spent, self.done = A_LINE * TOLD, TOLD
 
     def chains(self, names):
@@ -177,8 +210,9 @@ class Proofs:
         """Tells of a proof that has ended, and gives whether it is one."""
         self.running.remove(proof)
         self.free.append(proof.top)
-        if not proof.holds() or not proof.is_taken():
+        if not proof.holds():
             return False
+        proof.give(self.all)
         is_new = "logic=proved" in proof.text()
         self.spent += (time.time() - proof.began) * is_new
         self.done += self.sizes[proof.name] * is_new
