@@ -1,4 +1,5 @@
 //! Signatures, and the events of both sides of a call, handed to any generator.
+#![tactic(auto, using(witx_instructions::proofs::Plans::play_rules, witx_instructions::proofs::Handing::hand_rules))]
 
 ghost use Rattle.std.specs.Prelude.{◌≡◌, [], None, IfOk, OnOk, OnErr, IsSome};
 ghost use Rattle.witx_machine.specs.Functions.{Function};
@@ -109,7 +110,6 @@ impl AbiFunc for InterfaceFunc {
 }
 
 // The side that calls, of a function that can be lowered.
-#[tactic(auto, using(witx_instructions::proofs::Plans::play_rules, witx_instructions::proofs::Handing::hand_rules))]
 fn play_caller<B: Bindgen>(
     alloc: Global,
     func: &InterfaceFunc,
@@ -134,7 +134,6 @@ fn play_caller<B: Bindgen>(
 }
 
 // The same with the words of the call.
-#[tactic(auto, using(witx_instructions::proofs::Plans::play_rules, witx_instructions::proofs::Handing::hand_rules))]
 fn play_call<'a, B: Bindgen>(
     alloc: Global,
     func: &'a InterfaceFunc,
@@ -164,7 +163,6 @@ fn play_call<'a, B: Bindgen>(
 }
 
 // The side that is called, of a function that can be lowered.
-#[tactic(auto, using(witx_instructions::proofs::Plans::play_rules, witx_instructions::proofs::Handing::hand_rules))]
 fn play_callee<'a, B: Bindgen>(
     alloc: Global,
     func: &'a InterfaceFunc,

@@ -1,4 +1,5 @@
 //! The signature of a function, or its first result that has no word.
+#![tactic(auto, using(witx_instructions::proofs::Signatures::signature_rules))]
 
 ghost use Rattle.std.specs.Prelude.{◌≡◌, IfOk, is_none, position};
 ghost use Rattle.witx_ast.specs.Plain.{plain};
@@ -14,7 +15,6 @@ use witx_lowering::words_in;
 use witx_machine::Place;
 
 /// The words that go in and those that come back.
-#[tactic(auto, using(witx_instructions::proofs::Signatures::signature_rules))]
 pub fn signature(
     alloc: Global,
     func: &InterfaceFunc,
@@ -30,7 +30,6 @@ pub fn signature(
 }
 
 // The first result that would have to come back as a word, and has none.
-#[tactic(auto, using(witx_instructions::proofs::Signatures::signature_rules))]
 fn first_wordless(abi: Abi, results: &Params) -> Option<usize>
     ensures { result ≡ first_wordless abi (param_types results.now) }
 {

@@ -1,4 +1,5 @@
 //! Copies of types, of what they are made of, and of the items of modules.
+#![tactic(auto, using(crate::proofs::TreeKinds::kind_rules))]
 
 ghost use Rattle.std.specs.Prelude.{◌≡◌};
 ghost use Rattle.witx_ast.specs.Functions.{param_field, func_tree};
@@ -15,7 +16,6 @@ use witx_base::{Duplicate, OutOfMemory};
 impl Clone for TypeRef {
     ghost is_clone = { λ t copy. tree_of copy ≡ tree_of t };
 
-    #[tactic(auto, using(crate::proofs::TreeKinds::kind_rules))]
     fn clone(&self) -> Result<TypeRef, AllocError> {
         match self {
             TypeRef::Name(named) => Ok(TypeRef::Name(named.clone()?)),
@@ -27,7 +27,6 @@ impl Clone for TypeRef {
 impl Duplicate for NamedType {
     ghost is_copy = { λ n c. named_tree c ≡ named_tree n };
 
-    #[tactic(auto, using(crate::proofs::TreeKinds::kind_rules))]
     fn copy(&self) -> Result<NamedType, OutOfMemory> {
         Ok(NamedType {
             name: self.name.copy()?,
@@ -40,7 +39,6 @@ impl Duplicate for NamedType {
 impl Duplicate for RecordMember {
     ghost is_copy = { λ m c. member_field c ≡ member_field m };
 
-    #[tactic(auto, using(crate::proofs::TreeKinds::kind_rules))]
     fn copy(&self) -> Result<RecordMember, OutOfMemory> {
         Ok(RecordMember {
             name: self.name.copy()?,
@@ -53,7 +51,6 @@ impl Duplicate for RecordMember {
 impl Duplicate for Case {
     ghost is_copy = { λ a c. case_arm c ≡ case_arm a };
 
-    #[tactic(auto, using(crate::proofs::TreeKinds::kind_rules))]
     fn copy(&self) -> Result<Case, OutOfMemory> {
         let tref = match &self.tref {
             Some(tref) => Some(tref.clone()?),
@@ -94,7 +91,6 @@ impl Duplicate for Variant {
 impl Duplicate for Datatype {
     ghost is_copy = { λ d c. datatype_tree c ≡ datatype_tree d };
 
-    #[tactic(auto, using(crate::proofs::TreeKinds::kind_rules))]
     fn copy(&self) -> Result<Datatype, OutOfMemory> {
         match self {
             Datatype::Record(record) => Ok(Datatype::Record(record.copy()?)),

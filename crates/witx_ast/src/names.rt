@@ -1,4 +1,5 @@
 //! The names under which types are shown.
+#![tactic(auto, using(crate::proofs::Naming::name_rules))]
 
 ghost use Rattle.std.specs.Prelude.{◌≡◌, ◌++◌, IfOk, map, option_map, string_bytes, codes};
 ghost use Rattle.witx_ast.specs.Tree.{list_of, fields_of, arms_of, behind};
@@ -60,7 +61,6 @@ impl TypeRef {
         Ok(Text::from_string(out))
     }
 
-    #[tactic(auto, using(crate::proofs::Naming::name_rules))]
     fn is_char(&self) -> bool
         ensures { result ≡ is_char (behind (tree_of self.now)) }
     {
@@ -76,7 +76,6 @@ fn put(out: &mut String, text: &str) -> Result<(), OutOfMemory>
 }
 
 #[cycle(naming)]
-#[tactic(auto, using(crate::proofs::Naming::name_rules))]
 fn put_type(out: &mut String, tref: &TypeRef) -> Result<(), OutOfMemory>
     ensures { IfOk result (λ _. string_bytes out.new ≡ string_bytes out.old ++ type_text (tree_of tref.now)) }
 {
@@ -87,7 +86,6 @@ fn put_type(out: &mut String, tref: &TypeRef) -> Result<(), OutOfMemory>
 }
 
 #[cycle(naming)]
-#[tactic(auto, using(crate::proofs::Naming::name_rules))]
 fn put_datatype(out: &mut String, datatype: &Datatype) -> Result<(), OutOfMemory>
     ensures { IfOk result (λ _. string_bytes out.new ≡ string_bytes out.old ++ type_text (datatype_tree datatype.now)) }
 {
@@ -103,7 +101,6 @@ fn put_datatype(out: &mut String, datatype: &Datatype) -> Result<(), OutOfMemory
 }
 
 #[cycle(naming)]
-#[tactic(auto, using(crate::proofs::Naming::name_rules))]
 fn put_list(out: &mut String, tref: &TypeRef) -> Result<(), OutOfMemory>
     ensures { IfOk result (λ _. string_bytes out.new ≡ string_bytes out.old ++ type_text (list_of (tree_of tref.now))) }
 {
@@ -115,7 +112,6 @@ fn put_list(out: &mut String, tref: &TypeRef) -> Result<(), OutOfMemory>
 }
 
 #[cycle(naming)]
-#[tactic(auto, using(crate::proofs::Naming::name_rules))]
 fn put_around(out: &mut String, opening: &str, tref: &TypeRef) -> Result<(), OutOfMemory>
     ensures { IfOk result (λ _. string_bytes out.new
         ≡ string_bytes out.old ++ (opening.now ++ type_text (tree_of tref.now) ++ codes ">")) }
@@ -126,7 +122,6 @@ fn put_around(out: &mut String, opening: &str, tref: &TypeRef) -> Result<(), Out
 }
 
 #[cycle(naming)]
-#[tactic(auto, using(crate::proofs::Naming::name_rules))]
 fn put_record(out: &mut String, record_type: &RecordDatatype) -> Result<(), OutOfMemory>
     ensures { IfOk result (λ _. string_bytes out.new ≡ string_bytes out.old ++ type_text (record_tree record_type.now)) }
 {
@@ -137,7 +132,6 @@ fn put_record(out: &mut String, record_type: &RecordDatatype) -> Result<(), OutO
 }
 
 #[cycle(naming)]
-#[tactic(auto, using(crate::proofs::Naming::name_rules))]
 fn put_tuple(out: &mut String, members: &[RecordMember]) -> Result<(), OutOfMemory>
     ensures { IfOk result (λ _. string_bytes out.new
         ≡ string_bytes out.old ++ tuple_text (member_texts (fields_of (map member_field members.now)))) }
@@ -148,7 +142,6 @@ fn put_tuple(out: &mut String, members: &[RecordMember]) -> Result<(), OutOfMemo
 }
 
 #[cycle(naming)]
-#[tactic(auto, using(crate::proofs::Naming::name_rules))]
 fn put_members(out: &mut String, members: &[RecordMember]) -> Result<(), OutOfMemory>
     ensures { IfOk result (λ _. string_bytes out.new
         ≡ string_bytes out.old ++ comma_joined (member_texts (fields_of (map member_field members.now)))) }
@@ -162,7 +155,6 @@ fn put_members(out: &mut String, members: &[RecordMember]) -> Result<(), OutOfMe
 }
 
 #[cycle(naming)]
-#[tactic(auto, using(crate::proofs::Naming::name_rules))]
 fn put_member(out: &mut String, first: bool, member: &RecordMember) -> Result<(), OutOfMemory>
     ensures { IfOk result (λ _. string_bytes out.new
         ≡ string_bytes out.old ++ (separator first ++ type_text (tree_of member.now.tref))) }
@@ -174,7 +166,6 @@ fn put_member(out: &mut String, first: bool, member: &RecordMember) -> Result<()
 }
 
 #[cycle(naming)]
-#[tactic(auto, using(crate::proofs::Naming::name_rules))]
 fn put_variant(out: &mut String, variant: &Variant) -> Result<(), OutOfMemory>
     ensures { IfOk result (λ _. string_bytes out.new ≡ string_bytes out.old ++ type_text (variant_tree variant.now)) }
 {
@@ -188,7 +179,6 @@ fn put_variant(out: &mut String, variant: &Variant) -> Result<(), OutOfMemory>
 }
 
 #[cycle(naming)]
-#[tactic(auto, using(crate::proofs::Naming::name_rules))]
 fn put_result(out: &mut String, cases: &[Case]) -> Result<(), OutOfMemory>
     ensures { IfOk result (λ _. string_bytes out.new
         ≡ string_bytes out.old ++ result_text (payload_texts (arms_of (map case_arm cases.now)))) }
@@ -199,7 +189,6 @@ fn put_result(out: &mut String, cases: &[Case]) -> Result<(), OutOfMemory>
 }
 
 #[cycle(naming)]
-#[tactic(auto, using(crate::proofs::Naming::name_rules))]
 fn put_payloads(out: &mut String, cases: &[Case]) -> Result<(), OutOfMemory>
     ensures { IfOk result (λ _. string_bytes out.new
         ≡ string_bytes out.old ++ comma_joined (payload_texts (arms_of (map case_arm cases.now)))) }
@@ -213,7 +202,6 @@ fn put_payloads(out: &mut String, cases: &[Case]) -> Result<(), OutOfMemory>
 }
 
 #[cycle(naming)]
-#[tactic(auto, using(crate::proofs::Naming::name_rules))]
 fn put_payload(out: &mut String, first: bool, case: &Case) -> Result<(), OutOfMemory>
     ensures { IfOk result (λ _. string_bytes out.new
         ≡ string_bytes out.old ++ (separator first ++ payload_text (option_map tree_of case.now.tref))) }

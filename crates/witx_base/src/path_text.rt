@@ -1,4 +1,5 @@
 //! Paths as they are written: texts whose parts between the slashes are the components.
+#![tactic(auto, using(crate::proofs::Written::written_rules))]
 
 ghost use Rattle.std.specs.Prelude.{◌≡◌, ◌==◌, ◌++◌, ◌∷◌, [], IfOk, length, false, None, Some, if◌then◌else◌, option_copied, option_map, MatchOption, string_bytes, codes, map};
 ghost use Rattle.witx_base.specs.Paths.{behind_slashes, components_of, file_name, is_absolute, is_current_dir, is_kept, is_name, is_root, join, kept_parts, name_among, parent, parts_of, path_of, path_text, root, without_current_dir};
@@ -158,7 +159,6 @@ fn is_kept_piece(piece: &str) -> bool
     !(piece.is_empty() || piece == ".")
 }
 
-#[tactic(auto, using(crate::proofs::Written::written_rules))]
 fn put_kept(text: &mut String, pieces: &[&str]) -> Result<(), AllocError>
     ensures { IfOk result (λ _. string_bytes text.new
         ≡ string_bytes text.old ++ behind_slashes (kept_parts (map (λ x. x.now) pieces.now))) }
@@ -182,7 +182,6 @@ fn or_root(text: String) -> Result<String, AllocError>
     Ok(text)
 }
 
-#[tactic(auto, using(crate::proofs::Written::written_rules))]
 fn put_parts(alloc: Global, room: usize, pieces: &[&str]) -> Result<String, AllocError>
     requires { AllByRecursion HasNoSlash (map (λ x. x.now) pieces.now) }
     ensures { IfOk result (λ t. string_bytes t ≡ path_text (components_of (map (λ x. x.now) pieces.now))) }
@@ -193,7 +192,6 @@ fn put_parts(alloc: Global, room: usize, pieces: &[&str]) -> Result<String, Allo
     }
 }
 
-#[tactic(auto, using(crate::proofs::Written::written_rules))]
 fn put_all(alloc: Global, room: usize, first: &str, others: &[&str]) -> Result<String, AllocError>
     requires { HasNoSlash first.now }
     ensures { IfOk result (λ t. string_bytes t ≡ path_text (components_of (first.now ∷ map (λ x. x.now) others.now))) }

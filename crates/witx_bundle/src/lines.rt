@@ -1,4 +1,5 @@
 //! The lines of a bundle: headers, and the text before the next one.
+#![tactic(auto, using(crate::proofs::Headers::header_rules))]
 
 ghost use Rattle.std.specs.Prelude.{◌≡◌, ◌≤◌, [], ◌∷◌, ◌++◌, IfOk, IfSome, MatchOption, option_copied, Some, None, if◌then◌else◌, length, drop};
 ghost use Rattle.witx_bundle.specs.Bundles.{given, is_header, lines_of, path_after, text_before, without_return};
@@ -17,7 +18,6 @@ pub fn cut_line(text: &str) -> Option<(&str, &str)>
 }
 
 /// Whether a file begins with the line.
-#[tactic(auto, using(crate::proofs::Headers::header_rules))]
 pub fn is_header(line: &str) -> bool
     ensures { result ≡ is_header line.now }
 {
@@ -25,7 +25,6 @@ pub fn is_header(line: &str) -> bool
 }
 
 /// What a header says behind `;;;; file `.
-#[tactic(auto, using(crate::proofs::Headers::header_rules))]
 pub fn header_rest(line: &str) -> Option<&str>
     ensures { option_copied result ≡ (if is_header line.now then Some (drop 10 line.now) else None) }
 {

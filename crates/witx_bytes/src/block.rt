@@ -1,4 +1,5 @@
 //! A block of a memory of bytes: 256 places in a row, each a byte or none.
+#![tactic(auto, using(crate::proofs::Ranges::range_rules))]
 
 ghost use Rattle.std.specs.Prelude.{◌≡◌, ◌≢◌, ◌<◌, ◌≤◌, ◌+◌, ◌-◌, ℕ, None, Some, IfOk, length, drop};
 ghost use Rattle.witx_bytes.specs.Bytes.{block_bytes, all_held, none_held, Filled};
@@ -89,7 +90,6 @@ impl Block {
 }
 
 /// Whether a byte is held at each place.
-#[tactic(auto, using(crate::proofs::Ranges::range_rules))]
 pub(crate) fn are_held(run: &[Option<u8>]) -> bool
     ensures { result ≡ all_held 0 (length run.now) (block_bytes run.now) }
 {
@@ -102,7 +102,6 @@ pub(crate) fn are_held(run: &[Option<u8>]) -> bool
 }
 
 /// Whether no byte is held at any place.
-#[tactic(auto, using(crate::proofs::Ranges::range_rules))]
 pub(crate) fn are_free(run: &[Option<u8>]) -> bool
     ensures { result ≡ none_held 0 (length run.now) (block_bytes run.now) }
 {

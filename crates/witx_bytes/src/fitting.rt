@@ -1,4 +1,5 @@
 //! Whether each part of a type fits its tag, targets of lists and pointers aside.
+#![tactic(auto, using(crate::proofs::Fits::fit_rules))]
 
 ghost use Rattle.std.specs.Prelude.{◌≡◌, ◌≤◌, nat_le, ◌^◌, ◌&&◌};
 ghost use Rattle.witx_ast.specs.Plain.{plain, arm_count, field_count};
@@ -13,7 +14,6 @@ use witx_ast::{
 /// Whether each type that is reached fits its tag: names are looked through, the targets of lists and
 /// pointers aren't entered.
 #[cycle(fitting)]
-#[tactic(auto, using(crate::proofs::Fits::fit_rules))]
 pub fn writable(ty: &TypeRef) -> bool
     ensures { result ≡ fits (plain (tree_of ty.now)) }
 {
@@ -24,7 +24,6 @@ pub fn writable(ty: &TypeRef) -> bool
 }
 
 #[cycle(fitting)]
-#[tactic(auto, using(crate::proofs::Fits::fit_rules))]
 fn datatype_fits(datatype: &Datatype) -> bool
     ensures { result ≡ fits (plain (datatype_tree datatype.now)) }
 {
@@ -40,7 +39,6 @@ fn datatype_fits(datatype: &Datatype) -> bool
 }
 
 #[cycle(fitting)]
-#[tactic(auto, using(crate::proofs::Fits::fit_rules))]
 fn record_fits(record_type: &RecordDatatype) -> bool
     ensures { result ≡ fits (plain (record_tree record_type.now)) }
 {
@@ -49,7 +47,6 @@ fn record_fits(record_type: &RecordDatatype) -> bool
 }
 
 #[cycle(fitting)]
-#[tactic(auto, using(crate::proofs::Fits::fit_rules))]
 fn variant_fits(variant: &Variant) -> bool
     ensures { result ≡ fits (plain (variant_tree variant.now)) }
 {
@@ -58,7 +55,6 @@ fn variant_fits(variant: &Variant) -> bool
 }
 
 #[cycle(fitting)]
-#[tactic(auto, using(crate::proofs::Fits::fit_rules))]
 fn members_fit(members: &[RecordMember]) -> bool
     ensures { result ≡ fields_fit (members_plain members.now) }
 {
@@ -71,7 +67,6 @@ fn members_fit(members: &[RecordMember]) -> bool
 }
 
 #[cycle(fitting)]
-#[tactic(auto, using(crate::proofs::Fits::fit_rules))]
 fn cases_fit(cases: &[Case]) -> bool
     ensures { result ≡ arms_fit (cases_plain cases.now) }
 {
@@ -84,7 +79,6 @@ fn cases_fit(cases: &[Case]) -> bool
 }
 
 #[cycle(fitting)]
-#[tactic(auto, using(crate::proofs::Fits::fit_rules))]
 fn case_fits(case: &Case) -> bool
     ensures { result ≡ payload_fits case.now }
 {

@@ -1,4 +1,5 @@
 //! The layout of a type with those of all its parts, asked once, so that no layout is asked once a level.
+#![tactic(auto, using(crate::proofs::Laying::lay_rules))]
 
 ghost use Rattle.std.specs.Prelude.{◌≡◌, ◌+◌, ◌^◌, ◌<◌, ◌≤◌, [], true, max, IfOk, MatchResult, Ok, Err};
 ghost use Rattle.witx_ast.specs.Plain.{Plain, plain};
@@ -49,7 +50,6 @@ pub fn lay_out(alloc: Global, ty: &TypeRef) -> Result<Laid, LayoutError>
 }
 
 #[cycle(laying)]
-#[tactic(auto, using(crate::proofs::Laying::lay_rules))]
 fn lay(alloc: Global, ty: &TypeRef, left: u32, types: &mut u32) -> Result<Laid, LayoutError>
     ensures { Lays (plain (tree_of ty.now)) result }
 {
@@ -61,7 +61,6 @@ fn lay(alloc: Global, ty: &TypeRef, left: u32, types: &mut u32) -> Result<Laid, 
 }
 
 #[cycle(laying)]
-#[tactic(auto, using(crate::proofs::Laying::lay_rules))]
 fn lay_datatype(
     alloc: Global,
     datatype: &Datatype,
@@ -81,7 +80,6 @@ fn lay_datatype(
     }
 }
 
-#[tactic(auto, using(crate::proofs::Laying::lay_rules))]
 fn lay_builtin(alloc: Global, builtin: BuiltinType) -> Laid
     ensures { IsLaid (Plain.builtin builtin) result }
 {
@@ -90,7 +88,6 @@ fn lay_builtin(alloc: Global, builtin: BuiltinType) -> Laid
 }
 
 #[cycle(laying)]
-#[tactic(auto, using(crate::proofs::Laying::lay_rules))]
 fn lay_record(
     alloc: Global,
     record_type: &RecordDatatype,
@@ -109,7 +106,6 @@ fn lay_record(
 }
 
 /// Flags, whose members are laid out to see whether they fit.
-#[tactic(auto, using(crate::proofs::Laying::lay_rules))]
 fn lay_flags(
     alloc: Global,
     repr: IntRepr,
@@ -133,7 +129,6 @@ fn lay_flags(
 }
 
 /// A tuple or another record, whose size is a multiple of its alignment.
-#[tactic(auto, using(crate::proofs::Laying::lay_rules))]
 fn lay_whole(members: &[RecordMember], laid: Laid) -> Result<Laid, LayoutError>
     requires { LaysMembers (members_plain members.now) (Ok laid) }
     ensures tuple { Lays (Plain.record_of RecordKind.Tuple (members_plain members.now)) result }
@@ -159,7 +154,6 @@ fn lay_whole(members: &[RecordMember], laid: Laid) -> Result<Laid, LayoutError>
 
 /// The members, one after the other from 0 on.
 #[cycle(laying)]
-#[tactic(auto, using(crate::proofs::Laying::lay_rules))]
 fn lay_members(
     alloc: Global,
     members: &[RecordMember],
@@ -178,7 +172,6 @@ fn lay_members(
 }
 
 /// Members with one more behind them.
-#[tactic(auto, using(crate::proofs::Laying::lay_rules))]
 fn with_member(whole: Laid, part: Laid) -> Result<Laid, LayoutError>
     requires { 0 < (out-Laid part).layout.align }
     ensures { MemberAdded whole part result }
@@ -203,7 +196,6 @@ fn with_member(whole: Laid, part: Laid) -> Result<Laid, LayoutError>
 }
 
 #[cycle(laying)]
-#[tactic(auto, using(crate::proofs::Laying::lay_rules))]
 fn lay_variant(
     alloc: Global,
     variant: &Variant,
@@ -218,7 +210,6 @@ fn lay_variant(
 }
 
 /// Payloads behind their tag.
-#[tactic(auto, using(crate::proofs::Laying::lay_rules))]
 fn with_tag(repr: IntRepr, cases: &[Case], laid: Laid) -> Result<Laid, LayoutError>
     requires { LaysCases (cases_plain cases.now) (Ok laid) }
     ensures { Lays (Plain.variant_of repr (cases_plain cases.now)) result }
@@ -255,7 +246,6 @@ fn tagged(repr: IntRepr, payload: SizeAlign) -> Result<SizeAlign, TooLarge>
 
 /// The payloads, one entry for each case; in all the greatest size and alignment.
 #[cycle(laying)]
-#[tactic(auto, using(crate::proofs::Laying::lay_rules))]
 fn lay_cases(alloc: Global, cases: &[Case], left: u32, types: &mut u32) -> Result<Laid, LayoutError>
     ensures { LaysCases (cases_plain cases.now) result }
 {
@@ -268,7 +258,6 @@ fn lay_cases(alloc: Global, cases: &[Case], left: u32, types: &mut u32) -> Resul
 }
 
 #[cycle(laying)]
-#[tactic(auto, using(crate::proofs::Laying::lay_rules))]
 fn lay_case(alloc: Global, case: &Case, left: u32, types: &mut u32) -> Result<Laid, LayoutError>
     ensures { LaysCase case.now.tref result }
 {

@@ -1,4 +1,5 @@
 //! Whether a value is one of a type.
+#![tactic(auto, using(crate::proofs::Belonging::value_rules))]
 
 ghost use Rattle.std.specs.Prelude.{◌≡◌, ◌^◌, Some, nat_lt, option_map};
 ghost use Rattle.witx_ast.specs.Plain.{Plain, plain, builtin, handle, list_of, pointer_to, const_pointer_to, record_of, variant_of, all_bare};
@@ -57,7 +58,6 @@ fn is_record_value(record_type: &RecordDatatype, value: &Value) -> bool
 }
 
 #[cycle(membership)]
-#[tactic(auto, using(crate::proofs::Belonging::value_rules))]
 fn is_tuple(members: &[RecordMember], value: &Value) -> bool
     ensures { result ≡ is_of (record_of RecordKind.Tuple (members_plain members.now)) (seen value.now) }
 {
@@ -68,7 +68,6 @@ fn is_tuple(members: &[RecordMember], value: &Value) -> bool
 }
 
 #[cycle(membership)]
-#[tactic(auto, using(crate::proofs::Belonging::value_rules))]
 fn is_record(members: &[RecordMember], value: &Value) -> bool
     ensures { result ≡ is_of (record_of RecordKind.Other (members_plain members.now)) (seen value.now) }
 {
@@ -106,7 +105,6 @@ fn is_variant_value(variant: &Variant, value: &Value) -> bool
 }
 
 #[cycle(membership)]
-#[tactic(auto, using(crate::proofs::Belonging::value_rules))]
 fn is_case_value(cases: &[Case], value: &Value) -> bool
     ensures { (r : IntRepr) → result ≡ is_of (variant_of r (cases_plain cases.now)) (seen value.now) }
 {
@@ -166,7 +164,6 @@ pub fn are_bare(cases: &[Case]) -> bool
 }
 
 /// Flags are as many as there are members.
-#[tactic(auto, using(crate::proofs::Belonging::value_rules))]
 fn are_flags(members: &[RecordMember], value: &Value) -> bool
     ensures { (r : IntRepr)
         → result ≡ is_of (record_of (RecordKind.Bitflags r) (members_plain members.now)) (seen value.now) }
@@ -177,7 +174,6 @@ fn are_flags(members: &[RecordMember], value: &Value) -> bool
     }
 }
 
-#[tactic(auto, using(crate::proofs::Belonging::value_rules))]
 fn is_number(ty: BuiltinType, value: &Value) -> bool
     ensures { result ≡ is_of (builtin ty) (seen value.now) }
 {
@@ -187,7 +183,6 @@ fn is_number(ty: BuiltinType, value: &Value) -> bool
     }
 }
 
-#[tactic(auto, using(crate::proofs::Belonging::value_rules))]
 fn is_handle(value: &Value) -> bool
     ensures { result ≡ is_of handle (seen value.now) }
 {
@@ -197,7 +192,6 @@ fn is_handle(value: &Value) -> bool
     }
 }
 
-#[tactic(auto, using(crate::proofs::Belonging::value_rules))]
 fn is_list(target: &TypeRef, value: &Value) -> bool
     ensures { result ≡ is_of (list_of (plain (tree_of target.now))) (seen value.now) }
 {
@@ -207,7 +201,6 @@ fn is_list(target: &TypeRef, value: &Value) -> bool
     }
 }
 
-#[tactic(auto, using(crate::proofs::Belonging::value_rules))]
 fn is_pointer(target: &TypeRef, value: &Value) -> bool
     ensures { result ≡ is_of (pointer_to (plain (tree_of target.now))) (seen value.now) }
 {
@@ -217,7 +210,6 @@ fn is_pointer(target: &TypeRef, value: &Value) -> bool
     }
 }
 
-#[tactic(auto, using(crate::proofs::Belonging::value_rules))]
 fn is_const_pointer(target: &TypeRef, value: &Value) -> bool
     ensures { result ≡ is_of (const_pointer_to (plain (tree_of target.now))) (seen value.now) }
 {

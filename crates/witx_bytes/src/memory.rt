@@ -1,4 +1,5 @@
 //! A memory of bytes: a finite map from address to byte.
+#![tactic(auto, using(crate::proofs::Ranges::span_rules))]
 
 ghost use Rattle.std.specs.Prelude.{◌≡◌, ◌≢◌, ◌+◌, ◌-◌, ◌/◌, ◌%◌, ◌^◌, ◌<◌, ◌≤◌, ℕ, [], Some, None, Ok, Err, OnOk, OnErr, IfOk, ◌↔◌, ◌⊎◌, true, false, is_some};
 ghost use Rattle.witx_bytes.specs.Bytes.{IsByteMemory, held, with_zeros, all_held as are_held_at, none_held as none_are_held, holds as holds_range, HasBlock, HasBlocks, block_of, Filled, RunAt};
@@ -98,7 +99,6 @@ impl ByteMemory {
         at > 0 && len <= END - at as u64 && self.all_held(at, len)
     }
 
-    #[tactic(auto, using(crate::proofs::Ranges::span_rules))]
     fn all_held(&self, at: u32, len: u64) -> bool
         requires { at + len ≤ 2 ^ 32 }
         ensures { result ≡ are_held_at at len (held self.now) }
@@ -129,7 +129,6 @@ impl ByteMemory {
         are_held(&run[..len])
     }
 
-    #[tactic(auto, using(crate::proofs::Ranges::span_rules))]
     fn none_held(&self, at: u32, len: u64) -> bool
         requires { at + len ≤ 2 ^ 32 }
         ensures { result ≡ none_are_held at len (held self.now) }

@@ -1,4 +1,5 @@
 //! Where a value's parts stand in its layout.
+#![tactic(auto, using(crate::proofs::KnownParts::known_rules))]
 
 ghost use Rattle.std.specs.Prelude.{◌≡◌, ◌^◌, ◌<◌, ◌≤◌, get_or, length, option_copied};
 ghost use Rattle.witx_ast.specs.Plain.{plain};
@@ -24,7 +25,6 @@ pub(crate) fn rounded_up(offset: u64, alignment: u64) -> u64
 }
 
 /// The layout of a type that isn't too large, as it is known or else asked.
-#[tactic(auto, using(crate::proofs::KnownParts::known_rules))]
 pub(crate) fn layout_of(known: Option<&Laid>, ty: &TypeRef) -> SizeAlign
     requires size { size_of (plain (tree_of ty.now)) < 2 ^ 64 }
     requires known { KnownOf (plain (tree_of ty.now)) (option_copied known) }
@@ -49,7 +49,6 @@ fn asked_layout(ty: &TypeRef) -> SizeAlign
 }
 
 /// What is known of a member, if its record is known.
-#[tactic(auto, using(crate::proofs::KnownParts::known_rules))]
 pub(crate) fn known_member<'a>(
     known: Option<&'a Laid>,
     members: &[RecordMember],
@@ -63,7 +62,6 @@ pub(crate) fn known_member<'a>(
 }
 
 /// What is known of the payload of a case, if its variant is known.
-#[tactic(auto, using(crate::proofs::KnownParts::known_rules))]
 pub(crate) fn known_payload<'a>(
     known: Option<&'a Laid>,
     cases: &[Case],
@@ -77,7 +75,6 @@ pub(crate) fn known_payload<'a>(
 }
 
 /// Where the payload of a variant begins, behind its tag: at the variant's own alignment, where that is known.
-#[tactic(auto, using(crate::proofs::KnownParts::known_rules))]
 pub(crate) fn payload_begin(known: Option<&Laid>, variant: &Variant) -> u64
     requires { KnownOf (plain (variant_tree variant.now)) (option_copied known) }
     ensures { result ≡ begin_of_payload (out-Variant variant.now).tag_repr (cases_plain (out-Variant variant.now).cases) }

@@ -1,4 +1,5 @@
 //! The value that bytes spell.
+#![tactic(auto, using(crate::proofs::ReadParts::read_rules))]
 
 ghost use Rattle.std.specs.Prelude.{◌≡◌, ◌+◌, ◌^◌, ◌<◌, ◌≤◌, ℕ, true, Err, IfOk, Some, length, option_copied, option_map};
 ghost use Rattle.witx_ast.specs.Plain.{plain, record_of};
@@ -137,7 +138,6 @@ fn read_record(
 }
 
 #[cycle(reading)]
-#[tactic(auto, using(crate::proofs::ReadParts::read_rules))]
 fn read_tuple(
     alloc: Global,
     memory: &ByteMemory,
@@ -154,7 +154,6 @@ fn read_tuple(
 }
 
 #[cycle(reading)]
-#[tactic(auto, using(crate::proofs::ReadParts::read_rules))]
 fn read_other(
     alloc: Global,
     memory: &ByteMemory,
@@ -172,7 +171,6 @@ fn read_other(
 
 /// Members, each at the next multiple of its alignment behind the one before it.
 #[cycle(reading)]
-#[tactic(auto, using(crate::proofs::ReadParts::read_rules))]
 fn read_members(
     alloc: Global,
     memory: &ByteMemory,
@@ -200,7 +198,6 @@ fn read_members(
 
 /// The case that the tag names, with its payload if it has one.
 #[cycle(reading)]
-#[tactic(auto, using(crate::proofs::ReadParts::read_rules))]
 fn read_variant(
     alloc: Global,
     memory: &ByteMemory,
@@ -227,7 +224,6 @@ fn read_variant(
 
 /// The payload of a case, if it has one.
 #[cycle(reading)]
-#[tactic(auto, using(crate::proofs::ReadParts::read_rules))]
 fn read_payload(
     alloc: Global,
     memory: &ByteMemory,
@@ -248,7 +244,6 @@ fn read_payload(
 // Within its caller: so what recurses through variants takes little of the stack.
 #[inline(always)]
 #[cycle(reading)]
-#[tactic(auto, using(crate::proofs::ReadParts::read_rules))]
 fn read_boxed(
     alloc: Global,
     memory: &ByteMemory,
@@ -267,7 +262,6 @@ fn read_boxed(
 }
 
 /// The number of the case that a tag names, where there are so many.
-#[tactic(auto, using(crate::proofs::ReadParts::read_rules))]
 fn case_at(memory: &ByteMemory, at: u128, repr: IntRepr, count: usize) -> Option<u32>
     requires few { count ≤ 2 ^ 32 }
     requires low { at < 2 ^ 66 }
@@ -281,7 +275,6 @@ fn case_at(memory: &ByteMemory, at: u128, repr: IntRepr, count: usize) -> Option
 }
 
 /// Flags, one for each member: flag k is bit k, and further bits are 0.
-#[tactic(auto, using(crate::proofs::ReadParts::read_rules))]
 fn read_flags(
     alloc: Global,
     memory: &ByteMemory,

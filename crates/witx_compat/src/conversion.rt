@@ -1,4 +1,5 @@
 //! Conversions between types, and parameters and results that are mapped or unknown.
+#![tactic(auto, using(crate::proofs::Mapping::convert_rules))]
 
 ghost use Rattle.std.specs.Prelude.{◌≡◌, IfOk, option_map};
 ghost use Rattle.witx_ast.specs.Views.{tree_of, datatype_tree};
@@ -93,7 +94,6 @@ impl ParamPolyfill {
 }
 
 /// The types themselves, or the targets of two lists, two pointers or two const pointers.
-#[tactic(auto, using(crate::proofs::Mapping::convert_rules))]
 fn common_types(a: &TypeRef, b: &TypeRef) -> Result<(TypeRef, TypeRef), OutOfMemory>
     ensures { IfOk result (λ p. (tree_of p.0, tree_of p.1) ≡ converted (tree_of a.now) (tree_of b.now)) }
 {
@@ -103,7 +103,6 @@ fn common_types(a: &TypeRef, b: &TypeRef) -> Result<(TypeRef, TypeRef), OutOfMem
     }
 }
 
-#[tactic(auto, using(crate::proofs::Mapping::convert_rules))]
 fn common_targets<'a>(a: &'a TypeRef, b: &'a TypeRef) -> Option<(&'a TypeRef, &'a TypeRef)>
     ensures { option_map (λ p. (tree_of p.0.now, tree_of p.1.now)) result ≡ targets (tree_of a.now) (tree_of b.now) }
 {
@@ -113,7 +112,6 @@ fn common_targets<'a>(a: &'a TypeRef, b: &'a TypeRef) -> Option<(&'a TypeRef, &'
     }
 }
 
-#[tactic(auto, using(crate::proofs::Mapping::convert_rules))]
 fn targets_of<'a>(a: &'a Datatype, b: &'a Datatype) -> Option<(&'a TypeRef, &'a TypeRef)>
     ensures { option_map (λ p. (tree_of p.0.now, tree_of p.1.now)) result
         ≡ targets (datatype_tree a.now) (datatype_tree b.now) }

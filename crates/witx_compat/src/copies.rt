@@ -1,4 +1,5 @@
 //! Copies of mappings and of what they are made of.
+#![tactic(auto, using(crate::proofs::Copied::copy_rules))]
 
 ghost use Rattle.std.specs.Prelude.{◌≡◌};
 ghost use Rattle.std.specs.List.{AllZip};
@@ -50,7 +51,6 @@ impl Duplicate for ParamUnknown {
 impl Duplicate for FuncPolyfill {
     ghost is_copy = { λ p c. function_view c ≡ function_view p };
 
-    #[tactic(auto, using(crate::proofs::Copied::copy_rules))]
     fn copy(&self) -> Result<FuncPolyfill, OutOfMemory> {
         Ok(FuncPolyfill {
             new: self.new.clone()?,
@@ -66,7 +66,6 @@ impl Duplicate for FuncPolyfill {
 impl Duplicate for ModulePolyfill {
     ghost is_copy = { IsModuleCopy };
 
-    #[tactic(auto, using(crate::proofs::Copied::copy_rules))]
     fn copy(&self) -> Result<ModulePolyfill, OutOfMemory> {
         Ok(ModulePolyfill {
             new: self.new.clone()?,

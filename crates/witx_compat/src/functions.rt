@@ -1,4 +1,5 @@
 //! An old function by the new one of its name.
+#![tactic(auto, using(crate::proofs::Mapping::mapping_rules))]
 
 ghost use Rattle.std.specs.Prelude.{◌≡◌, IfOk, map};
 ghost use Rattle.std.specs.List.{list_all};
@@ -33,7 +34,6 @@ pub type FuncPolyfills = Items<FuncPolyfill>;
 impl FuncPolyfill {
     /// Maps each old parameter to the first new one of its name, and each new result to the first old
     /// one of its name.
-    #[tactic(auto, using(crate::proofs::Mapping::mapping_rules))]
     pub fn new(
         alloc: Global,
         new: Rc<InterfaceFunc>,
@@ -66,7 +66,6 @@ impl FuncPolyfill {
     }
 
     /// Whether the names are equal, all that is mapped is fully compatible, and nothing is unknown.
-    #[tactic(auto, using(crate::proofs::Mapping::mapping_rules))]
     pub fn full_compat(&self) -> bool
         ensures { result ≡ is_fully_compatible (function_view self.now) }
     {

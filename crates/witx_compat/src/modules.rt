@@ -1,4 +1,5 @@
 //! Old modules, and whole documents, in terms of new ones.
+#![tactic(auto, using(crate::proofs::Gathering::module_rules))]
 
 ghost use Rattle.std.specs.Prelude.{◌≡◌, IfOk, MatchResult, map, Ok};
 ghost use Rattle.witx_ast.specs.Items.{item_tree, funcs_of};
@@ -32,7 +33,6 @@ pub type ModulePolyfills = Items<ModulePolyfill>;
 impl ModulePolyfill {
     /// Maps each old function, in order, to the new module's function of its name. `FuncNotPresent`
     /// comes exactly for the first that the new module lacks, with the new module's name.
-    #[tactic(auto, using(crate::proofs::Gathering::module_rules))]
     pub fn new(
         alloc: Global,
         new: Rc<Module>,
@@ -49,7 +49,6 @@ impl ModulePolyfill {
 }
 
 /// Each function among items, in order.
-#[tactic(auto, using(crate::proofs::Gathering::module_rules))]
 fn all_functions(
     alloc: Global,
     new: &Module,
@@ -69,7 +68,6 @@ fn all_functions(
 }
 
 /// Appends an old function with its new one.
-#[tactic(auto, using(crate::proofs::Gathering::module_rules))]
 fn put_function(
     made: &mut FuncPolyfills,
     alloc: Global,
@@ -85,7 +83,6 @@ fn put_function(
 }
 
 /// An old function by the new module's function of its name.
-#[tactic(auto, using(crate::proofs::Gathering::module_rules))]
 fn one_function(
     alloc: Global,
     new: &Module,
@@ -113,7 +110,6 @@ pub struct Polyfill {
 impl Polyfill {
     /// Maps the modules of `module_mapping`, in the order of the new names. Of each pair the new module
     /// is looked up first; `ModuleNotPresent` comes exactly where a document has none of that name.
-    #[tactic(auto, using(crate::proofs::Gathering::module_rules))]
     pub fn new(
         alloc: Global,
         new: &Document,
@@ -133,7 +129,6 @@ impl Polyfill {
 }
 
 /// Appends a pair of modules.
-#[tactic(auto, using(crate::proofs::Gathering::module_rules))]
 fn put_module(
     made: &mut ModulePolyfills,
     alloc: Global,
@@ -151,7 +146,6 @@ fn put_module(
 }
 
 /// One pair of modules.
-#[tactic(auto, using(crate::proofs::Gathering::module_rules))]
 fn one_module(
     alloc: Global,
     new: &Document,

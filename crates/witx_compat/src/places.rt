@@ -1,4 +1,5 @@
 //! Whether cases stand where the last case of each name stands.
+#![tactic(auto, using(crate::proofs::Steps::place_rules))]
 
 ghost use Rattle.std.specs.Prelude.{◌≡◌, ℕ, List, IfOk, IfSome};
 ghost use Rattle.witx_ast.specs.Views.{cases_plain};
@@ -27,7 +28,6 @@ pub fn are_placed(cases: &Cases, by: &Cases) -> bool
 }
 
 /// The same, by the places of the names in `by`; the first case that stands elsewhere ends the work.
-#[tactic(auto, using(crate::proofs::Steps::place_rules))]
 fn all_at_places(places: &Places, cases: &[Case], by: &[Case]) -> bool
     requires { IfSome places.now (λ table. (name : List ℕ) → found table name ≡ last_place name (cases_plain by.now)) }
     ensures { result ≡ all_placed 0 (cases_plain cases.now) (cases_plain by.now) }
@@ -60,7 +60,6 @@ fn places_of(alloc: Global, cases: &[Case]) -> Places
 }
 
 /// The last place of each name.
-#[tactic(auto, using(crate::proofs::Steps::place_rules))]
 fn last_places(alloc: Global, cases: &[Case]) -> Result<NameMap<usize>, OutOfMemory>
     ensures { IfOk result (λ places. (name : List ℕ) → found places name ≡ last_place name (cases_plain cases.now)) }
 {
@@ -72,7 +71,6 @@ fn last_places(alloc: Global, cases: &[Case]) -> Result<NameMap<usize>, OutOfMem
 }
 
 /// The last place of a name, by the table; without one the cases are gone through.
-#[tactic(auto, using(crate::proofs::Steps::place_rules))]
 fn place_of(places: &Places, cases: &[Case], name: &Id) -> Option<usize>
     requires { IfSome places.now (λ table. (name : List ℕ) → found table name ≡ last_place name (cases_plain cases.now)) }
     ensures { result ≡ last_place name.now (cases_plain cases.now) }
@@ -84,7 +82,6 @@ fn place_of(places: &Places, cases: &[Case], name: &Id) -> Option<usize>
 }
 
 /// The last place of a name.
-#[tactic(auto, using(crate::proofs::Steps::place_rules))]
 fn searched(cases: &[Case], name: &Id) -> Option<usize>
     ensures { result ≡ last_place name.now (cases_plain cases.now) }
 {

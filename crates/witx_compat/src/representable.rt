@@ -1,4 +1,5 @@
 //! Whether the values of one type can be represented by another, type by type.
+#![tactic(auto, using(crate::proofs::Steps::compat_rules))]
 
 ghost use Rattle.std.specs.Prelude.{◌≡◌, ◌&&◌, length};
 ghost use Rattle.witx_ast.specs.Plain.{plain};
@@ -80,7 +81,6 @@ impl Representable for TypeRef {
 
     ghost is_alike = { λ a b. plain (tree_of a) ≡ plain (tree_of b) };
 
-    #[tactic(auto, using(crate::proofs::Steps::compat_rules))]
     fn representable(&self, by: &Self) -> RepEquality {
         self.type_().representable(by.type_())
     }
@@ -91,7 +91,6 @@ impl Representable for NamedType {
 
     ghost is_alike = { λ a b. plain (named_tree a) ≡ plain (named_tree b) };
 
-    #[tactic(auto, using(crate::proofs::Steps::compat_rules))]
     fn representable(&self, by: &Self) -> RepEquality {
         self.tref.representable(&by.tref)
     }
@@ -105,7 +104,6 @@ impl Representable for Datatype {
     ghost is_alike = { λ a b. plain (datatype_tree a) ≡ plain (datatype_tree b) };
 
     #[cycle(compat)]
-    #[tactic(auto, using(crate::proofs::Steps::compat_rules))]
     fn representable(&self, by: &Self) -> RepEquality {
         match (self, by) {
             (Datatype::Record(a), Datatype::Record(b)) => a.representable(b),
@@ -129,7 +127,6 @@ impl Representable for RecordDatatype {
 
     #[inline(never)]
     #[cycle(compat)]
-    #[tactic(auto, using(crate::proofs::Steps::compat_rules))]
     fn representable(&self, by: &Self) -> RepEquality {
         if !are_headed_alike(self, by) {
             return RepEquality::NotEq;
@@ -154,7 +151,6 @@ impl Representable for Variant {
 
     #[inline(never)]
     #[cycle(compat)]
-    #[tactic(auto, using(crate::proofs::Steps::compat_rules))]
     fn representable(&self, by: &Self) -> RepEquality {
         let mut answer = head_answer(self, by);
         if answer.is_refused() {

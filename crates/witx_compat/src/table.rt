@@ -1,4 +1,5 @@
 //! The first parameter of each name, so that a name is found without a walk through all.
+#![tactic(auto, using(crate::proofs::Tables::table_rules))]
 
 ghost use Rattle.std.specs.Prelude.{◌≡◌, ℕ, List, IfOk, OnOk, map, is_some, None};
 ghost use Rattle.witx_ast.specs.Functions.{param_field};
@@ -17,7 +18,6 @@ use witx_base::{Duplicate, Id, NameMap, OutOfMemory};
 pub type Table<'a> = NameMap<&'a InterfaceFuncParam>;
 
 /// The first of each name.
-#[tactic(auto, using(crate::proofs::Tables::table_rules))]
 pub fn table_of<'a>(
     alloc: Global,
     params: &'a [InterfaceFuncParam],
@@ -32,7 +32,6 @@ pub fn table_of<'a>(
 }
 
 /// The first target of each name.
-#[tactic(auto, using(crate::proofs::Tables::table_rules))]
 pub fn table_of_targets<'a>(
     alloc: Global,
     part: Part,
@@ -48,7 +47,6 @@ pub fn table_of_targets<'a>(
 }
 
 /// Puts a parameter under its name, unless an earlier one is there.
-#[tactic(auto, using(crate::proofs::Tables::table_rules))]
 fn put_first<'a>(table: &mut Table<'a>, param: &'a InterfaceFuncParam) -> Result<(), OutOfMemory>
     ensures { (q : List ℕ) → OnOk result (named table.new q
         ≡ earlier_field (named table.old q) (prefer (same_bytes param.now.name q) (param_field param.now) None)) }

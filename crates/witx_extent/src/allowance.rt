@@ -1,4 +1,5 @@
 //! What may still be gone through.
+#![tactic(auto, using(crate::proofs::Counting::extent_rules))]
 
 ghost use Rattle.std.specs.Prelude.{◌≡◌, ◌+◌, OnOk};
 ghost use Rattle.witx_ast.specs.Views.{tree_of};
@@ -41,7 +42,6 @@ impl Allowance {
     }
 
     /// Takes what there is to a type. Want of memory where that is more than is left, or where it is deeper.
-    #[tactic(auto, using(crate::proofs::Counting::extent_rules))]
     pub fn take(&mut self, alloc: Global, tref: &TypeRef) -> Result<(), OutOfMemory>
         ensures { OnOk result (self.new.left + extent (tree_of tref.now) ≡ self.old.left) }
     {
@@ -59,7 +59,6 @@ impl Allowance {
     }
 
     /// Takes what there is to the types of parameters, or of results.
-    #[tactic(auto, using(crate::proofs::Counting::extent_rules))]
     pub fn take_params(
         &mut self,
         alloc: Global,
@@ -92,7 +91,6 @@ impl Allowance {
     }
 
     /// Takes what there is to a type beside its parts.
-    #[tactic(auto, using(crate::proofs::Counting::extent_rules))]
     fn take_one(&mut self, one: Waiting<'_>) -> Result<(), OutOfMemory>
         ensures { OnOk result (self.new.left + own_extent (tree_of one.entry.tref.now) ≡ self.old.left) }
     {

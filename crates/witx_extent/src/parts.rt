@@ -1,4 +1,5 @@
 //! The parts of a type, one below the other.
+#![tactic(auto, using(crate::proofs::Counting::extent_rules))]
 
 ghost use Rattle.std.specs.Prelude.{◌≡◌, ◌+◌, OnOk};
 ghost use Rattle.witx_ast.specs.Views.{tree_of, datatype_tree};
@@ -17,7 +18,6 @@ pub struct Waiting<'a> {
 }
 
 /// What there is to a type beside its parts: the type itself, and one for each case.
-#[tactic(auto, using(crate::proofs::Counting::extent_rules))]
 pub fn own_extent(tref: &TypeRef) -> usize
     ensures { result ≡ own_extent (tree_of tref.now) }
 {
@@ -27,7 +27,6 @@ pub fn own_extent(tref: &TypeRef) -> usize
     }
 }
 
-#[tactic(auto, using(crate::proofs::Counting::extent_rules))]
 fn datatype_extent(datatype: &Datatype) -> usize
     ensures { result ≡ own_extent (datatype_tree datatype.now) }
 {
@@ -43,7 +42,6 @@ fn datatype_extent(datatype: &Datatype) -> usize
 }
 
 /// Puts the type behind a name, or the parts of a type that is written out, behind those that wait.
-#[tactic(auto, using(crate::proofs::Counting::extent_rules))]
 pub fn put_parts<'a>(waiting: &mut Vec<Waiting<'a>>, one: Waiting<'a>) -> Result<(), OutOfMemory>
     ensures { OnOk result (waiting_extent waiting.new.items + own_extent (tree_of one.entry.tref.now)
         ≡ waiting_extent waiting.old.items + extent (tree_of one.entry.tref.now)) }
@@ -60,7 +58,6 @@ pub fn put_parts<'a>(waiting: &mut Vec<Waiting<'a>>, one: Waiting<'a>) -> Result
     }
 }
 
-#[tactic(auto, using(crate::proofs::Counting::extent_rules))]
 fn put_one<'a>(
     waiting: &mut Vec<Waiting<'a>>,
     tref: &'a TypeRef,
@@ -74,7 +71,6 @@ fn put_one<'a>(
     Ok(())
 }
 
-#[tactic(auto, using(crate::proofs::Counting::extent_rules))]
 fn put_datatype<'a>(
     waiting: &mut Vec<Waiting<'a>>,
     datatype: &'a Datatype,
@@ -110,7 +106,6 @@ fn put_datatype<'a>(
     }
 }
 
-#[tactic(auto, using(crate::proofs::Counting::extent_rules))]
 fn put_members<'a>(
     waiting: &mut Vec<Waiting<'a>>,
     members: &'a [RecordMember],
@@ -126,7 +121,6 @@ fn put_members<'a>(
     Ok(())
 }
 
-#[tactic(auto, using(crate::proofs::Counting::extent_rules))]
 fn put_payloads<'a>(
     waiting: &mut Vec<Waiting<'a>>,
     cases: &'a [Case],
@@ -142,7 +136,6 @@ fn put_payloads<'a>(
     Ok(())
 }
 
-#[tactic(auto, using(crate::proofs::Counting::extent_rules))]
 fn put_payload<'a>(
     waiting: &mut Vec<Waiting<'a>>,
     case: &'a Case,

@@ -1,4 +1,5 @@
 //! A place in a file, and how a report shows it.
+#![tactic(auto, using(crate::proofs::Alignment::alignment_rules))]
 
 ghost use Rattle.std.specs.Prelude.{◌≡◌, ◌++◌, ◌^◌, ◌-◌, string_bytes, IfOk};
 ghost use Rattle.witx_files.specs.LocatedTexts.{IsLocatedText, heading, numbered_line, caret};
@@ -76,7 +77,6 @@ fn put_source(text: &mut String, number: usize, line: &str, column: usize) -> Re
     put_caret(text, column)
 }
 
-#[tactic(auto, using(crate::proofs::Alignment::alignment_rules))]
 fn put_line(text: &mut String, number: usize, line: &str) -> Result<(), AllocError>
     ensures { IfOk result (λ _. string_bytes text.new ≡ string_bytes text.old ++ numbered_line number line.now) }
 {
@@ -84,7 +84,6 @@ fn put_line(text: &mut String, number: usize, line: &str) -> Result<(), AllocErr
 }
 
 /// Draws the caret.
-#[tactic(auto, using(crate::proofs::Alignment::alignment_rules))]
 fn put_caret(text: &mut String, column: usize) -> Result<(), AllocError>
     ensures { IfOk result (λ _. string_bytes text.new ≡ string_bytes text.old ++ caret column) }
 {

@@ -1,4 +1,5 @@
 //! Plans of events, and how they are handed to a generator.
+#![tactic(auto, using(crate::proofs::Plans::plan_rules))]
 
 ghost use Rattle.std.specs.Prelude.{◌≡◌, ◌<◌, ◌≤◌, ◌∷◌, ◌++◌, [], None, Some, true, IfOk, OnOk, OnErr, IsSome, vec_len};
 ghost use Rattle.witx_machine.specs.Events as machine;
@@ -41,7 +42,6 @@ pub fn new_plan<'a>(alloc: Global) -> Result<Plan<'a>, OutOfMemory>
 }
 
 /// Appends an event to the plan.
-#[tactic(auto, using(crate::proofs::Plans::plan_rules))]
 pub fn add<'a>(plan: &mut Plan<'a>, event: Planned<'a>) -> Result<(), OutOfMemory>
     ensures { IfOk result (λ _. planned_events plan.new ≡ planned_events plan.old ++ planned_event event.entry ∷ []) }
 {
@@ -49,7 +49,6 @@ pub fn add<'a>(plan: &mut Plan<'a>, event: Planned<'a>) -> Result<(), OutOfMemor
 }
 
 /// Appends an instruction to the plan.
-#[tactic(auto, using(crate::proofs::Plans::plan_rules))]
 pub fn put<'a>(plan: &mut Plan<'a>, instruction: Instruction<'a>) -> Result<(), OutOfMemory>
     ensures { IfOk result (λ _. planned_events plan.new
         ≡ planned_events plan.old ++ machine.emit (step_of instruction.entry) ∷ []) }

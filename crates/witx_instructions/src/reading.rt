@@ -1,4 +1,5 @@
 //! What is read off the types of parameters and results.
+#![tactic(auto, using(witx_ast::proofs::TreeKinds::kind_rules, crate::proofs::Types::type_rules))]
 
 ghost use Rattle.std.specs.Prelude.{◌≡◌, ◌++◌, ◌∷◌, [], IfOk, map, option_map};
 ghost use Rattle.witx_ast.specs.Plain.{plain};
@@ -34,14 +35,12 @@ fn builtin_word(builtin: BuiltinType) -> WasmType
 }
 
 /// Appends the words of a parameter.
-#[tactic(auto, using(witx_ast::proofs::TreeKinds::kind_rules, crate::proofs::Types::type_rules))]
 pub fn push_param_words(words: &mut WasmTypes, tref: &TypeRef) -> Result<(), OutOfMemory>
     ensures { IfOk result (λ _. words.new ≡ words.old ++ param_words (plain (tree_of tref.now))) }
 {
     push_words(words, tref.type_())
 }
 
-#[tactic(auto, using(witx_ast::proofs::TreeKinds::kind_rules, crate::proofs::Types::type_rules))]
 fn push_words(words: &mut WasmTypes, datatype: &Datatype) -> Result<(), OutOfMemory>
     ensures { IfOk result (λ _. words.new ≡ words.old ++ param_words (plain (datatype_tree datatype.now))) }
 {
@@ -60,14 +59,12 @@ fn push_words(words: &mut WasmTypes, datatype: &Datatype) -> Result<(), OutOfMem
 }
 
 /// The word of a result; none for a list and for a record that isn't flags.
-#[tactic(auto, using(witx_ast::proofs::TreeKinds::kind_rules, crate::proofs::Types::type_rules))]
 pub fn result_word(tref: &TypeRef) -> Option<WasmType>
     ensures { result ≡ result_word (plain (tree_of tref.now)) }
 {
     datatype_word(tref.type_())
 }
 
-#[tactic(auto, using(witx_ast::proofs::TreeKinds::kind_rules, crate::proofs::Types::type_rules))]
 fn datatype_word(datatype: &Datatype) -> Option<WasmType>
     ensures { result ≡ result_word (plain (datatype_tree datatype.now)) }
 {
@@ -83,7 +80,6 @@ fn datatype_word(datatype: &Datatype) -> Option<WasmType>
 }
 
 // The word of flags; none for another record.
-#[tactic(auto, using(witx_ast::proofs::TreeKinds::kind_rules, crate::proofs::Types::type_rules))]
 fn record_word(record: &RecordDatatype) -> Option<WasmType>
     ensures { result ≡ result_word (plain (record_tree «record».now)) }
 {
@@ -94,14 +90,12 @@ fn record_word(record: &RecordDatatype) -> Option<WasmType>
 }
 
 /// The variant of a result that has payloads.
-#[tactic(auto, using(witx_ast::proofs::TreeKinds::kind_rules, crate::proofs::Types::type_rules))]
 pub fn result_cases(tref: &TypeRef) -> Option<&Variant>
     ensures { option_map (λ v. variant_arms v.now) result ≡ result_cases (tree_of tref.now) }
 {
     datatype_cases(tref.type_())
 }
 
-#[tactic(auto, using(witx_ast::proofs::TreeKinds::kind_rules, crate::proofs::Types::type_rules))]
 fn datatype_cases(datatype: &Datatype) -> Option<&Variant>
     ensures { option_map (λ v. variant_arms v.now) result ≡ result_cases (datatype_tree datatype.now) }
 {
@@ -131,7 +125,6 @@ pub fn err_type(variant: &Variant) -> Option<&TypeRef>
     }
 }
 
-#[tactic(auto, using(witx_ast::proofs::TreeKinds::kind_rules, crate::proofs::Types::type_rules))]
 fn payload(case: &Case) -> Option<&TypeRef>
     ensures { payload_tree result ≡ (case_arm case.now).payload }
 {
@@ -142,14 +135,12 @@ fn payload(case: &Case) -> Option<&TypeRef>
 }
 
 /// Whether a type is a tuple, names looked through.
-#[tactic(auto, using(witx_ast::proofs::TreeKinds::kind_rules, crate::proofs::Types::type_rules))]
 pub fn is_tuple(tref: &TypeRef) -> bool
     ensures { result ≡ is_tuple (tree_of tref.now) }
 {
     datatype_is_tuple(tref.type_())
 }
 
-#[tactic(auto, using(witx_ast::proofs::TreeKinds::kind_rules, crate::proofs::Types::type_rules))]
 fn datatype_is_tuple(datatype: &Datatype) -> bool
     ensures { result ≡ is_tuple (datatype_tree datatype.now) }
 {
@@ -160,7 +151,6 @@ fn datatype_is_tuple(datatype: &Datatype) -> bool
 }
 
 /// Whether a parameter of the type can be lowered.
-#[tactic(auto, using(witx_ast::proofs::TreeKinds::kind_rules, crate::proofs::Types::type_rules))]
 pub fn can_be_param(tref: &TypeRef) -> bool
     ensures { result ≡ can_be_param (tree_of tref.now) }
 {
@@ -177,14 +167,12 @@ pub fn can_be_param(tref: &TypeRef) -> bool
 }
 
 /// Whether a parameter of the type is passed as one I32.
-#[tactic(auto, using(witx_ast::proofs::TreeKinds::kind_rules, crate::proofs::Types::type_rules))]
 pub fn passes_one_i32(tref: &TypeRef) -> bool
     ensures { result ≡ same_types (param_words (plain (tree_of tref.now))) (WasmType.I32 ∷ []) }
 {
     is_one_i32(tref.type_())
 }
 
-#[tactic(auto, using(witx_ast::proofs::TreeKinds::kind_rules, crate::proofs::Types::type_rules))]
 fn is_one_i32(datatype: &Datatype) -> bool
     ensures { result ≡ same_types (param_words (plain (datatype_tree datatype.now))) (WasmType.I32 ∷ []) }
 {
@@ -199,7 +187,6 @@ fn is_one_i32(datatype: &Datatype) -> bool
     }
 }
 
-#[tactic(auto, using(witx_ast::proofs::TreeKinds::kind_rules, crate::proofs::Types::type_rules))]
 fn record_is_one_i32(record: &RecordDatatype) -> bool
     ensures { result ≡ same_types (param_words (plain (record_tree «record».now))) (WasmType.I32 ∷ []) }
 {
@@ -212,14 +199,12 @@ fn record_is_one_i32(record: &RecordDatatype) -> bool
 }
 
 /// Whether a type is a list, names looked through.
-#[tactic(auto, using(witx_ast::proofs::TreeKinds::kind_rules, crate::proofs::Types::type_rules))]
 pub fn is_list(tref: &TypeRef) -> bool
     ensures { result ≡ is_list_type (plain (tree_of tref.now)) }
 {
     datatype_is_list(tref.type_())
 }
 
-#[tactic(auto, using(witx_ast::proofs::TreeKinds::kind_rules, crate::proofs::Types::type_rules))]
 fn datatype_is_list(datatype: &Datatype) -> bool
     ensures { result ≡ is_list_type (plain (datatype_tree datatype.now)) }
 {
@@ -227,14 +212,12 @@ fn datatype_is_list(datatype: &Datatype) -> bool
 }
 
 /// The members of a tuple, names looked through.
-#[tactic(auto, using(witx_ast::proofs::TreeKinds::kind_rules, crate::proofs::Types::type_rules))]
 pub fn tuple_members(tref: &TypeRef) -> Option<&Members>
     ensures { option_map (λ ms. map (λ m. tree_of m.tref) ms.now) result ≡ tuple_types (tree_of tref.now) }
 {
     datatype_members(tref.type_())
 }
 
-#[tactic(auto, using(witx_ast::proofs::TreeKinds::kind_rules, crate::proofs::Types::type_rules))]
 fn datatype_members(datatype: &Datatype) -> Option<&Members>
     ensures { option_map (λ ms. map (λ m. tree_of m.tref) ms.now) result ≡ tuple_types (datatype_tree datatype.now) }
 {
@@ -244,7 +227,6 @@ fn datatype_members(datatype: &Datatype) -> Option<&Members>
     }
 }
 
-#[tactic(auto, using(witx_ast::proofs::TreeKinds::kind_rules, crate::proofs::Types::type_rules))]
 fn record_members(record: &RecordDatatype) -> Option<&Members>
     ensures { option_map (λ ms. map (λ m. tree_of m.tref) ms.now) result ≡ tuple_types (record_tree «record».now) }
 {

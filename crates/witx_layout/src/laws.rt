@@ -1,4 +1,5 @@
 //! Laws of sizes, alignments and offsets, as functions without work.
+#![tactic(auto, using(crate::proofs::LawProofs::law_rules))]
 
 ghost use Rattle.std.specs.Prelude.{◌≡◌, ◌≤◌, ◌<◌, ◌%◌};
 ghost use Rattle.witx_layout.specs.Numbers.{align_to, size_of, align_of, repr_size, offsets, part_offsets, payload_offset};
@@ -12,14 +13,12 @@ use crate::layout::Layout;
 use witx_ast::{RecordDatatype, Variant};
 
 /// An offset is rounded up to the least multiple of an alignment that isn't below it.
-#[tactic(auto, using(crate::proofs::LawProofs::law_rules))]
 pub fn rounding_is_least(offset: usize, alignment: usize)
     requires { 0 < alignment }
     ensures { IsRoundedUp offset alignment (align_to offset alignment) }
 {}
 
 /// An alignment is at least 1, at most 8, and a power of two.
-#[tactic(auto, using(crate::proofs::LawProofs::law_rules))]
 pub fn alignment_is_power_of_two<L: Layout>(part: &L)
     ensures at_least_one { 1 ≤ align_of (L.plain_tree part.now) }
     ensures at_most_eight { align_of (L.plain_tree part.now) ≤ 8 }
@@ -27,14 +26,12 @@ pub fn alignment_is_power_of_two<L: Layout>(part: &L)
 {}
 
 /// A size is a multiple of its alignment.
-#[tactic(auto, using(crate::proofs::LawProofs::law_rules))]
 pub fn size_is_multiple<L: Layout>(part: &L)
     ensures { size_of (L.plain_tree part.now) % align_of (L.plain_tree part.now) ≡ 0 }
 {}
 
 /// The members of a record that isn't flags follow each other without overlap, each at a multiple of
 /// its alignment, and the last ends within the record.
-#[tactic(auto, using(crate::proofs::LawProofs::law_rules))]
 pub fn members_lie_apart(record_type: &RecordDatatype)
     requires { IsUnflagged (out-RecordDatatype record_type.now).kind }
     ensures { let members = members_plain (out-RecordDatatype record_type.now).members in
@@ -43,7 +40,6 @@ pub fn members_lie_apart(record_type: &RecordDatatype)
 
 /// Each offset of a member is a multiple of the member's alignment, also for flags, which are placed as
 /// if they were a plain record.
-#[tactic(auto, using(crate::proofs::LawProofs::law_rules))]
 pub fn offsets_are_multiples(record_type: &RecordDatatype)
     ensures { let members = members_plain (out-RecordDatatype record_type.now).members in
         AreMultiples (offsets 0 members) members }
@@ -51,7 +47,6 @@ pub fn offsets_are_multiples(record_type: &RecordDatatype)
 
 /// The payload of each case lies behind the tag, at a multiple of its alignment, and ends within the
 /// variant.
-#[tactic(auto, using(crate::proofs::LawProofs::law_rules))]
 pub fn payloads_lie_inside(variant: &Variant)
     ensures behind_tag { let tag = (out-Variant variant.now).tag_repr in
         repr_size tag ≤ payload_offset tag (cases_plain (out-Variant variant.now).cases) }

@@ -1,4 +1,5 @@
 //! Sizes and alignments of types, whose names are looked through, and where a payload begins.
+#![tactic(auto, using(crate::proofs::Onward::layout_rules))]
 
 ghost use Rattle.std.specs.Prelude.{◌≡◌, ◌≤◌, ◌<◌, ◌^◌, MatchResult, IfOk, IsErr, ◌↔◌};
 ghost use Rattle.witx_layout.specs.Numbers.{size_of, align_of, members_end, members_align, payloads_size, payloads_align, payload_offset as begin_of_payload};
@@ -122,7 +123,6 @@ impl Layout for TypeRef {
     ghost plain_tree = { λ t. plain (tree_of t) };
 
     #[cycle(layout)]
-    #[tactic(auto, using(crate::proofs::Onward::layout_rules))]
     fn mem_size_align(&self) -> Result<SizeAlign, TooLarge> {
         match self {
             TypeRef::Name(named) => named.mem_size_align(),
@@ -131,7 +131,6 @@ impl Layout for TypeRef {
     }
 
     #[cycle(align)]
-    #[tactic(auto, using(crate::proofs::Onward::layout_rules))]
     fn mem_align(&self) -> usize {
         match self {
             TypeRef::Name(named) => named.mem_align(),
@@ -144,13 +143,11 @@ impl Layout for NamedType {
     ghost plain_tree = { λ n. plain (named_tree n) };
 
     #[cycle(layout)]
-    #[tactic(auto, using(crate::proofs::Onward::layout_rules))]
     fn mem_size_align(&self) -> Result<SizeAlign, TooLarge> {
         self.tref.mem_size_align()
     }
 
     #[cycle(align)]
-    #[tactic(auto, using(crate::proofs::Onward::layout_rules))]
     fn mem_align(&self) -> usize {
         self.tref.mem_align()
     }
@@ -160,7 +157,6 @@ impl Layout for Datatype {
     ghost plain_tree = { λ d. plain (datatype_tree d) };
 
     #[cycle(layout)]
-    #[tactic(auto, using(crate::proofs::Onward::layout_rules))]
     fn mem_size_align(&self) -> Result<SizeAlign, TooLarge> {
         match self {
             Datatype::Record(record) => record.mem_size_align(),
@@ -173,7 +169,6 @@ impl Layout for Datatype {
     }
 
     #[cycle(align)]
-    #[tactic(auto, using(crate::proofs::Onward::layout_rules))]
     fn mem_align(&self) -> usize {
         match self {
             Datatype::Record(record) => record.mem_align(),
@@ -189,7 +184,6 @@ impl Layout for RecordDatatype {
     ghost plain_tree = { λ r. plain (record_tree r) };
 
     #[cycle(layout)]
-    #[tactic(auto, using(crate::proofs::Onward::layout_rules))]
     fn mem_size_align(&self) -> Result<SizeAlign, TooLarge> {
         if let RecordKind::Bitflags(repr) = self.kind {
             return repr.mem_size_align();
@@ -199,7 +193,6 @@ impl Layout for RecordDatatype {
     }
 
     #[cycle(align)]
-    #[tactic(auto, using(crate::proofs::Onward::layout_rules))]
     fn mem_align(&self) -> usize {
         if let RecordKind::Bitflags(repr) = self.kind {
             return repr.mem_align();
@@ -212,7 +205,6 @@ impl Layout for Variant {
     ghost plain_tree = { λ v. plain (variant_tree v) };
 
     #[cycle(layout)]
-    #[tactic(auto, using(crate::proofs::Onward::layout_rules))]
     fn mem_size_align(&self) -> Result<SizeAlign, TooLarge> {
         let tag = scalar(self.tag_repr.mem_align());
         let payload = greatest_payload(self.cases.as_slice())?;
@@ -220,7 +212,6 @@ impl Layout for Variant {
     }
 
     #[cycle(align)]
-    #[tactic(auto, using(crate::proofs::Onward::layout_rules))]
     fn mem_align(&self) -> usize {
         greater(
             self.tag_repr.mem_align(),
@@ -231,7 +222,6 @@ impl Layout for Variant {
 
 /// Where the members end, one after the other from 0 on, and their greatest alignment.
 #[cycle(layout)]
-#[tactic(auto, using(crate::proofs::Onward::layout_rules))]
 fn members_layout(members: &[RecordMember]) -> Result<SizeAlign, TooLarge>
     ensures { MatchResult result
         (λ v. (v.size ≡ members_end 0 (members_plain members.now)) × (v.align ≡ members_align (members_plain members.now)))
@@ -247,7 +237,6 @@ fn members_layout(members: &[RecordMember]) -> Result<SizeAlign, TooLarge>
 
 /// The greatest size and the greatest alignment of a payload.
 #[cycle(layout)]
-#[tactic(auto, using(crate::proofs::Onward::layout_rules))]
 fn greatest_payload(cases: &[Case]) -> Result<SizeAlign, TooLarge>
     ensures { MatchResult result
         (λ v. (v.size ≡ payloads_size (cases_plain cases.now)) × (v.align ≡ payloads_align (cases_plain cases.now)))
@@ -267,7 +256,6 @@ fn greatest_payload(cases: &[Case]) -> Result<SizeAlign, TooLarge>
 }
 
 #[cycle(align)]
-#[tactic(auto, using(crate::proofs::Onward::layout_rules))]
 fn greatest_member_align(members: &[RecordMember]) -> usize
     ensures { result ≡ members_align (members_plain members.now) }
 {
@@ -279,7 +267,6 @@ fn greatest_member_align(members: &[RecordMember]) -> usize
 }
 
 #[cycle(align)]
-#[tactic(auto, using(crate::proofs::Onward::layout_rules))]
 fn greatest_payload_align(cases: &[Case]) -> usize
     ensures { result ≡ payloads_align (cases_plain cases.now) }
 {

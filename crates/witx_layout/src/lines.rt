@@ -1,4 +1,5 @@
 //! The layouts of a document's typenames as text.
+#![tactic(auto, using(crate::proofs::Written::line_rules))]
 
 ghost use Rattle.std.specs.Prelude.{◌≡◌, ◌≤◌, ◌<◌, ◌++◌, ◌^◌, map, All, Any, IfOk, OnOk, string_bytes};
 ghost use Rattle.witx_layout.specs.Numbers.{size_of, members_end, offsets};
@@ -72,7 +73,6 @@ fn put_definition(
 }
 
 /// The line of a typename, and below it the lines of its parts.
-#[tactic(auto, using(crate::proofs::Written::line_rules))]
 fn put_typename(alloc: Global, out: &mut String, named: &NamedType) -> Result<(), LayoutError>
     ensures lines { OnOk result (string_bytes out.new
         ≡ string_bytes out.old ++ typename_lines named.now.name (plain (named_tree named.now))) }
@@ -85,7 +85,6 @@ fn put_typename(alloc: Global, out: &mut String, named: &NamedType) -> Result<()
 }
 
 /// The lines of a type's parts: a record's members, flags' representation, a variant's tag and payload.
-#[tactic(auto, using(crate::proofs::Written::line_rules))]
 fn put_parts(alloc: Global, out: &mut String, datatype: &Datatype) -> Result<(), LayoutError>
     ensures lines { OnOk result (string_bytes out.new
         ≡ string_bytes out.old ++ part_lines (plain (datatype_tree datatype.now))) }
@@ -106,7 +105,6 @@ fn put_parts(alloc: Global, out: &mut String, datatype: &Datatype) -> Result<(),
 }
 
 /// A line for each member of a record.
-#[tactic(auto, using(crate::proofs::Written::line_rules))]
 fn put_members(
     alloc: Global,
     out: &mut String,
@@ -161,7 +159,6 @@ pub fn put_flags(out: &mut String, repr: IntRepr) -> Result<(), OutOfMemory>
     Ok(())
 }
 
-#[tactic(auto, using(crate::proofs::Written::line_rules))]
 fn put_tag(out: &mut String, variant: &Variant) -> Result<(), OutOfMemory>
     ensures { OnOk result (string_bytes out.new ≡ string_bytes out.old
         ++ tag_line (out-Variant variant.now).tag_repr (cases_plain (out-Variant variant.now).cases)) }

@@ -1,4 +1,5 @@
 //! The layouts of an ordered document's typenames in one pass: a name is looked up and not looked through.
+#![tactic(auto, using(crate::proofs::Nodes::node_rules))]
 
 ghost use Rattle.std.specs.Prelude.{◌≡◌, ◌≤◌, ◌<◌, ◌+◌, ◌++◌, ◌^◌, None, Some, MatchResult, IfErr, IfOk, OnOk, map};
 ghost use Rattle.std.specs.List.{IsDistinct};
@@ -126,7 +127,6 @@ fn typename_layouts<L: Ledger>(
 }
 
 /// Appends the layout of a typename, and enters it under its name; other definitions have none.
-#[tactic(auto, using(crate::proofs::Nodes::node_rules))]
 fn push_layout<L: Ledger>(
     table: &mut Table,
     layouts: &mut SizeAligns,
@@ -154,7 +154,6 @@ fn push_layout<L: Ledger>(
 
 /// The layout of a type, whose names the table knows.
 #[cycle(tabled)]
-#[tactic(auto, using(crate::proofs::Nodes::node_rules))]
 pub fn type_layout<L: Ledger>(
     table: &Table,
     tref: &TypeRef,
@@ -175,7 +174,6 @@ pub fn type_layout<L: Ledger>(
 }
 
 /// The layout of a name, which the table has.
-#[tactic(auto, using(crate::proofs::Nodes::node_rules))]
 pub fn known_layout(table: &Table, named: &NamedType) -> SizeAlign
     requires { Knows table.now (named_tree named.now) }
     ensures size { result.size ≡ size_of (plain (named_tree named.now)) }
@@ -189,7 +187,6 @@ pub fn known_layout(table: &Table, named: &NamedType) -> SizeAlign
 
 /// The layout of a type that is written out, whose own visit is counted already.
 #[cycle(tabled)]
-#[tactic(auto, using(crate::proofs::Nodes::node_rules))]
 fn datatype_layout<L: Ledger>(
     table: &Table,
     datatype: &Datatype,
@@ -215,7 +212,6 @@ fn datatype_layout<L: Ledger>(
 
 /// The layout of a record, whose own visit is counted already.
 #[cycle(tabled)]
-#[tactic(auto, using(crate::proofs::Nodes::node_rules))]
 fn record_layout<L: Ledger>(
     table: &Table,
     record_type: &RecordDatatype,
@@ -237,7 +233,6 @@ fn record_layout<L: Ledger>(
 
 /// The layout of a variant, whose own visit is counted already.
 #[cycle(tabled)]
-#[tactic(auto, using(crate::proofs::Nodes::node_rules))]
 fn variant_layout<L: Ledger>(
     table: &Table,
     variant: &Variant,
@@ -261,7 +256,6 @@ fn variant_layout<L: Ledger>(
 
 /// Where the members end, one after the other from 0 on, and their greatest alignment.
 #[cycle(tabled)]
-#[tactic(auto, using(crate::proofs::Nodes::node_rules))]
 fn members_layout<L: Ledger>(
     table: &Table,
     members: &[RecordMember],
@@ -284,7 +278,6 @@ fn members_layout<L: Ledger>(
 
 /// The greatest size and the greatest alignment of a payload.
 #[cycle(tabled)]
-#[tactic(auto, using(crate::proofs::Nodes::node_rules))]
 pub fn greatest_payload<L: Ledger>(
     table: &Table,
     cases: &[Case],

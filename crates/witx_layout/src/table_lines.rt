@@ -1,4 +1,5 @@
 //! The text of the layouts in one pass over an ordered document.
+#![tactic(auto, using(crate::proofs::TableLines::line_rules))]
 
 ghost use Rattle.std.specs.Prelude.{◌≡◌, ◌≤◌, ◌<◌, ◌+◌, ◌++◌, ◌^◌, Some, map, All, Any, IfOk, OnOk, string_bytes};
 ghost use Rattle.std.specs.List.{IsDistinct};
@@ -165,7 +166,6 @@ fn lines_of<L: Ledger>(
 }
 
 /// The lines of a name, which are kept.
-#[tactic(auto, using(crate::proofs::TableLines::line_rules))]
 fn known_lines<'a>(lines: &'a Lines, named: &NamedType) -> &'a Text
     requires { HasLines lines.now (named_tree named.now) }
     ensures { result.now ≡ part_lines (plain (named_tree named.now)) }
@@ -177,7 +177,6 @@ fn known_lines<'a>(lines: &'a Lines, named: &NamedType) -> &'a Text
 }
 
 /// The lines of a type's parts, whose names the table knows.
-#[tactic(auto, using(crate::proofs::TableLines::line_rules))]
 fn put_known_parts<L: Ledger>(
     out: &mut String,
     table: &Table,
@@ -209,7 +208,6 @@ fn put_known_parts<L: Ledger>(
 }
 
 /// A line for each member, whose names the table knows.
-#[tactic(auto, using(crate::proofs::TableLines::line_rules))]
 fn put_known_members<L: Ledger>(
     out: &mut String,
     table: &Table,
@@ -229,7 +227,6 @@ fn put_known_members<L: Ledger>(
 }
 
 /// The line of a member behind an end, and where it ends itself.
-#[tactic(auto, using(crate::proofs::TableLines::line_rules))]
 fn put_known_member<L: Ledger>(
     out: &mut String,
     table: &Table,
@@ -257,7 +254,6 @@ fn put_known_member<L: Ledger>(
 }
 
 /// The line of a variant's tag and payload, whose names the table knows.
-#[tactic(auto, using(crate::proofs::TableLines::line_rules))]
 fn put_known_tag<L: Ledger>(
     out: &mut String,
     table: &Table,

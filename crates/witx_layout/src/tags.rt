@@ -1,4 +1,5 @@
 //! The first type that has more flags or cases than its tag can tell apart.
+#![tactic(auto, using(crate::proofs::Misfitting::misfit_rules))]
 
 ghost use Rattle.std.specs.Prelude.{◌≡◌, ◌∷◌, [], map};
 ghost use Rattle.witx_ast.specs.Tree.{fields_of, arms_of};
@@ -60,7 +61,6 @@ fn definitions_fit(definitions: &[Definition]) -> Result<(), TagTooNarrow>
     Ok(())
 }
 
-#[tactic(auto, using(crate::proofs::Misfitting::misfit_rules))]
 fn definition_fits(definition: &Definition) -> Result<(), TooMany>
     ensures { result ≡ type_refusal (definition_misfits (definition_tree definition.now)) }
 {
@@ -71,7 +71,6 @@ fn definition_fits(definition: &Definition) -> Result<(), TooMany>
     }
 }
 
-#[tactic(auto, using(crate::proofs::Misfitting::misfit_rules))]
 fn items_fit(items: &[ModuleDefinition]) -> Result<(), TooMany>
     ensures { result ≡ type_refusal (item_misfits (map item_tree items.now)) }
 {
@@ -81,7 +80,6 @@ fn items_fit(items: &[ModuleDefinition]) -> Result<(), TooMany>
     Ok(())
 }
 
-#[tactic(auto, using(crate::proofs::Misfitting::misfit_rules))]
 fn item_fits(item: &ModuleDefinition) -> Result<(), TooMany>
     ensures { result ≡ type_refusal (item_misfits (item_tree item.now ∷ [])) }
 {
@@ -94,7 +92,6 @@ fn item_fits(item: &ModuleDefinition) -> Result<(), TooMany>
     }
 }
 
-#[tactic(auto, using(crate::proofs::Misfitting::misfit_rules))]
 fn params_fit(params: &[InterfaceFuncParam]) -> Result<(), TooMany>
     ensures { result ≡ type_refusal (params_misfits (map param_field params.now)) }
 {
@@ -105,7 +102,6 @@ fn params_fit(params: &[InterfaceFuncParam]) -> Result<(), TooMany>
 }
 
 #[cycle(tags)]
-#[tactic(auto, using(crate::proofs::Misfitting::misfit_rules))]
 fn type_fits(tref: &TypeRef) -> Result<(), TooMany>
     ensures { result ≡ type_refusal (misfits (tree_of tref.now)) }
 {
@@ -116,7 +112,6 @@ fn type_fits(tref: &TypeRef) -> Result<(), TooMany>
 }
 
 #[cycle(tags)]
-#[tactic(auto, using(crate::proofs::Misfitting::misfit_rules))]
 fn datatype_fits(datatype: &Datatype) -> Result<(), TooMany>
     ensures { result ≡ type_refusal (misfits (datatype_tree datatype.now)) }
 {
@@ -131,7 +126,6 @@ fn datatype_fits(datatype: &Datatype) -> Result<(), TooMany>
 }
 
 #[cycle(tags)]
-#[tactic(auto, using(crate::proofs::Misfitting::misfit_rules))]
 fn record_fits(record_type: &RecordDatatype) -> Result<(), TooMany>
     ensures { result ≡ type_refusal (misfits (record_tree record_type.now)) }
 {
@@ -142,7 +136,6 @@ fn record_fits(record_type: &RecordDatatype) -> Result<(), TooMany>
 }
 
 #[cycle(tags)]
-#[tactic(auto, using(crate::proofs::Misfitting::misfit_rules))]
 fn variant_fits(variant: &Variant) -> Result<(), TooMany>
     ensures { result ≡ type_refusal (misfits (variant_tree variant.now)) }
 {
@@ -151,7 +144,6 @@ fn variant_fits(variant: &Variant) -> Result<(), TooMany>
 }
 
 #[cycle(tags)]
-#[tactic(auto, using(crate::proofs::Misfitting::misfit_rules))]
 fn members_fit(members: &[RecordMember]) -> Result<(), TooMany>
     ensures { result ≡ type_refusal (field_misfits (fields_of (map member_field members.now))) }
 {
@@ -162,7 +154,6 @@ fn members_fit(members: &[RecordMember]) -> Result<(), TooMany>
 }
 
 #[cycle(tags)]
-#[tactic(auto, using(crate::proofs::Misfitting::misfit_rules))]
 fn cases_fit(cases: &[Case]) -> Result<(), TooMany>
     ensures { result ≡ type_refusal (arm_misfits (arms_of (map case_arm cases.now))) }
 {

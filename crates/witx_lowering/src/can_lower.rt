@@ -1,4 +1,5 @@
 //! Whether a function can be lowered, or its first part that can't.
+#![tactic(auto, using(witx_instructions::proofs::Results::lowerable_rules))]
 
 ghost use Rattle.std.specs.Prelude.{◌≡◌, not, position};
 ghost use Rattle.witx_ast.specs.Views.{tree_of, datatype_tree};
@@ -18,7 +19,6 @@ use witx_machine::Place;
 /// cases `ok` and `err` whose tag isn't `u64`: named if it has no payload, with a name or a tuple of names
 /// for ok, and a name passed as one I32 for err. Where ok's name stands for a tuple, that one's members
 /// must be names too.
-#[tactic(auto, using(witx_instructions::proofs::Results::lowerable_rules))]
 pub fn lowerable(func: &InterfaceFunc) -> Result<(), Place>
     ensures { refused_place result ≡ unlowerable (called func.now) }
 {
@@ -41,7 +41,6 @@ fn first_failing(params: &Params) -> Option<usize>
         .position(|param| !can_be_param(&param.tref))
 }
 
-#[tactic(auto, using(witx_instructions::proofs::Results::lowerable_rules))]
 fn failing_result(abi: Abi, results: &Params) -> Option<Place>
     ensures { result ≡ unlowerable_result abi (param_types results.now) }
 {

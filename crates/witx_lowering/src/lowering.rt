@@ -1,4 +1,5 @@
 //! The instruction that lowers a value of a type, and the one that lifts it.
+#![tactic(auto, using(witx_ast::proofs::TreeKinds::kind_rules, witx_instructions::proofs::Instructions::step_rules))]
 
 ghost use Rattle.std.specs.Prelude.{◌≡◌, true};
 ghost use Rattle.witx_ast.specs.Views.{tree_of, datatype_tree, named_tree, record_tree, variant_tree};
@@ -13,7 +14,6 @@ use witx_ast::{
 use witx_instructions::Instruction;
 
 /// The instruction that lowers a value of the type.
-#[tactic(auto, using(witx_ast::proofs::TreeKinds::kind_rules, witx_instructions::proofs::Instructions::step_rules))]
 pub fn lower<'a>(tref: &'a TypeRef) -> Instruction<'a>
     requires { can_be_param (tree_of tref.now) ≡ true }
     ensures { step_of result ≡ lower_step (tree_of tref.now) }
@@ -25,7 +25,6 @@ pub fn lower<'a>(tref: &'a TypeRef) -> Instruction<'a>
 }
 
 /// The instruction that lifts a value of the type.
-#[tactic(auto, using(witx_ast::proofs::TreeKinds::kind_rules, witx_instructions::proofs::Instructions::step_rules))]
 pub fn lift<'a>(tref: &'a TypeRef) -> Instruction<'a>
     requires { can_be_param (tree_of tref.now) ≡ true }
     ensures { step_of result ≡ lift_step (tree_of tref.now) }
@@ -37,7 +36,6 @@ pub fn lift<'a>(tref: &'a TypeRef) -> Instruction<'a>
 }
 
 // A type without a name of its own: a builtin, a pointer or a list.
-#[tactic(auto, using(witx_ast::proofs::TreeKinds::kind_rules, witx_instructions::proofs::Instructions::step_rules))]
 fn lower_unnamed<'a>(datatype: &'a Datatype) -> Instruction<'a>
     requires { can_be_param (datatype_tree datatype.now) ≡ true }
     ensures { step_of result ≡ lower_step (datatype_tree datatype.now) }
@@ -51,7 +49,6 @@ fn lower_unnamed<'a>(datatype: &'a Datatype) -> Instruction<'a>
     }
 }
 
-#[tactic(auto, using(witx_ast::proofs::TreeKinds::kind_rules, witx_instructions::proofs::Instructions::step_rules))]
 fn lift_unnamed<'a>(datatype: &'a Datatype) -> Instruction<'a>
     requires { can_be_param (datatype_tree datatype.now) ≡ true }
     ensures { step_of result ≡ lift_step (datatype_tree datatype.now) }
@@ -66,7 +63,6 @@ fn lift_unnamed<'a>(datatype: &'a Datatype) -> Instruction<'a>
 }
 
 // A named type, by what stands behind its names.
-#[tactic(auto, using(witx_ast::proofs::TreeKinds::kind_rules, witx_instructions::proofs::Instructions::step_rules))]
 fn lower_as<'a>(ty: &'a Rc<NamedType>, datatype: &'a Datatype) -> Instruction<'a>
     ensures { step_of result ≡ lower_at (named_tree ty.now.value) (datatype_tree datatype.now) }
 {
@@ -81,7 +77,6 @@ fn lower_as<'a>(ty: &'a Rc<NamedType>, datatype: &'a Datatype) -> Instruction<'a
     }
 }
 
-#[tactic(auto, using(witx_ast::proofs::TreeKinds::kind_rules, witx_instructions::proofs::Instructions::step_rules))]
 fn lift_as<'a>(ty: &'a Rc<NamedType>, datatype: &'a Datatype) -> Instruction<'a>
     ensures { step_of result ≡ lift_at (named_tree ty.now.value) (datatype_tree datatype.now) }
 {
@@ -96,7 +91,6 @@ fn lift_as<'a>(ty: &'a Rc<NamedType>, datatype: &'a Datatype) -> Instruction<'a>
     }
 }
 
-#[tactic(auto, using(witx_ast::proofs::TreeKinds::kind_rules, witx_instructions::proofs::Instructions::step_rules))]
 fn lower_record<'a>(ty: &'a Rc<NamedType>, record: &'a RecordDatatype) -> Instruction<'a>
     ensures { step_of result ≡ lower_at (named_tree ty.now.value) (record_tree «record».now) }
 {
@@ -109,7 +103,6 @@ fn lower_record<'a>(ty: &'a Rc<NamedType>, record: &'a RecordDatatype) -> Instru
     }
 }
 
-#[tactic(auto, using(witx_ast::proofs::TreeKinds::kind_rules, witx_instructions::proofs::Instructions::step_rules))]
 fn lift_record<'a>(ty: &'a Rc<NamedType>, record: &'a RecordDatatype) -> Instruction<'a>
     ensures { step_of result ≡ lift_at (named_tree ty.now.value) (record_tree «record».now) }
 {
@@ -122,7 +115,6 @@ fn lift_record<'a>(ty: &'a Rc<NamedType>, record: &'a RecordDatatype) -> Instruc
     }
 }
 
-#[tactic(auto, using(witx_ast::proofs::TreeKinds::kind_rules, witx_instructions::proofs::Instructions::step_rules))]
 fn lower_variant<'a>(ty: &'a Rc<NamedType>, variant: &'a Variant) -> Instruction<'a>
     ensures { step_of result ≡ lower_at (named_tree ty.now.value) (variant_tree variant.now) }
 {
@@ -133,7 +125,6 @@ fn lower_variant<'a>(ty: &'a Rc<NamedType>, variant: &'a Variant) -> Instruction
     }
 }
 
-#[tactic(auto, using(witx_ast::proofs::TreeKinds::kind_rules, witx_instructions::proofs::Instructions::step_rules))]
 fn lift_variant<'a>(ty: &'a Rc<NamedType>, variant: &'a Variant) -> Instruction<'a>
     ensures { step_of result ≡ lift_at (named_tree ty.now.value) (variant_tree variant.now) }
 {

@@ -1,4 +1,5 @@
 //! The text of a node.
+#![tactic(auto, using(crate::proofs::Joined::joined_rules))]
 
 ghost use Rattle.std.specs.Prelude.{◌≡◌, ◌++◌, map, OnOk, string_bytes};
 ghost use Rattle.witx_ast.specs.TypeNames.{comma_joined, separator};
@@ -124,7 +125,6 @@ fn put_signature(out: &mut String, func: &MdFunc) -> Result<(), OutOfMemory>
     put_outputs(out, func.outputs.as_slice())
 }
 
-#[tactic(auto, using(crate::proofs::Joined::joined_rules))]
 fn put_inputs(out: &mut String, inputs: &[(Text, Text)]) -> Result<(), OutOfMemory>
     ensures { OnOk result (string_bytes out.new ≡ string_bytes out.old ++ comma_joined (map input_text inputs.now)) }
 {
@@ -177,7 +177,6 @@ fn put_tuple(out: &mut String, outputs: &[Text]) -> Result<(), OutOfMemory>
     put(out, ")")
 }
 
-#[tactic(auto, using(crate::proofs::Joined::joined_rules))]
 fn put_joined(out: &mut String, texts: &[Text]) -> Result<(), OutOfMemory>
     ensures { OnOk result (string_bytes out.new ≡ string_bytes out.old ++ comma_joined texts.now) }
 {

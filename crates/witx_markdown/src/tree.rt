@@ -1,4 +1,5 @@
 //! A page as a tree of numbered nodes.
+#![tactic(auto, using(crate::proofs::Ancestry::tree_rules))]
 
 ghost use Rattle.std.specs.Prelude.{◌≡◌, ◌∷◌, ◌++◌, [], ◌<◌, IfOk, OnOk, OnErr, length, string_bytes, Some, None};
 ghost use Rattle.std.specs.Borrow.{sem};
@@ -61,7 +62,6 @@ impl MdTree {
 
     /// Adds a node as the last child of `parent`; the answer is its number, the next one. A refused call
     /// changes nothing.
-    #[tactic(auto, using(crate::proofs::Ancestry::tree_rules))]
     pub fn new_child(&mut self, parent: usize, item: MdContent) -> Result<usize, OutOfMemory>
         requires { parent < length self.old.contents }
         ensures number { IfOk result (λ number. number ≡ length self.old.contents) }
@@ -139,7 +139,6 @@ pub fn header_below(tree: &MdTree, node: usize) -> MdHeading
 }
 
 /// Adds the nodes of a branch, which begins with the next number. A refused call changes nothing.
-#[tactic(auto, using(crate::proofs::Ancestry::tree_rules))]
 pub fn graft(tree: &mut MdTree, branch: Branch) -> Result<(), OutOfMemory>
     requires { HaveParents (length tree.old.contents) branch.parents × (length branch.contents ≡ length branch.parents) }
     ensures nodes { OnOk result (tree.new ≡ record {

@@ -1,4 +1,5 @@
 //! The cases of a variant, and the names of a tag, in whose order they stand.
+#![tactic(auto, using(crate::proofs::NamePlaces::place_rules))]
 
 ghost use Rattle.std.specs.Prelude.{◌≡◌, length, map, option_map, slice_get, cond, IfOk, OnOk, Some, None};
 ghost use Rattle.std.specs.Option.{option_or};
@@ -44,7 +45,6 @@ impl Model for TagNames {
 
 impl TagNames {
     /// The names in this order.
-    #[tactic(auto, using(crate::proofs::NamePlaces::place_rules))]
     pub fn new(alloc: Global, names: Items<Id>) -> Result<TagNames, OutOfMemory>
         ensures { IfOk result (λ t. t ≡ names) }
     {
@@ -95,7 +95,6 @@ fn put_first(places: &mut Places, name: &Id, place: usize) -> Result<(), OutOfMe
 }
 
 /// The first place of each name.
-#[tactic(auto, using(crate::proofs::NamePlaces::place_rules))]
 fn places_of(alloc: Global, names: &[Id]) -> Result<Places, OutOfMemory>
     ensures { (n : _) → IfOk result (λ places. found places n ≡ place_in names.now n) }
 {

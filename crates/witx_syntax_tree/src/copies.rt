@@ -1,4 +1,5 @@
 //! Copies: each has the reading of what it is made of, names with their places, and comments.
+#![tactic(auto, using(crate::proofs::Copied::copy_rules))]
 
 ghost use Rattle.std.specs.Prelude.{◌≡◌, IfOk};
 ghost use Rattle.witx_comments.specs.Comments.{comments_view};
@@ -32,7 +33,6 @@ impl<'a> Duplicate for IdSyntax<'a> {
 impl<'a> Duplicate for EnumSyntax<'a> {
     ghost is_copy = { λ enumeration made. type_view (typedef.Enum made) ≡ type_view (typedef.Enum enumeration) };
 
-    #[tactic(auto, using(crate::proofs::Copied::copy_rules))]
     fn copy(&self) -> Result<EnumSyntax<'a>, OutOfMemory> {
         Ok(EnumSyntax {
             repr: self.repr,
@@ -44,7 +44,6 @@ impl<'a> Duplicate for EnumSyntax<'a> {
 impl<'a> Duplicate for FlagsSyntax<'a> {
     ghost is_copy = { λ flags made. type_view (typedef.Flags made) ≡ type_view (typedef.Flags flags) };
 
-    #[tactic(auto, using(crate::proofs::Copied::copy_rules))]
     fn copy(&self) -> Result<FlagsSyntax<'a>, OutOfMemory> {
         Ok(FlagsSyntax {
             repr: self.repr,
@@ -57,7 +56,6 @@ impl<'a> Duplicate for TypedefSyntax<'a> {
     ghost is_copy = { λ copied made. type_view made ≡ type_view copied };
 
     #[cycle(typedefs)]
-    #[tactic(auto, using(crate::proofs::Copied::copy_rules))]
     fn copy(&self) -> Result<TypedefSyntax<'a>, OutOfMemory> {
         match self {
             TypedefSyntax::Enum(enumeration) => Ok(TypedefSyntax::Enum(enumeration.copy()?)),
@@ -106,7 +104,6 @@ impl<'a> Duplicate for TupleSyntax<'a> {
     ghost is_copy = { λ tuple made. type_view (typedef.Tuple made) ≡ type_view (typedef.Tuple tuple) };
 
     #[cycle(typedefs)]
-    #[tactic(auto, using(crate::proofs::Copied::copy_rules))]
     fn copy(&self) -> Result<TupleSyntax<'a>, OutOfMemory> {
         Ok(TupleSyntax {
             types: copied_types(self.types.allocator(), self.types.as_slice())?,
@@ -118,7 +115,6 @@ impl<'a> Duplicate for ExpectedSyntax<'a> {
     ghost is_copy = { λ expected made. type_view (typedef.Expected made) ≡ type_view (typedef.Expected expected) };
 
     #[cycle(typedefs)]
-    #[tactic(auto, using(crate::proofs::Copied::copy_rules))]
     fn copy(&self) -> Result<ExpectedSyntax<'a>, OutOfMemory> {
         Ok(ExpectedSyntax {
             ok: optional_copy(&self.ok)?,
@@ -131,7 +127,6 @@ impl<'a> Duplicate for RecordSyntax<'a> {
     ghost is_copy = { λ record_ made. type_view (typedef.Record made) ≡ type_view (typedef.Record record_) };
 
     #[cycle(typedefs)]
-    #[tactic(auto, using(crate::proofs::Copied::copy_rules))]
     fn copy(&self) -> Result<RecordSyntax<'a>, OutOfMemory> {
         Ok(RecordSyntax {
             fields: copied_fields(self.fields.allocator(), self.fields.as_slice())?,
@@ -143,7 +138,6 @@ impl<'a> Duplicate for FieldSyntax<'a> {
     ghost is_copy = { λ field made. field_view made ≡ field_view field };
 
     #[cycle(typedefs)]
-    #[tactic(auto, using(crate::proofs::Copied::copy_rules))]
     fn copy(&self) -> Result<FieldSyntax<'a>, OutOfMemory> {
         Ok(FieldSyntax {
             name: self.name,
@@ -156,7 +150,6 @@ impl<'a> Duplicate for UnionSyntax<'a> {
     ghost is_copy = { λ union_ made. type_view (typedef.Union made) ≡ type_view (typedef.Union union_) };
 
     #[cycle(typedefs)]
-    #[tactic(auto, using(crate::proofs::Copied::copy_rules))]
     fn copy(&self) -> Result<UnionSyntax<'a>, OutOfMemory> {
         Ok(UnionSyntax {
             tag: optional_copy(&self.tag)?,
@@ -169,7 +162,6 @@ impl<'a> Duplicate for VariantSyntax<'a> {
     ghost is_copy = { λ variant made. type_view (typedef.Variant made) ≡ type_view (typedef.Variant variant) };
 
     #[cycle(typedefs)]
-    #[tactic(auto, using(crate::proofs::Copied::copy_rules))]
     fn copy(&self) -> Result<VariantSyntax<'a>, OutOfMemory> {
         Ok(VariantSyntax {
             tag: optional_copy(&self.tag)?,
@@ -182,7 +174,6 @@ impl<'a> Duplicate for CaseSyntax<'a> {
     ghost is_copy = { λ case made. case_view made ≡ case_view case };
 
     #[cycle(typedefs)]
-    #[tactic(auto, using(crate::proofs::Copied::copy_rules))]
     fn copy(&self) -> Result<CaseSyntax<'a>, OutOfMemory> {
         let ty = match &self.ty {
             Some(ty) => Some(ty.copy()?),
@@ -296,7 +287,6 @@ impl Duplicate for ModuleImportSyntax {
 impl<'a> Duplicate for InterfaceFuncSyntax<'a> {
     ghost is_copy = { λ func made. decl_view (decl.Func made) ≡ decl_view (decl.Func func) };
 
-    #[tactic(auto, using(crate::proofs::Copied::copy_rules))]
     fn copy(&self) -> Result<InterfaceFuncSyntax<'a>, OutOfMemory> {
         Ok(InterfaceFuncSyntax {
             export: self.export.copy()?,
@@ -323,7 +313,6 @@ impl<'a> Duplicate for ModuleDeclSyntax<'a> {
 impl<'a> Duplicate for ModuleSyntax<'a> {
     ghost is_copy = { λ copied made. declaration_view (declaration.Module made) ≡ declaration_view (declaration.Module copied) };
 
-    #[tactic(auto, using(crate::proofs::Copied::copy_rules))]
     fn copy(&self) -> Result<ModuleSyntax<'a>, OutOfMemory> {
         Ok(ModuleSyntax {
             name: self.name,
@@ -358,7 +347,6 @@ impl<'a> Duplicate for TopLevelSyntax<'a> {
 impl<'a> Duplicate for TopLevelDocument<'a> {
     ghost is_copy = { λ document made. document_view made ≡ document_view document };
 
-    #[tactic(auto, using(crate::proofs::Copied::copy_rules))]
     fn copy(&self) -> Result<TopLevelDocument<'a>, OutOfMemory> {
         Ok(TopLevelDocument {
             items: self.items.copy()?,
