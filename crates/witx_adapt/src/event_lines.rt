@@ -1,4 +1,5 @@
 //! The line of each event of a listing.
+#![tactic(auto, using(witx_ast::proofs::Trees::tree_rules))]
 
 ghost use Rattle.std.specs.Prelude.{◌≡◌, ◌++◌, OnOk, string_bytes, map, codes, option_map};
 ghost use Rattle.witx_ast.specs.Views.{tree_of, datatype_tree, named_tree};
@@ -61,7 +62,6 @@ fn put_finish(text: &mut String, value: bool) -> Result<(), AllocError>
     text.push_str(finish_text(value))
 }
 
-#[tactic(auto, using(witx_ast::proofs::Trees::tree_rules))]
 fn put_space(text: &mut String, slot: usize, ty: &NamedType) -> Result<(), OutOfMemory>
     ensures { OnOk result (string_bytes text.new
         ≡ string_bytes text.old ++ (codes "space" ++ number_field slot ++ type_field (named_tree ty.now))) }
@@ -135,14 +135,12 @@ fn put_word(text: &mut String, word: &str) -> Result<(), AllocError>
     text.push_str(word)
 }
 
-#[tactic(auto, using(witx_ast::proofs::Trees::tree_rules))]
 fn put_name(text: &mut String, ty: &NamedType) -> Result<(), OutOfMemory>
     ensures { OnOk result (string_bytes text.new ≡ string_bytes text.old ++ type_field (named_tree ty.now)) }
 {
     Ok(put_word(text, ty.name.as_str())?)
 }
 
-#[tactic(auto, using(witx_ast::proofs::Trees::tree_rules))]
 fn put_type(alloc: Global, text: &mut String, ty: &TypeRef) -> Result<(), OutOfMemory>
     ensures { OnOk result (string_bytes text.new ≡ string_bytes text.old ++ type_field (tree_of ty.now)) }
 {
@@ -153,7 +151,6 @@ fn put_type(alloc: Global, text: &mut String, ty: &TypeRef) -> Result<(), OutOfM
 }
 
 /// A type without a name of its own: a builtin by its word.
-#[tactic(auto, using(witx_ast::proofs::Trees::tree_rules))]
 fn put_unnamed(
     alloc: Global,
     text: &mut String,

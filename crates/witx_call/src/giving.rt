@@ -1,4 +1,5 @@
 //! Ranges that are given one behind the other.
+#![tactic(auto, using(crate::proofs::PlacementLemmas::placement_rules))]
 
 ghost use Rattle.std.specs.Prelude.{◌≡◌, ◌+◌, ◌^◌, ◌<◌, ◌≤◌, [], MatchOption, IfOk, option_map};
 ghost use Rattle.witx_ast.specs.Plain.{plain};
@@ -39,7 +40,6 @@ impl Placement {
     }
 
     /// Gives the next range, of zeros, for a type; none where it would end above 2^20.
-    #[tactic(auto, using(crate::proofs::PlacementLemmas::placement_rules))]
     pub fn give(&mut self, ty: &Rc<NamedType>) -> Result<Option<u32>, OutOfMemory>
         ensures { IfOk result (λ at. option_map (λ a. (word_i32 a, room_of self.new)) at
             ≡ room_given (named_tree ty.now.value) (room_of self.old)) }
@@ -50,7 +50,6 @@ impl Placement {
         }
     }
 
-    #[tactic(auto, using(crate::proofs::PlacementLemmas::placement_rules))]
     fn give_sized(&mut self, ty: &Rc<NamedType>, len: u32) -> Result<Option<u32>, OutOfMemory>
         requires size { len ≡ range_size (plain (named_tree ty.now.value)) }
         requires some { 0 < len }
@@ -111,7 +110,6 @@ fn copy_range(range: &Range) -> Result<Range, OutOfMemory>
 }
 
 /// Zeros in a range, where none of it is held; else nothing changes.
-#[tactic(auto, using(crate::proofs::PlacementLemmas::placement_rules))]
 fn put_zeros(memory: &mut ByteMemory, at: u32, len: u32) -> Result<bool, OutOfMemory>
     requires some { 0 < len }
     requires above { 0 < at }
@@ -126,7 +124,6 @@ fn put_zeros(memory: &mut ByteMemory, at: u32, len: u32) -> Result<bool, OutOfMe
 }
 
 /// The length of a range for a type, at least 1; none where it is above 2^20.
-#[tactic(auto, using(crate::proofs::PlacementLemmas::placement_rules))]
 fn range_len(ty: &NamedType) -> Option<u32>
     ensures { MatchOption result (2 ^ 20 < range_size (plain (named_tree ty.now)))
         (λ len. (len ≡ range_size (plain (named_tree ty.now))) × ((0 < len) × (len ≤ 2 ^ 20))) }

@@ -1,4 +1,5 @@
 //! The text of a value.
+#![tactic(auto, using(crate::proofs::Texts::text_rules))]
 
 ghost use Rattle.std.specs.Prelude.{◌≡◌, ◌++◌, IfOk, OnOk, string_bytes, codes, option_map};
 ghost use Rattle.std.specs.Fmt.{decimal, signed_decimal};
@@ -22,7 +23,6 @@ pub fn value_text(alloc: Global, value: &Value) -> Result<Text, OutOfMemory>
 
 /// Appends the text of a value.
 #[cycle(texts)]
-#[tactic(auto, using(crate::proofs::Texts::text_rules))]
 pub(crate) fn put_value(text: &mut String, value: &Value) -> Result<(), OutOfMemory>
     ensures { OnOk result (string_bytes text.new ≡ string_bytes text.old ++ text_of (seen value.now)) }
 {
@@ -42,7 +42,6 @@ pub(crate) fn put_value(text: &mut String, value: &Value) -> Result<(), OutOfMem
 
 /// Appends values in parentheses.
 #[cycle(texts)]
-#[tactic(auto, using(crate::proofs::Texts::text_rules))]
 fn put_members(text: &mut String, values: &[Value]) -> Result<(), OutOfMemory>
     ensures { OnOk result (string_bytes text.new
         ≡ string_bytes text.old ++ (codes "(" ++ values_text 0 (values_seen values.now) ++ codes ")")) }
@@ -68,7 +67,6 @@ fn put_values(text: &mut String, values: &[Value]) -> Result<(), OutOfMemory>
 
 /// Appends a case of a variant that has payloads.
 #[cycle(texts)]
-#[tactic(auto, using(crate::proofs::Texts::text_rules))]
 fn put_case(text: &mut String, case: u32, payload: &Option<Box<Value>>) -> Result<(), OutOfMemory>
     ensures { OnOk result (string_bytes text.new
         ≡ string_bytes text.old ++ case_text case (option_map seen_in payload.now)) }
@@ -83,7 +81,6 @@ fn put_case(text: &mut String, case: u32, payload: &Option<Box<Value>>) -> Resul
 /// Appends a case and its payload.
 #[inline(never)]
 #[cycle(texts)]
-#[tactic(auto, using(crate::proofs::Texts::text_rules))]
 fn put_case_with(text: &mut String, case: u32, value: &Value) -> Result<(), OutOfMemory>
     ensures { OnOk result (string_bytes text.new ≡ string_bytes text.old
         ++ (codes "(#" ++ decimal case ++ codes " " ++ text_of (seen value.now) ++ codes ")")) }

@@ -1,4 +1,5 @@
 //! What types are made of: builtins, representations, tags, the names of members and cases.
+#![tactic(auto, using(witx_scope::proofs::Steps::step_rules))]
 
 ghost use Rattle.std.specs.Prelude.{◌≡◌, ◌<◌, ◌∷◌, ◌++◌, IfOk, IfErr, OnOk, Some, None, [], map, option_map};
 ghost use Rattle.witx_ast.specs.Tree.{Tree, behind, arms_of};
@@ -29,7 +30,6 @@ use witx_syntax_tree::{
 };
 
 /// A use of the type that has no name.
-#[tactic(auto, using(witx_scope::proofs::Steps::step_rules))]
 pub fn value(alloc: Global, datatype: Datatype) -> Result<TypeRef, OutOfMemory>
     ensures { IfOk result (λ t. tree_of t ≡ datatype_tree datatype) }
 {
@@ -87,7 +87,6 @@ pub fn number_name(alloc: Global, i: usize) -> Result<Id, OutOfMemory>
 }
 
 /// The type of a string: a list of `char`.
-#[tactic(auto, using(witx_scope::proofs::Steps::step_rules))]
 pub fn string_type(alloc: Global) -> Result<TypeRef, OutOfMemory>
     ensures { IfOk result (λ t. tree_of t ≡ string_tree) }
 {
@@ -105,7 +104,6 @@ fn two_cases(alloc: Global, first: Case, second: Case) -> Result<Cases, OutOfMem
 }
 
 /// The type of a bool: a variant with the tag u32 and the cases `false` and `true`.
-#[tactic(auto, using(witx_scope::proofs::Steps::step_rules))]
 pub fn bool_type(alloc: Global) -> Result<TypeRef, OutOfMemory>
     ensures { IfOk result (λ t. tree_of t ≡ bool_tree) }
 {
@@ -116,7 +114,6 @@ pub fn bool_type(alloc: Global) -> Result<TypeRef, OutOfMemory>
 }
 
 /// The type of an expected result: a variant with the tag u32 and the cases `ok` and `err`.
-#[tactic(auto, using(witx_scope::proofs::Steps::step_rules))]
 pub fn expected_type(
     alloc: Global,
     ok: Option<TypeRef>,
@@ -149,7 +146,6 @@ pub fn unsigned(of: BuiltinType) -> Option<IntRepr>
     }
 }
 
-#[tactic(auto, using(witx_scope::proofs::Steps::step_rules))]
 fn checked_repr(
     of: &Option<BuiltinSyntax>,
     scope: &Scope<'_>,
@@ -295,7 +291,6 @@ pub struct Tag {
 }
 
 /// A variant of these cases.
-#[tactic(auto, using(witx_scope::proofs::Steps::step_rules))]
 pub fn variant_type(alloc: Global, repr: IntRepr, cases: Cases) -> Result<TypeRef, OutOfMemory>
     ensures { IfOk result (λ t. tree_of t ≡ Tree.variant_of repr (arms_of (map case_arm cases))) }
 {
@@ -385,7 +380,6 @@ fn is_marked(marks: &Marks, name: &Id) -> bool
 }
 
 /// Takes the name of a case in, which is one of the tag's and stands nowhere earlier.
-#[tactic(auto, using(witx_scope::proofs::Steps::step_rules))]
 fn take_case(
     names: &TagNames,
     seen: &mut Marks,

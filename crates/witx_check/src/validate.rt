@@ -1,4 +1,5 @@
 //! Whole declarations, checked and kept.
+#![tactic(auto, using(crate::proofs::Finishing::keeping_rules))]
 
 ghost use Rattle.std.specs.Prelude.{◌≡◌, ◌∷◌, ◌++◌, [], OnOk, OnErr, Some, map, option_map};
 ghost use Rattle.witx_base.specs.Found.{found};
@@ -47,7 +48,6 @@ fn finish(
 }
 
 /// Puts a finished typename behind the definitions and under its name, or neither.
-#[tactic(auto, using(crate::proofs::Finishing::keeping_rules))]
 fn keep_typename(
     definitions: &mut Definitions,
     entries: &mut Entries,
@@ -76,7 +76,6 @@ fn keep_typename(
 }
 
 /// Puts a finished module behind the definitions and under its name, or neither.
-#[tactic(auto, using(crate::proofs::Finishing::keeping_rules))]
 fn keep_module(
     definitions: &mut Definitions,
     entries: &mut Entries,

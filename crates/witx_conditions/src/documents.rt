@@ -1,4 +1,5 @@
 //! Documents made by hand: whether they are ordered, and closed.
+#![tactic(auto, using(crate::proofs::Ordering::order_rules))]
 
 ghost use Rattle.std.specs.Prelude.{◌≡◌, [], map, true};
 ghost use Rattle.witx_ast.specs.Closed.{IsClosed};
@@ -12,7 +13,6 @@ use witx_ast::{Definition, Document};
 
 /// Whether a document is ordered: each name inside a typename's type is that of a typename that stands before it, for
 /// an equal type. In the time of a walk through the definitions before for each name, and of a comparison of its types.
-#[tactic(auto, using(crate::proofs::Ordering::order_rules))]
 pub fn is_ordered(document: &Document) -> bool
     ensures ordered { result ≡ true → IsOrdered (map definition_tree document.now.definitions) }
     ensures exact { IsOrdered (map definition_tree document.now.definitions) → result ≡ true }
@@ -21,7 +21,6 @@ pub fn is_ordered(document: &Document) -> bool
 }
 
 /// Whether it is closed: so it is also of each name in the types of its functions. A closed document is ordered.
-#[tactic(auto, using(crate::proofs::Ordering::order_rules))]
 pub fn is_closed(document: &Document) -> bool
     ensures closed { result ≡ true → IsClosed (map definition_tree document.now.definitions) }
     ensures ordered { result ≡ true → IsOrdered (map definition_tree document.now.definitions) }

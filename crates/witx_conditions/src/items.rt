@@ -1,4 +1,5 @@
 //! Whether each name in the types of a module's functions is that of a typename that stands before.
+#![tactic(auto, using(crate::proofs::Naming::item_rules))]
 
 ghost use Rattle.std.specs.Prelude.{◌≡◌, map};
 ghost use Rattle.witx_ast.specs.Definitions.{definition_tree};
@@ -10,7 +11,6 @@ use crate::names::names_stand;
 use witx_ast::{Definition, InterfaceFuncParam, ModuleDefinition};
 
 /// Whether so it is of these items.
-#[tactic(auto, using(crate::proofs::Naming::item_rules))]
 pub(crate) fn items_stand(before: &[Definition], items: &[ModuleDefinition]) -> bool
     ensures { result ≡ items_stand (map definition_tree before.now) (map item_tree items.now) }
 {
@@ -32,7 +32,6 @@ fn item_stands(before: &[Definition], item: &ModuleDefinition) -> bool
     }
 }
 
-#[tactic(auto, using(crate::proofs::Naming::item_rules))]
 fn params_stand(before: &[Definition], params: &[InterfaceFuncParam]) -> bool
     ensures { result ≡ params_stand (map definition_tree before.now) (map param_field params.now) }
 {

@@ -1,4 +1,5 @@
 //! Whether traces made by hand allocate only what can be written.
+#![tactic(auto, using(witx_ast::proofs::Trees::tree_rules))]
 
 ghost use Rattle.std.specs.Prelude.{◌≡◌, map, true};
 ghost use Rattle.witx_instructions.specs.Views.{called, event_of, kept_step};
@@ -34,7 +35,6 @@ fn events_fit(events: &[Event]) -> bool
     true
 }
 
-#[tactic(auto, using(witx_ast::proofs::Trees::tree_rules))]
 fn event_fits(event: &Event) -> bool
     ensures { result ≡ event_fits (event_of event.now) }
 {
@@ -52,7 +52,6 @@ fn step_fits(step: &Step) -> bool
     row_fits(row_of(step))
 }
 
-#[tactic(auto, using(witx_ast::proofs::Trees::tree_rules))]
 fn row_fits(row: Row<'_>) -> bool
     ensures { result ≡ row_fits (row_view row.entry) }
 {

@@ -1,4 +1,5 @@
 //! Functions and values made by hand: whether a function takes values from lines, and whether values are of its types.
+#![tactic(auto, using(crate::proofs::Fitting::reply_rules))]
 
 ghost use Rattle.std.specs.Prelude.{◌≡◌, ◌≤◌, IsTrue, Some, length, map, option_map, true};
 ghost use Rattle.witx_ast.specs.Functions.{func_tree, param_field};
@@ -66,7 +67,6 @@ fn are_arguments(params: &[InterfaceFuncParam], args: &[Value]) -> bool
     true
 }
 
-#[tactic(auto, using(crate::proofs::Fitting::reply_rules))]
 fn is_reply(results: &[InterfaceFuncParam], reply: Option<&Value>) -> bool
     ensures { result ≡ is_reply (param_types results.now) (option_map (λ v. seen v.now) reply.entry) }
 {
@@ -76,7 +76,6 @@ fn is_reply(results: &[InterfaceFuncParam], reply: Option<&Value>) -> bool
     }
 }
 
-#[tactic(auto, using(crate::proofs::Fitting::reply_rules))]
 fn is_only(results: &[InterfaceFuncParam], value: &Value) -> bool
     ensures { result ≡ is_reply (param_types results.now) (Some (seen value.now)) }
 {

@@ -1,4 +1,5 @@
 //! What a document adds below a node.
+#![tactic(auto, using(crate::proofs::DocumentParts::definition_rules))]
 
 ghost use Rattle.std.specs.Prelude.{◌≡◌, ◌∷◌, ◌++◌, [], IfOk, OnOk, Some, codes, map, string_bytes};
 ghost use Rattle.witx_ast.specs.Plain.{plain};
@@ -25,7 +26,6 @@ use witx_markdown::{
 };
 
 /// Adds the types and the modules of a document.
-#[tactic(auto, using(crate::proofs::DocumentParts::definition_rules))]
 pub fn put_document(
     branch: &mut Branch,
     at: &Place,
@@ -46,7 +46,6 @@ pub fn put_document(
 }
 
 /// Adds the typenames among definitions, all of whose constants stand under the names of their types.
-#[tactic(auto, using(crate::proofs::DocumentParts::definition_rules))]
 fn put_typenames(
     branch: &mut Branch,
     parent: usize,
@@ -71,7 +70,6 @@ fn put_typenames(
 }
 
 /// Adds a typename with its constants and the parts of its type.
-#[tactic(auto, using(crate::proofs::DocumentParts::definition_rules))]
 fn put_typename(
     branch: &mut Branch,
     parent: usize,
@@ -154,7 +152,6 @@ fn put_number_line(out: &mut String, word: &str, number: usize) -> Result<(), Ou
 }
 
 /// Adds the constants of the typename of this name, under a section of their own where there are some.
-#[tactic(auto, using(crate::proofs::DocumentParts::definition_rules))]
 fn put_constants(
     branch: &mut Branch,
     at: &Place,
@@ -171,7 +168,6 @@ fn put_constants(
 }
 
 /// Adds constants under a section of their own, where there are some.
-#[tactic(auto, using(crate::proofs::DocumentParts::definition_rules))]
 fn put_constants_part(
     branch: &mut Branch,
     at: &Place,
@@ -186,7 +182,6 @@ fn put_constants_part(
     }
 }
 
-#[tactic(auto, using(crate::proofs::DocumentParts::definition_rules))]
 fn put_constants_section(
     branch: &mut Branch,
     at: &Place,
@@ -200,7 +195,6 @@ fn put_constants_section(
     Ok(())
 }
 
-#[tactic(auto, using(crate::proofs::DocumentParts::definition_rules))]
 fn put_each_constant(
     branch: &mut Branch,
     node: usize,
@@ -231,7 +225,6 @@ fn put_constant(branch: &mut Branch, node: usize, constant: &Constant) -> Result
 }
 
 /// Adds the modules among definitions.
-#[tactic(auto, using(crate::proofs::DocumentParts::definition_rules))]
 fn put_modules(
     branch: &mut Branch,
     parent: usize,
@@ -250,7 +243,6 @@ fn put_modules(
     Ok(())
 }
 
-#[tactic(auto, using(crate::proofs::DocumentParts::definition_rules))]
 fn put_module_if(
     branch: &mut Branch,
     parent: usize,
@@ -270,7 +262,6 @@ fn put_module_if(
 }
 
 /// Adds a module with its imports and functions.
-#[tactic(auto, using(crate::proofs::DocumentParts::definition_rules))]
 fn put_named_module(
     branch: &mut Branch,
     parent: usize,

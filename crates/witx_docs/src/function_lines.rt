@@ -1,4 +1,5 @@
 //! The lines of mapped parameters, results and functions.
+#![tactic(auto, using(crate::proofs::FunctionParts::unknown_rules))]
 
 ghost use Rattle.std.specs.Prelude.{◌≡◌, ◌==◌, ◌&&◌, ◌++◌, IfOk, OnOk, codes, length, map, string_bytes};
 ghost use Rattle.std.specs.List.{flat_map, list_all};
@@ -228,7 +229,6 @@ fn put_compatible(out: &mut String, word: &str, name: &str) -> Result<(), OutOfM
 }
 
 /// The lines of what is not mapped.
-#[tactic(auto, using(crate::proofs::FunctionParts::unknown_rules))]
 fn put_all_unknown(out: &mut String, word: &str, all: &[ParamUnknown]) -> Result<(), OutOfMemory>
     ensures { OnOk result (string_bytes out.new ≡ string_bytes out.old
         ++ flat_map part_line (map (unknown_part word.now) (map unknown_view all.now))) }
@@ -239,7 +239,6 @@ fn put_all_unknown(out: &mut String, word: &str, all: &[ParamUnknown]) -> Result
     Ok(())
 }
 
-#[tactic(auto, using(crate::proofs::FunctionParts::unknown_rules))]
 fn put_unknown(out: &mut String, word: &str, unknown: &ParamUnknown) -> Result<(), OutOfMemory>
     ensures { OnOk result (string_bytes out.new
         ≡ string_bytes out.old ++ part_line (unknown_part word.now (unknown_view unknown.now))) }

@@ -1,4 +1,5 @@
 //! What a function and a module add below a node.
+#![tactic(auto, using(crate::proofs::FunctionNodes::item_rules))]
 
 ghost use Rattle.std.specs.Prelude.{◌≡◌, ◌++◌, IfOk, OnOk, Some, codes, map, option_map};
 ghost use Rattle.witx_ast.specs.Functions.{func_tree, param_field};
@@ -19,7 +20,6 @@ use witx_layout::LayoutError;
 use witx_markdown::{Branch, MdContent, MdFunc, MdHeading, MdInputs, MdOutputs, NamedLayouts};
 
 /// Adds the parameters and the results of a function.
-#[tactic(auto, using(crate::proofs::FunctionNodes::item_rules))]
 pub fn put_function(
     branch: &mut Branch,
     at: &Place,
@@ -89,7 +89,6 @@ pub fn outputs(alloc: Global, results: &[InterfaceFuncParam]) -> Result<MdOutput
 }
 
 /// Adds the imports and the functions of a module.
-#[tactic(auto, using(crate::proofs::FunctionNodes::item_rules))]
 pub fn put_module(
     branch: &mut Branch,
     at: &Place,
@@ -120,7 +119,6 @@ pub fn put_module(
 }
 
 /// Adds the imports among definitions.
-#[tactic(auto, using(crate::proofs::FunctionNodes::item_rules))]
 fn put_imports(
     branch: &mut Branch,
     parent: usize,
@@ -135,7 +133,6 @@ fn put_imports(
     Ok(())
 }
 
-#[tactic(auto, using(crate::proofs::FunctionNodes::item_rules))]
 fn put_import(
     branch: &mut Branch,
     parent: usize,
@@ -159,7 +156,6 @@ fn put_memory(branch: &mut Branch, parent: usize, heading: MdHeading) -> Result<
 }
 
 /// Adds the functions among definitions, each with its parameters and results.
-#[tactic(auto, using(crate::proofs::FunctionNodes::item_rules))]
 fn put_funcs(
     branch: &mut Branch,
     parent: usize,
@@ -178,7 +174,6 @@ fn put_funcs(
     Ok(())
 }
 
-#[tactic(auto, using(crate::proofs::FunctionNodes::item_rules))]
 fn put_item(
     branch: &mut Branch,
     parent: usize,
@@ -197,7 +192,6 @@ fn put_item(
 }
 
 /// Adds a function with its parameters and results.
-#[tactic(auto, using(crate::proofs::FunctionNodes::item_rules))]
 fn put_func(
     branch: &mut Branch,
     parent: usize,

@@ -1,4 +1,5 @@
 //! What is shown of each type of an interface.
+#![tactic(auto, using(crate::proofs::DocumentParts::through_rules))]
 
 ghost use Rattle.std.specs.Prelude.{◌≡◌, IfOk};
 ghost use Rattle.witx_ast.specs.Views.{datatype_tree};
@@ -218,7 +219,6 @@ impl Parts for Module {
 
     ghost numbers_of = { λ m. items_laid_out (module_tree m).items };
 
-    #[tactic(auto, using(crate::proofs::DocumentParts::through_rules))]
     fn put_parts(&self, branch: &mut Branch, at: &Place) -> Result<(), LayoutError> {
         put_module(branch, at, NamedLayouts::LookedThrough, self)
     }
@@ -267,7 +267,6 @@ impl Parts for InterfaceFunc {
 
     ghost numbers_of = { λ f. function_laid_out (func_tree f) };
 
-    #[tactic(auto, using(crate::proofs::DocumentParts::through_rules))]
     fn put_parts(&self, branch: &mut Branch, at: &Place) -> Result<(), LayoutError> {
         put_function(branch, at, NamedLayouts::LookedThrough, self)
     }
@@ -324,7 +323,6 @@ impl Parts for Document {
 
     ghost numbers_of = { λ d. document_laid_out (map definition_tree d.definitions) };
 
-    #[tactic(auto, using(crate::proofs::DocumentParts::through_rules))]
     fn put_parts(&self, branch: &mut Branch, at: &Place) -> Result<(), LayoutError> {
         put_document(
             branch,

@@ -1,4 +1,5 @@
 //! The page of a document.
+#![tactic(auto, using(crate::proofs::RefusedPages::refusal_rules))]
 
 ghost use Rattle.std.specs.Prelude.{◌≡◌, ◌⊎◌, ◌++◌, IfErr, IfOk, OnOk, Some, None, map, string_bytes};
 ghost use Rattle.std.specs.Map.{keys_of};
@@ -32,7 +33,6 @@ use witx_markdown::{
 /// is none it stays, and is among the missing links, which come in the order of the text.
 /// `UnknownConstantType` comes exactly where a constant's type is no typename of the document, for the
 /// first such; `TooLarge` exactly where else a number that the page needs exceeds `usize::MAX`.
-#[tactic(auto, using(crate::proofs::RefusedPages::refusal_rules))]
 pub fn document_md(alloc: Global, document: &Document) -> Result<(Text, MissingLinks), DocsError>
     ensures text { IfOk result (λ page. page.0 ≡ page_text (map definition_tree document.now.definitions)) }
     ensures missing { IfOk result (λ page. page.1 ≡ links_without_target (map definition_tree document.now.definitions)) }
@@ -52,7 +52,6 @@ pub fn document_md(alloc: Global, document: &Document) -> Result<(Text, MissingL
 /// The same for a closed document, in which each name is that of a typename that stands before it, as a
 /// parsed one is. It is made in one pass: the layout of each typename is kept by its name, so that no type
 /// is laid out again where its name stands.
-#[tactic(auto, using(crate::proofs::RefusedPages::refusal_rules))]
 pub fn closed_document_md(
     alloc: Global,
     document: &Document,

@@ -1,4 +1,5 @@
 //! What a type adds below a node.
+#![tactic(auto, using(crate::proofs::PartSteps::part_rules))]
 
 ghost use Rattle.std.specs.Prelude.{◌≡◌, ◌∷◌, ◌++◌, [], IfOk, OnOk, Some, None, codes, map, option_map};
 ghost use Rattle.std.specs.Prelude.{false};
@@ -27,7 +28,6 @@ use witx_markdown::{
 
 /// Adds the parts of a type: a name has none, since it leads to its typename.
 #[cycle(parts)]
-#[tactic(auto, using(crate::proofs::PartSteps::part_rules))]
 pub fn put_type(
     branch: &mut Branch,
     at: &Place,
@@ -47,7 +47,6 @@ pub fn put_type(
 
 /// Adds the parts of a type that is written out; targets of lists and pointers aren't entered.
 #[cycle(parts)]
-#[tactic(auto, using(crate::proofs::PartSteps::part_rules))]
 pub fn put_datatype(
     branch: &mut Branch,
     at: &Place,
@@ -81,7 +80,6 @@ pub fn put_handle(branch: &mut Branch, at: &Place) -> Result<(), LayoutError>
 
 /// Adds the members of a record, each with its offset.
 #[cycle(parts)]
-#[tactic(auto, using(crate::proofs::PartSteps::part_rules))]
 pub fn put_record(
     branch: &mut Branch,
     at: &Place,
@@ -123,7 +121,6 @@ fn begins<'a>(
 }
 
 #[cycle(parts)]
-#[tactic(auto, using(crate::proofs::PartSteps::part_rules))]
 fn put_members(
     branch: &mut Branch,
     at: &Place,
@@ -144,7 +141,6 @@ fn put_members(
 
 /// Adds a member with its offset, or as a flag with its bit, and the parts of its type.
 #[cycle(parts)]
-#[tactic(auto, using(crate::proofs::PartSteps::part_rules))]
 fn put_member(
     branch: &mut Branch,
     at: &Place,
@@ -197,7 +193,6 @@ fn with_number(alloc: Global, docs: &str, word: &str, number: usize) -> Result<T
 
 /// Adds a bullet with a type, and the parts of that type.
 #[cycle(parts)]
-#[tactic(auto, using(crate::proofs::PartSteps::part_rules))]
 pub fn put_typed(
     branch: &mut Branch,
     at: &Place,
@@ -288,7 +283,6 @@ pub fn put_group(
 /// Adds the layout of a variant, where some case has a payload, and its cases; a bool-like one adds
 /// nothing.
 #[cycle(parts)]
-#[tactic(auto, using(crate::proofs::PartSteps::part_rules))]
 pub fn put_variant(
     branch: &mut Branch,
     at: &Place,
@@ -376,7 +370,6 @@ fn put_number(
 }
 
 #[cycle(parts)]
-#[tactic(auto, using(crate::proofs::PartSteps::part_rules))]
 fn put_cases(
     branch: &mut Branch,
     at: &Place,
@@ -396,7 +389,6 @@ fn put_cases(
 
 /// Adds a case, and the parts of its payload's type.
 #[cycle(parts)]
-#[tactic(auto, using(crate::proofs::PartSteps::part_rules))]
 fn put_case(
     branch: &mut Branch,
     at: &Place,

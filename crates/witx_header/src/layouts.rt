@@ -1,4 +1,5 @@
 //! Assertions on the layout of a typename.
+#![tactic(auto, using(crate::proofs::Numbered::number_rules))]
 
 ghost use Rattle.std.specs.Prelude.{◌≡◌, ◌≤◌, ◌<◌, ◌^◌, ◌++◌, All, Any, OnOk, codes, string_bytes};
 ghost use Rattle.std.specs.Fmt.{decimal};
@@ -18,7 +19,6 @@ use witx_layout::{Layout, LayoutError, RecordMemberLayout, RecordMembers, Varian
 
 /// Appends assertions on the size and the alignment of a typename and on where its parts begin. Too large exactly where
 /// one of these numbers is.
-#[tactic(auto, using(crate::proofs::Numbered::number_rules))]
 pub fn put_layout(
     alloc: Global,
     text: &mut String,
@@ -56,7 +56,6 @@ fn put_align(text: &mut String, name: &str, align: usize) -> Result<(), OutOfMem
 }
 
 /// Appends an assertion for each member of a record, and for the payload of a variant.
-#[tactic(auto, using(crate::proofs::Numbered::number_rules))]
 fn put_offsets(
     alloc: Global,
     text: &mut String,
@@ -74,7 +73,6 @@ fn put_offsets(
     }
 }
 
-#[tactic(auto, using(crate::proofs::Numbered::number_rules))]
 fn put_offsets_of(
     alloc: Global,
     text: &mut String,
@@ -98,7 +96,6 @@ fn put_offsets_of(
     }
 }
 
-#[tactic(auto, using(crate::proofs::Numbered::number_rules))]
 fn put_record_offsets(
     alloc: Global,
     text: &mut String,
@@ -117,7 +114,6 @@ fn put_record_offsets(
     }
 }
 
-#[tactic(auto, using(crate::proofs::Numbered::number_rules))]
 fn put_members(
     alloc: Global,
     text: &mut String,
@@ -134,7 +130,6 @@ fn put_members(
     Ok(put_each_offset(text, name, layouts.as_slice())?)
 }
 
-#[tactic(auto, using(crate::proofs::Numbered::number_rules))]
 fn put_each_offset(
     text: &mut String,
     name: &str,
@@ -162,7 +157,6 @@ fn put_member_offset(
     put_offset_end(text, offset)
 }
 
-#[tactic(auto, using(crate::proofs::Numbered::number_rules))]
 fn put_variant_offset(text: &mut String, name: &str, variant: &Variant) -> Result<(), OutOfMemory>
     ensures { OnOk result (string_bytes text.new
         ≡ string_bytes text.old ++ c_part_offsets name.now (variant_tree variant.now)) }

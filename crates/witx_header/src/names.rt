@@ -1,4 +1,5 @@
 //! Names and texts as C has them.
+#![tactic(auto, using(crate::proofs::Appending::appending_rules))]
 
 ghost use Rattle.std.specs.Prelude.{◌≡◌, ◌+◌, ◌++◌, ◌<◌, ◌∷◌, [], OnOk, string_bytes};
 ghost use Rattle.std.specs.List.{flat_map};
@@ -8,7 +9,6 @@ ghost use Rattle.witx_header.specs.CTypes.{typedef_name};
 use std::alloc::AllocError;
 
 /// Appends a name as C has it: each byte that is no letter, digit or underscore is an underscore.
-#[tactic(auto, using(crate::proofs::Appending::appending_rules))]
 pub fn put_name(text: &mut String, name: &str) -> Result<(), AllocError>
     ensures { OnOk result (string_bytes text.new ≡ string_bytes text.old ++ c_name name.now) }
 {
@@ -37,7 +37,6 @@ fn word_character(byte: u8) -> char
 }
 
 /// Appends a name as C has it, in upper case.
-#[tactic(auto, using(crate::proofs::Appending::appending_rules))]
 pub fn put_upper(text: &mut String, name: &str) -> Result<(), AllocError>
     ensures { OnOk result (string_bytes text.new ≡ string_bytes text.old ++ c_upper name.now) }
 {
@@ -106,7 +105,6 @@ pub fn put_literal(text: &mut String, content: &str) -> Result<(), AllocError>
     text.push('"')
 }
 
-#[tactic(auto, using(crate::proofs::Appending::appending_rules))]
 fn put_literal_bytes(text: &mut String, bytes: &[u8]) -> Result<(), AllocError>
     ensures { OnOk result (string_bytes text.new ≡ string_bytes text.old ++ flat_map literal_byte bytes.now) }
 {

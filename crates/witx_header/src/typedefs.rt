@@ -1,4 +1,5 @@
 //! The typedef of a typename.
+#![tactic(auto, using(crate::proofs::Typing::typing_rules))]
 
 ghost use Rattle.std.specs.Prelude.{◌≡◌, ◌++◌, OnOk, map, option_map, string_bytes};
 ghost use Rattle.witx_ast.specs.Tree.{arms_of, fields_of};
@@ -14,7 +15,6 @@ use witx_ast::{Case, Datatype, RecordDatatype, RecordKind, RecordMember, TypeRef
 
 /// Appends the typedef of a typename. A record that isn't flags and a variant with a payload are written part by part,
 /// each below its documentation.
-#[tactic(auto, using(crate::proofs::Typing::typing_rules))]
 pub fn put_typedef(text: &mut String, name: &str, tref: &TypeRef) -> Result<(), AllocError>
     ensures { OnOk result (string_bytes text.new ≡ string_bytes text.old ++ typedef_lines name.now (tree_of tref.now)) }
 {
@@ -25,7 +25,6 @@ pub fn put_typedef(text: &mut String, name: &str, tref: &TypeRef) -> Result<(), 
     text.push_str(";\n")
 }
 
-#[tactic(auto, using(crate::proofs::Typing::typing_rules))]
 fn put_body(text: &mut String, name: &str, tref: &TypeRef) -> Result<(), AllocError>
     ensures { OnOk result (string_bytes text.new ≡ string_bytes text.old ++ body_text name.now (tree_of tref.now)) }
 {
@@ -35,7 +34,6 @@ fn put_body(text: &mut String, name: &str, tref: &TypeRef) -> Result<(), AllocEr
     }
 }
 
-#[tactic(auto, using(crate::proofs::Typing::typing_rules))]
 fn put_value(text: &mut String, name: &str, datatype: &Datatype) -> Result<(), AllocError>
     ensures { OnOk result (string_bytes text.new
         ≡ string_bytes text.old ++ body_text name.now (datatype_tree datatype.now)) }
@@ -51,7 +49,6 @@ fn put_value(text: &mut String, name: &str, datatype: &Datatype) -> Result<(), A
     }
 }
 
-#[tactic(auto, using(crate::proofs::Typing::typing_rules))]
 fn put_record_body(
     text: &mut String,
     name: &str,
@@ -91,7 +88,6 @@ fn put_struct_begin(text: &mut String, name: &str) -> Result<(), AllocError>
     text.push_str(" {\n")
 }
 
-#[tactic(auto, using(crate::proofs::Typing::typing_rules))]
 fn put_member_lines(text: &mut String, members: &[RecordMember]) -> Result<(), AllocError>
     ensures { OnOk result (string_bytes text.new
         ≡ string_bytes text.old ++ member_lines (fields_of (map member_field members.now))) }
@@ -127,7 +123,6 @@ fn put_part_lines(
     text.push_str(";\n")
 }
 
-#[tactic(auto, using(crate::proofs::Typing::typing_rules))]
 fn put_variant_body(text: &mut String, name: &str, variant: &Variant) -> Result<(), AllocError>
     ensures { OnOk result (string_bytes text.new ≡ string_bytes text.old ++ body_text name.now (variant_tree variant.now)) }
 {
@@ -158,7 +153,6 @@ fn put_tagged_body(
     text.push_str("    } u;\n}")
 }
 
-#[tactic(auto, using(crate::proofs::Typing::typing_rules))]
 fn put_payload_lines(text: &mut String, cases: &[Case]) -> Result<(), AllocError>
     ensures { OnOk result (string_bytes text.new
         ≡ string_bytes text.old ++ payload_lines (arms_of (map case_arm cases.now))) }

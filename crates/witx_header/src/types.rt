@@ -1,4 +1,5 @@
 //! The type of C for a type.
+#![tactic(auto, using(crate::proofs::Typing::typing_rules))]
 
 ghost use Rattle.std.specs.Prelude.{◌≡◌, ◌++◌, OnOk, map, option_map, string_bytes};
 ghost use Rattle.witx_ast.specs.Tree.{arms_of, fields_of, list_of};
@@ -17,7 +18,6 @@ use witx_machine::WasmType;
 
 /// Appends the type of C for a type, on one line.
 #[cycle(typing)]
-#[tactic(auto, using(crate::proofs::Typing::typing_rules))]
 pub fn put_type(text: &mut String, tref: &TypeRef) -> Result<(), AllocError>
     ensures { OnOk result (string_bytes text.new ≡ string_bytes text.old ++ type_text (tree_of tref.now)) }
 {
@@ -28,7 +28,6 @@ pub fn put_type(text: &mut String, tref: &TypeRef) -> Result<(), AllocError>
 }
 
 /// Appends the type of C for a typename.
-#[tactic(auto, using(crate::proofs::Typing::typing_rules))]
 pub fn put_typename(text: &mut String, named: &NamedType) -> Result<(), AllocError>
     ensures { OnOk result (string_bytes text.new ≡ string_bytes text.old ++ type_text (named_tree named.now)) }
 {
@@ -37,7 +36,6 @@ pub fn put_typename(text: &mut String, named: &NamedType) -> Result<(), AllocErr
 
 /// Appends the type of C for a type that is written out, on one line.
 #[cycle(typing)]
-#[tactic(auto, using(crate::proofs::Typing::typing_rules))]
 pub fn put_datatype(text: &mut String, datatype: &Datatype) -> Result<(), AllocError>
     ensures { OnOk result (string_bytes text.new ≡ string_bytes text.old ++ type_text (datatype_tree datatype.now)) }
 {
@@ -53,7 +51,6 @@ pub fn put_datatype(text: &mut String, datatype: &Datatype) -> Result<(), AllocE
 }
 
 #[cycle(typing)]
-#[tactic(auto, using(crate::proofs::Typing::typing_rules))]
 fn put_list(text: &mut String, tref: &TypeRef) -> Result<(), AllocError>
     ensures { OnOk result (string_bytes text.new ≡ string_bytes text.old ++ type_text (list_of (tree_of tref.now))) }
 {
@@ -66,7 +63,6 @@ fn put_list(text: &mut String, tref: &TypeRef) -> Result<(), AllocError>
     text.push_str(" const *ptr; size_t len; }")
 }
 
-#[tactic(auto, using(crate::proofs::Typing::typing_rules))]
 fn is_char(tref: &TypeRef) -> bool
     ensures { result ≡ is_char (behind (tree_of tref.now)) }
 {
@@ -74,7 +70,6 @@ fn is_char(tref: &TypeRef) -> bool
 }
 
 #[cycle(typing)]
-#[tactic(auto, using(crate::proofs::Typing::typing_rules))]
 fn put_pointer(text: &mut String, tref: &TypeRef, star: &str) -> Result<(), AllocError>
     ensures { OnOk result (string_bytes text.new ≡ string_bytes text.old ++ (type_text (tree_of tref.now) ++ star.now)) }
 {
@@ -83,7 +78,6 @@ fn put_pointer(text: &mut String, tref: &TypeRef, star: &str) -> Result<(), Allo
 }
 
 #[cycle(typing)]
-#[tactic(auto, using(crate::proofs::Typing::typing_rules))]
 fn put_record(text: &mut String, record_type: &RecordDatatype) -> Result<(), AllocError>
     ensures { OnOk result (string_bytes text.new ≡ string_bytes text.old ++ type_text (record_tree record_type.now)) }
 {
@@ -94,7 +88,6 @@ fn put_record(text: &mut String, record_type: &RecordDatatype) -> Result<(), All
 }
 
 #[cycle(typing)]
-#[tactic(auto, using(crate::proofs::Typing::typing_rules))]
 fn put_struct(text: &mut String, members: &[RecordMember]) -> Result<(), AllocError>
     ensures { OnOk result (string_bytes text.new
         ≡ string_bytes text.old ++ struct_text (members_text (fields_of (map member_field members.now)))) }
@@ -105,7 +98,6 @@ fn put_struct(text: &mut String, members: &[RecordMember]) -> Result<(), AllocEr
 }
 
 #[cycle(typing)]
-#[tactic(auto, using(crate::proofs::Typing::typing_rules))]
 fn put_members(text: &mut String, members: &[RecordMember]) -> Result<(), AllocError>
     ensures { OnOk result (string_bytes text.new
         ≡ string_bytes text.old ++ members_text (fields_of (map member_field members.now))) }
@@ -117,7 +109,6 @@ fn put_members(text: &mut String, members: &[RecordMember]) -> Result<(), AllocE
 }
 
 #[cycle(typing)]
-#[tactic(auto, using(crate::proofs::Typing::typing_rules))]
 fn put_part(text: &mut String, tref: &TypeRef, name: &str) -> Result<(), AllocError>
     ensures { OnOk result (string_bytes text.new
         ≡ string_bytes text.old ++ member_text (type_text (tree_of tref.now)) name.now) }
@@ -129,7 +120,6 @@ fn put_part(text: &mut String, tref: &TypeRef, name: &str) -> Result<(), AllocEr
 }
 
 #[cycle(typing)]
-#[tactic(auto, using(crate::proofs::Typing::typing_rules))]
 fn put_variant(text: &mut String, variant: &Variant) -> Result<(), AllocError>
     ensures { OnOk result (string_bytes text.new ≡ string_bytes text.old ++ type_text (variant_tree variant.now)) }
 {
@@ -141,7 +131,6 @@ fn put_variant(text: &mut String, variant: &Variant) -> Result<(), AllocError>
 }
 
 #[cycle(typing)]
-#[tactic(auto, using(crate::proofs::Typing::typing_rules))]
 fn put_tagged(text: &mut String, tag: &str, cases: &[Case]) -> Result<(), AllocError>
     ensures { OnOk result (string_bytes text.new
         ≡ string_bytes text.old ++ tagged_text tag.now (payloads_text (arms_of (map case_arm cases.now)))) }
@@ -154,7 +143,6 @@ fn put_tagged(text: &mut String, tag: &str, cases: &[Case]) -> Result<(), AllocE
 }
 
 #[cycle(typing)]
-#[tactic(auto, using(crate::proofs::Typing::typing_rules))]
 fn put_payloads(text: &mut String, cases: &[Case]) -> Result<(), AllocError>
     ensures { OnOk result (string_bytes text.new
         ≡ string_bytes text.old ++ payloads_text (arms_of (map case_arm cases.now))) }
@@ -166,7 +154,6 @@ fn put_payloads(text: &mut String, cases: &[Case]) -> Result<(), AllocError>
 }
 
 #[cycle(typing)]
-#[tactic(auto, using(crate::proofs::Typing::typing_rules))]
 fn put_payload(text: &mut String, case: &Case) -> Result<(), AllocError>
     ensures { OnOk result (string_bytes text.new
         ≡ string_bytes text.old ++ c_payload_text case.now.name (option_map tree_of case.now.tref)) }

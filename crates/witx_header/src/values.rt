@@ -1,4 +1,5 @@
 //! The values of a typename's flags or cases, as macros.
+#![tactic(auto, using(crate::proofs::Typing::typing_rules))]
 
 ghost use Rattle.std.specs.Prelude.{◌≡◌, ◌++◌, OnOk, map, string_bytes};
 ghost use Rattle.witx_ast.specs.Tree.{fields_of};
@@ -15,7 +16,6 @@ use witx_ast::{
 
 /// Appends a macro for each flag or case of a typename's type, below its documentation; other types, and names, have
 /// none.
-#[tactic(auto, using(crate::proofs::Typing::typing_rules))]
 pub fn put_values(text: &mut String, name: &str, tref: &TypeRef) -> Result<(), AllocError>
     ensures { OnOk result (string_bytes text.new ≡ string_bytes text.old ++ value_lines name.now (tree_of tref.now)) }
 {
@@ -25,7 +25,6 @@ pub fn put_values(text: &mut String, name: &str, tref: &TypeRef) -> Result<(), A
     }
 }
 
-#[tactic(auto, using(crate::proofs::Typing::typing_rules))]
 fn put_values_of(text: &mut String, name: &str, datatype: &Datatype) -> Result<(), AllocError>
     ensures { OnOk result (string_bytes text.new
         ≡ string_bytes text.old ++ value_lines name.now (datatype_tree datatype.now)) }
@@ -41,7 +40,6 @@ fn put_values_of(text: &mut String, name: &str, datatype: &Datatype) -> Result<(
     }
 }
 
-#[tactic(auto, using(crate::proofs::Typing::typing_rules))]
 fn put_flags_of(
     text: &mut String,
     name: &str,
@@ -56,7 +54,6 @@ fn put_flags_of(
     }
 }
 
-#[tactic(auto, using(crate::proofs::Typing::typing_rules))]
 fn put_flags(
     text: &mut String,
     name: &str,
@@ -95,7 +92,6 @@ fn put_bit(text: &mut String, repr: IntRepr, place: usize) -> Result<(), AllocEr
     write!(text, "({literal}1) << {place})\n")
 }
 
-#[tactic(auto, using(crate::proofs::Typing::typing_rules))]
 fn put_cases_of(text: &mut String, name: &str, variant: &Variant) -> Result<(), AllocError>
     ensures { OnOk result (string_bytes text.new
         ≡ string_bytes text.old ++ value_lines name.now (variant_tree variant.now)) }
@@ -103,7 +99,6 @@ fn put_cases_of(text: &mut String, name: &str, variant: &Variant) -> Result<(), 
     put_cases(text, name, variant.tag_repr, variant.cases.as_slice())
 }
 
-#[tactic(auto, using(crate::proofs::Typing::typing_rules))]
 fn put_cases(text: &mut String, name: &str, repr: IntRepr, cases: &[Case]) -> Result<(), AllocError>
     ensures { OnOk result (string_bytes text.new
         ≡ string_bytes text.old ++ case_lines name.now repr 0 (map case_arm cases.now)) }

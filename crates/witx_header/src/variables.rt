@@ -1,4 +1,5 @@
 //! Variables in a line of C.
+#![tactic(auto, using(crate::proofs::Appending::appending_rules))]
 
 ghost use Rattle.std.specs.Prelude.{◌≡◌, ◌++◌, OnOk, codes, string_bytes};
 ghost use Rattle.std.specs.List.{flat_map};
@@ -27,7 +28,6 @@ fn put_first(text: &mut String, first: Variable, more: &[Variable]) -> Result<()
     Ok(())
 }
 
-#[tactic(auto, using(crate::proofs::Appending::appending_rules))]
 fn put_more(text: &mut String, more: &[Variable]) -> Result<(), AllocError>
     ensures { OnOk result (string_bytes text.new ≡ string_bytes text.old ++ flat_map behind_comma more.now) }
 {
@@ -46,7 +46,6 @@ fn put_behind_comma(text: &mut String, variable: Variable) -> Result<(), AllocEr
 }
 
 /// Appends the members of a tuple, which are named as the variables that they come from.
-#[tactic(auto, using(crate::proofs::Appending::appending_rules))]
 pub fn put_members(text: &mut String, operands: &[Variable]) -> Result<(), AllocError>
     ensures { OnOk result (string_bytes text.new ≡ string_bytes text.old ++ flat_map member operands.now) }
 {

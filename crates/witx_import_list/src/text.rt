@@ -1,4 +1,5 @@
 //! The text of a list of imports, a line for each.
+#![tactic(auto, using(crate::proofs::Appending::joining_rules))]
 
 ghost use Rattle.std.specs.Prelude.{◌≡◌, ◌++◌, IfOk, OnOk, string_bytes};
 ghost use Rattle.witx_import_list.specs.ListTexts.{quoted_names, group, import_words_line, wasm_import_line, list_text};
@@ -36,7 +37,6 @@ fn put_import(text: &mut String, import: &WasmImport) -> Result<(), AllocError>
 }
 
 /// Appends the line of an import with these names and words.
-#[tactic(auto, using(crate::proofs::Appending::joining_rules))]
 pub fn put_line(
     text: &mut String,
     module: &str,
@@ -56,7 +56,6 @@ pub fn put_line(
 }
 
 /// Appends the names of an import.
-#[tactic(auto, using(crate::proofs::Appending::joining_rules))]
 fn put_names(text: &mut String, module: &str, name: &str) -> Result<(), AllocError>
     ensures { OnOk result (string_bytes text.new ≡ string_bytes text.old ++ quoted_names «module».now name.now) }
 {
@@ -66,7 +65,6 @@ fn put_names(text: &mut String, module: &str, name: &str) -> Result<(), AllocErr
 }
 
 /// Appends a group of words with this head, or nothing where there are none.
-#[tactic(auto, using(crate::proofs::Appending::joining_rules))]
 fn put_group(text: &mut String, head: &str, types: &[WasmType]) -> Result<(), AllocError>
     ensures { OnOk result (string_bytes text.new ≡ string_bytes text.old ++ group head.now types.now) }
 {

@@ -1,4 +1,5 @@
 //! The values of one call, read from lines.
+#![tactic(auto, using(crate::proofs::Lines::line_rules))]
 
 ghost use Rattle.std.specs.Prelude.{◌≡◌, ◌≤◌, ◌+◌, ◌^◌, ◌<◌, ◌++◌, ℕ, List, IfOk, true, map, option_map, length};
 ghost use Rattle.witx_ast.specs.Functions.{func_tree, param_field};
@@ -61,7 +62,6 @@ pub fn read_values(
 
 /// A value for each parameter, or result, from its line, and what follows these lines; so many lines
 /// stand before them.
-#[tactic(auto, using(crate::proofs::Lines::line_rules))]
 fn read_lines<'a>(
     alloc: Global,
     params: &[InterfaceFuncParam],
@@ -85,7 +85,6 @@ fn read_lines<'a>(
 }
 
 /// The value of a line, which has this number.
-#[tactic(auto, using(crate::proofs::Lines::line_rules))]
 fn read_numbered<'a>(
     alloc: Global,
     ty: &TypeRef,

@@ -1,4 +1,5 @@
 //! Which types are passed by address, and how flags and tags are represented.
+#![tactic(auto, using(crate::proofs::KindLemmas::kept_rules))]
 
 ghost use Rattle.std.specs.Prelude.{◌≡◌, ◌%◌};
 ghost use Rattle.witx_ast.specs.Plain.{plain};
@@ -45,14 +46,12 @@ fn is_record_by_address(members: &RecordDatatype) -> bool
 }
 
 /// The representation of flags, and how many they are; none where the type isn't one of flags.
-#[tactic(auto, using(crate::proofs::KindLemmas::kept_rules))]
 pub(crate) fn flags_repr(ty: &TypeRef) -> Option<(IntRepr, usize)>
     ensures { result ≡ flags_kept (plain (tree_of ty.now)) }
 {
     datatype_flags_repr(ty.type_())
 }
 
-#[tactic(auto, using(crate::proofs::KindLemmas::kept_rules))]
 fn datatype_flags_repr(datatype: &Datatype) -> Option<(IntRepr, usize)>
     ensures { result ≡ flags_kept (plain (datatype_tree datatype.now)) }
 {
@@ -67,7 +66,6 @@ fn datatype_flags_repr(datatype: &Datatype) -> Option<(IntRepr, usize)>
     }
 }
 
-#[tactic(auto, using(crate::proofs::KindLemmas::kept_rules))]
 fn record_flags_repr(members: &RecordDatatype) -> Option<(IntRepr, usize)>
     ensures { result ≡ flags_kept (plain (record_tree members.now)) }
 {
@@ -79,14 +77,12 @@ fn record_flags_repr(members: &RecordDatatype) -> Option<(IntRepr, usize)>
 }
 
 /// The representation of a variant's tag; none where the type isn't a variant.
-#[tactic(auto, using(crate::proofs::KindLemmas::kept_rules))]
 pub(crate) fn tag_repr(ty: &TypeRef) -> Option<IntRepr>
     ensures { result ≡ tag_kept (plain (tree_of ty.now)) }
 {
     datatype_tag_repr(ty.type_())
 }
 
-#[tactic(auto, using(crate::proofs::KindLemmas::kept_rules))]
 fn datatype_tag_repr(datatype: &Datatype) -> Option<IntRepr>
     ensures { result ≡ tag_kept (plain (datatype_tree datatype.now)) }
 {

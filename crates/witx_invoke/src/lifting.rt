@@ -1,5 +1,6 @@
 //! The value whose word it is, by a conversion. A number of a case that is no number of the program's is
 //! refused as want of memory.
+#![tactic(auto, using(crate::proofs::ShapeLemmas::shape_rules))]
 
 ghost use Rattle.std.specs.Prelude.{◌≡◌, IfOk, option_map};
 ghost use Rattle.witx_ast.specs.Plain.{plain};
@@ -36,7 +37,6 @@ pub(crate) fn lift_number(builtin: BuiltinType, word: Word) -> Option<Value>
 }
 
 /// The pointer whose word it is.
-#[tactic(auto, using(crate::proofs::ShapeLemmas::shape_rules))]
 pub(crate) fn lift_pointer(word: Word) -> Option<Value>
     ensures { option_map seen result ≡ cells.lift pointer (word_view word) }
 {
@@ -47,7 +47,6 @@ pub(crate) fn lift_pointer(word: Word) -> Option<Value>
 }
 
 /// The const pointer whose word it is.
-#[tactic(auto, using(crate::proofs::ShapeLemmas::shape_rules))]
 pub(crate) fn lift_const_pointer(word: Word) -> Option<Value>
     ensures { option_map seen result ≡ cells.lift const_pointer (word_view word) }
 {

@@ -1,5 +1,6 @@
 //! The one word of a value, by a conversion. Where that word is no number of the program's, as that of flags
 //! of which one from 64 on is set, it is refused as want of memory.
+#![tactic(auto, using(crate::proofs::ShapeLemmas::shape_rules))]
 
 ghost use Rattle.std.specs.Prelude.{◌≡◌, ◌≤◌, ◌^◌, IfOk, MatchOption, Some, option_map};
 ghost use Rattle.witx_ast.specs.ValueTests.{in_range as is_in_range};
@@ -22,7 +23,6 @@ use witx_machine::WasmType;
 use witx_run::{builtin_word_type, same_type};
 
 /// The word of a number of a builtin.
-#[tactic(auto, using(crate::proofs::ShapeLemmas::shape_rules))]
 pub(crate) fn lower_number(builtin: BuiltinType, value: &Value) -> Option<Word>
     ensures { option_map word_view result ≡ cells.lower (number_of builtin) (seen value.now) }
 {
@@ -61,7 +61,6 @@ fn lower_builtin(builtin: BuiltinType, number: i128) -> Option<Word>
 }
 
 /// The word of a pointer.
-#[tactic(auto, using(crate::proofs::ShapeLemmas::shape_rules))]
 pub(crate) fn lower_pointer(value: &Value) -> Option<Word>
     ensures { option_map word_view result ≡ cells.lower pointer (seen value.now) }
 {
@@ -81,7 +80,6 @@ pub(crate) fn lower_pointer(value: &Value) -> Option<Word>
 }
 
 /// The word of a const pointer.
-#[tactic(auto, using(crate::proofs::ShapeLemmas::shape_rules))]
 pub(crate) fn lower_const_pointer(value: &Value) -> Option<Word>
     ensures { option_map word_view result ≡ cells.lower const_pointer (seen value.now) }
 {
@@ -174,7 +172,6 @@ pub(crate) fn lower_flags(
 }
 
 /// The word that keeps flags.
-#[tactic(auto, using(crate::proofs::ShapeLemmas::shape_rules))]
 fn flags_word(repr: IntRepr, value: &Value) -> Result<Option<Word>, OutOfMemory>
     ensures { IfOk result (λ word. option_map word_view word ≡ flags_in_word repr (seen value.now)) }
 {

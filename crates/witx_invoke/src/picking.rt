@@ -1,4 +1,5 @@
 //! Which case a result has.
+#![tactic(auto, using(crate::proofs::PickLemmas::pick_rules))]
 
 ghost use Rattle.std.specs.Prelude.{◌≡◌, IfOk, Some, option_map};
 ghost use Rattle.witx_ast.specs.Views.{tree_of};
@@ -15,7 +16,6 @@ use witx_run::{Picked, name_of};
 
 /// Which case a result has, whose cases carry these types; none where what it carries isn't of the
 /// case's type.
-#[tactic(auto, using(crate::proofs::PickLemmas::pick_rules))]
 pub(crate) fn picks(
     ok: Option<&TypeRef>,
     err: Option<&TypeRef>,
@@ -58,7 +58,6 @@ fn pick_case(
 }
 
 /// The case, with its payload as its type has it.
-#[tactic(auto, using(crate::proofs::PickLemmas::pick_rules))]
 fn pick(
     error: bool,
     ty: Option<&TypeRef>,
@@ -81,7 +80,6 @@ fn pick(
     }
 }
 
-#[tactic(auto, using(crate::proofs::PickLemmas::pick_rules))]
 fn pick_value(
     error: bool,
     ty: &TypeRef,

@@ -2,6 +2,7 @@
 //!
 //! A number is as many digits as stand there, so that `05` is read as 5: whether the text is that of
 //! the value is seen afterwards, when the value's text is compared with it.
+#![tactic(auto, using(crate::proofs::ReadParts::part_rules))]
 
 ghost use Rattle.std.specs.Prelude.{◌≡◌, ℕ, List, true, Some, None, option_and_then};
 ghost use Rattle.witx_ast.specs.Plain.{plain, builtin, handle, list_of, pointer_to, const_pointer_to, record_of, all_bare};
@@ -89,7 +90,6 @@ fn read_bits<'a>(
 }
 
 #[cycle(reading)]
-#[tactic(auto, using(crate::proofs::ReadParts::part_rules))]
 fn read_tuple<'a>(
     alloc: Global,
     members: &[RecordMember],
@@ -103,7 +103,6 @@ fn read_tuple<'a>(
 }
 
 #[cycle(reading)]
-#[tactic(auto, using(crate::proofs::ReadParts::part_rules))]
 fn read_other<'a>(
     alloc: Global,
     members: &[RecordMember],
@@ -118,7 +117,6 @@ fn read_other<'a>(
 
 /// A value for each member, in parentheses.
 #[cycle(reading)]
-#[tactic(auto, using(crate::proofs::ReadParts::part_rules))]
 fn read_enclosed<'a>(
     alloc: Global,
     members: &[RecordMember],
@@ -141,7 +139,6 @@ fn read_enclosed<'a>(
 
 /// A value for each member, one space between.
 #[cycle(reading)]
-#[tactic(auto, using(crate::proofs::ReadParts::part_rules))]
 fn read_members<'a>(
     alloc: Global,
     members: &[RecordMember],
@@ -162,7 +159,6 @@ fn read_members<'a>(
 
 /// The value of a member, behind the space before it.
 #[cycle(reading)]
-#[tactic(auto, using(crate::proofs::ReadParts::part_rules))]
 fn read_member<'a>(
     alloc: Global,
     item: usize,
@@ -193,7 +189,6 @@ fn read_variant<'a>(
 
 /// A case: `#` and its number, and in parentheses with its payload if it has one.
 #[cycle(reading)]
-#[tactic(auto, using(crate::proofs::ReadParts::part_rules))]
 fn read_cases<'a>(
     alloc: Global,
     cases: &[Case],
@@ -214,7 +209,6 @@ fn read_cases<'a>(
 
 /// A case with its payload, behind the parenthesis.
 #[cycle(reading)]
-#[tactic(auto, using(crate::proofs::ReadParts::part_rules))]
 fn read_carrying<'a>(
     alloc: Global,
     cases: &[Case],
@@ -241,7 +235,6 @@ fn read_carrying<'a>(
 
 /// The payload of the case of this number, if it has one.
 #[cycle(reading)]
-#[tactic(auto, using(crate::proofs::ReadParts::part_rules))]
 fn read_payload<'a>(
     alloc: Global,
     cases: &[Case],

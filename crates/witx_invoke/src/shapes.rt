@@ -1,4 +1,5 @@
 //! What values are made of: the words of a list, the members of a tuple, the case of a result.
+#![tactic(auto, using(crate::proofs::ShapeLemmas::shape_rules))]
 
 ghost use Rattle.std.specs.Prelude.{◌≡◌, IfOk, Some, cond, length, map, nat_eq, option_map};
 ghost use Rattle.witx_machine.specs.Cells.{cells};
@@ -14,7 +15,6 @@ use witx_bytes::Value;
 use witx_call::Word;
 
 /// The address and the length of a list.
-#[tactic(auto, using(crate::proofs::ShapeLemmas::shape_rules))]
 pub(crate) fn list_words(value: &Value) -> Option<(Word, Word)>
     ensures { option_map (λ p. (word_view p.0, word_view p.1)) result ≡ cells.list_words (seen value.now) }
 {
@@ -34,7 +34,6 @@ pub(crate) fn list_words(value: &Value) -> Option<(Word, Word)>
 }
 
 /// The list of this address and this length.
-#[tactic(auto, using(crate::proofs::ShapeLemmas::shape_rules))]
 pub(crate) fn list_value(address: Word, length: Word) -> Option<Value>
     ensures { option_map seen result ≡ cells.list_value (word_view address) (word_view length) }
 {
@@ -45,7 +44,6 @@ pub(crate) fn list_value(address: Word, length: Word) -> Option<Value>
 }
 
 /// The tuple of these.
-#[tactic(auto, using(crate::proofs::ShapeLemmas::shape_rules))]
 pub(crate) fn tuple(values: Vec<Value>) -> Value
     ensures { seen result ≡ cells.tuple (map seen values.items) }
 {
@@ -53,7 +51,6 @@ pub(crate) fn tuple(values: Vec<Value>) -> Value
 }
 
 /// The members of a tuple of so many.
-#[tactic(auto, using(crate::proofs::ShapeLemmas::shape_rules))]
 pub(crate) fn parts(count: usize, value: Value) -> Option<Vec<Value>>
     ensures { option_map (λ vs. map seen vs.items) result ≡ cells.parts count (seen value) }
 {
@@ -72,7 +69,6 @@ pub(crate) fn parts(count: usize, value: Value) -> Option<Vec<Value>>
     }
 }
 
-#[tactic(auto, using(crate::proofs::ShapeLemmas::shape_rules))]
 fn members_of(count: usize, members: Items<Value>) -> Option<Vec<Value>>
     ensures { option_map (λ vs. map seen vs.items) result ≡ when (nat_eq count (length members)) (Some (map seen members)) }
 {
@@ -85,7 +81,6 @@ fn members_of(count: usize, members: Items<Value>) -> Option<Vec<Value>>
 }
 
 /// The result with this case and payload.
-#[tactic(auto, using(crate::proofs::ShapeLemmas::shape_rules))]
 pub(crate) fn result(
     alloc: Global,
     error: bool,

@@ -1,4 +1,5 @@
 //! The text of a document.
+#![tactic(auto, using(crate::proofs::LinesPut::put_rules))]
 
 ghost use Rattle.std.specs.Prelude.{◌≡◌, ◌++◌, IfOk, OnOk, codes, map, string_bytes};
 ghost use Rattle.witx_ast.specs.Definitions.{definition_tree};
@@ -34,7 +35,6 @@ fn put_line<T: ToSExpr>(alloc: Global, text: &mut String, value: &T) -> Result<(
     Ok(())
 }
 
-#[tactic(auto, using(crate::proofs::LinesPut::put_rules))]
 fn put_typenames(
     alloc: Global,
     text: &mut String,
@@ -56,7 +56,6 @@ fn put_typenames(
     Ok(())
 }
 
-#[tactic(auto, using(crate::proofs::LinesPut::put_rules))]
 fn put_modules(
     alloc: Global,
     text: &mut String,

@@ -1,4 +1,5 @@
 //! S-expressions and their texts.
+#![tactic(auto, unfolding(crate::specs::ExpressionViews::expr_view))]
 
 ghost use Rattle.std.specs.Prelude.{◌≡◌, IfOk, Some, map};
 ghost use Rattle.std.specs.Fmt.{WritesOnOk};
@@ -35,7 +36,6 @@ pub enum SExpr {
 
 impl SExpr {
     /// The word `s`.
-    #[tactic(auto, unfolding(crate::specs::ExpressionViews::expr_view))]
     pub fn word(alloc: Global, s: &str) -> Result<SExpr, OutOfMemory>
         ensures { IfOk result (λ e. expr_view e ≡ word s.now) }
     {
@@ -43,7 +43,6 @@ impl SExpr {
     }
 
     /// The identifier named `s`, without the `$` that it is written with.
-    #[tactic(auto, unfolding(crate::specs::ExpressionViews::expr_view))]
     pub fn ident(alloc: Global, s: &str) -> Result<SExpr, OutOfMemory>
         ensures { IfOk result (λ e. expr_view e ≡ ident s.now) }
     {
@@ -51,7 +50,6 @@ impl SExpr {
     }
 
     /// The text `s`, without the quotes that it is written in.
-    #[tactic(auto, unfolding(crate::specs::ExpressionViews::expr_view))]
     pub fn quote(alloc: Global, s: &str) -> Result<SExpr, OutOfMemory>
         ensures { IfOk result (λ e. expr_view e ≡ quote s.now) }
     {
@@ -59,7 +57,6 @@ impl SExpr {
     }
 
     /// The annotation `s`, without the `@` that it is written with.
-    #[tactic(auto, unfolding(crate::specs::ExpressionViews::expr_view))]
     pub fn annot(alloc: Global, s: &str) -> Result<SExpr, OutOfMemory>
         ensures { IfOk result (λ e. expr_view e ≡ annot s.now) }
     {
@@ -67,7 +64,6 @@ impl SExpr {
     }
 
     /// The expression `s` with the documentation `d`; `s` itself where `d` is empty.
-    #[tactic(auto, unfolding(crate::specs::ExpressionViews::expr_view))]
     pub fn docs(alloc: Global, d: &str, s: SExpr) -> Result<SExpr, OutOfMemory>
         ensures { IfOk result (λ e. expr_view e ≡ with_docs d.now (expr_view s)) }
     {
@@ -81,7 +77,6 @@ impl SExpr {
 
 /// Each expression with a blank before it.
 #[cycle(printed)]
-#[tactic(auto, unfolding(crate::specs::ExpressionViews::expr_view))]
 fn write_behind<W: fmt::Write>(items: &[SExpr], f: &mut fmt::Formatter<W>) -> fmt::Result
     ensures { WritesOnOk W.Write.write_str_gives f.old result (text_behind (exprs_view items.now)) f.new }
 {
@@ -96,7 +91,6 @@ impl fmt::Display for SExpr {
     ghost output = { λ e. Some (text_of (expr_view e)) };
 
     #[cycle(printed)]
-    #[tactic(auto, unfolding(crate::specs::ExpressionViews::expr_view))]
     fn fmt<W: fmt::Write>(&self, f: &mut fmt::Formatter<W>) -> fmt::Result {
         match self {
             SExpr::Vec(items) => {
@@ -135,7 +129,6 @@ impl Duplicate for SExpr {
     ghost is_copy = { λ e made. expr_view made ≡ expr_view e };
 
     #[cycle(copied)]
-    #[tactic(auto, unfolding(crate::specs::ExpressionViews::expr_view))]
     fn copy(&self) -> Result<SExpr, OutOfMemory> {
         match self {
             SExpr::Vec(items) => Ok(SExpr::Vec(copied_items(items.allocator(), items.as_slice())?)),

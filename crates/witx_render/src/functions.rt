@@ -1,4 +1,5 @@
 //! The expressions of imports and functions.
+#![tactic(auto, using(crate::proofs::ModulesShown::shown_rules))]
 
 ghost use Rattle.std.specs.Prelude.{◌≡◌, ◌++◌, IfOk, OnOk, codes, map};
 ghost use Rattle.witx_ast.specs.Functions.{func_tree, param_field};
@@ -53,7 +54,6 @@ impl ToSExpr for InterfaceFunc {
 }
 
 /// A function without its documentation.
-#[tactic(auto, using(crate::proofs::ModulesShown::shown_rules))]
 fn bare_func(alloc: Global, func: &InterfaceFunc) -> Result<SExpr, OutOfMemory>
     ensures { IfOk result (λ e. expr_view e ≡ vec (func_parts (func_tree func.now))) }
 {
@@ -90,7 +90,6 @@ fn export(alloc: Global, name: &str) -> Result<SExpr, OutOfMemory>
 }
 
 /// Appends the parameters, or the results, each by its word.
-#[tactic(auto, using(crate::proofs::ModulesShown::shown_rules))]
 fn push_params(
     alloc: Global,
     items: &mut SExprs,
@@ -115,7 +114,6 @@ fn param_sexpr(alloc: Global, text: &str, param: &InterfaceFuncParam) -> Result<
     SExpr::docs(alloc, param.docs.as_str(), shown)
 }
 
-#[tactic(auto, using(crate::proofs::ModulesShown::shown_rules))]
 fn push_noreturn(alloc: Global, items: &mut SExprs, noreturn: bool) -> Result<(), OutOfMemory>
     ensures { OnOk result (map expr_view items.new ≡ map expr_view items.old ++ noreturn_mark noreturn) }
 {
@@ -126,7 +124,6 @@ fn push_noreturn(alloc: Global, items: &mut SExprs, noreturn: bool) -> Result<()
     Ok(())
 }
 
-#[tactic(auto, using(crate::proofs::ModulesShown::shown_rules))]
 fn push_stored(alloc: Global, items: &mut SExprs, abi: Abi) -> Result<(), OutOfMemory>
     ensures { OnOk result (map expr_view items.new ≡ map expr_view items.old ++ stored_expressions abi) }
 {

@@ -1,4 +1,5 @@
 //! The expressions of typenames and modules.
+#![tactic(auto, using(crate::proofs::ModulesShown::shown_rules))]
 
 ghost use Rattle.std.specs.Prelude.{◌≡◌, ◌++◌, IfOk, OnOk, filter, map};
 ghost use Rattle.witx_ast.specs.Views.{tree_of};
@@ -36,7 +37,6 @@ impl ToSExpr for Module {
 }
 
 /// A module without its documentation: imports, and then functions.
-#[tactic(auto, using(crate::proofs::ModulesShown::shown_rules))]
 fn bare_module(alloc: Global, shown_module: &Module) -> Result<SExpr, OutOfMemory>
     ensures { IfOk result (λ e. expr_view e ≡ vec (module_expressions (module_tree shown_module.now))) }
 {
@@ -51,7 +51,6 @@ fn bare_module(alloc: Global, shown_module: &Module) -> Result<SExpr, OutOfMemor
 }
 
 /// Appends the imports among the definitions.
-#[tactic(auto, using(crate::proofs::ModulesShown::shown_rules))]
 fn push_imports(
     alloc: Global,
     items: &mut SExprs,
@@ -73,7 +72,6 @@ fn push_imports(
 }
 
 /// Appends the functions among the definitions.
-#[tactic(auto, using(crate::proofs::ModulesShown::shown_rules))]
 fn push_funcs(
     alloc: Global,
     items: &mut SExprs,

@@ -1,4 +1,5 @@
 //! The expressions of types.
+#![tactic(auto, using(crate::proofs::TypesShown::shown_rules))]
 
 ghost use Rattle.std.specs.Prelude.{◌≡◌, IfOk, false, map, option_map};
 ghost use Rattle.witx_ast.specs.Views.{tree_of, datatype_tree, record_tree, variant_tree, member_field, case_arm};
@@ -65,7 +66,6 @@ impl ToSExpr for TypeRef {
     ghost expression = { λ t. type_expr (tree_of t) };
 
     #[cycle(types)]
-    #[tactic(auto, using(crate::proofs::TypesShown::shown_rules))]
     fn to_sexpr(&self, alloc: Global) -> Result<SExpr, OutOfMemory> {
         match self {
             TypeRef::Name(named) => SExpr::ident(alloc, named.name.as_str()),
@@ -78,7 +78,6 @@ impl ToSExpr for Datatype {
     ghost expression = { λ d. type_expr (datatype_tree d) };
 
     #[cycle(types)]
-    #[tactic(auto, using(crate::proofs::TypesShown::shown_rules))]
     fn to_sexpr(&self, alloc: Global) -> Result<SExpr, OutOfMemory> {
         match self {
             Datatype::Record(record) => record.to_sexpr(alloc),
@@ -117,7 +116,6 @@ impl ToSExpr for RecordDatatype {
     ghost expression = { λ r. type_expr (record_tree r) };
 
     #[cycle(types)]
-    #[tactic(auto, using(crate::proofs::TypesShown::shown_rules))]
     fn to_sexpr(&self, alloc: Global) -> Result<SExpr, OutOfMemory> {
         members_sexpr(alloc, self.kind, self.members.as_slice())
     }
@@ -125,7 +123,6 @@ impl ToSExpr for RecordDatatype {
 
 /// The expression of a record of that kind with these members.
 #[cycle(types)]
-#[tactic(auto, using(crate::proofs::TypesShown::shown_rules))]
 fn members_sexpr(
     alloc: Global,
     kind: RecordKind,
@@ -158,7 +155,6 @@ fn record_head(alloc: Global, kind: RecordKind) -> Result<SExprs, OutOfMemory>
 
 /// A member of a record of that kind, with its documentation.
 #[cycle(types)]
-#[tactic(auto, using(crate::proofs::TypesShown::shown_rules))]
 fn member_sexpr(
     alloc: Global,
     kind: RecordKind,
@@ -172,7 +168,6 @@ fn member_sexpr(
 
 /// A member without its documentation: its type in a tuple, its name among flags, else both.
 #[cycle(types)]
-#[tactic(auto, using(crate::proofs::TypesShown::shown_rules))]
 fn bare_member(alloc: Global, kind: RecordKind, member: &RecordMember) -> Result<SExpr, OutOfMemory>
     ensures { IfOk result (λ e. expr_view e ≡ member_expr kind member.now.name (type_expr (tree_of member.now.tref))) }
 {
@@ -190,7 +185,6 @@ impl ToSExpr for Variant {
     ghost expression = { λ v. type_expr (variant_tree v) };
 
     #[cycle(types)]
-    #[tactic(auto, using(crate::proofs::TypesShown::shown_rules))]
     fn to_sexpr(&self, alloc: Global) -> Result<SExpr, OutOfMemory> {
         if self.is_bool() {
             return SExpr::word(alloc, "bool");
@@ -201,7 +195,6 @@ impl ToSExpr for Variant {
 
 /// The expression of a variant, or of an enum, with that tag and these cases.
 #[cycle(types)]
-#[tactic(auto, using(crate::proofs::TypesShown::shown_rules))]
 fn cases_sexpr(
     alloc: Global,
     is_enum: bool,
@@ -228,7 +221,6 @@ fn variant_head(alloc: Global, is_enum: bool, tag: IntRepr) -> Result<SExprs, Ou
 
 /// A case, with its documentation.
 #[cycle(types)]
-#[tactic(auto, using(crate::proofs::TypesShown::shown_rules))]
 fn case_sexpr(alloc: Global, is_enum: bool, shown_case: &Case) -> Result<SExpr, OutOfMemory>
     ensures { IfOk result (λ e. expr_view e ≡ case_item is_enum (case_arm shown_case.now)) }
 {
@@ -238,7 +230,6 @@ fn case_sexpr(alloc: Global, is_enum: bool, shown_case: &Case) -> Result<SExpr, 
 
 /// A case without its documentation: its name in an enum, else with its payload if it has one.
 #[cycle(types)]
-#[tactic(auto, using(crate::proofs::TypesShown::shown_rules))]
 fn bare_case(alloc: Global, is_enum: bool, shown_case: &Case) -> Result<SExpr, OutOfMemory>
     ensures { IfOk result (λ e. expr_view e
         ≡ case_expr is_enum shown_case.now.name (payload_exprs (option_map tree_of shown_case.now.tref))) }

@@ -1,4 +1,5 @@
 //! The machine's state while a trace is run, and the rows that take it from one event to the next.
+#![tactic(auto, using(crate::proofs::MachineLemmas::machine_rules))]
 
 ghost use Rattle.std.specs.Prelude.{◌≡◌, List, true, None, IfOk, option_map, reverse};
 ghost use Rattle.witx_ast.specs.Views.{named_tree};
@@ -183,7 +184,6 @@ fn answer_with<D: Domain>(
 }
 
 /// Gives a slot the next address, unless it has one; or the event has no rule.
-#[tactic(auto, using(crate::proofs::MachineLemmas::machine_rules))]
 pub fn give_slot<D: Domain>(
     domain: &D,
     machine: &mut MachineOf<D>,
@@ -200,7 +200,6 @@ pub fn give_slot<D: Domain>(
     }
 }
 
-#[tactic(auto, using(crate::proofs::MachineLemmas::machine_rules))]
 fn give_free_slot<D: Domain>(
     domain: &D,
     machine: &mut MachineOf<D>,

@@ -1,4 +1,5 @@
 //! Bundles of any size, made by a rule.
+#![tactic(auto, using(crate::proofs::Numbered::numbered_rules))]
 
 ghost use Rattle.std.specs.Prelude.{◌≡◌, ◌↔◌, ◌≤◌, ◌++◌, ℕ, true, IfOk, Ok, OnOk, string_bytes};
 ghost use Rattle.witx_bundle.specs.Bundles.{IsRead};
@@ -56,7 +57,6 @@ fn put_types(text: &mut String, n: usize) -> Result<(), AllocError>
     put_numbered_types(text, n)
 }
 
-#[tactic(auto, using(crate::proofs::Numbered::numbered_rules))]
 fn put_numbered_types(text: &mut String, n: usize) -> Result<(), AllocError>
     ensures { OnOk result (string_bytes text.new ≡ string_bytes text.old ++ each_below type_lines n) }
 {
@@ -124,7 +124,6 @@ fn put_module(text: &mut String, n: usize) -> Result<(), AllocError>
     text.push_str(")\n")
 }
 
-#[tactic(auto, using(crate::proofs::Numbered::numbered_rules))]
 fn put_functions(text: &mut String, n: usize) -> Result<(), AllocError>
     ensures { OnOk result (string_bytes text.new ≡ string_bytes text.old ++ each_below sample_func_line n) }
 {

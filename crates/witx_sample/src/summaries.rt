@@ -1,4 +1,5 @@
 //! What the summaries of a sample's document are.
+#![tactic(auto, using(crate::proofs::Totals::total_rules))]
 
 ghost use Rattle.std.specs.Prelude.{◌≡◌, ◌<◌, IfOk};
 ghost use Rattle.std.specs.List.{sum_by};
@@ -30,7 +31,6 @@ pub fn summary(alloc: Global, adapted: &Adapted) -> Result<Text, OutOfMemory>
 }
 
 /// How many events the traces of some functions have. The sum of 64-bit numbers has 128 bits.
-#[tactic(auto, using(crate::proofs::Totals::total_rules))]
 fn events_of(functions: &[AdaptedFunc]) -> u128
     ensures { result ≡ sum_by event_count functions.now }
 {
@@ -49,7 +49,6 @@ fn event_count(function: &AdaptedFunc) -> u128
 }
 
 /// How many bytes some layouts have together.
-#[tactic(auto, using(crate::proofs::Totals::total_rules))]
 fn bytes_of(layouts: &[SizeAlign]) -> u128
     ensures { result ≡ sum_by size_in_bytes layouts.now }
 {

@@ -1,4 +1,5 @@
 //! The words of each parameter of a function, by the parameter's name.
+#![tactic(auto, using(crate::proofs::SpanSteps::width_rules))]
 
 ghost use Rattle.std.specs.Prelude.{◌≡◌, ◌+◌, ◌≤◌, ℕ, List, IfOk, OnOk, None, Some, cond, is_some, length, map, option_map};
 ghost use Rattle.witx_ast.specs.Functions.{param_field};
@@ -82,14 +83,12 @@ impl Spans {
 }
 
 /// How many words a parameter of the type has: a list an address and a length, any other type one word.
-#[tactic(auto, using(crate::proofs::SpanSteps::width_rules))]
 fn word_count(tref: &TypeRef) -> usize
     ensures { result ≡ length (param_words (plain (tree_of tref.now))) }
 {
     words_of(tref.type_())
 }
 
-#[tactic(auto, using(crate::proofs::SpanSteps::width_rules))]
 fn words_of(datatype: &Datatype) -> usize
     ensures { result ≡ length (param_words (plain (datatype_tree datatype.now))) }
 {

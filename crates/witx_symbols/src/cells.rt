@@ -1,4 +1,5 @@
 //! What stands at the addresses that were given.
+#![tactic(auto, using(crate::proofs::CellLemmas::cell_rules))]
 
 ghost use Rattle.std.specs.Prelude.{◌≡◌, [], Some, IfOk, option_map, false, slice_get};
 ghost use Rattle.witx_ast.specs.Views.{named_tree};
@@ -62,7 +63,6 @@ impl Cells {
 
     /// Gives the next address, made for a type, with this symbol there or with none; no address where
     /// none is left.
-    #[tactic(auto, using(crate::proofs::CellLemmas::cell_rules))]
     pub fn give(
         &mut self,
         ty: &Rc<NamedType>,
@@ -78,7 +78,6 @@ impl Cells {
     }
 
     /// The same, by the number of the address.
-    #[tactic(auto, using(crate::proofs::CellLemmas::cell_rules))]
     pub(crate) fn give_number(
         &mut self,
         ty: &Rc<NamedType>,
@@ -130,7 +129,6 @@ impl Cells {
 
     /// What stands at an address that was made for a type alike to this one; none where the word is no such
     /// address, or nothing stands there.
-    #[tactic(auto, using(crate::proofs::CellLemmas::cell_rules))]
     pub fn get(&self, ty: &NamedType, word: &Word) -> Result<Option<Rc<Symbol>>, OutOfMemory>
         ensures { IfOk result (λ symbol. option_of symbol
             ≡ get_symbol (named_tree ty.now) (word_seen word.now) (memory_of self.now)) }
@@ -150,7 +148,6 @@ impl Cells {
 
     /// Puts a symbol of the type at an address that was made for a type alike to it, and answers whether
     /// it did; else nothing changes.
-    #[tactic(auto, using(crate::proofs::CellLemmas::cell_rules))]
     pub fn set(&mut self, ty: &NamedType, word: &Word, symbol: Rc<Symbol>) -> bool
         ensures stored { when result (Some (memory_of self.new))
             ≡ set_symbol (named_tree ty.now) (word_seen word.now) (shared_of symbol) (memory_of self.old) }
@@ -167,7 +164,6 @@ impl Cells {
     }
 
     /// Whether the word is an address that was given, at which the symbol stands.
-    #[tactic(auto, using(crate::proofs::CellLemmas::cell_rules))]
     pub(crate) fn holds(&self, word: &Word, symbol: &Symbol) -> bool
         ensures { result ≡ holds_symbol (memory_of self.now) (word_seen word.now) (symbol_of symbol.now) }
     {
@@ -207,7 +203,6 @@ pub fn cell_at(cells: &Cells, k: usize) -> Option<&Cell>
     cells.cells.get(k)
 }
 
-#[tactic(auto, using(crate::proofs::CellLemmas::cell_rules))]
 fn content_of(cell: &Cell, ty: &NamedType) -> Result<Option<Rc<Symbol>>, OutOfMemory>
     ensures { IfOk result (λ symbol. option_of symbol ≡ symbol_at (named_tree ty.now) (Some (cell_of cell.now))) }
 {
@@ -222,7 +217,6 @@ fn content_of(cell: &Cell, ty: &NamedType) -> Result<Option<Rc<Symbol>>, OutOfMe
 }
 
 // Whether the cell was made for a type alike to this one, and the symbol is of it.
-#[tactic(auto, using(crate::proofs::CellLemmas::cell_rules))]
 fn takes(cell: &Cell, ty: &NamedType, symbol: &Symbol) -> bool
     ensures { result ≡ takes_symbol (named_tree ty.now) (symbol_of symbol.now) (cell_of cell.now) }
 {

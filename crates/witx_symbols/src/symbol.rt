@@ -1,4 +1,5 @@
 //! Symbols: where they come from, when two are the same, and how a deep one is let go.
+#![tactic(auto, using(crate::proofs::SymbolReads::symbol_rules))]
 
 ghost use Rattle.std.specs.Prelude.{◌≡◌, ℕ, IfErr, IfOk, IfSome, map};
 ghost use Rattle.witx_symbols.specs.declared.symbol.Symbol.TheVariants as declared;
@@ -112,7 +113,6 @@ impl Symbol {
 }
 
 #[cycle(source)]
-#[tactic(auto, using(crate::proofs::SymbolReads::symbol_rules))]
 pub(crate) fn same_source(a: &Source, b: &Source) -> bool
     ensures { result ≡ same_source (source_of a.now) (source_of b.now) }
 {
@@ -179,7 +179,6 @@ pub fn same(a: &Symbol, b: &Symbol) -> bool
 
 /// Whether these are the same symbols, one by one.
 #[cycle(symbol)]
-#[tactic(auto, using(crate::proofs::SymbolReads::symbol_rules))]
 pub fn all_same(a: &[Rc<Symbol>], b: &[Rc<Symbol>]) -> bool
     ensures { result ≡ same_members (symbols_read a.now) (symbols_read b.now) }
 {

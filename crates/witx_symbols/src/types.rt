@@ -1,4 +1,5 @@
 //! Whether two types are alike.
+#![tactic(auto, using(crate::proofs::AlikeTypes::alike_rules))]
 
 ghost use Rattle.std.specs.Prelude.{◌≡◌, ◌&&◌, option_map};
 ghost use Rattle.witx_ast.specs.Plain.{plain};
@@ -11,7 +12,6 @@ use witx_ast::{Case, Datatype, RecordMember, TypeRef};
 
 /// Whether two types are alike: names looked through, and documentation left out.
 #[cycle(alike)]
-#[tactic(auto, using(crate::proofs::AlikeTypes::alike_rules))]
 pub fn alike(a: &TypeRef, b: &TypeRef) -> bool
     ensures { result ≡ same_plain (plain (tree_of a.now)) (plain (tree_of b.now)) }
 {
@@ -26,7 +26,6 @@ pub fn alike(a: &TypeRef, b: &TypeRef) -> bool
 
 /// The same of types that are written out.
 #[cycle(alike)]
-#[tactic(auto, using(crate::proofs::AlikeTypes::alike_rules))]
 pub(crate) fn datatypes_alike(a: &Datatype, b: &Datatype) -> bool
     ensures { result ≡ same_plain (plain (datatype_tree a.now)) (plain (datatype_tree b.now)) }
 {
@@ -47,7 +46,6 @@ pub(crate) fn datatypes_alike(a: &Datatype, b: &Datatype) -> bool
 }
 
 #[cycle(alike)]
-#[tactic(auto, using(crate::proofs::AlikeTypes::alike_rules))]
 fn members_alike(a: &[RecordMember], b: &[RecordMember]) -> bool
     ensures { result ≡ same_plain_fields (members_plain a.now) (members_plain b.now) }
 {
@@ -71,7 +69,6 @@ fn member_alike(a: &RecordMember, b: &RecordMember) -> bool
 }
 
 #[cycle(alike)]
-#[tactic(auto, using(crate::proofs::AlikeTypes::alike_rules))]
 fn cases_alike(a: &[Case], b: &[Case]) -> bool
     ensures { result ≡ same_plain_arms (cases_plain a.now) (cases_plain b.now) }
 {

@@ -1,5 +1,6 @@
 //! Symbols that stand for all their parts without these being made: which types have the same ones, and where a symbol
 //! comes from as a whole.
+#![tactic(auto, using(crate::proofs::WholeLemmas::whole_rules))]
 
 ghost use Rattle.std.specs.Prelude.{◌≡◌, ◌&&◌, not};
 ghost use Rattle.witx_ast.specs.Alike.{same_plain};
@@ -21,7 +22,6 @@ use witx_ast::{Datatype, RecordMember, TypeRef};
 /// Whether two types have the same symbols: tuples by their members' types, whatever the members' names, all others
 /// where they are alike.
 #[cycle(whole)]
-#[tactic(auto, using(crate::proofs::WholeLemmas::whole_rules))]
 pub(crate) fn same_whole(own: &TypeRef, other: &TypeRef) -> bool
     ensures { result ≡ same_whole (plain (tree_of own.now)) (plain (tree_of other.now)) }
 {
@@ -35,7 +35,6 @@ pub(crate) fn same_whole(own: &TypeRef, other: &TypeRef) -> bool
 }
 
 #[cycle(whole)]
-#[tactic(auto, using(crate::proofs::WholeLemmas::whole_rules))]
 fn same_written(own: &Datatype, other: &Datatype) -> bool
     ensures { result ≡ same_whole (plain (datatype_tree own.now)) (plain (datatype_tree other.now)) }
 {
@@ -56,7 +55,6 @@ fn same_written(own: &Datatype, other: &Datatype) -> bool
     }
 }
 
-#[tactic(auto, using(crate::proofs::WholeLemmas::whole_rules))]
 fn same_atom(own: &Datatype, other: &Datatype) -> bool
     ensures { result ≡ not (is_tuple_type (plain (datatype_tree other.now)))
         && same_plain (plain (datatype_tree own.now)) (plain (datatype_tree other.now)) }
@@ -65,7 +63,6 @@ fn same_atom(own: &Datatype, other: &Datatype) -> bool
 }
 
 #[cycle(whole)]
-#[tactic(auto, using(crate::proofs::WholeLemmas::whole_rules))]
 fn same_tuple(members: &[RecordMember], other: &Datatype) -> bool
     ensures { result ≡ same_whole (Plain.record_of RecordKind.Tuple (members_plain members.now))
         (plain (datatype_tree other.now)) }
@@ -88,7 +85,6 @@ fn same_tuple(members: &[RecordMember], other: &Datatype) -> bool
 }
 
 #[cycle(whole)]
-#[tactic(auto, using(crate::proofs::WholeLemmas::whole_rules))]
 fn members_same(members: &[RecordMember], others: &[RecordMember]) -> bool
     ensures { result ≡ same_wholes (members_plain members.now) (members_plain others.now) }
 {
@@ -105,7 +101,6 @@ fn members_same(members: &[RecordMember], others: &[RecordMember]) -> bool
 
 /// Whether the symbols of a type have no atom.
 #[cycle(bare)]
-#[tactic(auto, using(crate::proofs::WholeLemmas::whole_rules))]
 pub(crate) fn has_no_atom(ty: &TypeRef) -> bool
     ensures { result ≡ has_no_atom (plain (tree_of ty.now)) }
 {
@@ -119,7 +114,6 @@ pub(crate) fn has_no_atom(ty: &TypeRef) -> bool
 }
 
 #[cycle(bare)]
-#[tactic(auto, using(crate::proofs::WholeLemmas::whole_rules))]
 fn written_has_none(datatype: &Datatype) -> bool
     ensures { result ≡ has_no_atom (plain (datatype_tree datatype.now)) }
 {
@@ -141,7 +135,6 @@ fn written_has_none(datatype: &Datatype) -> bool
 }
 
 #[cycle(bare)]
-#[tactic(auto, using(crate::proofs::WholeLemmas::whole_rules))]
 fn have_no_atom(members: &[RecordMember]) -> bool
     ensures { result ≡ have_no_atom (members_plain members.now) }
 {
@@ -166,7 +159,6 @@ pub(crate) enum Origin<'a> {
 
 impl Origin<'_> {
     /// Whether it is this source.
-    #[tactic(auto, using(crate::proofs::WholeLemmas::whole_rules))]
     pub(crate) fn is(&self, source: &Source) -> bool
         ensures { result ≡ comes_from self.now (source_of source.now) }
     {

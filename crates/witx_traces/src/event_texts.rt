@@ -1,4 +1,5 @@
 //! The event that a line says.
+#![tactic(auto, using(crate::proofs::EventReading::line_rules))]
 
 ghost use Rattle.std.specs.Prelude.{◌≡◌, ◌∷◌, ◌++◌, IfOk, Some, None, List, ℕ, codes, map, option_map, option_copied, true};
 ghost use Rattle.std.specs.Fmt.{decimal};
@@ -26,7 +27,6 @@ use witx_ast::{InterfaceFuncParam, TypeRef, TypeRefs};
 use witx_base::{Id, OutOfMemory};
 
 /// The event that a line says; none if it says none.
-#[tactic(auto, using(crate::proofs::EventReading::line_rules))]
 pub(crate) fn read_event(
     alloc: Global,
     types: &KnownTypes<'_>,
@@ -41,7 +41,6 @@ pub(crate) fn read_event(
 }
 
 /// The event whose text this is.
-#[tactic(auto, using(crate::proofs::EventReading::line_rules))]
 fn read_text(
     alloc: Global,
     types: &KnownTypes<'_>,

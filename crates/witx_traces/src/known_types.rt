@@ -1,4 +1,5 @@
 //! Which type a text stands for in the lines of a function.
+#![tactic(auto, using(crate::proofs::TypeReading::gather_rules))]
 
 ghost use Rattle.std.specs.Prelude.{◌≡◌, ◌++◌, IfOk, OnOk, map, option_map};
 ghost use Rattle.std.specs.List.{flat_map};
@@ -197,7 +198,6 @@ fn push_target<'a>(
 }
 
 /// Appends what the err type of a result is of, if that is a list or a pointer.
-#[tactic(auto, using(crate::proofs::TypeReading::gather_rules))]
 fn push_err_target<'a>(
     alloc: Global,
     candidates: &mut Vec<Candidate<'a>>,
@@ -213,7 +213,6 @@ fn push_err_target<'a>(
 }
 
 /// Appends the ok and err types of a result.
-#[tactic(auto, using(crate::proofs::TypeReading::gather_rules))]
 fn push_payload<'a>(
     alloc: Global,
     candidates: &mut Vec<Candidate<'a>>,
@@ -227,7 +226,6 @@ fn push_payload<'a>(
 }
 
 /// Appends what the lists and pointers among the types are of.
-#[tactic(auto, using(crate::proofs::TypeReading::gather_rules))]
 fn push_targets<'a>(
     alloc: Global,
     candidates: &mut Vec<Candidate<'a>>,
@@ -243,7 +241,6 @@ fn push_targets<'a>(
 }
 
 /// Appends what the lists and pointers among the err types are of.
-#[tactic(auto, using(crate::proofs::TypeReading::gather_rules))]
 fn push_err_targets<'a>(
     alloc: Global,
     candidates: &mut Vec<Candidate<'a>>,
@@ -259,7 +256,6 @@ fn push_err_targets<'a>(
 }
 
 /// Appends the ok and err types.
-#[tactic(auto, using(crate::proofs::TypeReading::gather_rules))]
 fn push_payloads<'a>(
     alloc: Global,
     candidates: &mut Vec<Candidate<'a>>,

@@ -1,4 +1,5 @@
 //! The fixed text of a listing, cut where the events of its functions stand.
+#![tactic(auto, using(crate::proofs::PassageSteps::end_rules))]
 
 ghost use Rattle.std.specs.Prelude.{◌≡◌, ◌++◌, ◌∷◌, [], IfOk, OnOk, codes, drop, map, string_bytes};
 ghost use Rattle.witx_ast.specs.Items.{item_tree};
@@ -172,7 +173,6 @@ fn put_head(text: &mut String, func: &InterfaceFunc, entry: &AdaptedFunc) -> Res
 }
 
 /// Here stand the events of a function.
-#[tactic(auto, using(crate::proofs::PassageSteps::end_rules))]
 fn end_passage<'a>(
     alloc: Global,
     draft: &mut Draft<'a>,
@@ -192,7 +192,6 @@ fn take_text(alloc: Global, text: &mut String) -> Text
     Text::from_string(replace(text, String::new(alloc)))
 }
 
-#[tactic(auto, using(crate::proofs::PassageSteps::end_rules))]
 fn push_passage<'a>(
     passages: &mut Vec<Passage<'a>>,
     fixed: Text,
