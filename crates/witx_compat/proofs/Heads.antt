@@ -1,5 +1,5 @@
 -- Records and variants by their heads: where these are alike, what lies in them is compared in order.
-use Rattle.std.specs.Prelude.{◌≡◌, ℕ, suc, ◌+◌, ◌≤◌, ◌<◌, ◌≢◌, List, [], ◌∷◌, length, drop, Option, Some, None, Bool, true, false, option_map, ◌==◌, ◌&&◌, if◌then◌else◌}
+use Rattle.std.specs.Prelude.{◌≡◌, ℕ, suc, ◌+◌, ◌≤◌, ◌<◌, ◌≢◌, List, [], ◌∷◌, length, drop, Option, Some, None, Bool, true, false, option_map, ◌&&◌, if◌then◌else◌}
 use Rattle.std.proofs.Common.{refl, sym, ◌∙◌, ap, get_or}
 use Rattle.std.proofs.lemmas.Bool.{eqb-true}
 use Rattle.witx_ast.specs.Plain.{Plain, plain, Fields, Arms}

@@ -1,29 +1,28 @@
 -- Steps of the functions.
-use Rattle.std.specs.Prelude.{◌≡◌, ℕ, zero, suc, ◌+◌, ◌≤◌, ◌<◌, ◌≢◌, List, [], ◌∷◌, length, drop, Option, Some, None, Bool, true, false, option_map, cond, ◌==◌, ◌&&◌, nat_lt, IfSome}
+use Rattle.std.specs.Prelude.{◌≡◌, ℕ, zero, suc, ◌+◌, ◌≤◌, ◌<◌, List, [], ◌∷◌, length, drop, Option, Some, None, Bool, true, false, not, option_map, cond, ◌==◌, nat_lt}
 use Rattle.std.proofs.Common.{refl, sym, ◌∙◌, ap, arith, rules, get_or}
 use Rattle.std.specs.Ordering.{is_eq, nat_cmp}
 use Rattle.std.specs.Cmp.Lexicographic.{slice_cmp}
 use Rattle.std.specs.Bool.{one_answer}
-use Rattle.witx_ast.specs.Plain.{Plain, plain, Arms, plain_arms}
+use Rattle.witx_ast.specs.Plain.{Plain, plain, Arms, arm_count, plain_arms}
 use Rattle.witx_ast.specs.Tree as arms
 use Rattle.witx_ast.specs.Tree.{Tree, arm, behind}
 use Rattle.std.proofs.lemmas.Bool.{ltb-true}
 use Rattle.witx_ast.specs.declared.types.Variant.{Variant, out-Variant}
 use Rattle.witx_ast.specs.Views.{cases_plain, tree_of, case_arm, datatype_tree, variant_tree}
-use Rattle.witx_base.specs.SameBytes.{same_bytes, bytes-to, bytes-self, both, false-true}
+use Rattle.witx_base.specs.SameBytes.{same_bytes, bytes-to, bytes-self, false-true}
 use Rattle.witx_ast.specs.declared.types.Case.{Case}
 use Rattle.witx_ast.specs.declared.types.Datatype.{Datatype}
 use Rattle.witx_ast.specs.declared.types.TypeRef.{TypeRef}
-use Rattle.witx_ast.specs.declared.types.RecordMember.{RecordMember}
 use Rattle.witx_ast.proofs.EntryLaws.{key-decides}
 use Rattle.witx_ast.proofs.Parts.{cases-bare, cases-carries, cases-end, members-drop, record-plain, variant-plain, count-cases}
 use Rattle.witx_ast.proofs.Trees.{tree_rules}
 use Rattle.witx_ast.proofs.TreeKinds.{plain-behind}
 use Rattle.witx_base.specs.Found.{found}
 use Rattle.witx_compat.specs.declared.answer.RepEquality.{RepEquality}
-use Rattle.witx_compat.specs.Answers.{worse, is_same, is_refused, repr_by}
-use Rattle.witx_compat.specs.Represents.{CasePlace, place_number, bare_at, carrying_at, last_case, last_place, later_of, only_if, number_if, represented, fields_same, cases_by, case_by, payload_by, count_by}
-use Rattle.witx_compat.specs.Heads.{all_placed}
+use Rattle.witx_compat.specs.Answers.{worse, is_refused, repr_by}
+use Rattle.witx_compat.specs.Represents.{CasePlace, place_number, bare_at, carrying_at, last_case, last_place, later_of, only_if, number_if, represented, cases_by, case_by, payload_by, count_by}
+use Rattle.witx_compat.specs.Heads.{all_placed, has_misplaced}
 use Rattle.witx_compat.proofs.Heads.{placed-here, worse-refused, misplaced}
 use Rattle.witx_compat.proofs.Standing.{standing, cases_from, found-there}
 use Rattle.witx_compat.proofs.SameLaws.{builtin-alike, repr-alike, same-alike}
@@ -290,6 +289,17 @@ misplaced-variant v w h =
     let count = count_by (length (out-Variant v).cases) (length (out-Variant w).cases) in
     let tags = repr_by (out-Variant v).tag_repr (out-Variant w).tag_repr in
     sym (worse-refused tags) ∙ ap (λ x. worse tags (worse x count)) (sym (misplaced 0 (cases_plain (out-Variant v).cases) (cases_plain (out-Variant w).cases) h)) ∙ variant-answer v w
+
+was-not : (b : Bool) → not b ≡ true → b ≡ false
+was-not true h = absurd (false-true h)
+was-not false h = refl
+
+pub misplaced-type : (a b : Plain) → has_misplaced a b ≡ true → RepEquality.NotEq ≡ represented a b
+misplaced-type (Plain.variant_of tag cs) (Plain.variant_of other ds) h =
+    let tags = repr_by tag other in
+    let count = count_by (arm_count cs) (arm_count ds) in
+    sym (worse-refused tags) ∙ ap (λ x. worse tags (worse x count)) (sym (misplaced 0 cs ds (was-not _ h)))
+misplaced-type _ _ h = absurd (false-true h)
 
 -- the answer of two types behind names is that of the names
 pub looked-through : (a b : Datatype) (t u : TypeRef) (r : RepEquality) → r ≡ represented (plain (datatype_tree a)) (plain (datatype_tree b))

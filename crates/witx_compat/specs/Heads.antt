@@ -1,6 +1,6 @@
 -- What two records, or two variants, have in common beside the types in them.
-use Rattle.std.specs.Prelude.{ℕ, ◌+◌, ◌==◌, ◌&&◌, Option, Some, None, Bool, true, false}
-use Rattle.witx_ast.specs.Plain.{Fields, Arms}
+use Rattle.std.specs.Prelude.{ℕ, ◌+◌, ◌==◌, ◌&&◌, Option, Some, None, Bool, true, false, not}
+use Rattle.witx_ast.specs.Plain.{Plain, Fields, Arms}
 use Rattle.witx_base.specs.SameBytes.{same_bytes}
 use Rattle.witx_compat.specs.Represents.{last_place}
 
@@ -19,3 +19,8 @@ abbrev pub all_placed : ℕ → Arms → Arms → Bool
 all_placed i Arms.no_arms by = true
 all_placed i (Arms.bare name cs) by = is_place i (last_place name by) && all_placed (i + 1) cs by
 all_placed i (Arms.carries name t cs) by = is_place i (last_place name by) && all_placed (i + 1) cs by
+
+-- whether a case of two variants stands elsewhere in the other
+abbrev pub has_misplaced : Plain → Plain → Bool
+has_misplaced (Plain.variant_of tag cs) (Plain.variant_of other ds) = not (all_placed 0 cs ds)
+has_misplaced _ _ = false

@@ -1,16 +1,16 @@
 //! Whether the values of one type can be represented by another, type by type.
 #![tactic(auto, using(crate::proofs::Steps::compat_rules))]
 
-ghost use Rattle.std.specs.Prelude.{◌≡◌, ◌&&◌, length};
+ghost use Rattle.std.specs.Prelude.{◌≡◌, ◌&&◌, false, length, true};
 ghost use Rattle.witx_ast.specs.Plain.{plain};
 ghost use Rattle.witx_base.specs.SameBytes.{same_bytes};
-ghost use Rattle.witx_ast.specs.Views.{tree_of, datatype_tree, named_tree, record_tree, variant_tree, members_plain};
+ghost use Rattle.witx_ast.specs.Views.{tree_of, cases_plain, datatype_tree, named_tree, record_tree, variant_tree, members_plain};
 ghost use Rattle.witx_ast.specs.contracts.types.RecordKindPartialEq.TheImpl as kinds;
 ghost use Rattle.witx_ast.specs.declared.types.RecordDatatype.{out-RecordDatatype};
 ghost use Rattle.witx_ast.specs.declared.types.Variant.{out-Variant};
 ghost use Rattle.witx_compat.specs.declared.answer.RepEquality.{RepEquality};
 ghost use Rattle.witx_compat.specs.Answers.{builtin_by, repr_by, worse};
-ghost use Rattle.witx_compat.specs.Heads.{same_names};
+ghost use Rattle.witx_compat.specs.Heads.{all_placed, has_misplaced, same_names};
 ghost use Rattle.witx_compat.specs.Represents.{represented, count_by};
 
 use crate::answer::RepEquality;
@@ -96,27 +96,18 @@ impl Representable for NamedType {
     }
 }
 
-// From here on two calls go down a level of types at most, and what else they ask is asked in functions apart, so that a
-// level takes little of the stack.
+// What lies in types is gone into by `gone_into` and what it calls. Where the cases of variants stand is asked before that, at
+// each place where two types are met, and in a function of its own, so that a level of types takes little of the stack.
 impl Representable for Datatype {
     ghost answer = { λ a b. represented (plain (datatype_tree a)) (plain (datatype_tree b)) };
 
     ghost is_alike = { λ a b. plain (datatype_tree a) ≡ plain (datatype_tree b) };
 
-    #[cycle(compat)]
     fn representable(&self, by: &Self) -> RepEquality {
-        match (self, by) {
-            (Datatype::Record(a), Datatype::Record(b)) => a.representable(b),
-            (Datatype::Variant(a), Datatype::Variant(b)) => a.representable(b),
-            (Datatype::Handle(_), Datatype::Handle(_)) => RepEquality::Eq,
-            (Datatype::List(a), Datatype::List(b))
-            | (Datatype::Pointer(a), Datatype::Pointer(b))
-            | (Datatype::ConstPointer(a), Datatype::ConstPointer(b)) => {
-                a.type_().representable(b.type_())
-            }
-            (Datatype::Builtin(a), Datatype::Builtin(b)) => a.representable(b),
-            _ => RepEquality::NotEq,
+        if are_misplaced(self, by) {
+            return RepEquality::NotEq;
         }
+        gone_into(self, by)
     }
 }
 
@@ -134,9 +125,7 @@ impl Representable for RecordDatatype {
         let members = self.members.as_slice();
         let others = by.members.as_slice();
         for i in 0..members.len() {
-            let mine = members[i].tref.type_();
-            let other = others[i].tref.type_();
-            if !mine.representable(other).is_same() {
+            if !part_answer(&members[i].tref, &others[i].tref).is_same() {
                 return RepEquality::NotEq;
             }
         }
@@ -149,36 +138,87 @@ impl Representable for Variant {
 
     ghost is_alike = { λ a b. plain (variant_tree a) ≡ plain (variant_tree b) };
 
-    #[inline(never)]
-    #[cycle(compat)]
     fn representable(&self, by: &Self) -> RepEquality {
-        let mut answer = head_answer(self, by);
-        if answer.is_refused() {
-            return answer;
-        }
         if !are_placed(&self.cases, &by.cases) {
             return RepEquality::NotEq;
         }
-        let cases = self.cases.as_slice();
-        let others = by.cases.as_slice();
-        for i in 0..cases.len() {
-            match (&cases[i].tref, &others[i].tref) {
-                (Some(mine), Some(other)) => {
-                    answer = answer.worse(&mine.type_().representable(other.type_()));
-                    if answer.is_refused() {
-                        return answer;
-                    }
-                    continue;
+        cases_answer(self, by)
+    }
+}
+
+/// Two types that lie in others, or behind them. Taken in where it is called, so that a level of types is one call.
+#[inline(always)]
+#[cycle(compat)]
+fn part_answer(mine: &TypeRef, other: &TypeRef) -> RepEquality
+    ensures { result ≡ represented (plain (tree_of mine.now)) (plain (tree_of other.now)) }
+{
+    let one = mine.type_();
+    let by = other.type_();
+    if are_misplaced(one, by) {
+        return RepEquality::NotEq;
+    }
+    gone_into(one, by)
+}
+
+/// Two types, of which none has a case that stands elsewhere in the other.
+#[cycle(compat)]
+fn gone_into(one: &Datatype, by: &Datatype) -> RepEquality
+    requires { has_misplaced (plain (datatype_tree one.now)) (plain (datatype_tree by.now)) ≡ false }
+    ensures { result ≡ represented (plain (datatype_tree one.now)) (plain (datatype_tree by.now)) }
+{
+    match (one, by) {
+        (Datatype::Record(a), Datatype::Record(b)) => a.representable(b),
+        (Datatype::Variant(a), Datatype::Variant(b)) => cases_answer(a, b),
+        (Datatype::Handle(_), Datatype::Handle(_)) => RepEquality::Eq,
+        (Datatype::List(a), Datatype::List(b))
+        | (Datatype::Pointer(a), Datatype::Pointer(b))
+        | (Datatype::ConstPointer(a), Datatype::ConstPointer(b)) => part_answer(a, b),
+        (Datatype::Builtin(a), Datatype::Builtin(b)) => a.representable(b),
+        _ => RepEquality::NotEq,
+    }
+}
+
+/// Two variants, each case of which stands at its place in the other.
+#[inline(never)]
+#[cycle(compat)]
+fn cases_answer(one: &Variant, by: &Variant) -> RepEquality
+    requires { all_placed 0 (cases_plain (out-Variant one.now).cases) (cases_plain (out-Variant by.now).cases) ≡ true }
+    ensures { result ≡ represented (plain (variant_tree one.now)) (plain (variant_tree by.now)) }
+{
+    let mut answer = head_answer(one, by);
+    if answer.is_refused() {
+        return answer;
+    }
+    let cases = one.cases.as_slice();
+    let others = by.cases.as_slice();
+    for i in 0..cases.len() {
+        match (&cases[i].tref, &others[i].tref) {
+            (Some(mine), Some(other)) => {
+                answer = answer.worse(&part_answer(mine, other));
+                if answer.is_refused() {
+                    return answer;
                 }
-                (Some(_), None) => return RepEquality::NotEq,
-                (None, Some(_)) => {
-                    answer = answer.worse(&RepEquality::Superset);
-                    continue;
-                }
-                (None, None) => continue,
+                continue;
             }
+            (Some(_), None) => return RepEquality::NotEq,
+            (None, Some(_)) => {
+                answer = answer.worse(&RepEquality::Superset);
+                continue;
+            }
+            (None, None) => continue,
         }
-        answer
+    }
+    answer
+}
+
+/// Whether a case of two variants stands elsewhere in the other.
+#[inline(never)]
+fn are_misplaced(one: &Datatype, by: &Datatype) -> bool
+    ensures { result ≡ has_misplaced (plain (datatype_tree one.now)) (plain (datatype_tree by.now)) }
+{
+    match (one, by) {
+        (Datatype::Variant(a), Datatype::Variant(b)) => !are_placed(&a.cases, &b.cases),
+        _ => false,
     }
 }
 
