@@ -2,12 +2,17 @@
 //! its mentions.
 
 use std::alloc::Global;
+use witx_ast::TypeRef;
 use witx_base::OutOfMemory;
 use witx_compat::{FuncPolyfill, ModulePolyfill, ParamPolyfill, TypePolyfill};
 use witx_extent::Allowance;
 
 /// What there may be to all types of mapped modules. So much is compared within a second.
 const MOST: usize = 1 << 25;
+
+/// How many bytes of names and documentation may be in them, as conversions that are told once are hashed with all that their
+/// types say.
+const MOST_BYTES: usize = 1 << 29;
 
 /// How many names may stand one for the other, and how many types lie one in the other. How one type is represented by
 /// another takes 48 bytes of the stack for each type as LLVM builds it, and 208 as Rattle's own compiler does. Where two
@@ -17,45 +22,51 @@ const DEEPEST: usize = 30_100;
 
 /// Want of memory where there is more than that to the types of mapped modules, or where they are too deep.
 pub(crate) fn check_modules(alloc: Global, modules: &[ModulePolyfill]) -> Result<(), OutOfMemory> {
-    let mut allowance = Allowance::new(MOST, DEEPEST);
+    let mut left = Left {
+        types: Allowance::new(MOST, DEEPEST),
+        bytes: Allowance::new(MOST_BYTES, DEEPEST),
+    };
     for module in modules {
-        take_functions(&mut allowance, alloc, module.funcs.as_slice())?;
+        left.take_functions(alloc, module.funcs.as_slice())?;
     }
     Ok(())
 }
 
-fn take_functions(
-    allowance: &mut Allowance,
-    alloc: Global,
-    functions: &[FuncPolyfill],
-) -> Result<(), OutOfMemory> {
-    for function in functions {
-        take_mapped(allowance, alloc, function.mapped_params.as_slice())?;
-        take_mapped(allowance, alloc, function.mapped_results.as_slice())?;
-    }
-    Ok(())
+/// What may still be gone through.
+#[derive(Drop)]
+struct Left {
+    types: Allowance,
+    bytes: Allowance,
 }
 
-fn take_mapped(
-    allowance: &mut Allowance,
-    alloc: Global,
-    mapped: &[ParamPolyfill],
-) -> Result<(), OutOfMemory> {
-    for one in mapped {
-        take_conversion(allowance, alloc, &one.type_polyfill)?;
-    }
-    Ok(())
-}
-
-fn take_conversion(
-    allowance: &mut Allowance,
-    alloc: Global,
-    conversion: &TypePolyfill,
-) -> Result<(), OutOfMemory> {
-    match conversion {
-        TypePolyfill::NewToOld(from, to) | TypePolyfill::OldToNew(from, to) => {
-            allowance.take(alloc, from)?;
-            allowance.take(alloc, to)
+impl Left {
+    fn take_functions(
+        &mut self,
+        alloc: Global,
+        functions: &[FuncPolyfill],
+    ) -> Result<(), OutOfMemory> {
+        for function in functions {
+            self.take_mapped(alloc, function.mapped_params.as_slice())?;
+            self.take_mapped(alloc, function.mapped_results.as_slice())?;
         }
+        Ok(())
+    }
+
+    fn take_mapped(&mut self, alloc: Global, mapped: &[ParamPolyfill]) -> Result<(), OutOfMemory> {
+        for one in mapped {
+            match &one.type_polyfill {
+                TypePolyfill::NewToOld(from, to) | TypePolyfill::OldToNew(from, to) => {
+                    self.take(alloc, from)?;
+                    self.take(alloc, to)?;
+                    continue;
+                }
+            }
+        }
+        Ok(())
+    }
+
+    fn take(&mut self, alloc: Global, tref: &TypeRef) -> Result<(), OutOfMemory> {
+        self.types.take(alloc, tref)?;
+        self.bytes.take_texts(alloc, tref)
     }
 }

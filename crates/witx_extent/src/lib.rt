@@ -7,6 +7,7 @@ mod listings;
 mod pages;
 mod parts;
 mod shown;
+mod texts;
 
 pub use allowance::Allowance;
 pub use listings::check_lowering;

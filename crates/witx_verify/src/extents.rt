@@ -19,6 +19,9 @@ const MOST_OF_FUNCTION: usize = 1 << 22;
 /// that share an allotment.
 const MOST_OF_EVENTS: usize = 1 << 25;
 
+/// What an item takes that is put into a tuple or out of one, beside what there is to its type.
+const ITEM: usize = 4;
+
 /// How much of types verdicts may still go through: those on all functions of a document share one, so that a type that
 /// many functions have takes no longer than one that is as large as all.
 #[derive(Debug, Drop)]
@@ -80,9 +83,14 @@ fn take_events(
     widest: usize,
     events: &[Event],
 ) -> Result<(), OutOfMemory> {
+    let whole = allowance.left();
     for event in events {
+        // No more lies on the stack than there are events and items that were taken out.
+        let held = events
+            .len()
+            .saturating_add(whole.saturating_sub(allowance.left()));
         match event {
-            Event::Emit(step) => take_step(allowance, alloc, widest, step)?,
+            Event::Emit(step) => take_step(allowance, alloc, widest, held, step)?,
             Event::Space { slot: _, ty } => allowance.take(alloc, &ty.tref)?,
             Event::Push | Event::Finish { value: _ } => {}
         }
@@ -90,11 +98,12 @@ fn take_events(
     Ok(())
 }
 
-// What goes through a value takes that of the widest type.
+// What goes through a value takes that of the widest type; a tuple as many items besides, where the stack may hold them.
 fn take_step(
     allowance: &mut Allowance,
     alloc: Global,
     widest: usize,
+    held: usize,
     step: &Step,
 ) -> Result<(), OutOfMemory> {
     match step {
@@ -121,10 +130,11 @@ fn take_step(
             take_payload(allowance, alloc, err)?;
             allowance.take_number(widest)
         }
-        Step::ListFromPointerLength { .. }
-        | Step::TupleLift { .. }
-        | Step::TupleLower { .. }
-        | Step::ResultLift => allowance.take_number(widest),
+        Step::TupleLift { amt } | Step::TupleLower { amt } => {
+            let items = if *amt < held { *amt } else { held };
+            allowance.take_number(widest.saturating_add(items.saturating_mul(ITEM)))
+        }
+        Step::ListFromPointerLength { .. } | Step::ResultLift => allowance.take_number(widest),
         _ => Ok(()),
     }
 }
