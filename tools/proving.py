@@ -25,9 +25,11 @@ MEMORY = 4 << 30
 # Where the lanes of this repository lie.
 CACHE = os.environ.get("XDG_CACHE_HOME") or os.path.expanduser("~/.cache")
 LANES = f"{CACHE}/witx-proofs/{hashlib.sha256(TOP.encode()).hexdigest()[:16]}"
-# Seconds of a processor for a line of code, and as many lines as if a proof of them had told it; and as many lines as a
-# program's build takes as long as, since it goes through the code of all below.
-A_LINE, TOLD, A_BUILD = 0.2, 3000, 1200
+# Seconds of a processor that a proof takes for a line of code, and besides, where they weren't measured; and those of a
+# program's build, which goes through the code of all below.
+A_LINE, BESIDES, A_BUILD = 0.2, 20, 240
+# As many seconds as if proofs of them had told how long they take here.
+TOLD = 600
 
 
 def say(line):
@@ -52,12 +54,21 @@ def stands(name):
     return os.path.exists(stamp) and os.stat(stamp).st_mtime >= programs.changed(name, "src", "specs", "proofs")
 
 
+@functools.lru_cache(None)
+def measured():
+    """How long the proof of each crate took, in seconds, where it was measured (tools/proof-times --all --keep)."""
+    kept = "measured/proofs.txt"
+    rows = re.findall(r"(?m)^(witx\w*) +(\d+)$", read(kept)) if os.path.exists(f"{TOP}/{kept}") else []
+    return {name: int(seconds) for name, seconds in rows}
+
+
 def size(name):
-    """How long a crate's proof takes beside others: the lines of its code, and something for what is loaded."""
+    """The seconds of a processor that a crate's proof takes: as it was measured, else by the lines of its code."""
     if stands(name):
         return 0
     files = [f"{at}/{it}" for at, _, names in os.walk(f"{TOP}/crates/{name}/src") for it in names]
-    return 100 + A_BUILD * (name in PROGRAMS) + sum(open(it, "rb").read().count(b"\n") for it in files)
+    by_lines = BESIDES + A_LINE * sum(open(it, "rb").read().count(b"\n") for it in files)
+    return A_BUILD * (name in PROGRAMS) + measured().get(name, by_lines)
 
 
 def sources(top, names):
@@ -118,7 +129,7 @@ class Proof:
     """A run of `rt` in a crate's folder below a top, which proves it, with what it says in a file."""
 
     def __init__(self, name, top=TOP, jobs=1):
-        self.name, self.top, self.began = name, top, time.time()
+        self.name, self.top, self.jobs, self.began = name, top, jobs, time.time()
         self.program = f"crates/{name}/out/{name}" if name in PROGRAMS else None
         if self.program and os.path.exists(f"{top}/{self.program}"):
             os.remove(f"{top}/{self.program}")
@@ -165,13 +176,14 @@ class Proofs:
         self.below = {name: [it for it in below if it in names] for name, below in libraries().items() if name in names}
         self.sizes, self.lanes = {it: size(it) for it in names}, lanes()
         self.behind = self.chains(names)
-        self.all = [make_lane(it, names) for it in range(self.lanes)]
+        # One more than processors, for what most waits for.
+        self.all = [make_lane(it, names) for it in range(self.lanes + 1)]
         self.free = [*self.all]
         for name in names:
             if name not in PROGRAMS and stands(name):
                 for lane in self.all:
                     lend(f"{TOP}/crates/{name}/out/rlib", f"{lane}/crates/{name}/out/rlib")
-        self.spent, self.done = A_LINE * TOLD, TOLD
+        self.spent = self.done = TOLD
 
     def chains(self, names):
         """Of each crate how long it takes with all that wait for it, one after the other."""
@@ -186,25 +198,28 @@ class Proofs:
         return any(it in self.left or any(it == other.name for other in self.running) for it in self.below[name])
 
     def start(self):
-        """Starts what can be proved now, first what most waits for, where what is nearly as long as the longest has two jobs at
-        least; each has more where fewer crates than processors can be proved."""
-        ready = sorted((it for it in self.left if not self.waits(it)), key=self.behind.get, reverse=True)[:self.lanes - len(self.running)]
+        """Starts what can be proved now, first what most waits for: two jobs of what is nearly as long as the longest, at once,
+        and one of anything else as soon as a processor is free; more where fewer crates than processors can be proved."""
+        ready = sorted((it for it in self.left if not self.waits(it)), key=self.behind.get, reverse=True)
         longest = max((self.behind[it] for it in [*self.left, *(it.name for it in self.running)]), default=0)
-        for name in ready:
-            jobs = max(1 + (4 * self.behind[name] >= 3 * longest), min(4, (self.lanes - len(self.running)) // len(ready)))
+        for at, name in enumerate(ready):
+            is_near, idle = 4 * self.behind[name] >= 3 * longest, self.lanes - sum(it.jobs for it in self.running)
+            if not self.free or idle < 1 and not is_near:
+                break
+            jobs = max(1 + is_near, min(4, idle // (len(ready) - at)))
             self.left.remove(name)
             self.running.append(Proof(name, self.free.pop(), jobs))
 
     def minutes_left(self):
-        """How long it takes still: all on these processors, or the longest chain one after the other."""
+        """How long it takes still: all on these processors, or the longest chain one after the other, two jobs at a time."""
         unproved = {*self.left, *(it.name for it in self.running)}
 
         @functools.lru_cache(None)
         def chain(name):
             return max(map(chain, self.below[name]), default=0) + (self.sizes[name] if name in unproved else 0)
 
-        lines = max([sum(self.sizes[it] for it in unproved) / self.lanes, *map(chain, self.below)])
-        return round(lines * self.spent / self.done / 60)
+        seconds = max([sum(self.sizes[it] for it in unproved) / self.lanes, *(chain(it) / 2 for it in self.below)])
+        return round(seconds * self.spent / self.done / 60)
 
     def end(self, proof):
         """Tells of a proof that has ended, and gives whether it is one."""
@@ -214,7 +229,7 @@ class Proofs:
             return False
         proof.give(self.all)
         is_new = "logic=proved" in proof.text()
-        self.spent += (time.time() - proof.began) * is_new
+        self.spent += (time.time() - proof.began) * proof.jobs * is_new
         self.done += self.sizes[proof.name] * is_new
         proved = self.count - len(self.left) - len(self.running)
         say(f"{proof.name} {'proved' if is_new else 'was proved before'}, {proved} of {self.count}; about {self.minutes_left()} minutes left")

@@ -78,6 +78,11 @@ def record_of_variants(fields, cases):
     return f"(typename $v (variant{shown}))(typename $r (record{''.join(f' (field $a{it} $v)' for it in range(fields))}))\n" + module([function(0, "(param $p $r)")])
 
 
+def long_documentation(length, count):
+    """Parameters of a type with so many bytes of documentation."""
+    return f";;; {'x' * length}\n(typename $t u8)\n" + module([function(it, "(param $p $t)") for it in range(count)])
+
+
 def listed(program, document):
     """A document and its listing."""
     return {"l": deep.listing(program, document), "a": document}
@@ -109,6 +114,13 @@ def calls_by_parameters(program, lines, count):
     return repeated(listed(program, module([function(0, passed("u8", count))])), '  call_interface "m" "f0"', lines)
 
 
+def items_by_tuples(program, items, count):
+    """A listing in which so many arguments are put into a tuple and out of it again, so many times."""
+    events = ["  get_arg 0"] * items + [f"  tuple_lift {items}", f"  tuple_lower {items}"] * count
+    files = listed(program, module([function(0, "(param $p u8)")]))
+    return {**files, "l": files["l"].replace("\n  i32_from_u8\n", "\n" + "\n".join(events) + "\n  i32_from_u8\n", 1)}
+
+
 def fields_by_cases(_, fields, cases):
     return {"v": f"({' '.join([f'(#{cases - 1} 7)'] * fields)})", "a": record_of_variants(fields, cases)}
 
@@ -126,6 +138,14 @@ def files_by_folders(_, files, folders):
 
 def nested_beyond(_, depth, count):
     return sum(deep.shown(f"t{it}", depth, 4) for it in range(count)) > deep.PAGE
+
+
+def items_beyond(_, items, count):
+    return 2 * count * (1 + 4 * items) + 1 > deep.EVENT_TYPES
+
+
+def bytes_beyond(_, length, count):
+    return 2 * count * (length + 3) > deep.TEXTS
 
 
 def listing_beyond(files, _, types):
@@ -162,9 +182,11 @@ PRODUCTS = [
     Product("tuples in one another", "typenames", DOCS, of_one(nested), (98, 1_400), 98, nested_beyond),
     *(Product("names in a chain", "lists", words, of_two(listed_parameters), (2_000, 2_000), deep.LIMITS[words[0]][0] - 1_000) for words in (POLYFILL, SHIM)),
     *(Product("members of a record", "functions", words, of_two(shared_record), (3_000, 3_000)) for words in (POLYFILL, SHIM)),
+    *(Product("bytes of documentation", "functions", words, of_two(long_documentation), (262_000, 1_000), 1 << 15, bytes_beyond) for words in (POLYFILL, SHIM)),
     Product("members of a record", "functions", VERIFY, of_listing(shared_record), (2_000, 2_000)),
     Product("members of a tuple", "functions", VERIFY, of_listing(shared_tuple), (180, 180)),
     Product("lines", "types that are held", VERIFY, lines_by_types, (2_000, 2_000), is_beyond=listing_beyond),
+    Product("items of a tuple", "tuples", VERIFY, items_by_tuples, (2_000, 2_000), is_beyond=items_beyond),
     Product("lines of calls", "parameters", VERIFY, calls_by_parameters, (2_000, 2_000), is_beyond=listing_beyond),
     Product("fields", "cases", INVOKE, fields_by_cases, (700, 700)),
     Product("imports", "words", IMPORTS, imports_by_words),
