@@ -12,7 +12,7 @@ LIMITS = {"invoke": (40_000, 13_333, 2 ** 20), "verify": (30_100, 30_100, 2 ** 2
           "polyfill": (30_100, 30_100, 2 ** 25), "shim": (30_100, 30_100, 2 ** 25)}
 # How many bytes `docs` shows of types, and how many lines of a listing, times the types of the function that has most,
 # `verify` reads; what the events of a listing go through; how many bytes names and documentation of mapped types have.
-PAGE, READ, EVENT_TYPES, TEXTS = 2 ** 26, 2 ** 25, 2 ** 25, 2 ** 29
+PAGE, READ, EVENT_TYPES, TEXTS = 2 ** 26, 2 ** 25, 2 ** 25, 2 ** 34
 # Commands that take two documents, and those that refuse sizes from 2^64 on.
 PAIRS, SIZED = ("polyfill", "shim"), ("adapt", "layouts", "docs", "shim", "verify", "invoke", "imports")
 COMMANDS = ["adapt", "layouts", "print", "docs", "polyfill", "shim", "verify", "invoke", "imports"]

@@ -141,7 +141,7 @@ def nested_beyond(_, depth, count):
 
 
 def items_beyond(_, items, count):
-    return 2 * count * (1 + 4 * items) + 1 > deep.EVENT_TYPES
+    return 2 * count * (1 + items) + 1 > deep.EVENT_TYPES
 
 
 def bytes_beyond(_, length, count):
@@ -182,11 +182,11 @@ PRODUCTS = [
     Product("tuples in one another", "typenames", DOCS, of_one(nested), (98, 1_400), 98, nested_beyond),
     *(Product("names in a chain", "lists", words, of_two(listed_parameters), (2_000, 2_000), deep.LIMITS[words[0]][0] - 1_000) for words in (POLYFILL, SHIM)),
     *(Product("members of a record", "functions", words, of_two(shared_record), (3_000, 3_000)) for words in (POLYFILL, SHIM)),
-    *(Product("bytes of documentation", "functions", words, of_two(long_documentation), (262_000, 1_000), 1 << 15, bytes_beyond) for words in (POLYFILL, SHIM)),
+    *(Product("bytes of documentation", "functions", words, of_two(long_documentation), (1_000_000, 4_000), 1 << 15, bytes_beyond) for words in (POLYFILL, SHIM)),
     Product("members of a record", "functions", VERIFY, of_listing(shared_record), (2_000, 2_000)),
     Product("members of a tuple", "functions", VERIFY, of_listing(shared_tuple), (180, 180)),
     Product("lines", "types that are held", VERIFY, lines_by_types, (2_000, 2_000), is_beyond=listing_beyond),
-    Product("items of a tuple", "tuples", VERIFY, items_by_tuples, (2_000, 2_000), is_beyond=items_beyond),
+    Product("items of a tuple", "tuples", VERIFY, items_by_tuples, (4_000, 4_000), is_beyond=items_beyond),
     Product("lines of calls", "parameters", VERIFY, calls_by_parameters, (2_000, 2_000), is_beyond=listing_beyond),
     Product("fields", "cases", INVOKE, fields_by_cases, (700, 700)),
     Product("imports", "words", IMPORTS, imports_by_words),

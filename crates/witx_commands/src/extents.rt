@@ -10,9 +10,9 @@ use witx_extent::Allowance;
 /// What there may be to all types of mapped modules. So much is compared within a second.
 const MOST: usize = 1 << 25;
 
-/// How many bytes of names and documentation may be in them, as conversions that are told once are hashed with all that their
-/// types say.
-const MOST_BYTES: usize = 1 << 29;
+/// How many bytes of names and documentation may be in them, at each of their mentions: conversions are compared with all that
+/// their types say, so many bytes within a second.
+const MOST_BYTES: usize = 1 << 34;
 
 /// How many names may stand one for the other, and how many types lie one in the other. How one type is represented by
 /// another takes 48 bytes of the stack for each type as LLVM builds it, and 208 as Rattle's own compiler does. Where two

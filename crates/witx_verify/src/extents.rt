@@ -19,9 +19,6 @@ const MOST_OF_FUNCTION: usize = 1 << 22;
 /// that share an allotment.
 const MOST_OF_EVENTS: usize = 1 << 25;
 
-/// What an item takes that is put into a tuple or out of one, beside what there is to its type.
-const ITEM: usize = 4;
-
 /// How much of types verdicts may still go through: those on all functions of a document share one, so that a type that
 /// many functions have takes no longer than one that is as large as all.
 #[derive(Debug, Drop)]
@@ -132,7 +129,7 @@ fn take_step(
         }
         Step::TupleLift { amt } | Step::TupleLower { amt } => {
             let items = if *amt < held { *amt } else { held };
-            allowance.take_number(widest.saturating_add(items.saturating_mul(ITEM)))
+            allowance.take_number(widest.saturating_add(items))
         }
         Step::ListFromPointerLength { .. } | Step::ResultLift => allowance.take_number(widest),
         _ => Ok(()),
