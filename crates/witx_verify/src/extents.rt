@@ -95,7 +95,8 @@ fn take_events(
     Ok(())
 }
 
-// What goes through a value takes that of the widest type; a tuple as many items besides, where the stack may hold them.
+// What goes through a value takes that of the widest type; a tuple as many items besides, but none where it asks for more than
+// the stack may hold, since it then goes no further.
 fn take_step(
     allowance: &mut Allowance,
     alloc: Global,
@@ -128,7 +129,7 @@ fn take_step(
             allowance.take_number(widest)
         }
         Step::TupleLift { amt } | Step::TupleLower { amt } => {
-            let items = if *amt < held { *amt } else { held };
+            let items = if *amt <= held { *amt } else { 0 };
             allowance.take_number(widest.saturating_add(items))
         }
         Step::ListFromPointerLength { .. } | Step::ResultLift => allowance.take_number(widest),
