@@ -86,7 +86,7 @@ PLACES = {
 GROWING, BEGINS, LARGEST, SPELLED = ("doubled tuples", "doubled records"), {"u8": 0, "u16": 1}, 60, 18
 # What these have isn't the name of a type, so that none of them is given back in an `expected`.
 NAMELESS = ("tuples, 40 a name", "tuples, 99 a name", "doubled lists")
-# Lines of events in front and behind, that are repeated in a function's listing.
+# Lines of events in front and behind, that are repeated in a function's listing; the number in them is how often.
 EVENTS = {
     "blocks": (["push_block"], ["finish_block none"]),
     "blocks with values": (["push_block", "get_arg 0"], ["finish_block value"]),
@@ -94,6 +94,7 @@ EVENTS = {
     "tuples lifted": (["tuple_lift 1"], []),
     "tuples lifted and lowered": (["tuple_lift 1"], ["tuple_lower 1"]),
     "tuples of two lifted": (["get_arg 0", "tuple_lift 2"], []),
+    "tuples of all lifted and lowered": (["get_arg 0"], ["tuple_lift {0}", "tuple_lower {0}"]),
     "words of numbers of words": (["i32_from_u8", "u8_from_i32"], []),
     "results lifted": (["result_lift"], []),
     "returns": (["return 0"], []),
@@ -264,12 +265,12 @@ def most_steps(command, kind, place="parameter"):
 def most_events(name):
     """How often these events can be repeated in a bundle."""
     front, end = EVENTS[name]
-    return (MOST - 1_000) // sum(len(it) + 3 for it in front + end)
+    return (MOST - 1_000) // sum(len(it.format(MOST)) + 3 for it in front + end)
 
 
 def traced(name, count):
     """The words for `verify` of a number that is passed, and files with a listing in which events are repeated."""
     front, end = EVENTS[name]
-    lines = ["module m", 'func "f" (i32) -> ()', "caller", "  get_arg 0", *(f"  {it}" for it in front * count + end * count), "  i32_from_u8",
+    lines = ["module m", 'func "f" (i32) -> ()', "caller", "  get_arg 0", *(f"  {it.format(count)}" for it in front * count + end * count), "  i32_from_u8",
              '  call_wasm "m" "f" (i32) -> ()', "  return 0", "callee", "  get_arg 0", "  u8_from_i32", '  call_interface "m" "f"', "  return 0"]
     return ["verify", "/l", "/a"], {"l": "\n".join(lines), "a": '(module $m (@interface func (export "f") (param $x u8)))'}

@@ -5,6 +5,8 @@ the sources of its own, a lane. What a lane leaves in a crate's out/ goes into t
 by the text that it was made of, into all lanes. It stands until a source changes, also for whoever works in the crates above; and
 the lanes stay until all is proved, with what was checked of a crate in which this is stopped. So it can be stopped and begun
 again."""
+import contextlib
+import fcntl
 import functools
 import hashlib
 import os
@@ -37,13 +39,15 @@ def say(line):
 
 
 def lanes():
-    """How many processors prove: all for which there is memory, or as many as RT_JOBS says."""
+    """How many processors prove, all for which there is memory, or as many as RT_JOBS says; and how many proofs may go on side
+    by side, where what most waits for needn't wait for a processor."""
     named = os.environ.get("RT_JOBS", "")
     if re.fullmatch("[1-9][0-9]*", named):
-        return int(named)
+        return int(named), int(named)
     with open("/proc/meminfo", encoding="utf-8") as file:
-        free = int(re.search(r"MemAvailable: +(\d+)", file.read())[1]) << 10
-    return max(1, min(len(os.sched_getaffinity(0)), free // MEMORY))
+        room = (int(re.search(r"MemAvailable: +(\d+)", file.read())[1]) << 10) // MEMORY
+    count = max(1, min(len(os.sched_getaffinity(0)), room))
+    return count, max(count, min(count + 1, room))
 
 
 def stands(name):
@@ -63,7 +67,7 @@ def measured():
 
 
 def size(name):
-    """The seconds of a processor that a crate's proof takes: as it was measured, else by the lines of its code."""
+    """How many seconds a crate's proof takes: as it was measured, else by the lines of its code."""
     if stands(name):
         return 0
     files = [f"{at}/{it}" for at, _, names in os.walk(f"{TOP}/crates/{name}/src") for it in names]
@@ -101,6 +105,21 @@ def make_lane(number, names):
     return lane
 
 
+@contextlib.contextmanager
+def held(folder):
+    """A folder in which no `rt`, and no other run of this, works meanwhile."""
+    handle = os.open(folder, os.O_RDONLY)
+    try:
+        try:
+            fcntl.flock(handle, fcntl.LOCK_EX | fcntl.LOCK_NB)
+        except BlockingIOError:
+            say(f"waiting for another run to finish in {folder}")
+            fcntl.flock(handle, fcntl.LOCK_EX)
+        yield
+    finally:
+        os.close(handle)
+
+
 def replace(old, new):
     """Puts a file or folder at another path, in place of what is there."""
     clear(new)
@@ -128,7 +147,7 @@ def clear(path):
 class Proof:
     """A run of `rt` in a crate's folder below a top, which proves it, with what it says in a file."""
 
-    def __init__(self, name, top=TOP, jobs=1):
+    def __init__(self, name, top, jobs):
         self.name, self.top, self.jobs, self.began = name, top, jobs, time.time()
         self.program = f"crates/{name}/out/{name}" if name in PROGRAMS else None
         if self.program and os.path.exists(f"{top}/{self.program}"):
@@ -151,17 +170,20 @@ class Proof:
         say(f"{self.name} NOT PROVED")
         return False
 
-    def give(self, lanes):
-        """Hands what was proved in a lane to the repository, and the library to all lanes. Whatever changed in the repository
-        since this began is newer."""
+    def give(self, lanes, began):
+        """Hands what was proved in a lane to the repository, and the library to all lanes, once no `rt` works in the crate.
+        Whatever changed in the repository since the lanes were filled is newer."""
         out = f"crates/{self.name}/out"
-        os.makedirs(f"{TOP}/{out}", exist_ok=True)
-        for part in os.listdir(f"{self.top}/{out}"):
-            replace(f"{self.top}/{out}/{part}", f"{TOP}/{out}/{part}")
         made = self.program or f"{out}/rlib/stamp"
-        os.utime(f"{TOP}/{made}", (self.began, self.began))
-        for lane in lanes if not self.program else []:
-            lend(f"{TOP}/{out}/rlib", f"{lane}/{out}/rlib")
+        os.makedirs(f"{TOP}/{out}", exist_ok=True)
+        with held(f"{TOP}/crates/{self.name}"):
+            # What is the same already stays, with all that was checked there.
+            if self.program or content(f"{self.top}/{made}") != content(f"{TOP}/{made}"):
+                for part in os.listdir(f"{self.top}/{out}"):
+                    replace(f"{self.top}/{out}/{part}", f"{TOP}/{out}/{part}")
+            os.utime(f"{TOP}/{made}", (began, began))
+            for lane in lanes if not self.program else []:
+                lend(f"{TOP}/{out}/rlib", f"{lane}/{out}/rlib")
 
     def stop(self):
         self.run.terminate()
@@ -174,10 +196,10 @@ class Proofs:
     def __init__(self, names):
         self.count, self.left, self.running = len(names), [*names], []
         self.below = {name: [it for it in below if it in names] for name, below in libraries().items() if name in names}
-        self.sizes, self.lanes = {it: size(it) for it in names}, lanes()
+        self.sizes, (self.lanes, count) = {it: size(it) for it in names}, lanes()
         self.behind = self.chains(names)
-        # One more than processors, for what most waits for.
-        self.all = [make_lane(it, names) for it in range(self.lanes + 1)]
+        self.began = time.time()
+        self.all = [make_lane(it, names) for it in range(count)]
         self.free = [*self.all]
         for name in names:
             if name not in PROGRAMS and stands(name):
@@ -204,11 +226,18 @@ class Proofs:
         longest = max((self.behind[it] for it in [*self.left, *(it.name for it in self.running)]), default=0)
         for at, name in enumerate(ready):
             is_near, idle = 4 * self.behind[name] >= 3 * longest, self.lanes - sum(it.jobs for it in self.running)
-            if not self.free or idle < 1 and not is_near:
+            if not self.free or idle < 1 and not (is_near and len(self.all) > self.lanes):
                 break
-            jobs = max(1 + is_near, min(4, idle // (len(ready) - at)))
+            jobs = max(1 + (is_near and self.lanes > 1), min(4, idle // (len(ready) - at)))
             self.left.remove(name)
-            self.running.append(Proof(name, self.free.pop(), jobs))
+            self.running.append(Proof(name, self.take_lane(name), jobs))
+
+    def take_lane(self, name):
+        """A free lane, in which a run that was stopped has begun with the crate, if there is one."""
+        begun = [it for it in self.free if os.path.isdir(f"{it}/crates/{name}/out/incremental")]
+        lane = (begun or self.free)[-1]
+        self.free.remove(lane)
+        return lane
 
     def minutes_left(self):
         """How long it takes still: all on these processors, or the longest chain one after the other, two jobs at a time."""
@@ -227,7 +256,7 @@ class Proofs:
         self.free.append(proof.top)
         if not proof.holds():
             return False
-        proof.give(self.all)
+        proof.give(self.all, self.began)
         is_new = "logic=proved" in proof.text()
         self.spent += (time.time() - proof.began) * proof.jobs * is_new
         self.done += self.sizes[proof.name] * is_new
@@ -256,11 +285,13 @@ def prove_crates(names):
         say("the Rattle kit's command `rt`, which proves and builds, isn't on the path")
         return False
     programs.end_by_exit()
-    proofs = Proofs(names)
-    say(f"proving {proofs.count} crates, {proofs.lanes} at a time, in about {proofs.minutes_left()} minutes; what is proved stays so if this is stopped")
-    if not proofs.run():
-        return False
-    shutil.rmtree(LANES, ignore_errors=True)
+    os.makedirs(LANES, mode=0o700, exist_ok=True)
+    with held(LANES):
+        proofs = Proofs(names)
+        say(f"proving {proofs.count} crates on {proofs.lanes} processors, in about {proofs.minutes_left()} minutes; what is proved stays so if this is stopped")
+        if not proofs.run():
+            return False
+        shutil.rmtree(LANES, ignore_errors=True)
     return True
 
 

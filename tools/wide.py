@@ -118,7 +118,8 @@ def items_by_tuples(program, items, count):
     """A listing in which so many arguments are put into a tuple and out of it again, so many times."""
     events = ["  get_arg 0"] * items + [f"  tuple_lift {items}", f"  tuple_lower {items}"] * count
     files = listed(program, module([function(0, "(param $p u8)")]))
-    return {**files, "l": files["l"].replace("\n  i32_from_u8\n", "\n" + "\n".join(events) + "\n  i32_from_u8\n", 1)}
+    front, line, end = files["l"].partition("\n  i32_from_u8\n")
+    return {**files, "l": "\n".join([front, *events]) + line + end}
 
 
 def fields_by_cases(_, fields, cases):
@@ -145,7 +146,7 @@ def items_beyond(_, items, count):
 
 
 def bytes_beyond(_, length, count):
-    return 2 * count * (length + 3) > deep.TEXTS
+    return 2 * count * (length + 4) > deep.TEXTS
 
 
 def listing_beyond(files, _, types):
