@@ -1,7 +1,11 @@
--- Digits as they are read from left to right: `digits_same`.
-use Rattle.std.proofs.Common.{◌≡◌, ℕ, Bool, true, false, ◌&&◌, ◌||◌, ◌==◌, List, [], ◌∷◌, refl, sym, ap, ◌∙◌}
-use Rattle.std.specs.Char.{is_digit}
+-- Digits as they are read from left to right: `digits_same`; and no integer by its first byte: `not_int`.
+use Rattle.std.proofs.Common.{◌≡◌, ℕ, Bool, true, false, ◌&&◌, ◌||◌, ◌==◌, ◌<◌, List, [], ◌∷◌, get_or, refl, sym, ap, ◌∙◌, inl, inr, arith}
+use Rattle.std.proofs.lemmas.Bool.{cases_lt, le-ltb}
+use Rattle.std.proofs.lemmas.Bool.Decides.{nat_tests}
+use Rattle.std.proofs.lemmas.Str.Parse.{digit_from_value}
+use Rattle.std.specs.Char.{is_digit, digit_value}
 use Rattle.witx_lex.specs.Characters.{underscore, are_digits}
+use Rattle.witx_lex.specs.Meaning.{is_int}
 
 -- the digits to come, behind a digit or not
 abbrev pub digits_follow : ℕ → Bool → List ℕ → Bool
@@ -38,3 +42,20 @@ digits_same base (b ∷ c ∷ bs) =
     ∙ ap (λ (x : Bool). is_digit b base && ((is_digit c base && digits_follow base true bs) || (c == underscore && x))) (digits_same base bs)
     ∙ behind_one (is_digit b base) (is_digit c base) (digits_follow base true bs) (c == underscore) (digits_follow base false bs)
     ∙ first base b (c ∷ bs)
+
+-- what begins with a byte behind the digits is no integer
+no_digit : (b : ℕ) → 57 < b → is_digit b 10 ≡ false
+no_digit b h = elim (cases_lt (digit_value b) 10) [ inl low ↦ absurd (omega (arith, digit_from_value b low)) | inr high ↦ le-ltb _ _ high ]
+
+pub not_int : (r : List ℕ) → 57 < get_or r 0 0 → is_int r ≡ false
+not_int [] h = absurd (omega arith)
+not_int (b ∷ []) h =
+    let d = no_digit b h in
+    let p : (b == 43) ≡ false = grind (arith, nat_tests) in
+    let z : (b == 48) ≡ false = grind (arith, nat_tests) in
+    rw (p, d, z) refl
+not_int (b ∷ c ∷ bs) h =
+    let d = no_digit b h in
+    let p : (b == 43) ≡ false = grind (arith, nat_tests) in
+    let z : (b == 48) ≡ false = grind (arith, nat_tests) in
+    rw (p, d, z) refl

@@ -1,6 +1,6 @@
 -- The piece that the code finds by the first bytes of a text stands there: `stands_blank`, `stands_opening`,
 -- `stands_closing`, `found_line`, `found_block`, `found_run`.
-use Rattle.std.proofs.Common.{◌≡◌, ◌≢◌, ℕ, ◌+◌, ◌<◌, ◌≤◌, true, false, cond, ◌&&◌, ◌==◌, List, [], ◌∷◌, ◌++◌, length, get_or, take, drop, Some, None, refl, sym, ap, ◌∙◌, subst, inl, inr, arith, append_assoc}
+use Rattle.std.proofs.Common.{◌≡◌, ◌≢◌, ℕ, ◌+◌, ◌<◌, ◌≤◌, ◌==◌, List, [], ◌∷◌, ◌++◌, length, get_or, take, drop, Some, None, refl, sym, ap, ◌∙◌, subst, inl, inr, arith, append_assoc}
 use Rattle.std.proofs.lemmas.Bool.{cases_lt}
 use Rattle.std.proofs.lemmas.Bool.Decides.{nat_tests}
 use Rattle.std.proofs.lemmas.List.{drop_more, drop-drop, drop_all, take-append-drop, length-take-le, length-append, get_or_at}
@@ -16,9 +16,6 @@ use Rattle.witx_lex.specs.BlockScan.{block_len}
 use Rattle.witx_lex.specs.Faults.{IsFaultAt}
 use Rattle.witx_lex.specs.Blocks.{IsBlockText}
 use Rattle.witx_lex.specs.Pieces.{blank, line, block, opening, closing, run, spelling, Stands}
-use Rattle.std.specs.Prelude.{nat_lt}
-use Rattle.witx_lex.specs.Tokens.{id, word, annot, int}
-use Rattle.witx_lex.specs.Meaning.{run_token, is_int}
 use Rattle.witx_lex.proofs.Blocks.{Scanned, scanned, no_end}
 use Rattle.witx_lex.proofs.Texts.{front, front_two, begins-index, all_of_run, run_stops}
 
@@ -89,22 +86,6 @@ found_run n text bytes name len first le bytes-is len-is name-is more =
       },
       len-k ∙ sym (ap (λ (t : List ℕ). length t) name-take ∙ long),
     )
-
--- ---- which token a run is
-
-pub is_id : (r : List ℕ) → get_or r 0 0 ≡ 36 → run_token r ≡ id (drop 1 r)
-is_id r e = let q : (get_or r 0 0 == 36) ≡ true = grind (arith, nat_tests) in rw q refl
-
-pub is_annot : (r : List ℕ) → get_or r 0 0 ≡ 64 → 1 < length r → run_token r ≡ annot (drop 1 r)
-is_annot r e lt =
-    let q : (get_or r 0 0 == 36) ≡ false = grind (arith, nat_tests) in
-    let p : (get_or r 0 0 == 64 && nat_lt 1 (length r)) ≡ true = grind (arith, nat_tests) in
-    rw (q, p) refl
-
-pub is_other : (r : List ℕ) → (get_or r 0 0 ≢ 36) → (get_or r 0 0 == 64 && nat_lt 1 (length r)) ≡ false → run_token r ≡ cond (is_int r) (int r) (word r)
-is_other r ne p =
-    let q : (get_or r 0 0 == 36) ≡ false = grind (arith, nat_tests) in
-    rw (q, p) refl
 
 -- ---- block comments
 

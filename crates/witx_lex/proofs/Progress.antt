@@ -116,7 +116,7 @@ open_nothing n closing e = absurd cc
 open_nothing n (run r) e = refl
 open_nothing n (quoted ps) e = refl
 
-open_comment : (n : ℕ) (p : Piece) (t : List ℕ) → piece_seen p ≡ comment t → open_after n p ≡ n
+pub open_comment : (n : ℕ) (p : Piece) (t : List ℕ) → piece_seen p ≡ comment t → open_after n p ≡ n
 open_comment n (blank b) u e = refl
 open_comment n (line t) u e = refl
 open_comment n (block t) u e = refl
@@ -138,13 +138,6 @@ Sofar_blank text at depth comments tokens utf8 within h s =
     let first : get_or (drop at text) 0 0 ≡ get_or text at 0 = get_or-drop at text 0 0 ∙ ap (λ (k : ℕ). get_or text k 0) (omega arith) in
     let stands = stands_blank depth (drop at text) (omega (arith, length-drop at text)) (ap is_blank first ∙ h) s.fits in
     Sofar_nothing text at depth 1 (at + 1) comments tokens (blank (get_or (drop at text) 0 0)) utf8 s stands refl refl refl
-
-pub Sofar_comment : (text : List ℕ) (at depth len new_at : ℕ) (comments new_comments : List (List ℕ)) (tokens : List Lexed) (p : Piece) (t : List ℕ) → IsUtf8 text
-    → Sofar text at depth comments tokens → Stands depth p (drop at text) (drop len (drop at text)) → len ≡ length (spelling p) → new_at ≡ at + len → piece_seen p ≡ comment t
-    → new_comments ≡ comments ++ t ∷ [] → Sofar text new_at depth new_comments tokens
-Sofar_comment text at depth len new_at comments new_comments tokens p t utf8 s h len-is new_at-is e f =
-    subst (λ (d : ℕ). Sofar text new_at d new_comments tokens) (open_comment depth p t e)
-    (Sofar_more text at depth len new_at comments new_comments tokens tokens p utf8 s h len-is new_at-is (λ qs. rw (e, f) refl))
 
 pub Sofar_token : (text : List ℕ) (at depth len new_at : ℕ) (comments new_comments : List (List ℕ)) (tokens new_tokens : List Lexed) (p : Piece) (t : Token) → IsUtf8 text
     → Sofar text at depth comments tokens → Stands depth p (drop at text) (drop len (drop at text)) → len ≡ length (spelling p) → new_at ≡ at + len → piece_seen p ≡ token t

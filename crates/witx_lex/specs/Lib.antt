@@ -7,6 +7,7 @@ pub mod Meaning
 pub mod Pieces
 pub mod Places
 pub mod Reads
+pub mod Sinks
 pub mod Slices
 pub mod Tokens
 pub mod Views

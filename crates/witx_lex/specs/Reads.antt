@@ -1,4 +1,4 @@
--- What the reader of one piece answers: the piece at the front of the text, or the fault there.
+-- What the reader of a comment or a string answers: the piece at the front of the text, or the fault there.
 use Rattle.std.specs.Prelude.{◌≡◌, ℕ, List, length, drop, Result, Err, MatchResult}
 use Rattle.witx_lex.specs.declared.error.LexError.{LexError}
 use Rattle.witx_lex.specs.declared.error.LexError.TheVariants.{Bad}
@@ -9,11 +9,11 @@ use Rattle.witx_lex.specs.declared.piece.Read as code_read
 use Rattle.witx_lex.specs.Pieces.{Piece, spelling, Stands}
 use Rattle.witx_lex.specs.Faults.{IsFaultAt, IfBad}
 use Rattle.witx_lex.specs.Meaning.{Seen, comment, token, piece_seen}
-use Rattle.witx_lex.specs.Views.{token_view}
+use Rattle.witx_lex.specs.Tokens.{quoted}
 
 abbrev pub seen_view : code.Seen → Seen
 seen_view (variant.Comment s) = comment s.now
-seen_view (variant.Token t) = token (token_view t)
+seen_view (variant.Quoted t) = token (quoted t)
 
 -- the result is this fault
 abbrev pub IsBad : {X : Type 0} → Result X LexError → LexKind → ℕ → Type 0

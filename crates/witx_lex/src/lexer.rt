@@ -1,72 +1,53 @@
 //! From a text to its tokens.
 
-ghost use Rattle.std.specs.Prelude.{◌≡◌, ◌≤◌, IfOk, IfErr};
+ghost use Rattle.std.specs.Prelude.{[], OnOk, IfErr};
 ghost use Rattle.witx_lex.specs.Faults.{HasFault, IfBad};
-ghost use Rattle.witx_lex.specs.Meaning as meaning;
-ghost use Rattle.witx_lex.specs.Pieces.{Piece, most_open, open_after};
-ghost use Rattle.witx_lex.specs.Views.{token_view, tokens_view};
+ghost use Rattle.witx_lex.specs.Sinks.{TookTokens};
 
-use crate::characters::{byte_at, is_blank};
-use crate::error::{LexError, LexFault};
-use crate::piece::{Seen, read_piece};
-use crate::token::{Comments, Lexed, Span, Token, Tokens};
+use crate::characters::{byte_at, is_blank, is_name};
+use crate::cut::Cut;
+use crate::error::{LexError, LexKind};
+use crate::handing::{fault_at, hand_other, hand_run, hand_token};
+use crate::piece::MOST_OPEN;
+use crate::sink::TokenSink;
+use crate::token::Token;
 use std::alloc::Global;
-use witx_base::Items;
 
-/// The tokens of a text, each with its place and the comments before it; or the text's fault, the
-/// first place at which no piece can stand. Exactly one of the two is there for each text.
-pub fn lex<'a>(alloc: Global, text: &'a str) -> Result<Tokens<'a>, LexError>
-    ensures tokens { IfOk result (λ ts. meaning.HasTokens text.now (tokens_view ts)) }
+/// Hands the tokens of a text to a sink, each with its place and behind the comments before it; or
+/// tells the text's fault, the first place at which no piece can stand.
+pub fn lex_into<'a, S: TokenSink<'a>>(
+    alloc: Global,
+    text: &'a str,
+    sink: &mut S,
+) -> Result<(), LexError>
+    requires { S.Took sink.old [] [] }
+    ensures tokens { OnOk result (TookTokens S.Took sink.new text.now) }
     ensures fault { IfErr result (λ e. IfBad e (λ f. HasFault text.now f)) }
 {
-    let mut tokens: Tokens<'a> = Items::new(alloc);
-    let mut comments: Comments<'a> = Items::new(alloc);
-    let mut depth: usize = 0;
-    let mut at: usize = 0;
-    while at < text.len() {
-        if is_blank(byte_at(text, at)) {
-            at += 1;
+    let mut cut = Cut { at: 0, depth: 0 };
+    while cut.at < text.len() {
+        let first = byte_at(text, cut.at);
+        if is_blank(first) {
+            cut.at += 1;
             continue;
         }
-        match read_piece(alloc, &text[at..], depth) {
-            Ok(read) => {
-                let end = at + read.len;
-                let seen = read.seen;
-                match seen {
-                    Seen::Comment(comment) => comments.push(comment)?,
-                    Seen::Token(token) => {
-                        depth = open_after(depth, &token);
-                        let span = Span { start: at, end };
-                        tokens.push(Lexed {
-                            token,
-                            span,
-                            comments,
-                        })?;
-                        comments = Items::new(alloc);
-                    }
-                }
-                at = end;
-            }
-            Err(LexError::Bad(fault)) => {
-                return Err(LexError::Bad(LexFault {
-                    kind: fault.kind,
-                    at: at + fault.at,
-                }));
-            }
-            Err(LexError::OutOfMemory) => return Err(LexError::OutOfMemory),
+        if is_name(first) {
+            cut = hand_run(text, cut, sink)?;
+            continue;
         }
+        if first == b')' {
+            let depth = cut.depth.saturating_sub(1);
+            cut = hand_token(Token::RParen, cut, cut.at + 1, depth, sink)?;
+            continue;
+        }
+        if first == b'(' && byte_at(text, cut.at + 1) != b';' {
+            if cut.depth == MOST_OPEN {
+                return Err(fault_at(LexKind::TooDeep, cut.at));
+            }
+            cut = hand_token(Token::LParen, cut, cut.at + 1, cut.depth + 1, sink)?;
+            continue;
+        }
+        cut = hand_other(alloc, text, cut, sink)?;
     }
-    Ok(tokens)
-}
-
-/// How many parentheses are open after a piece that is this token, of `depth` before it.
-fn open_after(depth: usize, token: &Token) -> usize
-    requires { depth ≤ most_open }
-    ensures { (p : Piece) → meaning.piece_seen p ≡ meaning.token (token_view token.now) → result ≡ open_after depth p }
-{
-    match token {
-        Token::LParen => depth + 1,
-        Token::RParen => depth.saturating_sub(1),
-        _ => depth,
-    }
+    Ok(())
 }

@@ -4,14 +4,18 @@
 
 mod characters;
 mod comment;
+mod cut;
 mod error;
 mod escape;
+mod handing;
 mod laws;
 mod lexer;
 mod line_cursor;
+mod listed;
 mod piece;
 mod place;
 mod run;
+mod sink;
 mod string;
 mod token;
 
@@ -20,8 +24,11 @@ pub use laws::{
     a_fault_is_unique, a_text_has_pieces_or_a_fault, block_scan_is_exact, no_piece_at_a_fault,
     pieces_are_unique, pieces_exclude_a_fault, tokens_are_slices, tokens_are_unique,
 };
-pub use lexer::lex;
+pub use lexer::lex_into;
 pub use line_cursor::LineCursor;
+pub use listed::lex;
 pub use piece::{MOST_OPEN, most_open_parentheses};
 pub use place::line_column;
+pub use sink::TokenSink;
+pub use string::string_spelled;
 pub use token::{Comments, Lexed, Span, Token, Tokens};

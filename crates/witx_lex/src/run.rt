@@ -1,63 +1,63 @@
 //! Runs of name characters: identifiers, annotations, integers and words.
 
-ghost use Rattle.std.specs.Prelude.{◌≡◌, ℕ, ◌≤◌, length, slice_index, IsTrue};
+ghost use Rattle.std.specs.Prelude.{◌≡◌, ◌≢◌, ◌+◌, ◌≤◌, ◌<◌, ◌∷◌, [], MatchOption, length, drop};
 ghost use Rattle.std.specs.List.{prefix_len};
 ghost use Rattle.witx_lex.specs.Characters as spec;
 ghost use Rattle.witx_lex.specs.Meaning as meaning;
-ghost use Rattle.witx_lex.specs.Pieces.{most_open};
-ghost use Rattle.witx_lex.specs.Reads.{ReadsPiece};
+ghost use Rattle.witx_lex.specs.Views.{token_view};
 
-use crate::characters::{are_digits, byte_at, is_name};
-use crate::error::{LexError, LexKind};
-use crate::piece::{Read, Seen, fault};
+use crate::characters::{are_digits, byte_at, byte_of, is_name};
 use crate::token::Token;
 
-/// The longest run of name characters that begins the text.
-pub fn read_run<'a>(text: &'a str) -> Result<Read<'a>, LexError>
-    requires { IsTrue (spec.is_name_character (slice_index text.now 0)) }
-    ensures { (n : ℕ) → n ≤ most_open → ReadsPiece n text.now result }
+/// Where the run of name characters ends that goes on at the offset.
+#[inline]
+pub fn name_end(bytes: &[u8], at: usize) -> usize
+    requires { at ≤ length bytes.now }
+    ensures end { result ≡ at + prefix_len spec.is_name_character (drop at bytes.now) }
+    ensures within { result ≤ length bytes.now }
 {
-    let len = name_len(text.as_bytes());
-    let name = &text[..len];
-    let first = byte_at(name, 0);
-    if first == b'$' {
-        if len == 1 {
-            fault(LexKind::EmptyId, 0)
-        } else {
-            Ok(Read {
-                seen: Seen::Token(Token::Id(&name[1..])),
-                len,
-            })
+    let mut end = at;
+    'names: while end < bytes.len() {
+        if !is_name(bytes[end]) {
+            break;
         }
-    } else if first == b'@' && 1 < len {
-        Ok(Read {
-            seen: Seen::Token(Token::Annot(&name[1..])),
-            len,
-        })
-    } else if is_int(name.as_bytes()) {
-        Ok(Read {
-            seen: Seen::Token(Token::Int(name)),
-            len,
-        })
+        end += 1;
+    }
+    end
+}
+
+/// The token that a run of name characters is; none for a lone `$`.
+#[inline]
+pub fn run_token<'a>(run: &'a str) -> Option<Token<'a>>
+    requires { 0 < length run.now }
+    ensures { MatchOption result (run.now ≡ spec.dollar ∷ [])
+        (λ t. (run.now ≢ spec.dollar ∷ []) × (token_view t ≡ meaning.run_token run.now)) }
+{
+    let first = byte_at(run, 0);
+    if first == b'$' {
+        if run.len() == 1 {
+            None
+        } else {
+            Some(Token::Id(&run[1..]))
+        }
+    } else if first == b'@' && 1 < run.len() {
+        Some(Token::Annot(&run[1..]))
+    } else if is_int(run.as_bytes()) {
+        Some(Token::Int(run))
     } else {
-        Ok(Read {
-            seen: Seen::Token(Token::Word(name)),
-            len,
-        })
+        Some(Token::Word(run))
     }
 }
 
-fn name_len(bytes: &[u8]) -> usize
-    ensures len { result ≡ prefix_len spec.is_name_character bytes.now }
-    ensures within { result ≤ length bytes.now }
-{
-    bytes.iter().take_while(|b| is_name(**b)).count()
-}
-
 /// Whether the run is an optional `+` and a number.
+#[tactic(auto, using(crate::proofs::Digits::not_int))]
+#[inline]
 fn is_int(run: &[u8]) -> bool
     ensures { result ≡ meaning.is_int run.now }
 {
+    if b'9' < byte_of(run, 0) {
+        return false;
+    }
     match run {
         [b'+', number @ ..] => is_number(number),
         number => is_number(number),

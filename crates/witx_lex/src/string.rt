@@ -1,16 +1,18 @@
 //! Strings.
 
-ghost use Rattle.std.specs.Prelude.{◌≡◌, ℕ, ◌≤◌, slice_index};
+ghost use Rattle.std.specs.Prelude.{◌≡◌, ℕ, ◌≤◌, List, IfOk, slice_index};
 ghost use Rattle.witx_lex.specs.Pieces.{most_open};
-ghost use Rattle.witx_lex.specs.Reads.{ReadsPiece};
+ghost use Rattle.witx_lex.specs.Meaning.{token};
+ghost use Rattle.witx_lex.specs.Reads.{ReadsPiece, seen_view};
+ghost use Rattle.witx_lex.specs.Slices.{SpellsToken};
+ghost use Rattle.witx_lex.specs.Tokens.{quoted};
 
 use crate::characters::is_raw;
 use crate::error::{LexError, LexKind};
 use crate::escape::{push_escaped, read_escape};
 use crate::piece::{Read, Seen, fault};
-use crate::token::Token;
 use std::alloc::Global;
-use witx_base::Text;
+use witx_base::{OutOfMemory, Text};
 
 /// The string that begins the text, decoded.
 pub fn read_string<'a>(alloc: Global, text: &'a str) -> Result<Read<'a>, LexError>
@@ -26,7 +28,7 @@ pub fn read_string<'a>(alloc: Global, text: &'a str) -> Result<Read<'a>, LexErro
             match String::from_utf8(out) {
                 Ok(value) => {
                     return Ok(Read {
-                        seen: Seen::Token(Token::Quoted(Text::from_string(value))),
+                        seen: Seen::Quoted(Text::from_string(value)),
                         len: at + 1,
                     });
                 }
@@ -48,4 +50,27 @@ pub fn read_string<'a>(alloc: Global, text: &'a str) -> Result<Read<'a>, LexErro
         }
     }
     fault(LexKind::UnterminatedString, 0)
+}
+
+/// The text that a string's spelling stands for.
+pub fn string_spelled(alloc: Global, spelling: &str) -> Result<Text, OutOfMemory>
+    requires { (t : List ℕ) × SpellsToken spelling.now (quoted t) }
+    ensures { IfOk result (λ made. (t : List ℕ) → SpellsToken spelling.now (quoted t) → made ≡ t) }
+{
+    match read_string(alloc, spelling) {
+        Ok(read) => Ok(string_seen(read.seen)),
+        Err(LexError::OutOfMemory) => Err(OutOfMemory),
+        Err(LexError::Bad(_)) => unreachable!(),
+    }
+}
+
+/// The text of a string that was seen.
+fn string_seen(seen: Seen) -> Text
+    requires { (t : List ℕ) × (seen_view seen ≡ token (quoted t)) }
+    ensures { seen_view seen.entry ≡ token (quoted result) }
+{
+    let Seen::Quoted(text) = seen else {
+        unreachable!();
+    };
+    text
 }
