@@ -1,5 +1,5 @@
 -- How far a derivation comes by a production that is chosen: the tokens of its lookahead are read with it.
-use Rattle.std.proofs.Common.{◌≡◌, ℕ, zero, suc, ◌+◌, ◌-◌, ◌*◌, ◌<◌, ◌≤◌, Bool, true, false, List, [], ◌∷◌, ◌++◌, length, get_or, take, drop, reverse, replicate, Some, refl, sym, ap, ◌∙◌, subst, inl, inr, arith, append_assoc}
+use Rattle.std.proofs.Common.{◌≡◌, ℕ, zero, suc, ◌+◌, ◌-◌, ◌*◌, ◌<◌, ◌≤◌, Bool, true, List, [], ◌∷◌, ◌++◌, length, get_or, take, drop, replicate, Some, refl, sym, ap, ◌∙◌, subst, inl, inr, arith, append_assoc}
 use Rattle.std.specs.Bool.{Decides}
 use Rattle.std.proofs.lemmas.Bool.{and_parts, cases_lt}
 use Rattle.std.proofs.lemmas.List.{drop_more, drop_all, append-nil}
@@ -17,7 +17,7 @@ use Rattle.witx_grammar.proofs.Grounded.{least, least_step}
 use Rattle.witx_grammar.proofs.Parts.{takes, shown}
 use Rattle.witx_grammar.proofs.Steps.{not_both}
 use Rattle.witx_grammar.proofs.Predicts.{Takes}
-use Rattle.witx_grammar.proofs.Progress.{Sofar, sofar_token, sofar_production, sofar_pop, popped, rest_is}
+use Rattle.witx_grammar.proofs.Progress.{Sofar, sofar_token, sofar_production, sofar_next, rest_is}
 
 module _ {T N P : Type 0} (e : T → T → Bool) (et : (x y : T) → Decides (e x y) (x ≡ y)) (g : List (Rewrite T N P)) (start : Wants T N) (ts : List T) where
   more_tokens : (t : T) (ps : List T) (at : ℕ) → begins_with e (t ∷ ps) (drop at ts) ≡ true → at < length ts
@@ -53,33 +53,37 @@ module _ {T N P : Type 0} (e : T → T → Bool) (et : (x y : T) → Decides (e 
       subst (λ (k : ℕ). Sofar g start ts (drop k x.symbols ++ w) ((steps ++ Node x.name ∷ []) ++ replicate k Leaf) (at + k)) (sym front)
       (sofar_front x.symbols w (steps ++ Node x.name ∷ []) at b (sofar_production g start ts e q takes f w steps at x s shown i is))
 
--- as the loop has it: what is wanted lies on a stack
+-- as the loop has it
 module _ {T N P : Type 0} (e : T → T → Bool) (q : N → N → Bool) (l : P → P → Bool) (et : (x y : T) → Decides (e x y) (x ≡ y)) (qn : (x y : N) → Decides (q x y) (x ≡ y)) (lp : (x y : P) → Decides (l x y) (x ≡ y))
     (t : Table T N P) (fine : IsPredictive e q l t) (start : Wants T N) (ts : List T) where
-  pub chosen_from : (old new : List (Symbol T N)) (y : Symbol T N) (f : N) (steps : List (Step P)) (at n : ℕ) (p : Production T N P)
-      → Sofar (grammar t) start ts (reverse old) steps at → old ≡ new ++ y ∷ [] → y ≡ Nonterminal f
+  pub chosen_from : (old w : Wants T N) (y : Symbol T N) (f : N) (steps : List (Step P)) (at n : ℕ) (p : Production T N P)
+      → Sofar (grammar t) start ts old steps at → old ≡ y ∷ w → y ≡ Nonterminal f
       → Some (rewrite_view f p) ≡ choose e q (grammar t) f (take (length ts - at) (drop at ts)) → begins_with e (lookahead p.symbols.now) (take (length ts - at) (drop at ts)) ≡ true
       → n ≡ length (lookahead p.symbols.now)
-      → Sofar (grammar t) start ts (drop n p.symbols.now ++ reverse new) ((steps ++ Node p.name ∷ []) ++ replicate n Leaf) (at + n)
-  chosen_from old new y f steps at n p s popped is shows b front =
+      → Sofar (grammar t) start ts (drop n p.symbols.now ++ w) ((steps ++ Node p.name ∷ []) ++ replicate n Leaf) (at + n)
+  chosen_from old w y f steps at n p s first is shows b front =
       let x : Rewrite T N P = rewrite_view f p in
       let chosen : choose e q (grammar t) f (drop at ts) ≡ Some x = ap (λ (us : List T). choose e q (grammar t) f us) (sym (rest_is ts at)) ∙ sym shows in
       let i = shown e q l qn lp t fine f (drop at ts) x chosen in
-      sofar_chosen e et (grammar t) start ts q (takes e q l qn lp t fine) f (reverse new) steps at n x
-      (sofar_pop (grammar t) start ts old new y (Nonterminal f) steps at s popped is) chosen i.0 i.1
+      sofar_chosen e et (grammar t) start ts q (takes e q l qn lp t fine) f w steps at n x
+      (sofar_next (grammar t) start ts old w y (Nonterminal f) steps at s first is) chosen i.0 i.1
       (ap (λ (us : List T). begins_with e (lookahead p.symbols.now) us) (sym (rest_is ts at)) ∙ b) front
 
   -- where no token is read fewer nonterminals are opened
-  pub chosen_opens : (old new up : List (Symbol T N)) (y : Symbol T N) (f : N) (n at : ℕ) (p : Production T N P)
-      → old ≡ new ++ y ∷ [] → y ≡ Nonterminal f → Some (rewrite_view f p) ≡ choose e q (grammar t) f (take (length ts - at) (drop at ts))
-      → reverse up ≡ drop n p.symbols.now ++ reverse new → n ≡ 0 → least q qn (grammar t) DEPTH (reverse up) < least q qn (grammar t) DEPTH (reverse old)
-  chosen_opens old new up y f n at p popped_is is shows pushed none =
+  pub chosen_opens : (old w up : Wants T N) (y : Symbol T N) (f : N) (n at : ℕ) (p : Production T N P)
+      → old ≡ y ∷ w → y ≡ Nonterminal f → Some (rewrite_view f p) ≡ choose e q (grammar t) f (take (length ts - at) (drop at ts))
+      → up ≡ drop n p.symbols.now ++ w → n ≡ 0 → least q qn (grammar t) DEPTH up < least q qn (grammar t) DEPTH old
+  chosen_opens old w up y f n at p first is shows pushed none =
       let x : Rewrite T N P = rewrite_view f p in
       let i = shown e q l qn lp t fine f _ x (sym shows) in
-      subst (λ (w : Wants T N). least q qn (grammar t) DEPTH (reverse up) < least q qn (grammar t) DEPTH w) (sym (popped old new y (Nonterminal f) popped_is is))
-      (subst (λ (w : Wants T N). least q qn (grammar t) DEPTH w < least q qn (grammar t) DEPTH (Nonterminal f ∷ reverse new))
-      (sym (pushed ∙ ap (λ (k : ℕ). drop k p.symbols.now ++ reverse new) none))
-      (least_step q qn (grammar t) f (reverse new) x (grounded e q l t fine) i.0 i.1))
+      subst (λ (v : Wants T N). least q qn (grammar t) DEPTH up < least q qn (grammar t) DEPTH v) (sym (first ∙ ap (λ (z : Symbol T N). z ∷ w) is))
+      (subst (λ (v : Wants T N). least q qn (grammar t) DEPTH v < least q qn (grammar t) DEPTH (Nonterminal f ∷ w))
+      (sym (pushed ∙ ap (λ (k : ℕ). drop k p.symbols.now ++ w) none))
+      (least_step q qn (grammar t) f w x (grounded e q l t fine) i.0 i.1))
+
+-- what is left of a production is wanted before the rest that was put on the stack
+pub put_before : {X : Type 0} (left new all rest : List X) → new ≡ left → all ≡ rest → new ++ all ≡ left ++ rest
+put_before {X} left new all rest a b = ap (λ (xs : List X). xs ++ all) a ∙ ap (λ (xs : List X). left ++ xs) b
 
 -- what is so of the equal ones
 pub carried : {T N P : Type 0} (g : List (Rewrite T N P)) (start : Wants T N) (ts : List T) (v w : Wants T N) (before behind all : List (Step P)) (node : Step P) (at n place : ℕ)

@@ -14,3 +14,4 @@ pub mod Reading
 pub mod Derive
 pub mod Makes
 mod Examples
+pub mod Stack

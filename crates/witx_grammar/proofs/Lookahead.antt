@@ -2,6 +2,7 @@
 use Rattle.std.proofs.Common.{◌≡◌, ℕ, zero, suc, ◌+◌, ◌<◌, ◌≤◌, Bool, true, false, cond, ◌&&◌, List, [], ◌∷◌, ◌++◌, length, get_or, take, drop, Option, Some, None, refl, sym, ap, ◌∙◌, arith}
 use Rattle.std.specs.Prelude.{not}
 use Rattle.std.specs.Option.{is_some}
+use Rattle.std.proofs.lemmas.Bool.{and_parts}
 use Rattle.std.proofs.lemmas.List.{drop_more, drop_all}
 use Rattle.witx_grammar.specs.declared.table.Symbol.{Symbol}
 use Rattle.witx_grammar.specs.declared.table.Symbol.TheVariants.{Terminal, Nonterminal}
@@ -15,6 +16,9 @@ not_true false h = refl
 pub not_false : (b : Bool) → false ≡ not b → b ≡ true
 not_false true h = refl
 not_false false h = h
+
+not_both : true ≡ false → ⊥
+not_both e = cc
 
 test_fails : (a x : Bool) → a ≡ false → (a && x) ≡ false
 test_fails a x e = ap (λ (b : Bool). b && x) e
@@ -106,3 +110,48 @@ ruled_out e (suc k) (Nonterminal f ∷ w) next ts low h = absurd cc
 ruled_out e (suc k) (Terminal s ∷ w) [] ts low h = absurd (omega (arith, low))
 ruled_out e (suc k) (Terminal s ∷ w) (t ∷ next) ts low h =
     let less : k ≤ length next = omega (arith, low) in and_false (e s t) _ _ (ruled_out e k w next ts less) h
+
+-- What tokens begin with they begin with whatever comes behind them.
+pub begins_further : {T : Type 0} (e : T → T → Bool) (ps next us : List T) → begins_with e ps next ≡ true → begins_with e ps (next ++ us) ≡ true
+begins_further e [] next us h = refl
+begins_further e (p ∷ ps) [] us h = cc
+begins_further e (p ∷ ps) (t ∷ next) us h =
+    let both = and_parts (e p t) (begins_with e ps next) h in test_passes (e p t) (begins_with e ps (next ++ us)) both.0 ∙ begins_further e ps next us both.1
+
+-- Where the lookahead of the first two symbols comes next, a lookahead of no more than two tokens does,
+pub begins_at_once : {T N : Type 0} (e : T → T → Bool) (w : Wants T N) (ts : List T) → length (lookahead w) ≤ 2 → begins_with e (lookahead (take 2 w)) ts ≡ true
+    → true ≡ begins_with e (lookahead w) ts
+begins_at_once e [] ts few h = refl
+begins_at_once e (Nonterminal f ∷ w) ts few h = refl
+begins_at_once e (Terminal a ∷ []) ts few h = sym h
+begins_at_once e (Terminal a ∷ Nonterminal f ∷ w) ts few h = sym h
+begins_at_once e (Terminal a ∷ Terminal b ∷ []) ts few h = sym h
+begins_at_once e (Terminal a ∷ Terminal b ∷ Nonterminal f ∷ w) ts few h = sym h
+begins_at_once e (Terminal a ∷ Terminal b ∷ Terminal c ∷ w) ts few h = absurd (omega (arith, few))
+
+-- and of a longer one only what is behind these is left to come.
+pub begins_on : {T N : Type 0} (e : T → T → Bool) (w : Wants T N) (ts : List T) → 2 < length (lookahead w) → begins_with e (lookahead (take 2 w)) ts ≡ true
+    → begins_with e (lookahead w) ts ≡ begins_with e (lookahead (drop 2 w)) (drop 2 ts)
+begins_on e [] ts many h = absurd (omega (arith, many))
+begins_on e (Nonterminal f ∷ w) ts many h = absurd (omega (arith, many))
+begins_on e (Terminal a ∷ []) ts many h = absurd (omega (arith, many))
+begins_on e (Terminal a ∷ Nonterminal f ∷ w) ts many h = absurd (omega (arith, many))
+begins_on e (Terminal a ∷ Terminal b ∷ w) [] many h = absurd cc
+begins_on e (Terminal a ∷ Terminal b ∷ w) (x ∷ []) many h = absurd (not_both (sym ((and_parts (e a x) false h).1)))
+begins_on e (Terminal a ∷ Terminal b ∷ w) (x ∷ y ∷ ts) many h =
+    let both = and_parts (e a x) (e b y && true) h in
+    let two = and_parts (e b y) true both.1 in
+    test_passes (e a x) (e b y && begins_with e (lookahead w) ts) both.0 ∙ test_passes (e b y) (begins_with e (lookahead w) ts) two.0
+
+pub two_begin : {T N : Type 0} (e : T → T → Bool) (w : Wants T N) (ts : List T) → 2 < length (lookahead w) → begins_with e (lookahead (take 2 w)) ts ≡ true → 2 ≤ length ts
+two_begin e [] ts many h = absurd (omega (arith, many))
+two_begin e (Nonterminal f ∷ w) ts many h = absurd (omega (arith, many))
+two_begin e (Terminal a ∷ []) ts many h = absurd (omega (arith, many))
+two_begin e (Terminal a ∷ Nonterminal f ∷ w) ts many h = absurd (omega (arith, many))
+two_begin e (Terminal a ∷ Terminal b ∷ w) [] many h = absurd cc
+two_begin e (Terminal a ∷ Terminal b ∷ w) (x ∷ []) many h = absurd (not_both (sym ((and_parts (e a x) false h).1)))
+two_begin e (Terminal a ∷ Terminal b ∷ w) (x ∷ y ∷ ts) many h = omega arith
+
+pub some_is : (b : Bool) (n : ℕ) (r : Option ℕ) → r ≡ cond b (Some n) None → is_some r ≡ b
+some_is true n r e = ap (λ (o : Option ℕ). is_some o) e
+some_is false n r e = ap (λ (o : Option ℕ). is_some o) e

@@ -1,6 +1,6 @@
 -- How far a derivation has come.
-use Rattle.std.proofs.Common.{◌≡◌, ◌≢◌, ℕ, ◌+◌, ◌-◌, ◌*◌, ◌<◌, ◌≤◌, Bool, List, [], ◌∷◌, ◌++◌, length, get_or, take, drop, reverse, Some, None, refl, sym, ap, ◌∙◌, subst, arith, append_assoc}
-use Rattle.std.proofs.lemmas.List.{drop_more, drop_all, append-nil, length-drop, reverse-append, take_rest}
+use Rattle.std.proofs.Common.{◌≡◌, ◌≢◌, ℕ, ◌+◌, ◌-◌, ◌*◌, ◌<◌, ◌≤◌, Bool, List, [], ◌∷◌, ◌++◌, length, get_or, take, drop, Some, None, refl, sym, ap, ◌∙◌, subst, arith, append_assoc}
+use Rattle.std.proofs.lemmas.List.{drop_more, drop_all, append-nil, length-drop, take_rest}
 use Rattle.witx_grammar.specs.declared.table.Symbol.{Symbol}
 use Rattle.witx_grammar.specs.declared.table.Symbol.TheVariants.{Terminal, Nonterminal}
 use Rattle.witx_grammar.specs.declared.table.Step.{Step}
@@ -110,13 +110,8 @@ module _ {T N P : Type 0} (g : List (Rewrite T N P)) (start : Wants T N) (ts : L
       let none : length (drop at ts) ≡ 0 = ap (λ (x : List T). length x) e in
       ne (omega (arith, length-drop at ts))
 
-  pub sofar_pop : (old new : List (Symbol T N)) (x y : Symbol T N) (steps : List (Step P)) (at : ℕ)
-      → Sofar g start ts (reverse old) steps at → old ≡ new ++ x ∷ [] → x ≡ y → Sofar g start ts (y ∷ reverse new) steps at
-  sofar_pop old new x y steps at s e is =
-      subst (λ (w : Wants T N). Sofar g start ts w steps at) (ap (λ (v : List (Symbol T N)). reverse v) e ∙ reverse-append new (x ∷ []) ∙ ap (λ (z : Symbol T N). z ∷ reverse new) is) s
-
-pub popped : {X : Type 0} (old new : List X) (x y : X) → old ≡ new ++ x ∷ [] → x ≡ y → reverse old ≡ y ∷ reverse new
-popped {X} old new x y e is = ap (λ (v : List X). reverse v) e ∙ reverse-append new (x ∷ []) ∙ ap (λ (z : X). z ∷ reverse new) is
+  pub sofar_next : (old w : Wants T N) (x y : Symbol T N) (steps : List (Step P)) (at : ℕ) → Sofar g start ts old steps at → old ≡ x ∷ w → x ≡ y → Sofar g start ts (y ∷ w) steps at
+  sofar_next old w x y steps at s e is = subst (λ (v : Wants T N). Sofar g start ts v steps at) (e ∙ ap (λ (z : Symbol T N). z ∷ w) is) s
 
 pub small_step : (n m a b r : ℕ) → a < r → b ≡ r → n * m + a < n * m + b
 small_step n m a b r lt e = omega arith

@@ -1,7 +1,7 @@
 //! The choice of a production. What two kinds of tokens have ruled out once is not looked at again.
 
-ghost use Rattle.std.specs.Prelude.{◌≡◌, List, ◌++◌, length, map, option_map, true, IfOk, IfSome, if◌then◌else◌, Some, None};
-ghost use Rattle.witx_grammar.specs.Choices.{AreKnown, AlikeBehind, IsRest};
+ghost use Rattle.std.specs.Prelude.{◌≡◌, List, ◌++◌, length, map, option_map, take, true, IfOk, IfSome, if◌then◌else◌, Some, None};
+ghost use Rattle.witx_grammar.specs.Choices.{AreKnown, AlikeBehind, IsRest, MayFit, first_of};
 ghost use Rattle.witx_grammar.specs.Grammar.{grammar, rewrite_view};
 ghost use Rattle.witx_grammar.specs.Prediction.{HasOneRuleEach, begins_with, choose as choose_of, lookahead};
 
@@ -54,20 +54,36 @@ fn fits<T: Kind, N: Kind>(symbols: &[Symbol<T, N>], tokens: &[T]) -> Option<usiz
     Some(symbols.len())
 }
 
-/// The productions from the first one on that may fit where these tokens come next.
+/// How many tokens the lookahead of the symbols takes.
+fn front_of<T: Kind, N: Kind>(symbols: &[Symbol<T, N>]) -> usize
+    ensures { result ≡ length (lookahead symbols.now) }
+{
+    for (i, symbol) in symbols.iter().enumerate() {
+        match symbol {
+            Symbol::Nonterminal(_nonterminal) => return i,
+            Symbol::Terminal(_kind) => {}
+        }
+    }
+    symbols.len()
+}
+
+/// The productions from the first one on that may fit where these tokens come next, and how many tokens
+/// the lookahead of that one takes.
 fn from_first<'a, T: Kind, N: Kind, P: Kind>(
     productions: &'a [Production<'a, T, N, P>],
     next: &[T],
-) -> &'a [Production<'a, T, N, P>]
-    ensures { AlikeBehind T.eq next.now result.now productions.now }
+) -> (&'a [Production<'a, T, N, P>], usize)
+    requires two { length next.now ≡ 2 }
+    ensures alike { AlikeBehind T.eq next.now result.0.now productions.now }
+    ensures front { MayFit T.eq next.now result.1 result.0.now }
 {
     for (i, production) in productions.iter().enumerate() {
         let front = production.symbols.len().min(next.len());
         if fits(&production.symbols[..front], next).is_some() {
-            return &productions[i..];
+            return (&productions[i..], front_of(production.symbols));
         }
     }
-    &[]
+    (&[], 0)
 }
 
 /// What is known of the choice, if that is what the place has.
@@ -77,9 +93,10 @@ fn looked_up<'a, T: Kind, N: Kind, P: Kind>(
     place: usize,
     wanted: N,
     tokens: &[T],
-) -> Option<&'a [Production<'a, T, N, P>]>
+) -> Option<(&'a [Production<'a, T, N, P>], usize)>
     requires { AreKnown T.eq N.eq (grammar table.now) known.now }
-    ensures { IfSome result (λ rest. IsRest T.eq N.eq (grammar table.now) wanted tokens.now rest.now) }
+    ensures rest { IfSome result (λ k. IsRest T.eq N.eq (grammar table.now) wanted tokens.now k.0.now) }
+    ensures front { IfSome result (λ k. MayFit T.eq tokens.now k.1 k.0.now) }
 {
     let _rules = table.rules;
     if place >= known.len() || tokens.len() < 2 {
@@ -88,42 +105,85 @@ fn looked_up<'a, T: Kind, N: Kind, P: Kind>(
     match &known[place] {
         Some(kept)
             if kept.wanted == wanted && kept.first == tokens[0] && kept.second == tokens[1] => {
-            Some(kept.rest)
+            Some((kept.rest, kept.front))
         }
         _ => None,
     }
 }
 
-/// The productions of the nonterminal without those in front that don't fit.
+/// The productions of the nonterminal without those in front that don't fit, and how many tokens the
+/// lookahead of the first of them takes where two tokens show that it may fit.
 fn remaining<'a, T: Kind, N: Kind, P: Kind>(
     table: &Table<'a, T, N, P>,
     known: &mut Vec<Option<Known<'a, T, N, P>>>,
     wanted: N,
     tokens: &[T],
-) -> &'a [Production<'a, T, N, P>]
+) -> (&'a [Production<'a, T, N, P>], Option<usize>)
     requires one_rule_each { HasOneRuleEach N.eq table.now.rules.now }
     requires known { AreKnown T.eq N.eq (grammar table.now) known.old.items }
     ensures known { AreKnown T.eq N.eq (grammar table.now) known.new.items }
-    ensures rest { IsRest T.eq N.eq (grammar table.now) wanted tokens.now result.now }
+    ensures rest { IsRest T.eq N.eq (grammar table.now) wanted tokens.now result.0.now }
+    ensures front { IfSome result.1 (λ n. MayFit T.eq tokens.now n result.0.now) }
 {
     if tokens.len() < 2 {
-        return productions_of(table.rules, wanted);
+        return (productions_of(table.rules, wanted), None);
     }
     let (first, second) = (tokens[0], tokens[1]);
     let place = place_of(wanted, first, second);
-    if let Some(rest) = looked_up(table, known.as_slice(), place, wanted, tokens) {
-        return rest;
+    if let Some((rest, front)) = looked_up(table, known.as_slice(), place, wanted, tokens) {
+        return (rest, Some(front));
     }
-    let rest = from_first(productions_of(table.rules, wanted), &tokens[..2]);
+    let found = from_first(productions_of(table.rules, wanted), &tokens[..2]);
     if place < known.len() {
         known[place] = Some(Known {
             wanted,
             first,
             second,
-            rest,
+            rest: found.0,
+            front: found.1,
         });
+        return (found.0, Some(found.1));
     }
-    rest
+    (found.0, Some(found.1))
+}
+
+/// Whether the lookahead of the symbols comes next, which takes so many tokens, where that of the first
+/// two symbols does.
+fn goes_on<T: Kind, N: Kind>(symbols: &[Symbol<T, N>], front: usize, tokens: &[T]) -> bool
+    requires front { front ≡ length (lookahead symbols.now) }
+    requires begins { begins_with T.eq (lookahead (take 2 symbols.now)) tokens.now ≡ true }
+    ensures { result ≡ begins_with T.eq (lookahead symbols.now) tokens.now }
+{
+    if front <= 2 {
+        return true;
+    }
+    fits(&symbols[2..], &tokens[2..]).is_some()
+}
+
+/// The first of the productions, if it is known to begin as the tokens do and fits.
+fn first_if_fit<'a, T: Kind, N: Kind, P: Kind>(
+    productions: &'a [Production<'a, T, N, P>],
+    front: Option<usize>,
+    tokens: &[T],
+) -> Option<(&'a Production<'a, T, N, P>, usize)>
+    requires { IfSome front (λ n. MayFit T.eq tokens.now n productions.now) }
+    ensures choice { IfSome result (λ c. (f : N) → first_of T.eq f productions.now tokens.now
+        ≡ Some (rewrite_view f c.0.now)) }
+    ensures comes_next { IfSome result (λ c. begins_with T.eq (lookahead c.0.now.symbols.now) tokens.now ≡ true) }
+    ensures front { IfSome result (λ c. c.1 ≡ length (lookahead c.0.now.symbols.now)) }
+{
+    let Some(front) = front else {
+        return None;
+    };
+    if productions.is_empty() {
+        return None;
+    }
+    let first = &productions[0];
+    if goes_on(first.symbols, front, tokens) {
+        Some((first, front))
+    } else {
+        None
+    }
 }
 
 /// The first production of the nonterminal that fits, and how many tokens its lookahead takes.
@@ -141,7 +201,10 @@ pub fn choose<'a, T: Kind, N: Kind, P: Kind>(
     ensures comes_next { IfSome result (λ c. begins_with T.eq (lookahead c.0.now.symbols.now) tokens.now ≡ true) }
     ensures front { IfSome result (λ c. c.1 ≡ length (lookahead c.0.now.symbols.now)) }
 {
-    let productions = remaining(table, known, wanted, tokens);
+    let (productions, front) = remaining(table, known, wanted, tokens);
+    if let Some(choice) = first_if_fit(productions, front, tokens) {
+        return Some(choice);
+    }
     for production in productions {
         if let Some(front) = fits(production.symbols, tokens) {
             return Some((production, front));

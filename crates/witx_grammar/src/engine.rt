@@ -1,8 +1,9 @@
 //! The derivation of a list of tokens.
 
-ghost use Rattle.std.specs.Prelude.{◌≡◌, List, [], ◌∷◌, ◌++◌, ◌≤◌, ◌+◌, length, drop, reverse, replicate, map, IfOk, MatchOption};
+ghost use Rattle.std.specs.Prelude.{◌≡◌, List, [], ◌∷◌, ◌++◌, ◌≤◌, ◌+◌, length, drop, replicate, map, IfOk, MatchOption};
 ghost use Rattle.std.specs.List.{flat_map};
 ghost use Rattle.witx_grammar.specs.Grammar.{Derives, grammar, rewrite_view, rewrites_of, rule_view};
+ghost use Rattle.witx_grammar.specs.Choices.{all_wanted, still_wanted};
 ghost use Rattle.witx_grammar.specs.Prediction.{HasOneRuleEach, IsPredictive};
 ghost use Rattle.witx_grammar.specs.declared.table.Symbol.TheVariants.{Nonterminal};
 ghost use Rattle.witx_grammar.specs.declared.table.Step.{Step};
@@ -29,21 +30,57 @@ pub fn productions_of<'a, T: Kind, N: Kind, P: Kind>(
     &[]
 }
 
-/// Puts the symbols from the one numbered `first` on onto the stack, that one on top.
-fn push_from<T: Kind, N: Kind>(
-    stack: &mut Vec<Symbol<T, N>>,
-    symbols: &[Symbol<T, N>],
-    first: usize,
-) -> Result<(), AllocError>
-    requires { first ≤ length symbols.now }
-    ensures { IfOk result (λ _. reverse stack.new.items ≡ drop first symbols.now ++ reverse stack.old.items) }
+/// The symbol that is wanted next, and what is wanted behind it before the lists on the stack, of which the
+/// last comes first.
+#[tactic(auto, using(crate::proofs::Stack::stack_rules))]
+fn next_wanted<'a, T: Kind, N: Kind>(
+    next: &'a [Symbol<T, N>],
+    stack: &mut Vec<&'a [Symbol<T, N>]>,
+) -> Option<(Symbol<T, N>, &'a [Symbol<T, N>])>
+    ensures { still_wanted next.now stack.old.items ≡ all_wanted result stack.new.items }
 {
-    let mut left = symbols.len();
-    'each: while left > first {
-        left -= 1;
-        stack.push(symbols[left])?;
+    if let Some((symbol, rest)) = next.split_first() {
+        return Some((*symbol, rest));
+    }
+    'each: while let Some(list) = stack.pop() {
+        if let Some((symbol, rest)) = list.split_first() {
+            return Some((*symbol, rest));
+        }
+    }
+    None
+}
+
+/// The nonterminal, with nothing behind it.
+fn first_wanted<'a, T: Kind, N: Kind, P: Kind>(
+    table: &Table<'a, T, N, P>,
+    start: N,
+) -> Option<(Symbol<T, N>, &'a [Symbol<T, N>])>
+    ensures { all_wanted result [] ≡ Nonterminal start ∷ [] }
+{
+    let _rules = table.rules;
+    Some((Symbol::Nonterminal(start), &[]))
+}
+
+/// Puts symbols onto the stack that are wanted before all that is there.
+#[tactic(auto, using(crate::proofs::Stack::stack_rules))]
+fn push_list<'a, T: Kind, N: Kind>(
+    stack: &mut Vec<&'a [Symbol<T, N>]>,
+    list: &'a [Symbol<T, N>],
+) -> Result<(), AllocError>
+    ensures { IfOk result (λ _. still_wanted [] stack.new.items ≡ still_wanted list.now stack.old.items) }
+{
+    if !list.is_empty() {
+        stack.push(list)?;
     }
     Ok(())
+}
+
+/// The symbols from the one numbered `first` on.
+fn behind<'a, T: Kind, N: Kind>(symbols: &'a [Symbol<T, N>], first: usize) -> &'a [Symbol<T, N>]
+    requires { first ≤ length symbols.now }
+    ensures { result.now ≡ drop first symbols.now }
+{
+    &symbols[first..]
 }
 
 /// Reads so many tokens, a step each. The answer is the place behind them.
@@ -66,11 +103,11 @@ fn read_tokens<T: Kind, P: Kind>(
 
 /// The derivation of the tokens from the nonterminal, or `None` where there is none.
 ///
-/// What is still wanted stands on a stack of its own, so neither nesting nor length costs the
-/// program's stack.
-pub fn derive<T: Kind, N: Kind, P: Kind>(
+/// What is left of each production that is begun lies on a stack of its own, so neither nesting nor
+/// length costs the program's stack.
+pub fn derive<'a, T: Kind, N: Kind, P: Kind>(
     alloc: Global,
-    table: &Table<T, N, P>,
+    table: &Table<'a, T, N, P>,
     start: N,
     tokens: &[T],
 ) -> Result<Option<Vec<Step<P>>>, AllocError>
@@ -81,10 +118,10 @@ pub fn derive<T: Kind, N: Kind, P: Kind>(
 {
     let mut known = nothing_known(alloc, table)?;
     let mut stack = Vec::new(alloc);
-    stack.push(Symbol::Nonterminal(start))?;
+    let mut next = first_wanted(table, start);
     let mut steps = Vec::with_capacity(alloc, tokens.len().saturating_mul(2))?;
     let mut at = 0;
-    'each: while let Some(symbol) = stack.pop() {
+    'each: while let Some((symbol, rest)) = next {
         match symbol {
             Symbol::Terminal(kind) => {
                 if at >= tokens.len() || tokens[at] != kind {
@@ -92,15 +129,18 @@ pub fn derive<T: Kind, N: Kind, P: Kind>(
                 }
                 steps.push(Step::Leaf)?;
                 at += 1;
+                next = next_wanted(rest, &mut stack);
             }
             Symbol::Nonterminal(wanted) => {
                 let Some((production, front)) = choose(table, &mut known, wanted, &tokens[at..])
                 else {
                     return Ok(None);
                 };
-                push_from(&mut stack, production.symbols, front)?;
+                push_list(&mut stack, rest)?;
                 steps.push(Step::Node(production.name))?;
                 at = read_tokens(tokens, at, front, &mut steps)?;
+                let left = behind(production.symbols, front);
+                next = next_wanted(left, &mut stack);
             }
         }
     }

@@ -10,4 +10,6 @@ pub struct Known<'a, T, N, P> {
     pub second: T,
     /// The productions of the nonterminal from the first one on that may fit there.
     pub rest: &'a [Production<'a, T, N, P>],
+    /// How many tokens the lookahead of that one takes.
+    pub front: usize,
 }

@@ -1,4 +1,4 @@
-use Rattle.std.proofs.Common.{◌+◌, drop, length, sym, ap, ◌∙◌, arith}
+use Rattle.std.proofs.Common.{length, sym, ap, ◌∙◌, arith}
 use Rattle.witx_grammar.specs.Prediction.{lookahead}
 use Rattle.witx_grammar.proofs.Lookahead.{no_more, at_nonterminal, at_end, at_other, at_same, not_true, not_false, counted_at_nonterminal, counted_at_terminal, counted_at_end, is_found, is_lost}
 use Rattle.witx_grammar.proofs.choice.fits.Goals as goal
