@@ -2,3 +2,4 @@ pub mod Placed
 mod Examples
 pub mod Checked
 pub mod Exact
+pub mod Spelled

@@ -1,12 +1,17 @@
 -- What the values on the stack of the code stand for.
-use Rattle.std.specs.Prelude.{◌≡◌, List, [], reverse}
+use Rattle.std.specs.Prelude.{◌≡◌, ℕ, ◌++◌, List, [], reverse, Result, IfOk}
+use Rattle.witx_lex.specs.Tokens.{Lexed}
 use Rattle.witx_imports.specs.declared.value.Value.{Value}
 use Rattle.witx_imports.specs.declared.value.Value.TheVariants as value
 use Rattle.witx_imports.specs.declared.production.ProductionName.{ProductionName}
 use Rattle.witx_imports.specs.declared.production.ProductionName.TheVariants as p
+use Rattle.witx_imports.specs.declared.token_kind.TokenKind.{TokenKind}
 use Rattle.witx_values.specs.Language.{stack_of}
-use Rattle.witx_imports.specs.Actions.{import_act, words}
-use Rattle.witx_imports.specs.Values.{ImportVal, a_name, a_type, some_types, a_signature, an_import, some_imports}
+use Rattle.witx_values.specs.TextTokens.{AreHeld}
+use Rattle.witx_values.specs.Texts.{token_at}
+use Rattle.witx_values.specs.declared.marks.TextTokens.{TextTokens}
+use Rattle.witx_imports.specs.Actions.{import_act, import_language, words}
+use Rattle.witx_imports.specs.Values.{ImportVal, import_leaf, a_name, a_type, some_types, a_signature, an_import, some_imports}
 
 -- what a value of the code stands for
 abbrev pub import_value_view : Value → ImportVal
@@ -25,3 +30,8 @@ import_performed p vs = import_act p [] vs
 -- the production's value lies in place of that
 abbrev pub ImportMade : ProductionName → List Value → List Value → Type 0
 ImportMade p old new = stack_of import_value_view new ≡ import_performed p (stack_of import_value_view old)
+
+-- unless memory was refused, what the token with the number stands for lies on top
+abbrev pub ImportLaid : {X E : Type 0} → Result X E → TextTokens TokenKind → ℕ → List Value → List Value → Type 0
+ImportLaid r tokens at old new = (ls : List Lexed) → AreHeld import_language tokens ls
+    → IfOk r (λ _. stack_of import_value_view new ≡ import_leaf (token_at ls at) ++ stack_of import_value_view old)

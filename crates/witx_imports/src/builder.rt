@@ -1,8 +1,6 @@
 //! The actions of the grammar.
 
 ghost use Rattle.std.specs.Prelude.{IfOk};
-ghost use Rattle.witx_lex.specs.Tokens as tokens;
-ghost use Rattle.witx_lex.specs.Views.{lexed_view};
 ghost use Rattle.witx_values.specs.Language.{Ready};
 ghost use Rattle.witx_imports.specs.declared.value.Sort.{Sort};
 ghost use Rattle.witx_imports.specs.Actions.{import_language};
@@ -11,6 +9,7 @@ ghost use Rattle.witx_imports.specs.Stack.{ImportMade, import_value_view};
 ghost use Rattle.witx_imports.specs.Values.{ImportVal};
 
 use crate::actions;
+use crate::leaf::leaf;
 use crate::nonterminal::Nonterminal;
 use crate::production::ProductionName as P;
 use crate::stack::push;
@@ -19,10 +18,10 @@ use crate::value::Value;
 use crate::words::kind_of;
 use std::alloc::Global;
 use std::marker::PhantomData;
-use witx_base::{Id, OutOfMemory};
-use witx_lex::{Lexed, Token};
+use witx_base::OutOfMemory;
+use witx_lex::Token;
 use witx_machine::WasmType;
-use witx_values::Actions;
+use witx_values::{Actions, TextTokens};
 
 /// The actions of the grammar.
 #[derive(Clone, Copy)]
@@ -31,9 +30,7 @@ pub struct Building<'a> {
     pub texts: PhantomData<&'a str>,
 }
 
-impl<'a> Actions for Building<'a> {
-    type Token = Lexed<'a>;
-
+impl<'a> Actions<'a> for Building<'a> {
     type Kind = TokenKind;
 
     type Nonterminal = Nonterminal;
@@ -42,40 +39,35 @@ impl<'a> Actions for Building<'a> {
 
     type Value = Value;
 
-    ghost L = { tokens.Lexed };
-
     ghost S = { Sort };
 
     ghost V = { ImportVal };
-
-    ghost token_of = { lexed_view };
 
     ghost value_of = { import_value_view };
 
     ghost language = { import_language };
 
-    fn kind(&self, lexed: &Lexed<'a>) -> TokenKind {
-        kind_of(&lexed.token)
+    fn kind(&self, token: &Token<'a>) -> TokenKind {
+        kind_of(token)
     }
 
     fn end(&self) -> TokenKind {
         TokenKind::End
     }
 
-    fn leaf(&self, lexed: &Lexed<'a>, stack: &mut Vec<Value>) -> Result<(), OutOfMemory> {
-        match &lexed.token {
-            Token::Quoted(text) => {
-                let name = Id::new(self.alloc, text.as_str())?;
-                push(stack, Value::Name(name))
-            }
-            _ => Ok(()),
-        }
+    fn leaf(
+        &self,
+        tokens: &TextTokens<'a, TokenKind>,
+        at: usize,
+        stack: &mut Vec<Value>,
+    ) -> Result<(), OutOfMemory> {
+        leaf(self.alloc, tokens, at, stack)
     }
 
     fn perform(
         &self,
         production: P,
-        _tokens: &[Lexed<'a>],
+        _tokens: &TextTokens<'a, TokenKind>,
         _at: usize,
         stack: &mut Vec<Value>,
     ) -> Result<(), OutOfMemory> {

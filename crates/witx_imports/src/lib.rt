@@ -10,6 +10,7 @@ mod fault;
 mod grammar;
 mod import;
 mod laws;
+mod leaf;
 mod nonterminal;
 mod production;
 mod reader;

@@ -1,8 +1,8 @@
 //! From a text to its imports.
 
 ghost use Rattle.std.specs.Prelude.{◌≡◌, IfOk, IfErr};
-ghost use Rattle.witx_lex.specs.Meaning.{HasTokens};
-ghost use Rattle.witx_lex.specs.Views.{tokens_view};
+ghost use Rattle.witx_values.specs.TextTokens.{HoldsText};
+ghost use Rattle.witx_imports.specs.Actions.{import_language};
 ghost use Rattle.witx_imports.specs.Reads.{BadPlace, IsBadAt, Lists, line_column_at};
 
 use crate::builder::Building;
@@ -11,10 +11,11 @@ use crate::grammar::the_table;
 use crate::import::WasmImports;
 use crate::nonterminal::Nonterminal;
 use crate::stack::imports_in;
+use crate::token_kind::TokenKind;
 use std::alloc::Global;
 use std::marker::PhantomData;
-use witx_lex::{LexError, Lexed, lex, line_column};
-use witx_values::{Reading, kinds_of, read, start_of_token};
+use witx_lex::{LexError, line_column};
+use witx_values::{Reading, TextTokens, read, text_tokens};
 
 /// The fault at an offset.
 fn fault_at(text: &str, offset: usize) -> ImportsError
@@ -25,27 +26,21 @@ fn fault_at(text: &str, offset: usize) -> ImportsError
 }
 
 /// The imports that the tokens of a text spell, or their fault.
-fn read_tokens(alloc: Global, text: &str, tokens: &[Lexed]) -> Result<WasmImports, ImportsError>
-    requires { HasTokens text.now (tokens_view tokens.now) }
+fn read_tokens<'a>(
+    alloc: Global,
+    actions: &Building<'a>,
+    text: &'a str,
+    tokens: &TextTokens<'a, TokenKind>,
+) -> Result<WasmImports, ImportsError>
+    requires tokens { HoldsText import_language tokens.now }
+    requires text { tokens.now.text.now ≡ text.now }
     ensures imports { IfOk result (λ imports. Lists text.now imports) }
     ensures fault { IfErr result (λ e. BadPlace e (λ place. IsBadAt text.now place)) }
 {
-    let actions = Building {
-        alloc,
-        texts: PhantomData,
-    };
-    let kinds = kinds_of(alloc, &actions, tokens)?;
     let table = the_table();
-    match read(
-        alloc,
-        &actions,
-        &table,
-        Nonterminal::Text,
-        kinds.as_slice(),
-        tokens,
-    )? {
+    match read(alloc, actions, &table, Nonterminal::Text, tokens)? {
         Reading::Value(value) => Ok(imports_in(value)),
-        Reading::Fault(fault) => Err(fault_at(text, start_of_token(text, tokens, fault.at))),
+        Reading::Fault(fault) => Err(fault_at(text, tokens.start(fault.at))),
     }
 }
 
@@ -62,8 +57,12 @@ pub fn read_imports(alloc: Global, text: &str) -> Result<WasmImports, ImportsErr
     ensures imports { IfOk result (λ imports. Lists text.now imports) }
     ensures fault { IfErr result (λ e. BadPlace e (λ place. IsBadAt text.now place)) }
 {
-    match lex(alloc, text) {
-        Ok(tokens) => read_tokens(alloc, text, tokens.as_slice()),
+    let actions = Building {
+        alloc,
+        texts: PhantomData,
+    };
+    match text_tokens(alloc, &actions, text) {
+        Ok(tokens) => read_tokens(alloc, &actions, text, &tokens),
         Err(LexError::Bad(fault)) => Err(fault_at(text, fault.at)),
         Err(LexError::OutOfMemory) => Err(ImportsError::OutOfMemory),
     }

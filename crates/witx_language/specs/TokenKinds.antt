@@ -1,5 +1,5 @@
 -- Kinds of tokens: each word and each annotation of the grammar is of one, tied to its spelling here and nowhere else.
-use Rattle.std.specs.Prelude.{ℕ, Bool, if◌then◌else◌, List, [], ◌∷◌, ◌++◌, map, codes}
+use Rattle.std.specs.Prelude.{Bool, if◌then◌else◌, List, [], ◌∷◌, ◌++◌, map, codes}
 use Rattle.witx_lex.specs.Tokens.{Token, left, right, id, word, annot, int, quoted, Lexed}
 use Rattle.witx_language.specs.contracts.token_kind.TokenKindPartialEq.TheImpl as kinds
 use Rattle.witx_language.specs.declared.token_kind.TokenKind.{TokenKind}

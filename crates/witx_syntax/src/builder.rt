@@ -1,30 +1,29 @@
 //! The actions of the grammar.
 
 ghost use Rattle.std.specs.Prelude.{◌≡◌, IfOk, map};
-ghost use Rattle.witx_lex.specs.Tokens as lex;
-ghost use Rattle.witx_lex.specs.Views.{lexed_view};
 ghost use Rattle.witx_values.specs.Language.{IsOnTop, Ready};
+ghost use Rattle.witx_values.specs.TextTokens.{HoldsMarks};
 ghost use Rattle.witx_language.specs.declared.sort.Sort as sorts;
 ghost use Rattle.witx_language.specs.declared.sort.Sort.TheVariants as variants;
 ghost use Rattle.witx_language.specs.Sorts.{sort_of};
 ghost use Rattle.witx_language.specs.Actions.{the_language};
-ghost use Rattle.witx_language.specs.Values.{Val, a_builtin, a_name, a_text, a_type, an_integer, some_items};
+ghost use Rattle.witx_language.specs.Values.{Val, a_builtin, a_type, some_items};
 ghost use Rattle.witx_language.proofs.Lawful.{lawful};
-ghost use Rattle.witx_syntax.specs.Stack.{Made, quoted_view, value_view};
+ghost use Rattle.witx_syntax.specs.Stack.{Made, value_view};
 ghost use Rattle.witx_syntax_tree.specs.Trees as tree;
-ghost use Rattle.witx_syntax_tree.specs.Views.{name_view, noted_item};
+ghost use Rattle.witx_syntax_tree.specs.Views.{noted_item};
 
 use crate::actions::{items, parts, types};
 use crate::held::Held;
+use crate::leaf::leaf;
 use crate::stack::push;
-use crate::value::{BuiltinWord, Done, Item, Named, Number, Quoted, Stack, Value};
+use crate::value::{BuiltinWord, Done, Item, Stack, Tokens, Value};
 use std::alloc::Global;
 use std::marker::PhantomData;
-use witx_base::{Duplicate, Items, OutOfMemory};
-use witx_language::constructors::{builtin, identifier};
-use witx_language::integer::integer;
+use witx_base::Items;
+use witx_language::constructors::builtin;
 use witx_language::{Nonterminal, ProductionName as P, TokenKind, kind_of};
-use witx_lex::{Lexed, Token};
+use witx_lex::Token;
 use witx_syntax_tree::{BuiltinSyntax, TopLevelSyntaxes};
 use witx_values::{Actions, reversed};
 
@@ -42,38 +41,18 @@ fn push_builtin<'a>(stack: &mut Stack<'a>, word: BuiltinSyntax) -> Done
     push(stack, Value::Type(builtin(word)))
 }
 
-/// Puts an identifier on the stack.
-fn push_name<'a>(name: Named<'a>, stack: &mut Stack<'a>) -> Done
-    ensures { IfOk result (λ _. IsOnTop value_view (a_name (name_view name.entry.id)) stack.old.items stack.new.items) }
-{
-    push(stack, Value::Name(name))
-}
-
-/// Puts a quoted text on the stack.
-fn push_quoted<'a>(quoted: Quoted, stack: &mut Stack<'a>) -> Done
-    ensures { IfOk result (λ _. IsOnTop value_view (a_text (quoted_view quoted)) stack.old.items stack.new.items) }
-{
-    push(stack, Value::Quoted(quoted))
-}
-
-/// Puts an integer on the stack.
-fn push_integer<'a>(number: Number, stack: &mut Stack<'a>) -> Done
-    ensures { IfOk result (λ _. IsOnTop value_view (an_integer number.value) stack.old.items stack.new.items) }
-{
-    push(stack, Value::Integer(number))
-}
-
 /// Puts the value of a production, whose first token has the number `at`, in place of its parts.
 ///
 /// No arm makes a value itself: a function pays at its entry for the size of all its locals.
 fn perform<'a>(
     alloc: Global,
     production: P,
-    tokens: &[Lexed<'a>],
+    tokens: &Tokens<'a>,
     at: usize,
     stack: &mut Stack<'a>,
 ) -> Done
-    requires { Ready the_language value_view production stack.old.items }
+    requires parts { Ready the_language value_view production stack.old.items }
+    requires tokens { HoldsMarks tokens.now }
     ensures { IfOk result (λ _. Made production tokens.now at stack.old.items stack.new.items) }
 {
     match production {
@@ -166,9 +145,7 @@ pub struct Building<'a> {
     pub texts: PhantomData<&'a str>,
 }
 
-impl<'a> Actions for Building<'a> {
-    type Token = Lexed<'a>;
-
+impl<'a> Actions<'a> for Building<'a> {
     type Kind = TokenKind;
 
     type Nonterminal = Nonterminal;
@@ -177,54 +154,33 @@ impl<'a> Actions for Building<'a> {
 
     type Value = Value<'a>;
 
-    ghost L = { lex.Lexed };
-
     ghost S = { sorts.Sort };
 
     ghost V = { Val };
-
-    ghost token_of = { lexed_view };
 
     ghost value_of = { value_view };
 
     ghost language = { the_language };
 
-    fn kind(&self, lexed: &Lexed<'a>) -> TokenKind {
-        kind_of(&lexed.token)
+    fn kind(&self, token: &Token<'a>) -> TokenKind {
+        kind_of(token)
     }
 
     fn end(&self) -> TokenKind {
         TokenKind::End
     }
 
-    fn leaf(&self, lexed: &Lexed<'a>, stack: &mut Stack<'a>) -> Done {
-        let span = lexed.span;
-        match &lexed.token {
-            Token::Id(name) => push_name(
-                Named {
-                    id: identifier(name, span),
-                },
-                stack,
-            ),
-            Token::Quoted(text) => {
-                let text = text.copy()?;
-                push_quoted(Quoted { text, span }, stack)
-            }
-            Token::Int(digits) => match integer(digits) {
-                Some(value) => push_integer(Number { value }, stack),
-                None => Ok(()),
-            },
-            _ => Ok(()),
-        }
+    fn leaf(&self, tokens: &Tokens<'a>, at: usize, stack: &mut Stack<'a>) -> Done {
+        leaf(self.alloc, tokens, at, stack)
     }
 
     fn perform(
         &self,
         production: P,
-        tokens: &[Lexed<'a>],
+        tokens: &Tokens<'a>,
         at: usize,
         stack: &mut Stack<'a>,
-    ) -> Result<(), OutOfMemory> {
+    ) -> Done {
         perform(self.alloc, production, tokens, at, stack)
     }
 

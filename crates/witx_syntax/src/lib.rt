@@ -5,6 +5,7 @@ mod actions;
 mod builder;
 mod held;
 mod laws;
+mod leaf;
 mod parser;
 mod stack;
 mod value;

@@ -1,54 +1,39 @@
 //! From a text to its document.
 
-ghost use Rattle.std.specs.Prelude.{IfOk, IfErr};
-ghost use Rattle.witx_lex.specs.Meaning.{HasTokens};
-ghost use Rattle.witx_lex.specs.Views.{tokens_view};
+ghost use Rattle.std.specs.Prelude.{◌≡◌, IfOk, IfErr};
+ghost use Rattle.witx_language.specs.Actions.{the_language};
+ghost use Rattle.witx_values.specs.TextTokens.{HoldsText};
 ghost use Rattle.witx_syntax.specs.Reads.{IfParse, IsParseFault, Reads};
 ghost use Rattle.witx_syntax_tree.specs.Views.{document_view};
 
 use crate::builder::{Building, items_in};
+use crate::value::Tokens;
 use std::alloc::Global;
 use std::marker::PhantomData;
 use witx_language::{Nonterminal, SyntaxError, fault_at, lexical_message, the_table, token_fault};
-use witx_lex::{LexError, Lexed, lex};
+use witx_lex::LexError;
 use witx_syntax_tree::TopLevelDocument;
-use witx_values::{Reading, kinds_of, read};
+use witx_values::{Reading, read, text_tokens};
 
 /// The document of the tokens of a text, or their fault.
 fn parse_tokens<'a>(
     alloc: Global,
+    actions: &Building<'a>,
     text: &'a str,
-    tokens: &[Lexed<'a>],
+    tokens: &Tokens<'a>,
 ) -> Result<TopLevelDocument<'a>, SyntaxError>
-    requires { HasTokens text.now (tokens_view tokens.now) }
+    requires tokens { HoldsText the_language tokens.now }
+    requires text { tokens.now.text.now ≡ text.now }
     ensures document { IfOk result (λ d. Reads text.now (document_view d)) }
     ensures fault { IfErr result (λ e. IfParse e (λ f. IsParseFault text.now f)) }
 {
-    let actions = Building {
-        alloc,
-        texts: PhantomData,
-    };
-    let kinds = kinds_of(alloc, &actions, tokens)?;
     let table = the_table();
-    match read(
-        alloc,
-        &actions,
-        &table,
-        Nonterminal::Text,
-        kinds.as_slice(),
-        tokens,
-    )? {
+    match read(alloc, actions, &table, Nonterminal::Text, tokens)? {
         Reading::Value(value) => Ok(TopLevelDocument {
             items: items_in(value),
         }),
         Reading::Fault(fault) => {
-            let fault = token_fault(
-                text,
-                tokens,
-                kinds.as_slice(),
-                fault.at,
-                fault.expected.as_slice(),
-            );
+            let fault = token_fault(tokens, fault.at, fault.expected.as_slice());
             Err(SyntaxError::Parse(fault))
         }
     }
@@ -64,8 +49,12 @@ pub fn parse_document<'a>(alloc: Global, text: &'a str) -> Result<TopLevelDocume
     ensures document { IfOk result (λ d. Reads text.now (document_view d)) }
     ensures fault { IfErr result (λ e. IfParse e (λ f. IsParseFault text.now f)) }
 {
-    match lex(alloc, text) {
-        Ok(tokens) => parse_tokens(alloc, text, tokens.as_slice()),
+    let actions = Building {
+        alloc,
+        texts: PhantomData,
+    };
+    match text_tokens(alloc, &actions, text) {
+        Ok(tokens) => parse_tokens(alloc, &actions, text, &tokens),
         Err(LexError::Bad(fault)) => Err(SyntaxError::Parse(fault_at(
             text,
             lexical_message(fault.kind),

@@ -1,12 +1,13 @@
 //! What forms stand for while a tree is built. The last item of a list stands first.
 
 use witx_base::{OutOfMemory, Text};
-use witx_language::{Entries, Entry};
+use witx_language::{Entries, Entry, TokenKind};
 use witx_lex::Span;
 use witx_syntax_tree::{
     BuiltinSyntax, CaseSyntax, Documented, FieldSyntax, IdSyntax, ModuleDeclSyntax, TopLevelSyntax,
     TypedefSyntax,
 };
+use witx_values::TextTokens;
 
 /// A member with its comments.
 pub type Member<'a> = Documented<'a, IdSyntax<'a>>;
@@ -76,6 +77,9 @@ pub enum Value<'a> {
     Item(TopLevelSyntax<'a>),
     Items(Vec<Item<'a>>),
 }
+
+/// The tokens of the text that is read.
+pub type Tokens<'a> = TextTokens<'a, TokenKind>;
 
 /// Values that a tree is built of; the last is the top.
 pub type Stack<'a> = Vec<Value<'a>>;

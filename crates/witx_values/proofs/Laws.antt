@@ -19,7 +19,7 @@ use Rattle.witx_values.specs.Readings.{IsValue}
 use Rattle.witx_values.specs.Texts.{Telling, HasValue, IsLexical, IsSyntactic, IsTextFault, start_of}
 use Rattle.witx_values.proofs.Fitting.{first_value, reads_as}
 
-one_lexing : (text : List ℕ) (ts us : List Lexed) → HasTokens text ts → HasTokens text us → ts ≡ us
+pub one_lexing : (text : List ℕ) (ts us : List Lexed) → HasTokens text ts → HasTokens text us → ts ≡ us
 one_lexing text ts us a b = a.2 ∙ ap tokens_of (pieces_unique a.0 b.0 0 text a.1 b.1) ∙ sym b.2
 
 module _ {T N P S V : Type 0} (a : Language T N P Lexed S V) (start : N) where

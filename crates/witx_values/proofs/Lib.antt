@@ -1,6 +1,8 @@
 pub mod Truths
 pub mod Parts
+pub mod Cuts
 pub mod Fitting
+pub mod Held
 pub mod Loop
 pub mod Pushed
 pub mod Keeping

@@ -1,6 +1,6 @@
 -- Steps of the loop that reads a derivation from its end: what lies on the stack is what the steps from here on stand for.
 use Rattle.std.proofs.Common.{◌≡◌, ℕ, zero, suc, ◌+◌, ◌-◌, ◌<◌, ◌≤◌, List, [], ◌∷◌, ◌++◌, length, get_or, drop, map, reverse, refl, sym, ap, ◌∙◌, subst, arith}
-use Rattle.std.proofs.lemmas.List.{get_or-map, reverse-append}
+use Rattle.std.proofs.lemmas.List.{reverse-append}
 use Rattle.std.proofs.lemmas.List.Concat.{flat_map-append}
 use Rattle.witx_grammar.specs.Grammar.{Wants, Rewrite}
 use Rattle.witx_grammar.specs.declared.table.Symbol.TheVariants.{Terminal, Nonterminal}
@@ -96,9 +96,9 @@ any_default (x ∷ xs) (suc i) d e lt = any_default xs i d e (omega (arith, lt))
 pub step_is : {P : Type 0} (ms : List (Step P)) (n : ℕ) (x y : Step P) → 0 < n → n ≤ length ms → x ≡ get_or ms (n - 1) x → x ≡ y → get_or ms (n - 1) Leaf ≡ y
 step_is ms n x y lt le this is = any_default ms (n - 1) Leaf x (omega (arith, lt, le)) ∙ sym this ∙ is
 
--- a token of the code is the one at its place
-pub token_is : {X L : Type 0} (f : X → L) (xs : List X) (at : ℕ) (x : X) → at < length xs → x ≡ get_or xs at x → f x ≡ get_or (map f xs) at (f x)
-token_is f xs at x lt e = ap f e ∙ sym (get_or-map f xs at x (f x) lt)
+-- an item that is there is the same whatever stands in place of none
+pub this_token : {X : Type 0} (xs : List X) (at : ℕ) (d : X) → at < length xs → get_or xs at d ≡ get_or xs at (get_or xs at d)
+this_token xs at d lt = any_default xs at d (get_or xs at d) lt
 
 pub not_none : {X V : Type 0} (f : X → V) (xs : List X) (v : V) → xs ≡ [] → stack_of f xs ≡ v ∷ [] → ⊥
 not_none {X} {V} f xs v e is = no_value v (subst (λ (ys : List X). stack_of f ys ≡ v ∷ []) e is)

@@ -1,5 +1,6 @@
 pub mod Language
 pub mod Parts
 pub mod Readings
+pub mod TextTokens
 pub mod Texts
 pub mod Words

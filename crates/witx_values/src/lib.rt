@@ -6,15 +6,17 @@
 
 mod actions;
 mod builder;
+mod filling;
 mod holding;
 mod lists;
+mod marks;
 mod reader;
 mod rules;
-mod texts;
 mod words;
 
 pub use actions::Actions;
+pub use filling::text_tokens;
 pub use lists::{appended, reversed};
+pub use marks::{Mark, TextTokens};
 pub use reader::{Reading, read};
-pub use texts::start_of_token;
-pub use words::{Word, kind_numbered, kind_spelled, kinds_of};
+pub use words::{Word, kind_numbered, kind_spelled};

@@ -1,13 +1,9 @@
-//! The words of a language, and the kinds of tokens.
+//! The words of a language, and the kinds of tokens that they are.
 
-ghost use Rattle.std.specs.Prelude.{◌≡◌, ◌<◌, map, IfOk};
+ghost use Rattle.std.specs.Prelude.{◌≡◌, ◌<◌, map};
 ghost use Rattle.witx_base.specs.Texts.{same_text};
-ghost use Rattle.witx_values.specs.Language.{kinds_of as kinds_of_tokens};
 ghost use Rattle.witx_values.specs.Words.{AreApart, kind_spelled as kind_spelled_of, spelling_view};
 
-use crate::actions::Actions;
-use std::alloc::Global;
-use witx_base::OutOfMemory;
 use witx_grammar::Kind;
 
 /// A word: the kind of its tokens, its spelling, and what the language notes beside it.
@@ -75,20 +71,4 @@ pub fn kind_numbered<K: Kind, M>(
         return words[number].kind;
     }
     kind_spelled(words, other, text)
-}
-
-/// The kinds of the tokens, and then that of the end.
-pub fn kinds_of<A: Actions>(
-    alloc: Global,
-    actions: &A,
-    tokens: &[A::Token],
-) -> Result<Vec<A::Kind>, OutOfMemory>
-    ensures { IfOk result (λ v. v.items ≡ kinds_of_tokens A.language (map A.token_of tokens.now)) }
-{
-    let mut kinds = Vec::with_capacity(alloc, tokens.len().saturating_add(1))?;
-    for token in tokens {
-        kinds.push(actions.kind(token))?;
-    }
-    kinds.push(actions.end())?;
-    Ok(kinds)
 }

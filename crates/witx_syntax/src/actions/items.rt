@@ -2,17 +2,17 @@
 
 ghost use Rattle.std.specs.Prelude.{IfOk};
 ghost use Rattle.witx_values.specs.Language.{Ready};
+ghost use Rattle.witx_values.specs.TextTokens.{HoldsMarks};
 ghost use Rattle.witx_language.specs.Actions.{the_language};
 ghost use Rattle.witx_language.specs.declared.production.ProductionName.TheVariants as production;
 ghost use Rattle.witx_syntax.specs.Stack.{Made, MadeAlone, value_view};
 
 use crate::stack::{push, take, take_three, take_two};
-use crate::value::{Decl, Done, Item, Named, Number, Quoted, Stack, Value};
+use crate::value::{Decl, Done, Item, Named, Number, Quoted, Stack, Tokens, Value};
 use std::alloc::Global;
 use witx_base::Items;
 use witx_language::constructors::field;
 use witx_language::{Entries, Entry, add_entry, comments_at, comments_behind};
-use witx_lex::Lexed;
 use witx_syntax_tree::{
     ConstSyntax, DeclSyntax, Documented, ImportTypeSyntax, InterfaceFuncSyntax, ModuleDeclSyntax,
     ModuleImportSyntax, ModuleSyntax, TopLevelSyntax, TypedefSyntax, TypenameSyntax,
@@ -27,8 +27,9 @@ pub fn no_items<'a>(alloc: Global, stack: &mut Stack<'a>) -> Done
 }
 
 /// A top-level form, with its comments, in front of those behind it.
-pub fn more_items<'a>(alloc: Global, tokens: &[Lexed<'a>], at: usize, stack: &mut Stack<'a>) -> Done
-    requires { Ready the_language value_view production.MoreItems stack.old.items }
+pub fn more_items<'a>(alloc: Global, tokens: &Tokens<'a>, at: usize, stack: &mut Stack<'a>) -> Done
+    requires parts { Ready the_language value_view production.MoreItems stack.old.items }
+    requires tokens { HoldsMarks tokens.now }
     ensures { IfOk result (λ _. Made production.MoreItems tokens.now at stack.old.items stack.new.items) }
 {
     let comments = comments_at(alloc, tokens, at)?;
@@ -79,8 +80,9 @@ pub fn module<'a>(stack: &mut Stack<'a>) -> Done
 }
 
 /// `(@witx const $type $name NUMBER)`, with the comments behind its parenthesis.
-pub fn constant<'a>(alloc: Global, tokens: &[Lexed<'a>], at: usize, stack: &mut Stack<'a>) -> Done
-    requires { Ready the_language value_view production.Const stack.old.items }
+pub fn constant<'a>(alloc: Global, tokens: &Tokens<'a>, at: usize, stack: &mut Stack<'a>) -> Done
+    requires parts { Ready the_language value_view production.Const stack.old.items }
+    requires tokens { HoldsMarks tokens.now }
     ensures { IfOk result (λ _. Made production.Const tokens.now at stack.old.items stack.new.items) }
 {
     let comments = comments_behind(alloc, tokens, at)?;
@@ -97,8 +99,9 @@ pub fn constant<'a>(alloc: Global, tokens: &[Lexed<'a>], at: usize, stack: &mut 
 }
 
 /// `(import "name" (memory))`, with its comments.
-pub fn import<'a>(alloc: Global, tokens: &[Lexed<'a>], at: usize, stack: &mut Stack<'a>) -> Done
-    requires { Ready the_language value_view production.Import stack.old.items }
+pub fn import<'a>(alloc: Global, tokens: &Tokens<'a>, at: usize, stack: &mut Stack<'a>) -> Done
+    requires parts { Ready the_language value_view production.Import stack.old.items }
+    requires tokens { HoldsMarks tokens.now }
     ensures { IfOk result (λ _. Made production.Import tokens.now at stack.old.items stack.new.items) }
 {
     let comments = comments_at(alloc, tokens, at)?;
@@ -112,8 +115,9 @@ pub fn import<'a>(alloc: Global, tokens: &[Lexed<'a>], at: usize, stack: &mut St
 }
 
 /// `(@interface func (export "name") ENTRY..)`, with its comments: parameters and results in two lists.
-pub fn func<'a>(alloc: Global, tokens: &[Lexed<'a>], at: usize, stack: &mut Stack<'a>) -> Done
-    requires { Ready the_language value_view production.Func stack.old.items }
+pub fn func<'a>(alloc: Global, tokens: &Tokens<'a>, at: usize, stack: &mut Stack<'a>) -> Done
+    requires parts { Ready the_language value_view production.Func stack.old.items }
+    requires tokens { HoldsMarks tokens.now }
     ensures { IfOk result (λ _. Made production.Func tokens.now at stack.old.items stack.new.items) }
 {
     let comments = comments_at(alloc, tokens, at)?;
@@ -130,8 +134,9 @@ pub fn func<'a>(alloc: Global, tokens: &[Lexed<'a>], at: usize, stack: &mut Stac
 }
 
 /// `(param $name TYPE)`, with its comments.
-pub fn param<'a>(alloc: Global, tokens: &[Lexed<'a>], at: usize, stack: &mut Stack<'a>) -> Done
-    requires { Ready the_language value_view production.Param stack.old.items }
+pub fn param<'a>(alloc: Global, tokens: &Tokens<'a>, at: usize, stack: &mut Stack<'a>) -> Done
+    requires parts { Ready the_language value_view production.Param stack.old.items }
+    requires tokens { HoldsMarks tokens.now }
     ensures { IfOk result (λ _. Made production.Param tokens.now at stack.old.items stack.new.items) }
 {
     let comments = comments_at(alloc, tokens, at)?;
@@ -144,8 +149,9 @@ pub fn param<'a>(alloc: Global, tokens: &[Lexed<'a>], at: usize, stack: &mut Sta
 }
 
 /// `(result $name TYPE)`, with its comments.
-pub fn result_of<'a>(alloc: Global, tokens: &[Lexed<'a>], at: usize, stack: &mut Stack<'a>) -> Done
-    requires { Ready the_language value_view production.Result stack.old.items }
+pub fn result_of<'a>(alloc: Global, tokens: &Tokens<'a>, at: usize, stack: &mut Stack<'a>) -> Done
+    requires parts { Ready the_language value_view production.Result stack.old.items }
+    requires tokens { HoldsMarks tokens.now }
     ensures { IfOk result (λ _. Made production.Result tokens.now at stack.old.items stack.new.items) }
 {
     let comments = comments_at(alloc, tokens, at)?;

@@ -2,21 +2,22 @@
 
 ghost use Rattle.std.specs.Prelude.{IfOk};
 ghost use Rattle.witx_values.specs.Language.{Ready};
+ghost use Rattle.witx_values.specs.TextTokens.{HoldsMarks};
 ghost use Rattle.witx_language.specs.Actions.{the_language};
 ghost use Rattle.witx_language.specs.declared.production.ProductionName.TheVariants as production;
 ghost use Rattle.witx_syntax.specs.Stack.{Made, MadeAlone, value_view};
 
 use crate::stack::{push, take, take_two};
-use crate::value::{Case, Decl, Done, Field, Member, Named, Stack, UnionField, Value};
+use crate::value::{Case, Decl, Done, Field, Member, Named, Stack, Tokens, UnionField, Value};
 use std::alloc::Global;
 use witx_language::{comments_at, constructors};
-use witx_lex::Lexed;
 use witx_syntax_tree::{Documented, TypedefSyntax};
 use witx_values::appended;
 
 /// The name of a member, with its comments.
-pub fn name<'a>(alloc: Global, tokens: &[Lexed<'a>], at: usize, stack: &mut Stack<'a>) -> Done
-    requires { Ready the_language value_view production.Name stack.old.items }
+pub fn name<'a>(alloc: Global, tokens: &Tokens<'a>, at: usize, stack: &mut Stack<'a>) -> Done
+    requires parts { Ready the_language value_view production.Name stack.old.items }
+    requires tokens { HoldsMarks tokens.now }
     ensures { IfOk result (λ _. Made production.Name tokens.now at stack.old.items stack.new.items) }
 {
     let comments = comments_at(alloc, tokens, at)?;
@@ -25,8 +26,9 @@ pub fn name<'a>(alloc: Global, tokens: &[Lexed<'a>], at: usize, stack: &mut Stac
 }
 
 /// A type of a union, with its comments.
-pub fn union_type<'a>(alloc: Global, tokens: &[Lexed<'a>], at: usize, stack: &mut Stack<'a>) -> Done
-    requires { Ready the_language value_view production.UnionField stack.old.items }
+pub fn union_type<'a>(alloc: Global, tokens: &Tokens<'a>, at: usize, stack: &mut Stack<'a>) -> Done
+    requires parts { Ready the_language value_view production.UnionField stack.old.items }
+    requires tokens { HoldsMarks tokens.now }
     ensures { IfOk result (λ _. Made production.UnionField tokens.now at stack.old.items stack.new.items) }
 {
     let comments = comments_at(alloc, tokens, at)?;
@@ -35,8 +37,9 @@ pub fn union_type<'a>(alloc: Global, tokens: &[Lexed<'a>], at: usize, stack: &mu
 }
 
 /// `(field $name TYPE)`, with its comments.
-pub fn field<'a>(alloc: Global, tokens: &[Lexed<'a>], at: usize, stack: &mut Stack<'a>) -> Done
-    requires { Ready the_language value_view production.Field stack.old.items }
+pub fn field<'a>(alloc: Global, tokens: &Tokens<'a>, at: usize, stack: &mut Stack<'a>) -> Done
+    requires parts { Ready the_language value_view production.Field stack.old.items }
+    requires tokens { HoldsMarks tokens.now }
     ensures { IfOk result (λ _. Made production.Field tokens.now at stack.old.items stack.new.items) }
 {
     let comments = comments_at(alloc, tokens, at)?;
@@ -62,8 +65,9 @@ pub fn bare_error<'a>(stack: &mut Stack<'a>) -> Done
 }
 
 /// `(case $name)`, with its comments.
-pub fn bare_case<'a>(alloc: Global, tokens: &[Lexed<'a>], at: usize, stack: &mut Stack<'a>) -> Done
-    requires { Ready the_language value_view production.BareCase stack.old.items }
+pub fn bare_case<'a>(alloc: Global, tokens: &Tokens<'a>, at: usize, stack: &mut Stack<'a>) -> Done
+    requires parts { Ready the_language value_view production.BareCase stack.old.items }
+    requires tokens { HoldsMarks tokens.now }
     ensures { IfOk result (λ _. Made production.BareCase tokens.now at stack.old.items stack.new.items) }
 {
     let comments = comments_at(alloc, tokens, at)?;
@@ -73,8 +77,9 @@ pub fn bare_case<'a>(alloc: Global, tokens: &[Lexed<'a>], at: usize, stack: &mut
 }
 
 /// `(case $name TYPE)`, with its comments.
-pub fn case<'a>(alloc: Global, tokens: &[Lexed<'a>], at: usize, stack: &mut Stack<'a>) -> Done
-    requires { Ready the_language value_view production.Case stack.old.items }
+pub fn case<'a>(alloc: Global, tokens: &Tokens<'a>, at: usize, stack: &mut Stack<'a>) -> Done
+    requires parts { Ready the_language value_view production.Case stack.old.items }
+    requires tokens { HoldsMarks tokens.now }
     ensures { IfOk result (λ _. Made production.Case tokens.now at stack.old.items stack.new.items) }
 {
     let comments = comments_at(alloc, tokens, at)?;

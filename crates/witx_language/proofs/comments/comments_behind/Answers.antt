@@ -1,10 +1,7 @@
-use Rattle.std.proofs.Common.{◌≡◌, sym, subst}
-use Rattle.std.specs.Prelude.{IfOk}
-use Rattle.witx_lex.specs.Views.{tokens_view}
-use Rattle.witx_comments.specs.Comments.{Comments, comments_view}
-use Rattle.witx_language.proofs.Before.{second_drop}
+use Rattle.std.proofs.Common.{ap, ◌∙◌, arith}
+use Rattle.witx_lex.specs.Views.{texts_view}
+use Rattle.witx_language.proofs.Held.{none_behind}
 use Rattle.witx_language.proofs.comments.comments_behind.Goals as goal
 
-pub returns-then-at-tokens : goal.returns-then-at-tokens
-returns-then-at-tokens c =
-    subst (λ (cs : Comments). IfOk c.token_comments.result (λ made. comments_view made ≡ cs)) (sym (second_drop (tokens_view c.args.tokens.now) c.args.at)) c.token_comments.ensures
+pub returns-else-at-len : goal.returns-else-at-len
+returns-else-at-len c = ap texts_view c.new.ensures ∙ none_behind c.args.tokens.now c.args.at (omega (arith, c.len.ensures, c.if-at-len.false))

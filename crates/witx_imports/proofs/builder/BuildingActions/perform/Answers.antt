@@ -1,6 +1,5 @@
-use Rattle.std.proofs.Common.{◌≡◌, List, map, drop, IfOk, refl, subst}
+use Rattle.std.proofs.Common.{◌≡◌, List, drop, IfOk, refl, subst}
 use Rattle.witx_lex.specs.Tokens.{Lexed}
-use Rattle.witx_lex.specs.Views.{lexed_view}
 use Rattle.witx_values.specs.Language.{stack_of}
 use Rattle.witx_imports.specs.declared.production.ProductionName.{ProductionName}
 use Rattle.witx_imports.specs.declared.production.ProductionName.TheVariants as p
@@ -14,6 +13,6 @@ performed_is p.NoImports ts vs = refl
 performed_is x ts vs = refl
 
 pub returns : goal.returns
-returns c =
+returns c ls held =
     subst (λ (vs : List ImportVal). IfOk c.perform.result (λ _. stack_of import_value_view c.perform.new.stack.items ≡ vs))
-    (performed_is c.args.production (drop c.args._at (map lexed_view c.args._tokens.now)) (stack_of import_value_view c.args.stack.now.items)) c.perform.ensures
+    (performed_is c.args.production (drop c.args._at ls) (stack_of import_value_view c.args.stack.now.items)) c.perform.ensures
