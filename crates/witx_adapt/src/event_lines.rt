@@ -101,20 +101,15 @@ fn put_fields(alloc: Global, text: &mut String, step: &Step) -> Result<(), OutOf
         Step::ListFromPointerLength { ty }
         | Step::PointerFromI32 { ty }
         | Step::ConstPointerFromI32 { ty } => put_type(alloc, text, ty),
-        Step::CallWasm {
-            module,
-            name,
-            params,
-            results,
-        } => {
-            put_names(text, module.as_str(), name.as_str())?;
+        Step::CallWasm(call) => {
+            put_names(text, call.module.as_str(), call.name.as_str())?;
             text.push(' ')?;
-            Ok(put_signature(text, params.as_slice(), results.as_slice())?)
+            Ok(put_signature(text, call.params.as_slice(), call.results.as_slice())?)
         }
-        Step::CallInterface { module, name, .. } => put_names(text, module.as_str(), name.as_str()),
-        Step::ResultLower { ok, err } => {
-            put_payload(alloc, text, "ok", ok)?;
-            put_payload(alloc, text, "err", err)
+        Step::CallInterface(call) => put_names(text, call.module.as_str(), call.name.as_str()),
+        Step::ResultLower(payloads) => {
+            put_payload(alloc, text, "ok", &payloads.ok)?;
+            put_payload(alloc, text, "err", &payloads.err)
         }
         _ => Ok(()),
     }
@@ -229,8 +224,8 @@ pub fn step_name(step: &Step) -> &'static str
         Step::F64FromIf64 => "f64_from_if64",
         Step::ListPointerLength => "list_pointer_length",
         Step::ListFromPointerLength { .. } => "list_from_pointer_length",
-        Step::CallWasm { .. } => "call_wasm",
-        Step::CallInterface { .. } => "call_interface",
+        Step::CallWasm(_) => "call_wasm",
+        Step::CallInterface(_) => "call_interface",
         Step::S8FromI32 => "s8_from_i32",
         Step::U8FromI32 => "u8_from_i32",
         Step::S16FromI32 => "s16_from_i32",
@@ -258,7 +253,7 @@ pub fn step_name(step: &Step) -> &'static str
         Step::EnumLower { .. } => "enum_lower",
         Step::VariantPayload => "variant_payload",
         Step::ReuseReturn => "reuse_return",
-        Step::ResultLower { .. } => "result_lower",
+        Step::ResultLower(_) => "result_lower",
         Step::ResultLift => "result_lift",
         Step::Return { .. } => "return",
     }

@@ -156,16 +156,11 @@ fn put_own(
             "(int32_t)&space",
             *n,
         ),
-        Step::CallWasm {
-            module,
-            name,
-            results: words,
-            ..
-        } => put_call(
+        Step::CallWasm(call) => put_call(
             text,
-            module.as_str(),
-            name.as_str(),
-            words.as_slice(),
+            call.module.as_str(),
+            call.name.as_str(),
+            call.results.as_slice(),
             operands,
             results,
         ),

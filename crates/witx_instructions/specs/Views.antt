@@ -129,8 +129,8 @@ kept_step kept.F32FromIf32 = Step.F32FromIf32
 kept_step kept.F64FromIf64 = Step.F64FromIf64
 kept_step kept.ListPointerLength = Step.ListPointerLength
 kept_step (kept.ListFromPointerLength t) = Step.ListFromPointerLength (tree_of t)
-kept_step (kept.CallWasm m n ps rs) = Step.CallWasm m n ps rs
-kept_step (kept.CallInterface m n ps rs) = Step.CallInterface m n (map tree_of ps) (map tree_of rs)
+kept_step (kept.CallWasm c) = Step.CallWasm c.value.module c.value.name c.value.params c.value.results
+kept_step (kept.CallInterface c) = Step.CallInterface c.value.module c.value.name (map tree_of c.value.params) (map tree_of c.value.results)
 kept_step kept.S8FromI32 = Step.S8FromI32
 kept_step kept.U8FromI32 = Step.U8FromI32
 kept_step kept.S16FromI32 = Step.S16FromI32
@@ -158,7 +158,7 @@ kept_step (kept.EnumLift t) = Step.EnumLift (named_tree t.value)
 kept_step (kept.EnumLower t) = Step.EnumLower (named_tree t.value)
 kept_step kept.VariantPayload = Step.VariantPayload
 kept_step kept.ReuseReturn = Step.ReuseReturn
-kept_step (kept.ResultLower ok err) = Step.ResultLower (option_map tree_of ok) (option_map tree_of err)
+kept_step (kept.ResultLower p) = Step.ResultLower (option_map tree_of p.value.ok) (option_map tree_of p.value.err)
 kept_step kept.ResultLift = Step.ResultLift
 kept_step (kept.Return n) = Step.Return n
 
@@ -171,6 +171,8 @@ event_of (event.Finish v) = machine.finish v
 -- an event to come
 abbrev pub planned_event : declared_planned.Planned → machine.Event
 planned_event (planned.Emit i) = machine.emit (step_of i)
+planned_event (planned.CallWasm m n ps rs) = machine.emit (Step.CallWasm m.now n.now ps.now rs.now)
+planned_event (planned.CallInterface m f) = machine.emit (Step.CallInterface m.now f.now.name (param_types f.now.params) (param_types f.now.results))
 planned_event (planned.Space k t) = machine.space k (named_tree t.now.value)
 planned_event planned.Push = machine.push
 planned_event (planned.Finish v) = machine.finish v

@@ -5,7 +5,7 @@ ghost use Rattle.witx_ast.specs.Views.{tree_of};
 ghost use Rattle.witx_machine.specs.Events as machine;
 ghost use Rattle.witx_instructions.specs.Views.{event_of, kept_step, param_types, planned_event, step_of, payload_tree};
 
-use crate::event::{Event, Step};
+use crate::event::{Event, InterfaceCall, Payloads, Step, WasmCall};
 use crate::instruction::{Instruction, WasmTypes};
 use crate::plan::Planned;
 use std::alloc::Global;
@@ -19,6 +19,13 @@ pub(crate) fn kept_event(alloc: Global, planned: &Planned<'_>) -> Result<Event, 
 {
     match planned {
         Planned::Emit(instruction) => kept_emit(alloc, instruction),
+        Planned::CallWasm {
+            module,
+            name,
+            params,
+            results,
+        } => kept_wasm(alloc, module, name, params, results),
+        Planned::CallInterface { module, func } => kept_interface(alloc, module, func),
         Planned::Space { slot, ty } => Ok(Event::Space {
             slot: *slot,
             ty: Rc::clone(ty)?,
@@ -32,6 +39,29 @@ fn kept_emit(alloc: Global, instruction: &Instruction<'_>) -> Result<Event, OutO
     ensures { IfOk result (λ event. event_of event ≡ machine.emit (step_of instruction.now)) }
 {
     Ok(Event::Emit(Step::of(alloc, instruction)?))
+}
+
+fn kept_wasm(
+    alloc: Global,
+    module: &Id,
+    name: &Id,
+    params: &WasmTypes,
+    results: &WasmTypes,
+) -> Result<Event, OutOfMemory>
+    ensures { IfOk result (λ event. event_of event
+        ≡ machine.emit (machine.Step.CallWasm «module».now name.now params.now results.now)) }
+{
+    let module = module.copy()?;
+    let name = name.copy()?;
+    Ok(Event::Emit(wasm_step(alloc, module, name, params, results)?))
+}
+
+fn kept_interface(alloc: Global, module: &Id, func: &InterfaceFunc) -> Result<Event, OutOfMemory>
+    ensures { IfOk result (λ event. event_of event ≡ machine.emit (machine.Step.CallInterface
+        «module».now func.now.name (param_types func.now.params) (param_types func.now.results))) }
+{
+    let module = module.copy()?;
+    Ok(Event::Emit(interface_step(alloc, module, func)?))
 }
 
 impl Step {
@@ -102,10 +132,7 @@ impl Step {
             Instruction::EnumLower { ty } => Ok(Step::EnumLower { ty: Rc::clone(ty)? }),
             Instruction::VariantPayload => Ok(Step::VariantPayload),
             Instruction::ReuseReturn => Ok(Step::ReuseReturn),
-            Instruction::ResultLower { ok, err } => Ok(Step::ResultLower {
-                ok: kept_type(*ok)?,
-                err: kept_type(*err)?,
-            }),
+            Instruction::ResultLower { ok, err } => kept_result_lower(alloc, *ok, *err),
             Instruction::ResultLift => Ok(Step::ResultLift),
             Instruction::Return { amt } => Ok(Step::Return { amt: *amt }),
         }
@@ -123,14 +150,27 @@ fn kept_call_wasm(
 {
     let module = Id::new(alloc, module)?;
     let name = Id::new(alloc, name)?;
+    wasm_step(alloc, module, name, params, results)
+}
+
+fn wasm_step(
+    alloc: Global,
+    module: Id,
+    name: Id,
+    params: &WasmTypes,
+    results: &WasmTypes,
+) -> Result<Step, OutOfMemory>
+    ensures { IfOk result (λ step. kept_step step ≡ machine.Step.CallWasm «module» name params.now results.now) }
+{
     let params = params.copy()?;
     let results = results.copy()?;
-    Ok(Step::CallWasm {
+    let call = WasmCall {
         module,
         name,
         params,
         results,
-    })
+    };
+    Ok(Step::CallWasm(Box::new(alloc, call)?))
 }
 
 fn kept_call_interface(
@@ -142,15 +182,23 @@ fn kept_call_interface(
         ≡ machine.Step.CallInterface «module».now func.now.name (param_types func.now.params) (param_types func.now.results)) }
 {
     let module = Id::new(alloc, module)?;
+    interface_step(alloc, module, func)
+}
+
+fn interface_step(alloc: Global, module: Id, func: &InterfaceFunc) -> Result<Step, OutOfMemory>
+    ensures { IfOk result (λ step. kept_step step
+        ≡ machine.Step.CallInterface «module» func.now.name (param_types func.now.params) (param_types func.now.results)) }
+{
     let name = func.name.copy()?;
     let params = types_of(alloc, &func.params)?;
     let results = types_of(alloc, &func.results)?;
-    Ok(Step::CallInterface {
+    let call = InterfaceCall {
         module,
         name,
         params,
         results,
-    })
+    };
+    Ok(Step::CallInterface(Box::new(alloc, call)?))
 }
 
 // The type of each parameter, or of each result.
@@ -163,6 +211,19 @@ fn types_of(alloc: Global, params: &Params) -> Result<TypeRefs, OutOfMemory>
         types.push(param.tref.clone()?)?;
     }
     Ok(types)
+}
+
+fn kept_result_lower(
+    alloc: Global,
+    ok: Option<&TypeRef>,
+    err: Option<&TypeRef>,
+) -> Result<Step, OutOfMemory>
+    ensures { IfOk result (λ step. kept_step step
+        ≡ machine.Step.ResultLower (payload_tree ok.entry) (payload_tree err.entry)) }
+{
+    let ok = kept_type(ok)?;
+    let err = kept_type(err)?;
+    Ok(Step::ResultLower(Box::new(alloc, Payloads { ok, err })?))
 }
 
 fn kept_type(tref: Option<&TypeRef>) -> Result<Option<TypeRef>, OutOfMemory>

@@ -19,7 +19,7 @@ mod words;
 
 pub use bindgen::{Bindgen, BindgenError};
 pub use error::{AbiError, SignatureError};
-pub use event::{Event, Events, Step};
+pub use event::{Event, Events, InterfaceCall, Payloads, Step, WasmCall};
 pub use failing::FailingBindgen;
 pub use instruction::{Instruction, WasmTypes};
 pub use loading::{lift_ok_block, load_all, make_spaces};

@@ -4,26 +4,43 @@
 ghost use Rattle.std.specs.Prelude.{◌≡◌, ◌<◌, ◌≤◌, ◌∷◌, ◌++◌, [], None, Some, true, IfOk, OnOk, OnErr, IsSome, vec_len};
 ghost use Rattle.witx_machine.specs.Events as machine;
 ghost use Rattle.witx_machine.specs.Rows.{operands_count, results_count};
-ghost use Rattle.witx_instructions.specs.Views.{planned_event, planned_events, step_of};
+ghost use Rattle.witx_instructions.specs.Views.{param_types, planned_event, planned_events, step_of};
 ghost use Rattle.witx_machine.specs.Heights.{height_after, heights};
 ghost use Rattle.witx_instructions.specs.Told.{told_further, TellsFront, is_fault, is_bindgen_fault, unlowerable_place, Counts};
 ghost use Rattle.witx_instructions.specs.Handed.{InOrder, OperandsInOrder, FrontInOrder};
 
 use crate::bindgen::{Bindgen, BindgenError};
 use crate::error::AbiError;
-use crate::instruction::Instruction;
+use crate::instruction::{Instruction, WasmTypes};
 use std::alloc::Global;
 use std::rc::Rc;
-use witx_ast::NamedType;
-use witx_base::{Items, OutOfMemory};
+use witx_ast::{InterfaceFunc, NamedType};
+use witx_base::{Id, Items, OutOfMemory};
 
 /// One event to come, with what it speaks of borrowed.
 #[derive(Drop)]
 pub enum Planned<'a> {
     Emit(Instruction<'a>),
-    Space { slot: usize, ty: &'a Rc<NamedType> },
+    /// The call of the function as WebAssembly has it. Its names are no texts, so that a trace shares them.
+    CallWasm {
+        module: &'a Id,
+        name: &'a Id,
+        params: &'a WasmTypes,
+        results: &'a WasmTypes,
+    },
+    /// The call of the function as the interface has it.
+    CallInterface {
+        module: &'a Id,
+        func: &'a InterfaceFunc,
+    },
+    Space {
+        slot: usize,
+        ty: &'a Rc<NamedType>,
+    },
     Push,
-    Finish { value: bool },
+    Finish {
+        value: bool,
+    },
 }
 
 /// The events to come, in order.
@@ -93,10 +110,49 @@ fn play_one<B: Bindgen>(
 {
     match planned {
         Planned::Emit(instruction) => emit(alloc, instruction, stack, bindgen),
+        Planned::CallWasm {
+            module,
+            name,
+            params,
+            results,
+        } => {
+            let call = wasm_call(module, name, params, results);
+            emit(alloc, &call, stack, bindgen)
+        }
+        Planned::CallInterface { module, func } => {
+            let call = interface_call(module, func);
+            emit(alloc, &call, stack, bindgen)
+        }
         Planned::Space { slot, ty } => bindgen.allocate_space(*slot, ty),
         Planned::Push => bindgen.push_block(),
         Planned::Finish { value: true } => finish(stack, bindgen),
         Planned::Finish { value: false } => bindgen.finish_block(None),
+    }
+}
+
+fn wasm_call<'a>(
+    module: &'a Id,
+    name: &'a Id,
+    params: &'a WasmTypes,
+    results: &'a WasmTypes,
+) -> Instruction<'a>
+    ensures { step_of result ≡ machine.Step.CallWasm «module».now name.now params.now results.now }
+{
+    Instruction::CallWasm {
+        module: module.as_str(),
+        name: name.as_str(),
+        params,
+        results,
+    }
+}
+
+fn interface_call<'a>(module: &'a Id, func: &'a InterfaceFunc) -> Instruction<'a>
+    ensures { step_of result ≡ machine.Step.CallInterface
+        «module».now func.now.name (param_types func.now.params) (param_types func.now.results) }
+{
+    Instruction::CallInterface {
+        module: module.as_str(),
+        func,
     }
 }
 

@@ -33,8 +33,13 @@ pub fn plan_callee<'a>(
         ≡ planned_events plan.old ++ traces.callee_events module_name.now (called func.now)) }
 {
     let first = lift_params(plan, &func.params)?;
-    let module = module_name.as_str();
-    put(plan, Instruction::CallInterface { module, func })?;
+    add(
+        plan,
+        Planned::CallInterface {
+            module: module_name,
+            func,
+        },
+    )?;
     lower_results(plan, func.abi, &func.results, first, pointers)?;
     let amt = word_count(func);
     put(plan, Instruction::Return { amt })

@@ -36,13 +36,11 @@ pub fn plan_caller<'a>(
 {
     lower_params(plan, &func.params)?;
     make_spaces(plan, pointers)?;
-    let module = module_name.as_str();
-    let name = func.name.as_str();
-    put(
+    add(
         plan,
-        Instruction::CallWasm {
-            module,
-            name,
+        Planned::CallWasm {
+            module: module_name,
+            name: &func.name,
             params,
             results,
         },

@@ -1,9 +1,9 @@
 //! The rows of the machine's table: what each step of a trace is.
 
-ghost use Rattle.std.specs.Prelude.{◌≡◌, false, true, option_map};
+ghost use Rattle.std.specs.Prelude.{◌≡◌, false, true, map, option_map};
 ghost use Rattle.witx_ast.specs.declared.types.BuiltinType.TheVariants.{U8, U32};
 ghost use Rattle.witx_ast.specs.Views.{tree_of};
-ghost use Rattle.witx_machine.specs.Rows.{row};
+ghost use Rattle.witx_machine.specs.Rows.{call_interface, call_wasm, result_lower, row};
 ghost use Rattle.witx_machine.specs.Words.{number_of};
 ghost use Rattle.witx_instructions.specs.Views.{kept_step};
 ghost use Rattle.witx_run.specs.RowViews.{row_view};
@@ -13,7 +13,7 @@ use crate::conversion::Conversion;
 use std::rc::Rc;
 use witx_ast::{BuiltinType, NamedType, TypeRef, TypeRefs};
 use witx_base::Id;
-use witx_instructions::{Step, WasmTypes};
+use witx_instructions::{InterfaceCall, Payloads, Step, WasmCall, WasmTypes};
 use witx_machine::WasmType;
 
 /// What a step does: the conversions of a value to its one word are one row, and so are those of a word
@@ -103,6 +103,39 @@ fn type_in(ty: &Option<TypeRef>) -> Option<&TypeRef>
     }
 }
 
+fn wasm_row(call: &WasmCall) -> Row<'_>
+    ensures { row_view result ≡ call_wasm call.now.module call.now.name call.now.params call.now.results }
+{
+    Row::CallWasm {
+        module: &call.module,
+        name: &call.name,
+        params: &call.params,
+        results: &call.results,
+    }
+}
+
+fn interface_row(call: &InterfaceCall) -> Row<'_>
+    ensures { row_view result ≡ call_interface call.now.module call.now.name
+        (map tree_of call.now.params) (map tree_of call.now.results) }
+{
+    Row::CallInterface {
+        module: &call.module,
+        name: &call.name,
+        params: &call.params,
+        results: &call.results,
+    }
+}
+
+fn result_row(payloads: &Payloads) -> Row<'_>
+    ensures { row_view result
+        ≡ result_lower (option_map tree_of payloads.now.ok) (option_map tree_of payloads.now.err) }
+{
+    Row::ResultLower {
+        ok: type_in(&payloads.ok),
+        err: type_in(&payloads.err),
+    }
+}
+
 /// The row of a step.
 pub fn row_of(step: &Step) -> Row<'_>
     ensures { row_view result ≡ row (kept_step step.now) }
@@ -131,28 +164,8 @@ pub fn row_of(step: &Step) -> Row<'_>
         Step::EnumLower { ty } => Row::Lowering(Conversion::Enum(ty)),
         Step::ListPointerLength => Row::ListPointerLength,
         Step::ListFromPointerLength { ty: _ } => Row::ListFromPointerLength,
-        Step::CallWasm {
-            module,
-            name,
-            params,
-            results,
-        } => Row::CallWasm {
-            module,
-            name,
-            params,
-            results,
-        },
-        Step::CallInterface {
-            module,
-            name,
-            params,
-            results,
-        } => Row::CallInterface {
-            module,
-            name,
-            params,
-            results,
-        },
+        Step::CallWasm(call) => wasm_row(call),
+        Step::CallInterface(call) => interface_row(call),
         Step::S8FromI32 => Row::Lifting(Conversion::Number(BuiltinType::S8)),
         Step::U8FromI32 => Row::Lifting(u8_number(false)),
         Step::S16FromI32 => Row::Lifting(Conversion::Number(BuiltinType::S16)),
@@ -179,10 +192,7 @@ pub fn row_of(step: &Step) -> Row<'_>
         Step::TupleLower { amt } => Row::TupleLower(*amt),
         Step::VariantPayload => Row::VariantPayload,
         Step::ReuseReturn => Row::ReuseReturn,
-        Step::ResultLower { ok, err } => Row::ResultLower {
-            ok: type_in(ok),
-            err: type_in(err),
-        },
+        Step::ResultLower(payloads) => result_row(payloads),
         Step::ResultLift => Row::ResultLift,
         Step::Return { amt } => Row::Return(*amt),
     }

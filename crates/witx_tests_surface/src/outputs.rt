@@ -5,8 +5,9 @@ use crate::bounds::{copied, displayed, equal, error, hashed, plain, shown};
 use std::alloc::Global;
 use std::rc::Rc;
 use witx_abi::{
-    AbiError, AbiFunc, Bindgen, BindgenError, Event, Events, FailingBindgen, Instruction, Place,
-    SignatureError, Step, Trace, WasmType, WasmTypes, lowerable,
+    AbiError, AbiFunc, Bindgen, BindgenError, Event, Events, FailingBindgen, Instruction,
+    InterfaceCall, Payloads, Place, SignatureError, Step, Trace, WasmCall, WasmType, WasmTypes,
+    lowerable,
 };
 use witx_ast::{
     BuiltinType, Datatype, Document, HandleDatatype, IntRepr, InterfaceFunc, InterfaceFuncParam,
@@ -33,6 +34,9 @@ pub fn abi() {
     equal::<BindgenError>();
     equal::<Event>();
     equal::<Step>();
+    equal::<WasmCall>();
+    equal::<InterfaceCall>();
+    equal::<Payloads>();
     equal::<Events>();
     copied::<WasmTypes>();
     shown::<Instruction<'static>>();

@@ -87,9 +87,9 @@ pub use witx::{
 };
 #[rattlefmt::skip]
 pub use witx::{
-    AbiError, AbiFunc, Bindgen, BindgenError, Event, Events, FailingBindgen, Instruction, Place,
-    SignatureError, Step, Trace, WasmType, WasmTypes, callee_trace, caller_trace, lowerable,
-    words_back, words_in,
+    AbiError, AbiFunc, Bindgen, BindgenError, Event, Events, FailingBindgen, Instruction,
+    InterfaceCall, Payloads, Place, SignatureError, Step, Trace, WasmCall, WasmType, WasmTypes,
+    callee_trace, caller_trace, lowerable, words_back, words_in,
 };
 #[rattlefmt::skip]
 pub use witx::{SExpr, SExprs, ToSExpr, document_text, print_and_parse};

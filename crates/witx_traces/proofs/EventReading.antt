@@ -121,8 +121,8 @@ plain-alone types w e is = subst (HasParts types (LineWord.Plain w) None) (sym i
 pub plain-behind : (types : Types) (w : PlainWord) (tail : List ℕ) → SaidBy types (LineWord.Plain w) (Some tail) None
 plain-behind types w tail = record { none = λ e h. let t : None ≡ Some tail = (told types (parts e) (plain w) (Some tail) (plain-shape w (parts e) h.word-is) h.tail-is h.can).0 in absurd (cc) }
 
-pub lower-alone : (types : Types) → SaidBy types LineWord.ResultLower None (Some (emit (Step.ResultLower None None)))
-lower-alone types = has-parts types (lower None None) None refl (tt, tt, tt)
+pub lower-alone : (types : Types) (e : Event) → e ≡ emit (Step.ResultLower None None) → SaidBy types LineWord.ResultLower None (Some e)
+lower-alone types e is = subst (HasParts types LineWord.ResultLower None) (sym is) (has-parts types (lower None None) None refl (tt, tt, tt))
 
 pub number-alone : (types : Types) (w : NumberWord) → SaidBy types (LineWord.Number w) None None
 number-alone types w = record { none = λ e h. let s = number-shape w (parts e) h.word-is in let t : Some (decimal s.0) ≡ None = (told types (parts e) (number w s.0) None s.1 h.tail-is h.can).0 in absurd (cc) }
@@ -291,10 +291,10 @@ wasm-unsigned types tail m n rest own h is none = record {
       none.none (c.params, c.results) (record { same = cons-same 32 _ _ (sym is ∙ behind-names tail m n rest c.owner c.name (32 ∷ signature c.params c.results) h.owner-utf8 h.name-utf8 c.owner-is c.name-is h.same c.same) });
 }
 
-pub interface-said : (types : Types) (tail m n : List ℕ) (ps rs : List Tree) → NamesAt tail (Some (record { owner = m; name = n; rest = [] })) → ps ≡ types.params → rs ≡ types.results
-    → SaidBy types LineWord.CallInterface (Some tail) (Some (emit (Step.CallInterface m n ps rs)))
-interface-said types tail m n ps rs h e f =
-    has-parts types (interface m n ps rs) (Some tail) (ap Some (ap (λ z. in_quotes m ++ 32 ∷ z) (sym (append-nil (in_quotes n))) ∙ sym h.same)) (h.owner-utf8, h.name-utf8, e, f)
+pub interface-said : (types : Types) (tail m n : List ℕ) (ps rs : List Tree) (event : Event) → NamesAt tail (Some (record { owner = m; name = n; rest = [] })) → ps ≡ types.params → rs ≡ types.results
+    → event ≡ emit (Step.CallInterface m n ps rs) → SaidBy types LineWord.CallInterface (Some tail) (Some event)
+interface-said types tail m n ps rs event h e f is =
+    subst (HasParts types LineWord.CallInterface (Some tail)) (sym is) (has-parts types (interface m n ps rs) (Some tail) (ap Some (ap (λ z. in_quotes m ++ 32 ∷ z) (sym (append-nil (in_quotes n))) ∙ sym h.same)) (h.owner-utf8, h.name-utf8, e, f))
 
 record Asked (types : Types) (tail : List ℕ) : Type 0 where
   owner : List ℕ
@@ -325,11 +325,11 @@ ends-before : (ok : Option Tree) → EndsFirst (option_map type_text ok) → End
 ends-before None h = tt
 ends-before (Some t) h = h
 
-pub lower-said : (types : Types) (tail : List ℕ) (p : Option (List ℕ) × Option (List ℕ)) (ok err : Option Tree) → PayloadsAt tail (Some p) → PayloadAt types p.0 (Some ok) → PayloadAt types p.1 (Some err)
-    → SaidBy types LineWord.ResultLower (Some tail) (Some (emit (Step.ResultLower ok err)))
-lower-said types tail p ok err h f g =
-    has-parts types (lower ok err) (Some tail) (lower-texts ok err ∙ (ap (λ z. payloads_tail z (option_map type_text err)) f.same ∙ (ap (payloads_tail p.0) g.same ∙ h.same)))
-    (f.payload, g.payload, ends-before ok (subst EndsFirst (sym f.same) h.ends))
+pub lower-said : (types : Types) (tail : List ℕ) (p : Option (List ℕ) × Option (List ℕ)) (ok err : Option Tree) (event : Event) → PayloadsAt tail (Some p) → PayloadAt types p.0 (Some ok) → PayloadAt types p.1 (Some err)
+    → event ≡ emit (Step.ResultLower ok err) → SaidBy types LineWord.ResultLower (Some tail) (Some event)
+lower-said types tail p ok err event h f g is =
+    subst (HasParts types LineWord.ResultLower (Some tail)) (sym is) (has-parts types (lower ok err) (Some tail) (lower-texts ok err ∙ (ap (λ z. payloads_tail z (option_map type_text err)) f.same ∙ (ap (payloads_tail p.0) g.same ∙ h.same)))
+    (f.payload, g.payload, ends-before ok (subst EndsFirst (sym f.same) h.ends)))
 
 record Lowered (types : Types) (tail : List ℕ) : Type 0 where
   ok : Option Tree

@@ -6,6 +6,7 @@ ghost use Rattle.std.specs.Fmt.{decimal};
 ghost use Rattle.witx_base.specs.Texts.{same_text};
 ghost use Rattle.witx_ast.specs.Views.{tree_of};
 ghost use Rattle.witx_instructions.specs.Views.{event_of, param_types};
+ghost use Rattle.witx_machine.specs.Events as machine;
 ghost use Rattle.witx_traces.specs.LineParts.{SaidBy, SaidByLine, SaidByText, no_blank};
 ghost use Rattle.witx_traces.specs.LineReading.{NamesAt, NumberAt, PayloadsAt, names_behind, texts_taken};
 ghost use Rattle.witx_traces.specs.ReadTypes.{PayloadAt, known_in};
@@ -22,7 +23,7 @@ use crate::quoted_names::read_quoted;
 use crate::signature_texts::read_signature;
 use std::alloc::Global;
 use std::fmt::Write;
-use witx_abi::{Event, Step};
+use witx_abi::{Event, InterfaceCall, Payloads, Step, WasmCall};
 use witx_ast::{InterfaceFuncParam, TypeRef, TypeRefs};
 use witx_base::{Id, OutOfMemory};
 
@@ -50,39 +51,36 @@ fn read_text(
 {
     match cut_word(text) {
         Some((word, tail)) => Ok(read_spelled(alloc, types, word, tail)?),
-        None => Ok(bare_event(text)),
+        None => Ok(bare_event(alloc, text)?),
     }
 }
 
 /// The event whose text is the word alone.
 #[tactic(auto, using(crate::proofs::EventReading::word_rules))]
-fn bare_event(word: &str) -> Option<Event>
+fn bare_event(alloc: Global, word: &str) -> Result<Option<Event>, OutOfMemory>
     requires { no_blank word.now ≡ true }
-    ensures { (types : Types) → SaidByText types word.now (option_map event_of result) }
+    ensures { (types : Types) → IfOk result (λ o. SaidByText types word.now (option_map event_of o)) }
 {
     match line_word(word) {
-        Some(word) => event_alone(word),
-        None => None,
+        Some(word) => Ok(event_alone(alloc, word)?),
+        None => Ok(None),
     }
 }
 
 #[tactic(auto, using(crate::proofs::EventReading::alone_rules))]
-fn event_alone(word: LineWord) -> Option<Event>
-    ensures { (types : Types) → SaidBy types word None (option_map event_of result) }
+fn event_alone(alloc: Global, word: LineWord) -> Result<Option<Event>, OutOfMemory>
+    ensures { (types : Types) → IfOk result (λ o. SaidBy types word None (option_map event_of o)) }
 {
     match word {
-        LineWord::Plain(word) => Some(plain_event(word)),
-        LineWord::ResultLower => Some(Event::Emit(Step::ResultLower {
-            ok: None,
-            err: None,
-        })),
+        LineWord::Plain(word) => Ok(Some(plain_event(word))),
+        LineWord::ResultLower => Ok(Some(lowered(alloc, None, None)?)),
         LineWord::Number(_)
         | LineWord::Named(_)
         | LineWord::Shown(_)
         | LineWord::CallWasm
         | LineWord::CallInterface
         | LineWord::Space
-        | LineWord::FinishBlock => None,
+        | LineWord::FinishBlock => Ok(None),
     }
 }
 
@@ -261,12 +259,15 @@ fn read_call_wasm(alloc: Global, tail: &str) -> Result<Option<Event>, OutOfMemor
         return Ok(None);
     };
     match read_signature(alloc, shown)? {
-        Some(signature) => Ok(Some(Event::Emit(Step::CallWasm {
-            module,
-            name,
-            params: signature.params,
-            results: signature.results,
-        }))),
+        Some(signature) => {
+            let call = WasmCall {
+                module,
+                name,
+                params: signature.params,
+                results: signature.results,
+            };
+            Ok(Some(Event::Emit(Step::CallWasm(Box::new(alloc, call)?))))
+        }
         None => Ok(None),
     }
 }
@@ -289,12 +290,20 @@ fn read_call_interface(
     let func = types.func();
     let params = types_of(alloc, func.params.as_slice())?;
     let results = types_of(alloc, func.results.as_slice())?;
-    Ok(Some(Event::Emit(Step::CallInterface {
+    let call = InterfaceCall {
         module,
         name,
         params,
         results,
-    })))
+    };
+    Ok(Some(asked(alloc, call)?))
+}
+
+fn asked(alloc: Global, call: InterfaceCall) -> Result<Event, OutOfMemory>
+    ensures { IfOk result (λ event. event_of event ≡ machine.emit (machine.Step.CallInterface
+        call.module call.name (map tree_of call.params) (map tree_of call.results))) }
+{
+    Ok(Event::Emit(Step::CallInterface(Box::new(alloc, call)?)))
 }
 
 /// The types of parameters.
@@ -350,9 +359,17 @@ fn read_result_lower(
         return Ok(None);
     };
     match read_payload(alloc, types, err)? {
-        Some(err) => Ok(Some(Event::Emit(Step::ResultLower { ok, err }))),
+        Some(err) => Ok(Some(lowered(alloc, ok, err)?)),
         None => Ok(None),
     }
+}
+
+fn lowered(alloc: Global, ok: Option<TypeRef>, err: Option<TypeRef>) -> Result<Event, OutOfMemory>
+    ensures { IfOk result (λ event. event_of event
+        ≡ machine.emit (machine.Step.ResultLower (option_map tree_of ok) (option_map tree_of err))) }
+{
+    let payloads = Payloads { ok, err };
+    Ok(Event::Emit(Step::ResultLower(Box::new(alloc, payloads)?)))
 }
 
 /// The payload that a text stands for, if there is a text; none where it stands for none.

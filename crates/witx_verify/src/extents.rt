@@ -115,17 +115,13 @@ fn take_step(
         | Step::Store { ty }
         | Step::EnumLift { ty }
         | Step::EnumLower { ty } => allowance.take(alloc, &ty.tref),
-        Step::CallInterface {
-            params,
-            results,
-            ..
-        } => {
-            take_types(allowance, alloc, params.as_slice())?;
-            take_types(allowance, alloc, results.as_slice())
+        Step::CallInterface(call) => {
+            take_types(allowance, alloc, call.params.as_slice())?;
+            take_types(allowance, alloc, call.results.as_slice())
         }
-        Step::ResultLower { ok, err } => {
-            take_payload(allowance, alloc, ok)?;
-            take_payload(allowance, alloc, err)?;
+        Step::ResultLower(payloads) => {
+            take_payload(allowance, alloc, &payloads.ok)?;
+            take_payload(allowance, alloc, &payloads.err)?;
             allowance.take_number(widest)
         }
         Step::TupleLift { amt } | Step::TupleLower { amt } => {

@@ -4,12 +4,6 @@ use Rattle.witx_run.proofs.row.row_of.Goals as goal
 pub returns-in-AddrOf : goal.returns-in-AddrOf
 returns-in-AddrOf c = rw c.in-AddrOf.is refl
 
-pub returns-in-CallInterface : goal.returns-in-CallInterface
-returns-in-CallInterface c = rw c.in-CallInterface.is refl
-
-pub returns-in-CallWasm : goal.returns-in-CallWasm
-returns-in-CallWasm c = rw c.in-CallWasm.is refl
-
 pub returns-in-CharFromI32 : goal.returns-in-CharFromI32
 returns-in-CharFromI32 c = rw c.in-CharFromI32.is refl
 

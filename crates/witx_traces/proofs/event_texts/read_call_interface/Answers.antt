@@ -17,8 +17,9 @@ returns-then-not-is_empty c =
 
 pub returns : goal.returns
 returns c =
-    interface-said _ _ _ _ _ _
+    interface-said _ _ _ _ _ _ _
     (subst (λ z. AreQuotedNames c.args.tail.now (record { owner = c.in-Some.module; name = c.in-Some.name; rest = z }))
     (none _ _ c.is_empty.ensures c.if-not-is_empty.false) (rw c.in-Some.is at c.in_ok-module.ensures))
     (c.in_ok-params.ensures ∙ (ap param_types c.as_slice.ensures ∙ c.func-func.ensures.params))
     (c.in_ok-results.ensures ∙ (ap param_types c.as_slice-2.ensures ∙ c.func-func.ensures.results))
+    c.in_ok-asked.ensures

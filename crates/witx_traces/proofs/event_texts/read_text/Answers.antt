@@ -1,5 +1,5 @@
 use Rattle.witx_traces.specs.ReadTypes.{known_in}
 use Rattle.witx_traces.proofs.event_texts.read_text.Goals as goal
 
-pub returns-in-None : goal.returns-in-None
-returns-in-None c = c.bare_event.ensures (known_in c.args.types.now)
+pub returns-in_ok-bare_event-in-None : goal.returns-in_ok-bare_event-in-None
+returns-in_ok-bare_event-in-None c = c.in_ok-bare_event-in-None.ensures (known_in c.args.types.now)
