@@ -15,16 +15,16 @@ const MOST: usize = 1 << 25;
 const MOST_BYTES: usize = 1 << 34;
 
 /// How many names may stand one for the other, and how many types lie one in the other. How one type is represented by
-/// another takes 48 bytes of the stack for each type as LLVM builds it, and 208 as Rattle's own compiler does. Where two
-/// conversions are equal, `==` takes at most 112 for each type by LLVM (in a program that only compares) and 256 by the
-/// other, and none for names.
+/// another takes at most 80 bytes of the stack for each type as LLVM builds it, and 211 as Rattle's own compiler does.
+/// Where two conversions are equal, `==` takes at most 112 for each type by LLVM (in a program that only compares) and 256
+/// by the other, and none for names.
 const DEEPEST: usize = 30_100;
 
 /// Want of memory where there is more than that to the types of mapped modules, or where they are too deep.
 pub(crate) fn check_modules(alloc: Global, modules: &[ModulePolyfill]) -> Result<(), OutOfMemory> {
     let mut left = Left {
         types: Allowance::new(MOST, DEEPEST),
-        bytes: Allowance::new(MOST_BYTES, DEEPEST),
+        bytes: Allowance::new(MOST_BYTES, 0),
     };
     for module in modules {
         left.take_functions(alloc, module.funcs.as_slice())?;
@@ -66,7 +66,6 @@ impl Left {
     }
 
     fn take(&mut self, alloc: Global, tref: &TypeRef) -> Result<(), OutOfMemory> {
-        self.types.take(alloc, tref)?;
-        self.bytes.take_texts(alloc, tref)
+        self.types.take_with_texts(&mut self.bytes, alloc, tref)
     }
 }

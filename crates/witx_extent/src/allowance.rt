@@ -91,7 +91,7 @@ impl Allowance {
     }
 
     /// Takes what there is to a type beside its parts.
-    fn take_one(&mut self, one: Waiting<'_>) -> Result<(), OutOfMemory>
+    pub(crate) fn take_one(&mut self, one: Waiting<'_>) -> Result<(), OutOfMemory>
         ensures { OnOk result (self.new.left + own_extent (tree_of one.entry.tref.now) ≡ self.old.left) }
     {
         let own = own_extent(one.tref);

@@ -1,4 +1,9 @@
 //! What a type says beside its structure.
+#![tactic(auto, using(crate::proofs::Counting::extent_rules))]
+
+ghost use Rattle.std.specs.Prelude.{◌≡◌, ◌+◌, OnOk};
+ghost use Rattle.witx_ast.specs.Views.{tree_of};
+ghost use Rattle.witx_extent.specs.Extents.{extent};
 
 use crate::allowance::Allowance;
 use crate::parts::{Waiting, put_parts};
@@ -7,9 +12,17 @@ use witx_ast::{Case, Datatype, RecordMember, TypeRef};
 use witx_base::OutOfMemory;
 
 impl Allowance {
-    /// Takes the bytes of the names and of the documentation in a type, each name looked through wherever it is mentioned, and
-    /// one for each name and each type that is written out.
-    pub fn take_texts(&mut self, alloc: Global, tref: &TypeRef) -> Result<(), OutOfMemory> {
+    /// Takes what there is to a type, as `take` does, and in the same walk takes off `texts` one for each name and each type
+    /// that is written out, at each of its mentions, and the bytes of the names and of the documentation in it. Want of
+    /// memory also where that is more than is left there.
+    pub fn take_with_texts(
+        &mut self,
+        texts: &mut Allowance,
+        alloc: Global,
+        tref: &TypeRef,
+    ) -> Result<(), OutOfMemory>
+        ensures { OnOk result (self.new.left + extent (tree_of tref.now) ≡ self.old.left) }
+    {
         let mut waiting = Vec::new(alloc);
         waiting.push(Waiting {
             tref,
@@ -17,15 +30,19 @@ impl Allowance {
             types: 0,
         })?;
         while let Some(next) = waiting.pop() {
-            self.take_number(1)?;
-            self.take_number(own_bytes(next.tref))?;
+            self.take_one(next)?;
+            texts.take_number(said_bytes(next.tref))?;
             put_parts(&mut waiting, next)?;
         }
         Ok(())
     }
 }
 
-// Those of a type beside its parts.
+// One, and those of a type beside its parts.
+fn said_bytes(tref: &TypeRef) -> usize {
+    own_bytes(tref).saturating_add(1)
+}
+
 fn own_bytes(tref: &TypeRef) -> usize {
     match tref {
         TypeRef::Name(named) => text_bytes(named.name.as_str(), named.docs.as_str()),
