@@ -2,7 +2,7 @@
 use Rattle.std.specs.Prelude.{◌≡◌, ℕ, zero, suc, ◌+◌, ◌≤◌, ◌<◌, List, [], ◌∷◌, length, drop, Option, Some, None}
 use Rattle.std.proofs.Common.{refl, arith, get_or}
 use Rattle.witx_ast.specs.Plain.{Plain, Fields, Arms, plain, plain_arms}
-use Rattle.witx_ast.specs.Tree.{Tree, arm, behind}
+use Rattle.witx_ast.specs.Tree.{Tree, arm}
 use Rattle.witx_ast.specs.Tree as arms
 use Rattle.witx_ast.specs.Views.{tree_of, datatype_tree, record_tree, variant_tree, members_plain, cases_plain, case_arm}
 use Rattle.witx_ast.specs.declared.types.Datatype.{Datatype}
@@ -14,7 +14,6 @@ use Rattle.witx_ast.specs.declared.types.RecordDatatype.{RecordDatatype, out-Rec
 use Rattle.witx_ast.specs.declared.types.Variant.{Variant, out-Variant}
 use Rattle.witx_ast.proofs.Parts.{members-drop, cases-carries, record-plain, variant-plain}
 use Rattle.witx_ast.proofs.Trees.{tree-Record, tree-Variant, tree-List, tree-Pointer, tree-ConstPointer}
-use Rattle.witx_ast.proofs.TreeKinds.{plain-behind}
 
 abbrev mutual
   pub size : Plain → ℕ
@@ -34,9 +33,6 @@ abbrev mutual
   payload_sizes Arms.no_arms = 0
   payload_sizes (Arms.bare name cs) = payload_sizes cs
   payload_sizes (Arms.carries name t cs) = size t + payload_sizes cs
-
-pub size-behind : (t : TypeRef) (d : Datatype) → datatype_tree d ≡ behind (tree_of t) → size (plain (datatype_tree d)) ≡ size (plain (tree_of t))
-size-behind t d e = rw (e, plain-behind (tree_of t)) refl
 
 pub size-record : (d : Datatype) (r : RecordDatatype) → d ≡ datatype.Record r → size (plain (datatype_tree d)) ≡ size (plain (record_tree r))
 size-record d r e = rw (e, tree-Record r) refl

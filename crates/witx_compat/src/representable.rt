@@ -146,7 +146,8 @@ impl Representable for Variant {
     }
 }
 
-/// Two types that lie in others, or behind them. Taken in where it is called, so that a level of types is one call.
+/// Two types that lie in others, or behind them. Taken in where it is called, so that a level of types is two calls as LLVM
+/// builds it, and one as Rattle's own compiler does.
 #[inline(always)]
 #[cycle(compat)]
 fn part_answer(mine: &TypeRef, other: &TypeRef) -> RepEquality

@@ -6,7 +6,7 @@ use witx_base::OutOfMemory;
 
 /// Steps that all checks of a document may take behind names: one along each name, and one for each member of a tuple
 /// that is given back. Without an end a chain of names, or a tuple, would cost its length at each mention; these take
-/// about a second.
+/// about a tenth of a second.
 const MOST_STEPS: usize = 1 << 23;
 
 /// The steps that are left of those; beyond them comes want of memory.
