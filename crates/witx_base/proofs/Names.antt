@@ -36,3 +36,6 @@ first-or-cond false v o p q e = e
 pub found-append : {V : Type 0} (xs ys : List (List ℕ × V)) (n : List ℕ) → found (xs ++ ys) n ≡ option_or (found xs n) (found ys n)
 found-append [] ys n = refl
 found-append (x ∷ xs) ys n = first-or-cond (is_eq (slice_cmp nat_cmp n x.0)) x.1 (found (xs ++ ys) n) (found xs n) (found ys n) (found-append xs ys n)
+
+-- the order of two names tells whether they are the same
+pub ruleset order_rules = (is_eq-slice_cmp)

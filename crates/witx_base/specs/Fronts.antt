@@ -1,6 +1,10 @@
--- The number by which most names are told apart before their bytes are compared: that of a name's first eight bytes, the
--- first one greatest, with zeros behind a shorter name.
-use Rattle.std.specs.Prelude.{ℕ, zero, suc, List, ◌+◌, ◌*◌, get_or, drop}
+-- The numbers by which most names are told apart before their bytes are compared, the first byte greatest, with zeros
+-- behind a shorter name: that of the first eight bytes, and that of the eight behind the first seven.
+use Rattle.std.specs.Prelude.{ℕ, zero, suc, List, ◌+◌, ◌*◌, ◌<◌, get_or, drop}
+
+-- each number of a text is that of a byte
+abbrev pub AreBytes : List ℕ → Type 0
+AreBytes xs = (k : ℕ) → get_or xs k 0 < 256
 
 -- a number with the next bytes behind it, so many
 abbrev pub with_bytes_behind : ℕ → ℕ → List ℕ → ℕ
@@ -9,3 +13,6 @@ with_bytes_behind number (suc count) bytes = with_bytes_behind (number * 256 + g
 
 unfoldable pub front_of : List ℕ → ℕ
 front_of bytes = with_bytes_behind 0 8 bytes
+
+unfoldable pub back_of : List ℕ → ℕ
+back_of bytes = with_bytes_behind 0 8 (drop 7 bytes)

@@ -13,6 +13,7 @@ mod name;
 mod name_map;
 mod path;
 mod path_text;
+mod spelling;
 mod store;
 mod streams;
 mod text;

@@ -1,81 +1,40 @@
 //! Names: owned texts whose first bytes, as one number, tell most of them apart.
 
-ghost use Rattle.std.specs.Prelude.{◌≡◌, ◌==◌, ◌↔◌, IfOk, IsTrue, Some, get_or, refl};
+ghost use Rattle.std.specs.Prelude.{◌≡◌, ◌==◌, ◌↔◌, IfOk, IsTrue, Some, refl};
 ghost use Rattle.std.specs.Ordering.{nat_cmp};
 ghost use Rattle.std.specs.Cmp.{partial_equiv_from_equiv};
 ghost use Rattle.std.specs.Cmp.Lexicographic.{pointwise, slice_cmp, nat_list_eq_equiv, nat_list_cmp_total, texts_ties, texts_po};
 ghost use Rattle.std.specs.Cmp.Rules.{hashing};
 ghost use Rattle.std.specs.Hash as fed;
 ghost use Rattle.std.proofs.Common.{rules};
-ghost use Rattle.witx_base.specs.Fronts.{front_of};
 ghost use Rattle.witx_base.specs.Texts.{same_text};
 
 use crate::duplicate::Duplicate;
 use crate::memory::OutOfMemory;
-use crate::text::Text;
+use crate::spelling::Spelling;
 use std::alloc::Global;
 use std::cmp::Ordering;
 use std::hash::{Hash, Hasher};
 use std::marker::Model;
-use std::rc::Rc;
 
-/// The byte at a place of a name; 0 behind its end.
-fn byte_at(bytes: &[u8], place: usize) -> u8
-    ensures { result ≡ get_or bytes.now place 0 }
-{
-    match bytes.get(place) {
-        Some(byte) => *byte,
-        None => 0,
-    }
-}
-
-/// The number of a name's first eight bytes, the first one greatest.
-fn front_of(name: &str) -> u64
-    ensures { result ≡ front_of name.now }
-{
-    let bytes = name.as_bytes();
-    u64::from_be_bytes([
-        byte_at(bytes, 0),
-        byte_at(bytes, 1),
-        byte_at(bytes, 2),
-        byte_at(bytes, 3),
-        byte_at(bytes, 4),
-        byte_at(bytes, 5),
-        byte_at(bytes, 6),
-        byte_at(bytes, 7),
-    ])
-}
-
-/// The order of two texts, by the numbers of their first eight bytes where these differ.
-fn order(front: u64, text: &str, other_front: u64, other_text: &str) -> Ordering
-    requires front { front ≡ front_of text.now }
-    requires other_front { other_front ≡ front_of other_text.now }
-    ensures { result ≡ slice_cmp nat_cmp text.now other_text.now }
-{
-    if front == other_front {
-        text.cmp(other_text)
-    } else {
-        front.cmp(&other_front)
-    }
-}
-
-/// A name, compared, ordered and hashed by its bytes. Its copies share one text; the number of its
-/// first eight bytes, in which most names differ, is compared before the text is read.
+/// A name, compared, ordered and hashed by its bytes. The number of its first eight bytes, in which
+/// most names differ, is compared before the text is read.
 #[derive(Debug, Drop)]
 pub struct Id {
     front: u64,
-    text: Rc<Text>,
+    text: Spelling,
 }
 
 impl Model for Id {
     ghost use Rattle.std.specs.Prelude.{◌≡◌, List, ℕ};
-    ghost use Rattle.witx_base.specs.Fronts.{front_of};
+    ghost use Rattle.witx_base.specs.Fronts.{AreBytes, front_of};
+    ghost use Rattle.witx_base.specs.Spellings.{spelled};
 
     ghost Value = { List ℕ };
 
-    ghost view = { λ n. n.text.value };
+    ghost view = { λ n. spelled n.text };
 
-    ghost invariant = { λ n. n.front ≡ front_of n.text.value };
+    ghost invariant = { λ n. (n.front ≡ front_of (spelled n.text)) × AreBytes (spelled n.text) };
 }
 
 impl Id {
@@ -83,9 +42,10 @@ impl Id {
     pub fn new(alloc: Global, s: &str) -> Result<Id, OutOfMemory>
         ensures { IfOk result (λ id. id ≡ s.now) }
     {
+        let text = Spelling::new(alloc, s)?;
         Ok(Id {
-            front: front_of(s),
-            text: Rc::new(alloc, Text::new(alloc, s)?)?,
+            front: text.front(),
+            text,
         })
     }
 
@@ -102,7 +62,7 @@ impl Id {
         ensures equal { IsTrue result ↔ (self.now ≡ s.now) }
         ensures test { result ≡ same_text self.now s.now }
     {
-        self.as_str() == s
+        self.text.as_bytes() == s.as_bytes()
     }
 }
 
@@ -112,7 +72,7 @@ impl Duplicate for Id {
     fn copy(&self) -> Result<Id, OutOfMemory> {
         Ok(Id {
             front: self.front,
-            text: self.text.clone()?,
+            text: self.text.copy()?,
         })
     }
 }
@@ -122,8 +82,10 @@ impl PartialEq for Id {
 
     ghost laws = { partial_equiv_from_equiv nat_list_eq_equiv };
 
+    #[inline]
+    #[tactic(auto, using(crate::proofs::Names::order_rules))]
     fn eq(&self, other: &Id) -> bool {
-        self.front == other.front && self.as_str() == other.as_str()
+        self.front == other.front && self.text.order_behind(&other.text).is_eq()
     }
 }
 
@@ -150,8 +112,13 @@ impl Ord for Id {
 
     ghost matches_eq = { λ x y. texts_ties x y };
 
+    #[inline]
     fn cmp(&self, other: &Id) -> Ordering {
-        order(self.front, self.as_str(), other.front, other.as_str())
+        if self.front == other.front {
+            self.text.order_behind(&other.text)
+        } else {
+            self.front.cmp(&other.front)
+        }
     }
 }
 

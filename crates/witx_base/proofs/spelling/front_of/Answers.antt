@@ -1,7 +1,7 @@
 use Rattle.std.proofs.Common.{ap, arith, ◌∙◌}
 use Rattle.witx_base.specs.Fronts.{front_of}
 use Rattle.witx_base.proofs.FrontOrder.{spelt}
-use Rattle.witx_base.proofs.name.front_of.Goals as goal
+use Rattle.witx_base.proofs.spelling.front_of.Goals as goal
 
 pub returns : goal.returns
 returns c =
