@@ -5,7 +5,7 @@ use Rattle.std.specs.List.{list_all, flat_map}
 use Rattle.std.specs.Char.{is_digit, encode_utf8}
 use Rattle.std.specs.Str.{IsUtf8}
 use Rattle.std.specs.Str.Parse.{digits_value}
-use Rattle.witx_lex.specs.declared.piece.TheConstants.{MOST_OPEN}
+use Rattle.witx_lex.specs.declared.cut.TheConstants.{MOST_OPEN}
 use Rattle.witx_lex.specs.Blocks.{IsBlockText}
 use Rattle.witx_lex.specs.Characters.{line_feed, quote, dollar, left_paren, right_paren, semicolon, backslash, is_blank, is_name_character, is_line_byte, is_raw, letter_value, is_unicode_scalar, are_digits, scalar_value, begins}
 

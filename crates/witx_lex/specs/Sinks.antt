@@ -12,7 +12,7 @@ use Rattle.witx_lex.specs.Tokens.{Token, Lexed}
 abbrev pub lexed_token : Token → code.Span → List (List ℕ) → Lexed
 lexed_token t span cs = record { token = t; start = span.start; end = span.end; comments = cs }
 
--- the tokens of the text were taken, and the comments behind the last one
+-- the tokens of the text were taken, and behind them some list of comments, of which nothing is said
 abbrev pub TookTokens : {X : Type 0} → (X → List Lexed → List (List ℕ) → Type 0) → X → List ℕ → Type 0
 TookTokens Took x text = (ts : List Lexed) × (cs : List (List ℕ)) × HasTokens text ts × Took x ts cs
 

@@ -5,10 +5,9 @@ ghost use Rattle.witx_lex.specs.Faults.{HasFault, IfBad};
 ghost use Rattle.witx_lex.specs.Sinks.{TookTokens};
 
 use crate::characters::{byte_at, is_blank, is_name};
-use crate::cut::Cut;
+use crate::cut::{Cut, MOST_OPEN};
 use crate::error::{LexError, LexKind};
 use crate::handing::{fault_at, hand_other, hand_run, hand_token};
-use crate::piece::MOST_OPEN;
 use crate::sink::TokenSink;
 use crate::token::Token;
 use std::alloc::Global;

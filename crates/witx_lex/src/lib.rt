@@ -19,6 +19,7 @@ mod sink;
 mod string;
 mod token;
 
+pub use cut::{MOST_OPEN, most_open_parentheses};
 pub use error::{LexError, LexFault, LexKind};
 pub use laws::{
     a_fault_is_unique, a_text_has_pieces_or_a_fault, block_scan_is_exact, no_piece_at_a_fault,
@@ -27,7 +28,6 @@ pub use laws::{
 pub use lexer::lex_into;
 pub use line_cursor::LineCursor;
 pub use listed::lex;
-pub use piece::{MOST_OPEN, most_open_parentheses};
 pub use place::line_column;
 pub use sink::TokenSink;
 pub use string::string_spelled;

@@ -12,14 +12,6 @@ use crate::string::read_string;
 use std::alloc::Global;
 use witx_base::Text;
 
-/// The most parentheses that may be open.
-pub const MOST_OPEN: usize = 100;
-
-/// At most 100 parentheses may be open.
-pub fn most_open_parentheses()
-    ensures { MOST_OPEN ≡ 100 }
-{}
-
 /// What such a piece is to a reader of tokens: a comment, or a string, decoded.
 #[derive(Drop)]
 pub enum Seen<'a> {

@@ -27,7 +27,7 @@ pub fn name_end(bytes: &[u8], at: usize) -> usize
 }
 
 /// The token that a run of name characters is; none for a lone `$`.
-#[inline]
+#[inline(always)]
 pub fn run_token<'a>(run: &'a str) -> Option<Token<'a>>
     requires { 0 < length run.now }
     ensures { MatchOption result (run.now ≡ spec.dollar ∷ [])
