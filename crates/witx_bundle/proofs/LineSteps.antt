@@ -1,30 +1,62 @@
 -- Line by line the text before the first header is made.
-use Rattle.std.proofs.Common.{◌≡◌, ℕ, ◌<◌, List, [], ◌∷◌, ◌++◌, Bool, true, false, refl, sym, ap, ◌∙◌, length, append_assoc, Bor, lit<, arith, ◌==◌, get_or, if◌then◌else◌}
-use Rattle.std.specs.Prelude.{take_while, not, ◌||◌, Option, Some, None, IfSome, MatchOption}
-use Rattle.std.specs.List.{All, list_any, join_with_byte}
-use Rattle.std.proofs.lemmas.Bool.{ne_eqb}
+use Rattle.std.proofs.Common.{◌≡◌, ℕ, ◌<◌, ◌+◌, ◌≤◌, List, [], ◌∷◌, ◌++◌, Bool, true, false, refl, sym, ap, subst, ◌∙◌, length, take, drop, append_assoc, arith, ◌==◌, get_or, if◌then◌else◌}
+use Rattle.std.specs.Prelude.{take_while, not, ◌||◌, Some, None, position}
+use Rattle.std.specs.List.{list_any, join_with_byte, position_or_len, slice_range}
+use Rattle.std.proofs.lemmas.Grind.{common_steps}
+use Rattle.std.proofs.lemmas.List.Quantifiers.{position-Some}
 use Rattle.std.proofs.lemmas.List.Elements.{All-from_get_or}
-use Rattle.std.proofs.lemmas.List.Splits.{length-slice_split, slice_split_none, slice_split_at}
-use Rattle.std.proofs.lemmas.List.Sums.{take_while-cons}
-use Rattle.std.proofs.lemmas.Str.Pattern.{IsSplitOnceResult, split_parts}
+use Rattle.std.proofs.lemmas.List.Splits.{length-slice_split, slice_split_none, slice_split_first}
+use Rattle.std.proofs.lemmas.List.Sums.{split_at_first, fails_before_first, passes_at_first, take_while-cons}
 use Rattle.witx_base.specs.Paths.{Path, path_of}
 use Rattle.witx_bundle.specs.Bundles.{is_header, ended_lines, lines_of, path_after, text_before, without_return}
 
 -- ---- a text that is cut at its first line feed
 
-free : (xs : List ℕ) → ((i : ℕ) → i < length xs → (get_or xs i 0 ≡ 10 → ⊥)) → All (λ b. (b == 10) ≡ false) xs
-free xs h = All-from_get_or (λ b. (b == 10) ≡ false) xs 0 (λ i l. ne_eqb (get_or xs i 0) 10 (h i l))
+abbrev is_feed : ℕ → Bool
+is_feed byte = byte == 10
 
-pub cut-line : (bs : List ℕ) (r : Option (Bor (List ℕ) × Bor (List ℕ))) → IsSplitOnceResult 10 bs r
-    → MatchOption r (lines_of bs ≡ bs ∷ []) (λ x. lines_of bs ≡ x.0.now ∷ lines_of x.1.now)
-cut-line bs None h = slice_split_none (λ b. b == 10) bs (free bs (split_parts 10 bs None h (lit< tt)))
-cut-line bs (Some x) h =
-    let cut = split_parts 10 bs (Some x) h (lit< tt) in
-    ap lines_of cut.0 ∙ slice_split_at (λ b. b == 10) x.0.now 10 x.1.now (free x.0.now cut.1) refl
+at-feed : (byte : ℕ) → (byte == 10) ≡ true → byte ≡ 10
+at-feed byte e = grind (arith, common_steps)
 
-pub cut-spelled : (bs : List ℕ) (r : Option (Bor (List ℕ) × Bor (List ℕ))) → IsSplitOnceResult 10 bs r → IfSome r (λ x. bs ≡ x.0.now ++ 10 ∷ x.1.now)
-cut-spelled bs None h = tt
-cut-spelled bs (Some x) h = (split_parts 10 bs (Some x) h (lit< tt)).0
+-- a text whose first line feed stands at a place, and what stands before and behind it
+pub record FirstFeed (text : List ℕ) (at : ℕ) : Type 0 where
+  pub inside : at < length text
+  pub feed : get_or text at 0 ≡ 10
+  pub lines : lines_of text ≡ take at text ∷ lines_of (drop (at + 1) text)
+  pub spelled : text ≡ take at text ++ 10 ∷ drop (at + 1) text
+
+of-place : (text : List ℕ) (at : ℕ) → position_or_len is_feed text ≡ at → at < length text → FirstFeed text at
+of-place text at e l =
+    let here : position_or_len is_feed text < length text = omega arith in
+    let feed = at-feed (get_or text at 0) (subst (λ n. is_feed (get_or text n 0) ≡ true) e (passes_at_first is_feed text 0 here)) in
+    let cut = subst (λ n. text ≡ take n text ++ (get_or text n 0 ∷ drop (n + 1) text)) e (split_at_first is_feed text 0 here) in
+    record {
+      inside = l;
+      feed = feed;
+      lines = subst (λ n. lines_of text ≡ take n text ∷ lines_of (drop (n + 1) text)) e (slice_split_first is_feed text 0 here);
+      spelled = cut ∙ ap (λ byte. take at text ++ byte ∷ drop (at + 1) text) feed
+    }
+
+pub first-feed : (text : List ℕ) (at : ℕ) → position is_feed text ≡ Some at → FirstFeed text at
+first-feed text at e =
+    let place : position_or_len is_feed text ≡ at = grind (arith, common_steps) in
+    of-place text at place (position-Some is_feed text at 0 e).0
+
+from-start : (xs : List ℕ) (n : ℕ) → take n xs ≡ slice_range xs 0 n
+from-start xs n = ap (λ k. take k xs) (omega arith)
+
+pub cut-line : (text line more : List ℕ) (at : ℕ) → position is_feed text ≡ Some at → line ≡ slice_range text 0 at → more ≡ drop (at + 1) text
+    → lines_of text ≡ line ∷ lines_of more
+cut-line text line more at e l m = subst (λ x. lines_of text ≡ x ∷ lines_of more) (from-start text at ∙ sym l) (subst (λ y. lines_of text ≡ take at text ∷ lines_of y) (sym m) (first-feed text at e).lines)
+
+pub cut-spelled : (text line more : List ℕ) (at : ℕ) → position is_feed text ≡ Some at → line ≡ slice_range text 0 at → more ≡ drop (at + 1) text
+    → text ≡ line ++ 10 ∷ more
+cut-spelled text line more at e l m = subst (λ x. text ≡ x ++ 10 ∷ more) (from-start text at ∙ sym l) (subst (λ y. text ≡ take at text ++ 10 ∷ y) (sym m) (first-feed text at e).spelled)
+
+pub no-feed : (text : List ℕ) → position is_feed text ≡ None → lines_of text ≡ text ∷ []
+no-feed text e =
+    let past : length text ≤ position_or_len is_feed text = grind (arith, common_steps) in
+    slice_split_none is_feed text (All-from_get_or (λ byte. is_feed byte ≡ false) text 0 (λ i l. fails_before_first is_feed text i 0 (omega arith)))
 
 some-line : (text : List ℕ) → 0 < length (lines_of text)
 some-line text = omega (arith, length-slice_split (λ b. b == 10) text)

@@ -1,7 +1,7 @@
 //! The lines of a bundle: headers, and the text before the next one.
 #![tactic(auto, using(crate::proofs::Headers::header_rules))]
 
-ghost use Rattle.std.specs.Prelude.{◌≡◌, ◌≤◌, [], ◌∷◌, ◌++◌, IfOk, IfSome, MatchOption, option_copied, Some, None, if◌then◌else◌, length, drop};
+ghost use Rattle.std.specs.Prelude.{◌≡◌, ◌≤◌, [], ◌∷◌, ◌++◌, IfOk, IfSome, MatchOption, option_copied, Some, None, if◌then◌else◌, length, drop, position, ◌==◌};
 ghost use Rattle.witx_bundle.specs.Bundles.{given, is_header, lines_of, path_after, text_before, without_return};
 ghost use Rattle.witx_bundle.specs.Fronts.{EndsFront};
 
@@ -14,7 +14,15 @@ pub fn cut_line(text: &str) -> Option<(&str, &str)>
         ≡ x.0.now ∷ lines_of x.1.now) }
     ensures spelled { IfSome result (λ x. text.now ≡ x.0.now ++ 10 ∷ x.1.now) }
 {
-    text.split_once('\n')
+    let at = line_feed(text)?;
+    Some((&text[..at], &text[at + 1..]))
+}
+
+/// The place of the first line feed: a byte's own search, where `split_once` would read each character.
+fn line_feed(text: &str) -> Option<usize>
+    ensures { result ≡ position (λ byte. byte == 10) text.now }
+{
+    text.as_bytes().iter().position(|byte| *byte == b'\n')
 }
 
 /// Whether a file begins with the line.
