@@ -11,7 +11,6 @@ use Rattle.witx_lex.specs.Tokens.{Token, Lexed}
 use Rattle.witx_lex.specs.Views.{texts_view}
 use Rattle.witx_lex.specs.declared.token.Span.{Span}
 use Rattle.witx_values.proofs.Cuts.{stand}
-use Rattle.witx_values.proofs.Laws.{one_lexing}
 use Rattle.witx_values.specs.declared.marks.Mark.{Mark}
 use Rattle.witx_values.specs.declared.marks.TextTokens.{TextTokens}
 use Rattle.witx_values.specs.Language.{Language, kinds_of}
@@ -156,10 +155,6 @@ module _ {T : Type 0} (held : TextTokens T) (ls : List Lexed) (h : AreMarked hel
   -- behind the last token stand none
   pub none_there : (at : ℕ) → length held.marks.items ≤ at → (token_at ls at).comments ≡ []
   none_there at le = no_token ls at (omega (arith, le, marks_count))
-
--- marks are those of one list of tokens
-pub same_tokens : {T : Type 0} (held : TextTokens T) (ls ms : List Lexed) → AreMarked held ls → AreMarked held ms → ls ≡ ms
-same_tokens held ls ms h k = one_lexing held.text.now ls ms h.lexed k.lexed
 
 -- ---- kinds
 

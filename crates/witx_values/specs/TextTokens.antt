@@ -27,29 +27,31 @@ abbrev pub marks_from : ℕ → List Lexed → List Mark
 marks_from n [] = []
 marks_from n (l ∷ ls) = record { span = span_of l; comments = n + length l.comments } ∷ marks_from (n + length l.comments) ls
 
--- These are the kinds, the marks and the comments of the tokens; behind the last token stand these other comments.
+-- These are the kinds and the marks of the tokens.
+-- The comments are those before each token, one after the other, and then these others.
 pub record AreTold {T N P S V : Type 0} (a : Language T N P Lexed S V) (kinds : List T) (marks : List Mark) (comments : List (List ℕ)) (ls : List Lexed)
     (behind : List (List ℕ)) : Type 0 where
   pub kinds_are : kinds ≡ map a.kind ls
   pub marks_are : marks ≡ marks_from 0 ls
   pub comments_are : comments ≡ comments_before ls ++ behind
 
--- These are the tokens of the text, their marks and their comments, which those behind the last token follow.
+-- These are the tokens of the text, and the marks are theirs.
+-- The comments are those before each token, one after the other, and then any others.
 pub record AreMarked {T : Type 0} (held : TextTokens T) (ls : List Lexed) : Type 0 where
   pub lexed : HasTokens held.text.now ls
   pub marks : held.marks.items ≡ marks_from 0 ls
   pub behind : List (List ℕ)
   pub comments : texts_view held.comments.items ≡ comments_before ls ++ behind
 
--- the marks and the comments are those of the tokens of the text
+-- the tokens of the text are marked so
 abbrev pub HoldsMarks : {T : Type 0} → TextTokens T → Type 0
 HoldsMarks held = (ls : List Lexed) × AreMarked held ls
 
--- These are the tokens of the text, with their marks, their comments and their kinds, behind which, once, stands that of the end.
+-- The tokens of the text are marked so, and the kinds are theirs, behind which, once, stands that of the end.
 pub record AreHeld {T N P S V : Type 0} (a : Language T N P Lexed S V) (held : TextTokens T) (ls : List Lexed) : Type 0 where
   pub marked : AreMarked held ls
   pub kinds : held.kinds.items ≡ kinds_of a ls
 
--- so are the kinds, in the language
+-- the tokens of the text are held so, with their kinds in the language
 abbrev pub HoldsText : {T N P S V : Type 0} → Language T N P Lexed S V → TextTokens T → Type 0
 HoldsText a held = (ls : List Lexed) × AreHeld a held ls
