@@ -22,7 +22,7 @@ pub use entries::{Entries, Entry, add_entry};
 pub use error::{ParseError, ParseFault, SyntaxError};
 pub use fault::{fault_at, token_fault};
 pub use grammar::the_table;
-pub use laws::token_kinds_are_distinct;
+pub use laws::{held_comments_are_those_of_tokens, token_kinds_are_distinct};
 pub use messages::lexical_message;
 pub use nonterminal::Nonterminal;
 pub use production::ProductionName;

@@ -165,7 +165,18 @@ fn kind_of_word(text: &str) -> TokenKind
     kind_numbered(words(), &NUMBERS, TokenKind::Other, text)
 }
 
+/// The kind of an annotation, by its word.
+// Few tokens are annotations, so the search for one isn't written wherever `kind_of` is.
+#[inline(never)]
+fn kind_of_annotation(word: &str) -> TokenKind
+    ensures { result ≡ kind_spelled_of Other the_annotations word.now }
+{
+    kind_spelled(annotations(), TokenKind::Other, word)
+}
+
 /// The kind of a token.
+// Inlined, it doesn't ask again which token was just told from the text.
+#[inline(always)]
 pub fn kind_of(token: &Token) -> TokenKind
     ensures { result ≡ kind_of_token (token_view token.now) }
 {
@@ -176,6 +187,6 @@ pub fn kind_of(token: &Token) -> TokenKind
         Token::Quoted(_text) => TokenKind::Quoted,
         Token::Int(digits) => kind_of_integer(digits),
         Token::Word(word) => kind_of_word(word),
-        Token::Annot(word) => kind_spelled(annotations(), TokenKind::Other, word),
+        Token::Annot(word) => kind_of_annotation(word),
     }
 }
