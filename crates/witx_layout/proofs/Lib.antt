@@ -1,6 +1,7 @@
 pub mod Alignments
 pub mod Begins
 pub mod Examples
+pub mod FlatLayouts
 pub mod LawProofs
 pub mod Misfitting
 pub mod Onward

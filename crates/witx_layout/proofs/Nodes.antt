@@ -3,11 +3,9 @@
 use Rattle.std.specs.Prelude.{◌≡◌, ℕ, ◌+◌, ◌≤◌, ◌<◌, List, length, drop, map, Some, None}
 use Rattle.std.proofs.Common.{arith, get_or, refl}
 use Rattle.std.proofs.lemmas.List.{drop_more}
-use Rattle.witx_base.specs.Found.{found}
 use Rattle.witx_ast.specs.Tree.{Tree, fields_of, arms_of}
-use Rattle.witx_ast.specs.Views.{tree_of, named_tree, record_tree, variant_tree, datatype_tree, member_field, case_arm}
-use Rattle.witx_ast.proofs.Trees.{tree-Record, tree-Variant, tree-Value, tree-NamedType, tree-RecordMember, tree-Case, tree-RecordDatatype, tree-VariantDatatype}
-use Rattle.witx_ast.specs.declared.types.NamedType.{NamedType}
+use Rattle.witx_ast.specs.Views.{tree_of, record_tree, variant_tree, datatype_tree, member_field, case_arm}
+use Rattle.witx_ast.proofs.Trees.{tree-Record, tree-Variant, tree-Value, tree-RecordMember, tree-Case, tree-RecordDatatype, tree-VariantDatatype}
 use Rattle.witx_ast.specs.declared.types.RecordMember.{RecordMember}
 use Rattle.witx_ast.specs.declared.types.Case.{Case}
 use Rattle.witx_ast.specs.declared.types.TypeRef.{TypeRef}
@@ -21,7 +19,6 @@ use Rattle.witx_ast.specs.declared.types.Variant.{Variant, out-Variant}
 use Rattle.witx_layout.specs.declared.layout.SizeAlign.{SizeAlign}
 use Rattle.witx_layout.specs.Nodes.{type_nodes, field_nodes, arm_nodes}
 use Rattle.witx_layout.specs.Known.{Knows, KnowsFields, KnowsArms}
-use Rattle.witx_layout.specs.Layouts.{layout_of}
 use Rattle.witx_layout.proofs.Onward.{layout_rules}
 
 -- a type is a node at least
@@ -34,9 +31,6 @@ some-nodes (Tree.pointer_to t) = omega arith
 some-nodes (Tree.const_pointer_to t) = omega arith
 some-nodes (Tree.record_of kind ms) = omega arith
 some-nodes (Tree.variant_of repr cs) = omega arith
-
-pub named-found : (table : List (List ℕ × SizeAlign)) (n : NamedType) → Knows table (named_tree n) → found table n.name ≡ Some (layout_of (tree_of n.tref))
-named-found table n h = rw (tree-NamedType n) at h
 
 pub record-known : (table : List (List ℕ × SizeAlign)) (r : RecordDatatype) → Knows table (record_tree r) → KnowsFields table (fields_of (map member_field (out-RecordDatatype r).members))
 record-known table r h = rw (tree-RecordDatatype r) at h
@@ -157,4 +151,4 @@ pub payloads-known : (table : List (List ℕ × SizeAlign)) (xs : List Case) (i 
     → LeftArmsKnown table xs i → LeftArmsKnown table xs (i + 1)
 payloads-known table xs i c t l p h k = (carries-both table xs i c t l p h k).1
 
-pub ruleset node_rules = (layout_rules, some-nodes, named-found, record-known, variant-known, record-nodes, variant-nodes, member-known, members-known, next-nodes, within-nodes, bare-nodes, carries-nodes, within-arm-nodes, bare-known, payload-known, payloads-known)
+pub ruleset node_rules = (layout_rules, some-nodes, record-known, variant-known, record-nodes, variant-nodes, member-known, members-known, next-nodes, within-nodes, bare-nodes, carries-nodes, within-arm-nodes, bare-known, payload-known, payloads-known)

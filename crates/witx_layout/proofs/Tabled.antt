@@ -1,7 +1,7 @@
 -- A table of the typenames that a loop has passed knows the type of the next one, since the document is ordered; and
 -- what the loop has made, with what the definitions left give, is what it makes in all.
 use Rattle.std.specs.Prelude.{◌≡◌, ℕ, ◌+◌, ◌≤◌, ◌<◌, List, [], ◌∷◌, ◌++◌, Bool, true, false, cond, length, take, drop, map, option_map, Option, Some, None}
-use Rattle.std.proofs.Common.{arith, get_or, refl, sym, ap, ◌∙◌, subst, append_assoc, append-nil}
+use Rattle.std.proofs.Common.{arith, get_or, refl, sym, ap, ◌∙◌, subst, inl, inr, append_assoc, append-nil}
 use Rattle.std.specs.List.{AllByRecursion, IsDistinct}
 use Rattle.std.specs.Map.{keys_of}
 use Rattle.std.specs.Option.{option_or, option_and_then}
@@ -17,6 +17,7 @@ use Rattle.witx_ast.specs.Definitions.{DefinitionTree, typename_of, module_of, c
 use Rattle.witx_ast.specs.Ordered.{NamesStand, FieldNamesStand, ArmNamesStand, DefinitionStands, OrderedAfter, IsOrdered}
 use Rattle.witx_ast.proofs.EntryLaws.{is_key, found-more, names-more, names-same, key-decides, not-true}
 use Rattle.witx_ast.proofs.TreeKinds.{plain-behind}
+use Rattle.witx_ast.specs.declared.definition.Constant.{Constant}
 use Rattle.witx_ast.specs.declared.definition.Definition.{Definition}
 use Rattle.witx_layout.specs.declared.layout.SizeAlign.{SizeAlign}
 use Rattle.witx_layout.specs.declared.table.LayoutsError.{LayoutsError}
@@ -24,38 +25,49 @@ use Rattle.witx_layout.specs.declared.table.LayoutsError.TheVariants as layouts_
 use Rattle.witx_layout.specs.Nodes.{definition_nodes, typename_node_count, one_typename, typename_count}
 use Rattle.witx_layout.specs.Layouts.{plain_layout, layouts_in, all_layouts, large_at, first_large_from, TooLargeAt}
 use Rattle.witx_layout.specs.LayoutsText.{part_lines}
-use Rattle.witx_layout.specs.Known.{Knows, KnowsFields, KnowsArms, KnowsDefinition, HasLines, DefinitionHasLines, IsKept, IsEntered, IsLined}
+use Rattle.witx_layout.specs.Known.{is_flat, Tells, Knows, KnowsFields, KnowsArms, KnowsDefinition, HasLines, DefinitionHasLines, IsKept, IsEntered, IsLined}
 
--- the table has what is kept of each typename so far, and nothing else
-unfoldable pub KeptBy : {V : Type 0} → (Plain → V) → List (List ℕ × V) → List DefinitionTree → Type 0
-KeptBy of table before = (q : List ℕ) → found table q ≡ option_map (λ t. of (plain t)) (typename_called before q)
+-- what a table has at a name, where a typename of that name may stand: without one it has nothing
+abbrev pub HasOf : {V : Type 0} → (Option V → Plain → Type 0) → Option V → Option Tree → Type 0
+HasOf Has entry None = entry ≡ None
+HasOf Has entry (Some t) = Has entry (plain t)
+
+-- the table has what it should of each typename so far, and nothing else
+unfoldable pub KeptBy : {V : Type 0} → (Option V → Plain → Type 0) → List (List ℕ × V) → List DefinitionTree → Type 0
+KeptBy Has table before = (q : List ℕ) → HasOf Has (found table q) (typename_called before q)
 
 -- of layouts, and of lines
 abbrev pub Tabled : List (List ℕ × SizeAlign) → List DefinitionTree → Type 0
-Tabled = KeptBy plain_layout
+Tabled = KeptBy Tells
+
+abbrev pub TellsLines : Option (List ℕ) → Plain → Type 0
+TellsLines entry t = entry ≡ Some (part_lines t)
 
 abbrev pub Lined : List (List ℕ × List ℕ) → List DefinitionTree → Type 0
-Lined = KeptBy part_lines
+Lined = KeptBy TellsLines
 
-pub nothing-kept : {V : Type 0} (of : Plain → V) → KeptBy of [] []
+pub nothing-kept : {V : Type 0} (Has : Option V → Plain → Type 0) → KeptBy Has [] []
 unfolding KeptBy
-nothing-kept of q = refl
+nothing-kept Has q = refl
 
 pub nothing-tabled : Tabled [] []
-nothing-tabled = nothing-kept plain_layout
+nothing-tabled = nothing-kept Tells
 
 pub nothing-lined : Lined [] []
-nothing-lined = nothing-kept part_lines
+nothing-lined = nothing-kept TellsLines
+
+-- types that are equal behind their names have one plain tree
+pub behind-same : (u t : Tree) → behind u ≡ behind t → plain u ≡ plain t
+behind-same u t b = sym (plain-behind u) ∙ ap plain b ∙ plain-behind t
 
 -- what is kept of a name that stands before
-name-kept : {V : Type 0} (of : Plain → V) (o : Option Tree) (u t : Tree) → o ≡ Some u → behind u ≡ behind t → option_map (λ t. of (plain t)) o ≡ Some (of (plain t))
-name-kept of o u t e b =
-    let same : plain u ≡ plain t = sym (plain-behind u) ∙ ap plain b ∙ plain-behind t in
-    ap (option_map (λ t. of (plain t))) e ∙ ap (λ p. Some (of p)) same
+name-kept : {V : Type 0} (Has : Option V → Plain → Type 0) (entry : Option V) (o : Option Tree) (u t : Tree)
+    → HasOf Has entry o → o ≡ Some u → behind u ≡ behind t → Has entry (plain t)
+name-kept Has entry o u t h e b = subst (Has entry) (behind-same u t b) (subst (HasOf Has entry) e h)
 
 lined-name : (lines : List (List ℕ × List ℕ)) (before : List DefinitionTree) → Lined lines before → (t : Tree) → NamesStand before t → HasLines lines t
 unfolding KeptBy
-lined-name lines before h (Tree.named n t d) s = h n ∙ name-kept part_lines (typename_called before n) s.0 t s.1 s.2
+lined-name lines before h (Tree.named n t d) s = name-kept TellsLines (found lines n) (typename_called before n) s.0 t (h n) s.1 s.2
 lined-name lines before h (Tree.builtin b) s = tt
 lined-name lines before h Tree.handle s = tt
 lined-name lines before h (Tree.list_of t) s = tt
@@ -73,7 +85,7 @@ mutual
   unfolding KeptBy
 
   type-known : (table : List (List ℕ × SizeAlign)) (before : List DefinitionTree) → Tabled table before → (t : Tree) → NamesStand before t → Knows table t
-  type-known table before h (Tree.named n t d) s = h n ∙ name-kept plain_layout (typename_called before n) s.0 t s.1 s.2
+  type-known table before h (Tree.named n t d) s = name-kept Tells (found table n) (typename_called before n) s.0 t (h n) s.1 s.2
   type-known table before h (Tree.builtin b) s = tt
   type-known table before h Tree.handle s = tt
   type-known table before h (Tree.list_of t) s = tt
@@ -125,43 +137,84 @@ new-module : (before rest : List DefinitionTree) (m : ModuleTree) → IsDistinct
 new-module before rest m h =
     new-name (by_name introduced before) (by_name introduced rest) m.name (module_of m) (rw (names-append before (module_of m ∷ rest)) at h)
 
--- one more typename
-enters : {V : Type 0} (of : Plain → V) (b : Bool) (d : DefinitionTree) (v : Tree) (l : V) (o : Option DefinitionTree) (s : Option V)
-    → as_typename d ≡ Some v → of (plain v) ≡ l → s ≡ option_map (λ t. of (plain t)) (option_and_then as_typename o)
-    → cond b (Some l) s ≡ option_map (λ t. of (plain t)) (option_and_then as_typename (cond b (Some d) o))
-enters of true d v l o s e k h = sym (ap (option_map (λ t. of (plain t))) e ∙ ap Some k)
-enters of false d v l o s e k h = h
+-- one more typename, which is entered
+enters : {V : Type 0} (Has : Option V → Plain → Type 0) (b : Bool) (d : DefinitionTree) (v : Tree) (l : V) (o : Option DefinitionTree) (s : Option V)
+    → as_typename d ≡ Some v → Has (Some l) (plain v) → HasOf Has s (option_and_then as_typename o)
+    → HasOf Has (cond b (Some l) s) (option_and_then as_typename (cond b (Some d) o))
+enters Has true d v l o s e k h = subst (HasOf Has (Some l)) (sym e) k
+enters Has false d v l o s e k h = h
+
+-- one that is not, since nothing is to be known of it
+skips : {V : Type 0} (Has : Option V → Plain → Type 0) (b : Bool) (d : DefinitionTree) (v : Tree) (o : Option DefinitionTree) (s : Option V)
+    → as_typename d ≡ Some v → (b ≡ true → s ≡ None) → Has None (plain v) → HasOf Has s (option_and_then as_typename o)
+    → HasOf Has s (option_and_then as_typename (cond b (Some d) o))
+skips Has true d v o s e k n h = subst (HasOf Has s) (sym e) (subst (λ r. Has r (plain v)) (sym (k refl)) n)
+skips Has false d v o s e k n h = h
 
 -- a module hides nothing
-hides : {V : Type 0} (of : Plain → V) (b : Bool) (d : DefinitionTree) (o : Option DefinitionTree) (s : Option V) → as_typename d ≡ None
-    → (b ≡ true → s ≡ None) → s ≡ option_map (λ t. of (plain t)) (option_and_then as_typename o)
-    → s ≡ option_map (λ t. of (plain t)) (option_and_then as_typename (cond b (Some d) o))
-hides of true d o s e k h = k refl ∙ sym (ap (option_map (λ t. of (plain t))) e)
-hides of false d o s e k h = h
+hides : {V : Type 0} (Has : Option V → Plain → Type 0) (b : Bool) (d : DefinitionTree) (o : Option DefinitionTree) (s : Option V) → as_typename d ≡ None
+    → (b ≡ true → s ≡ None) → HasOf Has s (option_and_then as_typename o)
+    → HasOf Has s (option_and_then as_typename (cond b (Some d) o))
+hides Has true d o s e k h = subst (HasOf Has s) (sym e) (k refl)
+hides Has false d o s e k h = h
 
 found-next : (before : List DefinitionTree) (d : DefinitionTree) (n : List ℕ) → introduced d ≡ Some n → found (by_name introduced before) n ≡ None → (q : List ℕ)
     → found (by_name introduced (before ++ d ∷ [])) q ≡ cond (is_key n q) (Some d) (found (by_name introduced before) q)
 found-next before d n e h q = ap (λ es. found es q) (names-more introduced before d n e) ∙ found-more (by_name introduced before) n d h q
 
-lacks : {V : Type 0} (of : Plain → V) (table : List (List ℕ × V)) (before : List DefinitionTree) (n q : List ℕ) → KeptBy of table before
+lacks : {V : Type 0} (Has : Option V → Plain → Type 0) (table : List (List ℕ × V)) (before : List DefinitionTree) (n q : List ℕ) → KeptBy Has table before
     → found (by_name introduced before) n ≡ None → is_key n q ≡ true → found table q ≡ None
 unfolding KeptBy
-lacks of table before n q h o k =
-    ap (found table) (sym ((key-decides n q).0 k)) ∙ h n ∙ ap (λ x. option_map (λ t. of (plain t)) (option_and_then as_typename x)) o
+lacks Has table before n q h o k =
+    ap (found table) (sym ((key-decides n q).0 k)) ∙ subst (λ x. HasOf Has (found table n) (option_and_then as_typename x)) o (h n)
 
-kept-next : {V : Type 0} (of : Plain → V) (table new : List (List ℕ × V)) (before rest : List DefinitionTree) (d : DefinitionTree)
-    → IsDistinct same_text (keys_of (by_name introduced (before ++ d ∷ rest))) → KeptBy of table before → IsKept of table d new → KeptBy of new (before ++ d ∷ [])
+-- what the table has at a name, before and behind one more definition
+entry-next : {V : Type 0} (Has : Option V → Plain → Type 0) (entry : Option V) (before : List DefinitionTree) (d : DefinitionTree) (n q : List ℕ)
+    → introduced d ≡ Some n → found (by_name introduced before) n ≡ None
+    → HasOf Has entry (option_and_then as_typename (cond (is_key n q) (Some d) (found (by_name introduced before) q)))
+    → HasOf Has entry (typename_called (before ++ d ∷ []) q)
+entry-next Has entry before d n q e o h = subst (λ x. HasOf Has entry (option_and_then as_typename x)) (sym (found-next before d n e o q)) h
+
+module-next : {V : Type 0} (Has : Option V → Plain → Type 0) (table : List (List ℕ × V)) (before rest : List DefinitionTree) (m : ModuleTree)
+    → IsDistinct same_text (keys_of (by_name introduced (before ++ module_of m ∷ rest))) → KeptBy Has table before → KeptBy Has table (before ++ module_of m ∷ [])
 unfolding KeptBy
-kept-next of table new before rest (typename_of n t docs) u h k q =
-    k q ∙ enters of (is_key n q) (typename_of n t docs) (Tree.named n t docs) (of (plain t)) (found (by_name introduced before) q) (found table q) refl refl (h q)
-    ∙ sym (ap (λ o. option_map (λ t. of (plain t)) (option_and_then as_typename o)) (found-next before (typename_of n t docs) n refl (new-typename before rest n t docs u) q))
-kept-next of table new before rest (module_of m) u h k q =
-    ap (λ es. found es q) k
-    ∙ hides of (is_key m.name q) (module_of m) (found (by_name introduced before) q) (found table q) refl (lacks of table before m.name q h (new-module before rest m u)) (h q)
-    ∙ sym (ap (λ o. option_map (λ t. of (plain t)) (option_and_then as_typename o)) (found-next before (module_of m) m.name refl (new-module before rest m u) q))
-kept-next of table new before rest (constant_of c) u h k q =
-    ap (λ es. found es q) k ∙ h q
-    ∙ sym (ap (λ es. option_map (λ t. of (plain t)) (option_and_then as_typename (found es q))) (names-same introduced before (constant_of c) refl))
+module-next Has table before rest m u h q =
+    entry-next Has (found table q) before (module_of m) m.name q refl (new-module before rest m u)
+    (hides Has (is_key m.name q) (module_of m) (found (by_name introduced before) q) (found table q) refl (lacks Has table before m.name q h (new-module before rest m u)) (h q))
+
+constant-next : {V : Type 0} (Has : Option V → Plain → Type 0) (table : List (List ℕ × V)) (before : List DefinitionTree) (c : Constant)
+    → KeptBy Has table before → KeptBy Has table (before ++ constant_of c ∷ [])
+unfolding KeptBy
+constant-next Has table before c h q =
+    subst (λ es. HasOf Has (found table q) (option_and_then as_typename (found es q))) (sym (names-same introduced before (constant_of c) refl)) (h q)
+
+kept-next : {V : Type 0} (Has : Option V → Plain → Type 0) (of : Plain → V) → ((t : Plain) → Has (Some (of t)) t)
+    → (table new : List (List ℕ × V)) (before rest : List DefinitionTree) (d : DefinitionTree)
+    → IsDistinct same_text (keys_of (by_name introduced (before ++ d ∷ rest))) → KeptBy Has table before → IsKept of table d new → KeptBy Has new (before ++ d ∷ [])
+unfolding KeptBy
+kept-next Has of told table new before rest (typename_of n t docs) u h k q =
+    entry-next Has (found new q) before (typename_of n t docs) n q refl (new-typename before rest n t docs u)
+    (subst (λ r. HasOf Has r (option_and_then as_typename (cond (is_key n q) (Some (typename_of n t docs)) (found (by_name introduced before) q)))) (sym (k q))
+    (enters Has (is_key n q) (typename_of n t docs) (Tree.named n t docs) (of (plain t)) (found (by_name introduced before) q) (found table q) refl (told (plain t)) (h q)))
+kept-next Has of told table new before rest (module_of m) u h k q = (subst (λ x. KeptBy Has x (before ++ module_of m ∷ [])) (sym k) (module-next Has table before rest m u h)) q
+kept-next Has of told table new before rest (constant_of c) u h k q = (subst (λ x. KeptBy Has x (before ++ constant_of c ∷ [])) (sym k) (constant-next Has table before c h)) q
+
+flat-next : (table : List (List ℕ × SizeAlign)) (before rest : List DefinitionTree) (n : List ℕ) (t : Tree) (docs : List ℕ)
+    → IsDistinct same_text (keys_of (by_name introduced (before ++ typename_of n t docs ∷ rest))) → Tabled table before → is_flat (plain t) ≡ true
+    → Tabled table (before ++ typename_of n t docs ∷ [])
+unfolding KeptBy
+flat-next table before rest n t docs u h f q =
+    let new = new-typename before rest n t docs u in
+    entry-next Tells (found table q) before (typename_of n t docs) n q refl new
+    (skips Tells (is_key n q) (typename_of n t docs) (Tree.named n t docs) (found (by_name introduced before) q) (found table q) refl (lacks Tells table before n q h new) f (h q))
+
+entered-next : (table new : List (List ℕ × SizeAlign)) (before rest : List DefinitionTree) (d : DefinitionTree)
+    → IsDistinct same_text (keys_of (by_name introduced (before ++ d ∷ rest))) → Tabled table before → IsEntered table d new → Tabled new (before ++ d ∷ [])
+entered-next table new before rest (typename_of n t docs) u h (inl k) = kept-next Tells plain_layout (λ t. refl) table new before rest (typename_of n t docs) u h k
+entered-next table new before rest (typename_of n t docs) u h (inr k) =
+    subst (λ x. Tabled x (before ++ typename_of n t docs ∷ [])) (sym k.1) (flat-next table before rest n t docs u h k.0)
+entered-next table new before rest (module_of m) u h k = subst (λ x. Tabled x (before ++ module_of m ∷ [])) (sym k) (module-next Tells table before rest m u h)
+entered-next table new before rest (constant_of c) u h k = subst (λ x. Tabled x (before ++ constant_of c ∷ [])) (sym k) (constant-next Tells table before c h)
 
 -- what is still to come is ordered, and its names are new
 unfoldable pub Ahead : List DefinitionTree → List DefinitionTree → Type 0
@@ -203,19 +256,17 @@ pub next-known : (table : List (List ℕ × SizeAlign)) (xs : List Definition) (
 unfolding Ahead
 next-known table xs i d l p h k = definition-known table (passed xs i) k (definition_tree d) (here xs i d l p h).0.0
 
-next-kept : {V : Type 0} (of : Plain → V) (table new : List (List ℕ × V)) (xs : List Definition) (i : ℕ) (d : Definition) → i < length xs → d ≡ get_or xs i d
-    → Ahead (passed xs i) (left xs i) → KeptBy of table (passed xs i) → IsKept of table (definition_tree d) new → KeptBy of new (passed xs (i + 1))
-unfolding Ahead
-next-kept of table new xs i d l p h k e =
-    subst (KeptBy of new) (sym (passed-more xs i d l p)) (kept-next of table new (passed xs i) (left xs (i + 1)) (definition_tree d) (here xs i d l p h).1 k e)
-
 pub next-tabled : (table new : List (List ℕ × SizeAlign)) (xs : List Definition) (i : ℕ) (d : Definition) → i < length xs → d ≡ get_or xs i d
     → Ahead (passed xs i) (left xs i) → Tabled table (passed xs i) → IsEntered table (definition_tree d) new → Tabled new (passed xs (i + 1))
-next-tabled = next-kept plain_layout
+unfolding Ahead
+next-tabled table new xs i d l p h k e =
+    subst (Tabled new) (sym (passed-more xs i d l p)) (entered-next table new (passed xs i) (left xs (i + 1)) (definition_tree d) (here xs i d l p h).1 k e)
 
 pub next-lined : (lines new : List (List ℕ × List ℕ)) (xs : List Definition) (i : ℕ) (d : Definition) → i < length xs → d ≡ get_or xs i d
     → Ahead (passed xs i) (left xs i) → Lined lines (passed xs i) → IsLined lines (definition_tree d) new → Lined new (passed xs (i + 1))
-next-lined = next-kept part_lines
+unfolding Ahead
+next-lined lines new xs i d l p h k e =
+    subst (Lined new) (sym (passed-more xs i d l p)) (kept-next TellsLines part_lines (λ t. refl) lines new (passed xs i) (left xs (i + 1)) (definition_tree d) (here xs i d l p h).1 k e)
 
 pub next-has-lines : (lines : List (List ℕ × List ℕ)) (xs : List Definition) (i : ℕ) (d : Definition) → i < length xs → d ≡ get_or xs i d
     → Ahead (passed xs i) (left xs i) → Lined lines (passed xs i) → DefinitionHasLines lines (definition_tree d)

@@ -1,19 +1,41 @@
--- A table of layouts by name knows a type: it has the layout of each name that is a part of it. The targets of lists
--- and pointers don't count.
-use Rattle.std.specs.Prelude.{◌≡◌, ℕ, List, Some, cond}
+-- A table of layouts by name knows a type: it tells the layout of each name that is a part of it. The targets of lists
+-- and pointers don't count. A type that is flat needs no entry.
+use Rattle.std.specs.Prelude.{◌≡◌, ◌⊎◌, ℕ, List, Bool, true, false, Option, Some, None, cond}
 use Rattle.witx_base.specs.Found.{found}
 use Rattle.std.specs.Ordering.{is_eq, nat_cmp}
 use Rattle.std.specs.Cmp.Lexicographic.{slice_cmp}
 use Rattle.witx_ast.specs.Tree.{Tree, Fields, Arms}
 use Rattle.witx_ast.specs.Plain.{Plain, plain}
 use Rattle.witx_ast.specs.Definitions.{DefinitionTree, typename_of, module_of, constant_of}
+use Rattle.witx_ast.specs.declared.types.RecordKind.{RecordKind}
 use Rattle.witx_layout.specs.declared.layout.SizeAlign.{SizeAlign}
-use Rattle.witx_layout.specs.Layouts.{plain_layout, layout_of}
+use Rattle.witx_layout.specs.Layouts.{plain_layout}
 use Rattle.witx_layout.specs.LayoutsText.{part_lines}
+
+-- flags are as wide as their representation, whatever their members are
+abbrev pub are_flags : RecordKind → Bool
+are_flags (RecordKind.Bitflags repr) = true
+are_flags RecordKind.Tuple = false
+are_flags RecordKind.Other = false
+
+-- a type whose layout doesn't depend on those of its parts
+abbrev pub is_flat : Plain → Bool
+is_flat (Plain.builtin b) = true
+is_flat Plain.handle = true
+is_flat (Plain.list_of t) = true
+is_flat (Plain.pointer_to t) = true
+is_flat (Plain.const_pointer_to t) = true
+is_flat (Plain.record_of kind ms) = are_flags kind
+is_flat (Plain.variant_of repr cs) = false
+
+-- what a table has at the name of a type: an entry is the type's layout, and only a flat type has none
+abbrev pub Tells : Option SizeAlign → Plain → Type 0
+Tells (Some layout) t = layout ≡ plain_layout t
+Tells None t = is_flat t ≡ true
 
 abbrev mutual
   pub Knows : List (List ℕ × SizeAlign) → Tree → Type 0
-  Knows table (Tree.named name t docs) = found table name ≡ Some (layout_of t)
+  Knows table (Tree.named name t docs) = Tells (found table name) (plain t)
   Knows table (Tree.builtin b) = Unit {0}
   Knows table Tree.handle = Unit {0}
   Knows table (Tree.list_of t) = Unit {0}
@@ -43,8 +65,12 @@ IsKept of table (typename_of name t docs) new = (q : List ℕ) → found new q �
 IsKept of table (module_of m) new = new ≡ table
 IsKept of table (constant_of c) new = new ≡ table
 
+-- a typename is entered with its layout, or its type is flat and nothing changes
 abbrev pub IsEntered : List (List ℕ × SizeAlign) → DefinitionTree → List (List ℕ × SizeAlign) → Type 0
-IsEntered = IsKept plain_layout
+IsEntered table (typename_of name t docs) new =
+    IsKept plain_layout table (typename_of name t docs) new ⊎ ((is_flat (plain t) ≡ true) × (new ≡ table))
+IsEntered table (module_of m) new = new ≡ table
+IsEntered table (constant_of c) new = new ≡ table
 
 -- A table of lines by name has the lines of the parts of a type that is a name.
 abbrev pub HasLines : List (List ℕ × List ℕ) → Tree → Type 0

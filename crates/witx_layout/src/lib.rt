@@ -1,6 +1,7 @@
 //! Sizes, alignments and offsets of types in linear memory, exact or refused.
 #![tactic(auto)]
 
+mod flat;
 mod laws;
 mod layout;
 mod lines;
@@ -20,6 +21,6 @@ pub use lines::layouts_text;
 pub use members::{LayoutError, MemberLayouts, RecordMemberLayout, RecordMembers};
 pub use rounding::{Placed, behind, greater, padded};
 pub use steps::Steps;
-pub use table::{LayoutsError, SizeAligns, known_layout, layouts, uncounted_layouts};
+pub use table::{LayoutsError, SizeAligns, enter_layout, known_layout, layouts, uncounted_layouts};
 pub use table_lines::ordered_layouts_text;
 pub use tags::{TagTooNarrow, fits_tags};

@@ -1,7 +1,7 @@
 //! The layouts of an ordered document's typenames in one pass: a name is looked up and not looked through.
 #![tactic(auto, using(crate::proofs::Nodes::node_rules))]
 
-ghost use Rattle.std.specs.Prelude.{◌≡◌, ◌≤◌, ◌<◌, ◌+◌, ◌++◌, ◌^◌, None, Some, MatchResult, IfErr, IfOk, OnOk, map};
+ghost use Rattle.std.specs.Prelude.{◌≡◌, ◌≤◌, ◌<◌, ◌+◌, ◌++◌, ◌^◌, true, None, Some, MatchResult, IfErr, IfOk, OnErr, OnOk, map};
 ghost use Rattle.std.specs.List.{IsDistinct};
 ghost use Rattle.std.specs.Map.{keys_of};
 ghost use Rattle.witx_base.specs.Texts.{same_text};
@@ -10,13 +10,14 @@ ghost use Rattle.witx_ast.specs.Tree.{fields_of, arms_of};
 ghost use Rattle.witx_ast.specs.Plain.{plain};
 ghost use Rattle.witx_ast.specs.Views.{tree_of, datatype_tree, named_tree, record_tree, variant_tree, member_field, case_arm, members_plain, cases_plain};
 ghost use Rattle.witx_ast.specs.Entries.{by_name};
-ghost use Rattle.witx_ast.specs.Definitions.{definition_tree, introduced};
+ghost use Rattle.witx_ast.specs.Definitions.{definition_tree, introduced, typename_of};
 ghost use Rattle.witx_ast.specs.Ordered.{IsOrdered};
 ghost use Rattle.witx_layout.specs.Numbers.{size_of, align_of, members_end, members_align, payloads_size, payloads_align};
 ghost use Rattle.witx_layout.specs.Nodes.{type_nodes, field_nodes, arm_nodes, definition_nodes, one_typename, typename_node_count, typename_count};
-ghost use Rattle.witx_layout.specs.Known.{Knows, KnowsFields, KnowsArms, KnowsDefinition, IsEntered};
+ghost use Rattle.witx_layout.specs.Known.{is_flat, Knows, KnowsFields, KnowsArms, KnowsDefinition, IsEntered};
 ghost use Rattle.witx_layout.specs.Layouts.{TooLargeAt, all_layouts, first_large, large_at, layout_of, layouts_in};
 
+use crate::flat::{flat_layout, written_flat};
 use crate::layout::{Layout, SizeAlign, TooLarge};
 use crate::rounding::{followed_by, greater, padded, tagged};
 use crate::steps::Steps;
@@ -32,7 +33,7 @@ use witx_base::{Duplicate, Items, NameMap, OutOfMemory};
 /// Layouts, in order.
 pub type SizeAligns = Items<SizeAlign>;
 
-/// The layouts of the typenames so far, by name.
+/// The layouts of the typenames so far, by name; those whose type is written out flat need no entry.
 pub type Table = NameMap<SizeAlign>;
 
 /// Why a document's layouts aren't given.
@@ -148,8 +149,27 @@ fn push_layout<L: Ledger>(
     let Ok(layout) = type_layout(table, &named.tref, steps) else {
         return Err(LayoutsError::TooLarge { definition: number });
     };
-    table.insert(named.name.copy()?, layout)?;
+    enter_layout(table, named, layout)?;
     Ok(layouts.push(layout)?)
+}
+
+/// Enters the layout of a typename under its name, unless its type is written out flat: that one is known without a
+/// table.
+pub fn enter_layout(
+    table: &mut Table,
+    named: &NamedType,
+    layout: SizeAlign,
+) -> Result<(), OutOfMemory>
+    requires size { layout.size ≡ size_of (plain (tree_of named.now.tref)) }
+    requires align { layout.align ≡ align_of (plain (tree_of named.now.tref)) }
+    ensures entered { OnOk result (IsEntered table.old
+        (typename_of named.now.name (tree_of named.now.tref) named.now.docs) table.new) }
+    ensures unchanged { OnErr result (table.new ≡ table.old) }
+{
+    if written_flat(&named.tref).is_some() {
+        return Ok(());
+    }
+    table.insert(named.name.copy()?, layout)
 }
 
 /// The layout of a type, whose names the table knows.
@@ -173,16 +193,33 @@ pub fn type_layout<L: Ledger>(
     }
 }
 
-/// The layout of a name, which the table has.
+/// The layout of a name that the table knows.
+///
+/// In a document made by hand a name may be written through further names while its typename's type is written out
+/// flat: only then are those looked through.
 pub fn known_layout(table: &Table, named: &NamedType) -> SizeAlign
     requires { Knows table.now (named_tree named.now) }
     ensures size { result.size ≡ size_of (plain (named_tree named.now)) }
     ensures align { result.align ≡ align_of (plain (named_tree named.now)) }
 {
+    if let Some(layout) = written_flat(&named.tref) {
+        return layout;
+    }
     match table.get(&named.name) {
         Some(layout) => *layout,
-        None => unreachable!(),
+        None => layout_behind(named),
     }
+}
+
+/// The layout of a name for a flat type.
+fn layout_behind(named: &NamedType) -> SizeAlign
+    requires { is_flat (plain (named_tree named.now)) ≡ true }
+    ensures { result ≡ layout_of (named_tree named.now) }
+{
+    let Some(layout) = flat_layout(named.type_()) else {
+        unreachable!();
+    };
+    layout
 }
 
 /// The layout of a type that is written out, whose own visit is counted already.

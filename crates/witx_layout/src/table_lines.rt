@@ -21,7 +21,7 @@ use crate::lines::{put_field, put_flags, put_numbers, put_tag_numbers};
 use crate::members::LayoutError;
 use crate::rounding::align_to;
 use crate::steps::Steps;
-use crate::table::{Table, greatest_payload, type_layout};
+use crate::table::{Table, enter_layout, greatest_payload, type_layout};
 use std::alloc::Global;
 use std::marker::Brand;
 use std::sync::ledger::{Blank, Ledger};
@@ -129,7 +129,7 @@ fn put_known<L: Ledger>(
     let parts = lines_of(alloc, table, lines, &named.tref, steps)?;
     put_numbers(out, named.name.as_str(), numbers)?;
     put_text(out, &parts)?;
-    table.insert(named.name.copy()?, numbers)?;
+    enter_layout(table, named, numbers)?;
     lines.insert(named.name.copy()?, parts)?;
     Ok(())
 }
