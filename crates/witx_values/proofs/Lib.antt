@@ -9,4 +9,5 @@ pub mod Keeping
 pub mod Readings
 pub mod Laws
 pub mod Mute
+pub mod Same
 pub mod Numbered

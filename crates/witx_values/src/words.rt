@@ -1,6 +1,7 @@
 //! The words of a language, and the kinds of tokens that they are.
 
-ghost use Rattle.std.specs.Prelude.{◌≡◌, ◌<◌, map};
+ghost use Rattle.std.specs.Prelude.{◌≡◌, ◌<◌, ◌==◌, length, map};
+ghost use Rattle.std.specs.Cmp.Lexicographic.{pointwise};
 ghost use Rattle.witx_base.specs.Texts.{same_text};
 ghost use Rattle.witx_values.specs.Words.{AreApart, kind_spelled as kind_spelled_of, spelling_view};
 
@@ -17,16 +18,28 @@ pub struct Word<K, M> {
     pub note: M,
 }
 
-/// Whether the word is spelled so.
+/// Whether two texts of one length are the same, byte by byte: a word has few bytes, so that comparing
+/// many at once takes longer.
+fn are_same(word: &[u8], text: &[u8]) -> bool
+    requires { length word.now ≡ length text.now }
+    ensures { result ≡ pointwise ◌==◌ word.now text.now }
+{
+    let mut at = 0;
+    'bytes: while at < word.len() {
+        if word[at] != text[at] {
+            return false;
+        }
+        at += 1;
+    }
+    true
+}
+
+/// Whether the word is spelled so. Most words are told apart by their length.
 #[tactic(auto, unfolding(witx_base::specs::Texts::same_text))]
 fn is_spelled(word: &str, text: &str) -> bool
     ensures { result ≡ same_text word.now text.now }
 {
-    // Most words are told apart by their length, which costs no call.
-    if word.len() != text.len() {
-        return false;
-    }
-    word == text
+    word.len() == text.len() && are_same(word.as_bytes(), text.as_bytes())
 }
 
 /// The kind of tokens that are spelled so, or `other` where no word is.
