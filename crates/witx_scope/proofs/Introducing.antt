@@ -1,5 +1,5 @@
--- A name that is taken in by one search, and a finished name that is used.
-use Rattle.std.specs.Prelude.{◌≡◌, ℕ, List, ◌∷◌, Option, Some, None, Bool, true, false, if◌then◌else◌, is_none}
+-- A name that is taken in by one search, and a name that is used.
+use Rattle.std.specs.Prelude.{◌≡◌, ◌||◌, ℕ, List, ◌∷◌, Option, Some, None, Bool, true, false, if◌then◌else◌, is_none}
 use Rattle.std.specs.Option.{is_some}
 use Rattle.std.proofs.Common.{refl, sym, ap, ◌∙◌}
 use Rattle.std.specs.Ordering.{nat_cmp}
@@ -8,9 +8,11 @@ use Rattle.std.specs.BTreeMap.{insert_entry}
 use Rattle.witx_base.specs.Found.{found}
 use Rattle.witx_files.specs.declared.location.Location.{Location}
 use Rattle.witx_ast.specs.declared.definition.Entry.{Entry}
-use Rattle.witx_scope.specs.Introduced.{AreIntroduced}
-use Rattle.witx_scope.specs.Names.{Names}
+use Rattle.witx_scope.specs.declared.unfinished.Unfinished.{Unfinished}
+use Rattle.witx_scope.specs.Introduced.{is_unfinished, AreIntroduced}
+use Rattle.witx_scope.specs.Names.{Names, unknown, unfinished}
 use Rattle.witx_scope.specs.Senses.{entry_sense, kept_sense, sense_at}
+use Rattle.witx_scope.proofs.Earlier.{no-name-left}
 use Rattle.witx_scope.proofs.Inserted.{lookup-insert_entry}
 use Rattle.witx_scope.proofs.Steps.{found-more, step_rules}
 
@@ -42,20 +44,28 @@ pub known-stays : {V : Type 0} (old new : List (List ℕ × V)) (k : List ℕ) (
     → new ≡ (if is_none (found old k) then insert_entry (slice_cmp nat_cmp) old k p else old) → new ≡ old
 known-stays old new k p told t e n = n ∙ stayed (is_none (found old k)) _ old (sym e ∙ t)
 
-pub ruleset introduce_rules = (step_rules, new-lacked, new-found, known-stays)
+pub ruleset introduce_rules = (step_rules, new-lacked, new-found, known-stays, no-name-left)
 
 -- ---- a name that is used
-
-some-of : {T : Type 0} (o : Option T) (v : T) → o ≡ Some v → is_some o ≡ true
-some-of o v e = ap is_some e
 
 sense-introduced : (l : Option Location) (o : Option Entry) → is_some l ≡ true → sense_at l o ≡ entry_sense o
 sense-introduced (Some l) o h = refl
 sense-introduced None o h = absurd (cc)
 
--- what a finished name denotes is told by its entry alone
-pub sense-finished : (names : Names) (es : List (List ℕ × Entry)) (n : List ℕ) (e : Entry) → AreIntroduced names es → found es n ≡ Some e
-    → kept_sense names es n ≡ entry_sense (Some e)
-sense-finished names es n e h f = sense-introduced (found names n) (found es n) (h n (some-of (found es n) e f)) ∙ ap entry_sense f
+sense-absent : (l : Option Location) (o : Option Entry) → is_some l ≡ false → sense_at l o ≡ unknown
+sense-absent None o h = refl
+sense-absent (Some l) o h = absurd (cc)
 
-pub ruleset used_rules = (step_rules, sense-finished)
+module _ (names : Names) (u : Unfinished) (es : List (List ℕ × Entry)) (n : List ℕ) (h : AreIntroduced names u es) where
+  -- what a name denotes is told by its entry alone,
+  pub sense-finished : (e : Entry) → found es n ≡ Some e → kept_sense names es n ≡ entry_sense (Some e)
+  sense-finished e f = sense-introduced (found names n) (found es n) (h n ∙ ap (λ o. is_some o || is_unfinished u n) f) ∙ ap entry_sense f
+
+  -- and where it has none, by the names that are not finished
+  pub sense-unfinished : found es n ≡ None → is_unfinished u n ≡ true → kept_sense names es n ≡ unfinished
+  sense-unfinished f t = sense-introduced (found names n) (found es n) (h n ∙ (ap (λ o. is_some o || is_unfinished u n) f ∙ t)) ∙ ap entry_sense f
+
+  pub sense-unknown : found es n ≡ None → is_unfinished u n ≡ false → kept_sense names es n ≡ unknown
+  sense-unknown f t = sense-absent (found names n) (found es n) (h n ∙ (ap (λ o. is_some o || is_unfinished u n) f ∙ t))
+
+pub ruleset used_rules = (step_rules, sense-finished, sense-unfinished, sense-unknown)

@@ -2,10 +2,12 @@ pub mod ArmNames
 pub mod ConstantChecks
 pub mod ConstantKeys
 pub mod ConstantSteps
+pub mod Earlier
 pub mod FirstFaults
 pub mod Inserted
 pub mod Introducing
 pub mod NamePlaces
 pub mod Pushed
 pub mod Reporting
+pub mod Settling
 pub mod Steps

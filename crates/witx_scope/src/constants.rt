@@ -147,6 +147,7 @@ pub fn checked_constant(
 {
     let scope = Scope {
         names: &tables.names,
+        unfinished: &tables.unfinished,
         entries: &tables.entries,
         text: site.text,
         path: site.path,

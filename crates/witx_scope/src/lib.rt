@@ -15,6 +15,7 @@ mod scope;
 mod site;
 mod steps_left;
 mod tables;
+mod unfinished;
 
 pub use cases::{TagNames, case_names, case_with, ordered};
 pub use constants::{ConstantName, ConstantPlaces};
@@ -29,3 +30,4 @@ pub use scope::{Marks, Names, Scope};
 pub use site::Site;
 pub use steps_left::StepsLeft;
 pub use tables::Tables;
+pub use unfinished::Unfinished;

@@ -1,9 +1,12 @@
 //! Names that are introduced once, and what they denote.
 #![tactic(auto, using(crate::proofs::Introducing::introduce_rules))]
 
-ghost use Rattle.std.specs.Prelude.{◌≡◌, IfOk, IfErr, OnOk, None, ◌∷◌};
+ghost use Rattle.std.specs.Prelude.{◌≡◌, ◌||◌, ◌++◌, ◌∷◌, [], IfOk, IfErr, OnOk, OnErr, Some, None, true, option_map};
+ghost use Rattle.std.specs.Option.{is_some};
 ghost use Rattle.witx_base.specs.Found.{found};
 ghost use Rattle.witx_scope.specs.Names.{new_mark, new_name};
+ghost use Rattle.witx_scope.specs.Introduced.{AreIntroduced, is_unfinished};
+ghost use Rattle.witx_scope.specs.Positions.{is_same_name};
 ghost use Rattle.witx_scope.specs.Blame.{Blames};
 ghost use Rattle.witx_scope.specs.Senses.{here_of};
 ghost use Rattle.witx_scope.specs.SyntaxChecks.{used_check, denoted_tree};
@@ -13,9 +16,10 @@ use crate::error::CheckError;
 use crate::faults::{known, known_mark, recursive, unknown, wrong_kind};
 use crate::place::SharedPlace;
 use crate::scope::{Marks, Names, Scope};
+use crate::unfinished::Unfinished;
 use std::alloc::Global;
 use std::rc::Rc;
-use witx_ast::{Entry, NamedType, TypeRef};
+use witx_ast::{Entries, Entry, NamedType, TypeRef};
 use witx_base::{Duplicate, Id, OutOfMemory};
 use witx_syntax_tree::IdSyntax;
 
@@ -50,28 +54,82 @@ pub fn mark(marks: &mut Marks, name: Id, at: usize) -> Result<(), OutOfMemory>
     Ok(())
 }
 
-/// Takes a name into the scope of the document.
+/// The place at which a name stands first.
+fn place_of<'a>(names: &'a [(Id, SharedPlace)], name: &Id) -> Option<&'a SharedPlace>
+    ensures { option_map (λ place. place.now) result ≡ found names.now name.now }
+{
+    for introduced in names {
+        if introduced.0 == *name {
+            return Some(&introduced.1);
+        }
+    }
+    None
+}
+
+/// The fault of a name that is introduced already. Only here are the introduced names gone through.
+fn repeated(names: &Names, alloc: Global, name: &Id, at: &SharedPlace) -> CheckError
+    requires { is_some (found names.now name.now) ≡ true }
+    ensures { Blames result (new_name names.now name.now at.now) }
+{
+    match place_of(names.as_slice(), name) {
+        Some(before) => known(alloc, name, at, before),
+        None => unreachable!(),
+    }
+}
+
+/// Whether a name has an entry or is not finished.
+fn is_introduced(unfinished: &Unfinished, entries: &Entries, name: &Id) -> bool
+    ensures { result ≡ (is_some (found entries.now name.now) || is_unfinished unfinished.now name.now) }
+{
+    entries.get_new(name).is_some() || unfinished.has(name)
+}
+
+/// Puts a new name behind the others, as the one that is being declared.
+fn begin(
+    names: &mut Names,
+    unfinished: &mut Unfinished,
+    name: Id,
+    at: SharedPlace,
+) -> Result<(), OutOfMemory>
+    ensures names { OnOk result (names.new ≡ names.old ++ (name, at) ∷ []) }
+    ensures unfinished { (n : _) → OnOk result (is_unfinished unfinished.new n
+        ≡ (is_same_name n name || is_unfinished unfinished.old n)) }
+    ensures current { OnOk result (unfinished.new.current ≡ Some name) }
+    ensures names_unchanged { OnErr result (names.new ≡ names.old) }
+    ensures unfinished_unchanged { (n : _) → OnErr result (is_unfinished unfinished.new n
+        ≡ is_unfinished unfinished.old n) }
+{
+    unfinished.settle()?;
+    names.push((name.copy()?, at))?;
+    unfinished.declare(name);
+    Ok(())
+}
+
+/// Takes a name into the scope of the document, as the one that is being declared.
+#[tactic(auto, using(crate::proofs::Earlier::behind_rules))]
 pub fn introduce(
     names: &mut Names,
+    unfinished: &mut Unfinished,
+    entries: &Entries,
     alloc: Global,
     name: &str,
     at: SharedPlace,
 ) -> Result<Id, CheckError>
+    requires { AreIntroduced names.old unfinished.old entries.now }
     ensures ok { OnOk result (new_name names.old name.now at ≡ None) }
     ensures id { IfOk result (λ id. id ≡ name.now) }
     ensures kept { (q : _) → OnOk result (found names.new q ≡ found ((name.now, at) ∷ names.old) q) }
     ensures fault { IfErr result (λ e. Blames e (new_name names.old name.now at)) }
     ensures err { IfErr result (λ _. names.new ≡ names.old) }
+    ensures introduced { AreIntroduced names.new unfinished.new entries.now }
+    ensures current { OnOk result (unfinished.new.current ≡ Some name.now) }
 {
     let id = Id::new(alloc, name)?;
-    let place = at.copy()?;
-    if names.insert_new(id.copy()?, at)? {
-        return Ok(id);
+    if is_introduced(unfinished, entries, &id) {
+        return Err(repeated(names, alloc, &id, &at));
     }
-    match names.get(&id) {
-        Some(before) => Err(known(alloc, &id, &place, before)),
-        None => unreachable!(),
-    }
+    begin(names, unfinished, id.copy()?, at)?;
+    Ok(id)
 }
 
 /// The named type that a name denotes.
@@ -86,10 +144,12 @@ pub fn denoted<'a>(scope: &Scope<'a>, name: &IdSyntax<'_>) -> Result<&'a Rc<Name
     match scope.entries.get(&id) {
         Some(Entry::Typename(named)) => Ok(named),
         Some(Entry::Module(_)) => Err(wrong_kind(scope, name.name, "datatype", "module", at)),
-        None => match scope.names.get(&id) {
-            Some(_) => Err(recursive(scope, name.name, at)),
-            None => Err(unknown(scope, name.name, at)),
-        },
+        None => {
+            if scope.unfinished.has(&id) {
+                return Err(recursive(scope, name.name, at));
+            }
+            Err(unknown(scope, name.name, at))
+        }
     }
 }
 
