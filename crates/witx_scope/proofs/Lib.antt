@@ -4,7 +4,7 @@ pub mod ConstantKeys
 pub mod ConstantSteps
 pub mod Earlier
 pub mod FirstFaults
-pub mod Inserted
+pub mod Marking
 pub mod Introducing
 pub mod NamePlaces
 pub mod Pushed

@@ -14,8 +14,9 @@ ghost use Rattle.witx_ast.specs.Views.{tree_of, named_tree};
 
 use crate::error::CheckError;
 use crate::faults::{known, known_mark, recursive, unknown, wrong_kind};
+use crate::marks::Marks;
 use crate::place::SharedPlace;
-use crate::scope::{Marks, Names, Scope};
+use crate::scope::{Names, Scope};
 use crate::unfinished::Unfinished;
 use std::alloc::Global;
 use std::rc::Rc;
@@ -36,12 +37,9 @@ pub fn introduce_mark(
     ensures fault { IfErr result (λ e. Blames e (new_mark (here_of scope.now) marks.old name.now at)) }
 {
     let id = Id::new(scope.alloc, name)?;
-    if marks.insert_new(id.copy()?, at)? {
-        return Ok(id);
-    }
-    match marks.get(&id) {
-        Some(before) => Err(known_mark(scope, &id, at, *before)),
-        None => unreachable!(),
+    match marks.take(id.copy()?, at)? {
+        Some(before) => Err(known_mark(scope, &id, at, before)),
+        None => Ok(id),
     }
 }
 
@@ -55,7 +53,7 @@ pub fn mark(marks: &mut Marks, name: Id, at: usize) -> Result<(), OutOfMemory>
 }
 
 /// The place at which a name stands first.
-fn place_of<'a>(names: &'a [(Id, SharedPlace)], name: &Id) -> Option<&'a SharedPlace>
+pub(crate) fn place_of<'a, P>(names: &'a [(Id, P)], name: &Id) -> Option<&'a P>
     ensures { option_map (λ place. place.now) result ≡ found names.now name.now }
 {
     for introduced in names {

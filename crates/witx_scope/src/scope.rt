@@ -7,13 +7,10 @@ use crate::steps_left::StepsLeft;
 use crate::unfinished::Unfinished;
 use std::alloc::Global;
 use witx_ast::Entries;
-use witx_base::{Id, Items, NameMap, WitxPath};
+use witx_base::{Id, Items, WitxPath};
 
 /// Names of the document, in the order in which they are introduced, and where each stands.
 pub type Names = Items<(Id, SharedPlace)>;
-
-/// Names inside one declaration, and the offset at which each stands.
-pub type Marks = NameMap<usize>;
 
 /// What the checks of a declaration read.
 #[derive(Drop)]
