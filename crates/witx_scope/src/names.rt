@@ -17,6 +17,7 @@ use crate::faults::{known, known_mark, recursive, unknown, wrong_kind};
 use crate::marks::Marks;
 use crate::place::SharedPlace;
 use crate::scope::{Names, Scope};
+use crate::steps_left::StepsLeft;
 use crate::unfinished::Unfinished;
 use std::alloc::Global;
 use std::rc::Rc;
@@ -103,13 +104,14 @@ fn begin(
     Ok(())
 }
 
-/// Takes a name into the scope of the document, as the one that is being declared.
+/// Takes a name into the scope of the document, as the one that is being declared. Where it stands already, the
+/// search for its place takes a step for each name.
 #[tactic(auto, using(crate::proofs::Earlier::behind_rules))]
 pub fn introduce(
     names: &mut Names,
     unfinished: &mut Unfinished,
     entries: &Entries,
-    alloc: Global,
+    steps: &StepsLeft,
     name: &str,
     at: SharedPlace,
 ) -> Result<Id, CheckError>
@@ -122,8 +124,10 @@ pub fn introduce(
     ensures introduced { AreIntroduced names.new unfinished.new entries.now }
     ensures current { OnOk result (unfinished.new.current ≡ Some name.now) }
 {
+    let alloc = names.allocator();
     let id = Id::new(alloc, name)?;
     if is_introduced(unfinished, entries, &id) {
+        steps.take(names.len())?;
         return Err(repeated(names, alloc, &id, &at));
     }
     begin(names, unfinished, id.copy()?, at)?;

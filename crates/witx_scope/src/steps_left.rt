@@ -4,9 +4,10 @@ use std::cell::Cell;
 use witx_ast::{Datatype, TypeRef};
 use witx_base::OutOfMemory;
 
-/// Steps that all checks of a document may take behind names: one along each name, and one for each member of a tuple
-/// that is given back. Without an end a chain of names, or a tuple, would cost its length at each mention; these take
-/// about a tenth of a second.
+/// Steps that all checks of a document may take behind names: one along each name, one for each member of a tuple
+/// that is given back, and one for each name before one that is introduced again. Without an end a chain of names, or a
+/// tuple, would cost its length at each mention, and all names theirs at each fault; these take about a tenth of a
+/// second.
 const MOST_STEPS: usize = 1 << 23;
 
 /// The steps that are left of those; beyond them comes want of memory.
@@ -24,7 +25,7 @@ impl StepsLeft {
     }
 
     /// Takes so many steps.
-    fn take(&self, steps: usize) -> Result<(), OutOfMemory> {
+    pub(crate) fn take(&self, steps: usize) -> Result<(), OutOfMemory> {
         let left = self.left.get();
         if steps > left {
             return Err(OutOfMemory);
