@@ -162,6 +162,7 @@ impl<'a> Actions<'a> for Building<'a> {
 
     ghost language = { the_language };
 
+    #[inline(always)]
     fn kind(&self, token: &Token<'a>) -> TokenKind {
         kind_of(token)
     }

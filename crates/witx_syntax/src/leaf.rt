@@ -4,9 +4,10 @@ ghost use Rattle.std.specs.Prelude.{◌≡◌, ℕ, ◌<◌, ◌∷◌, List, le
 ghost use Rattle.witx_lex.specs.Characters.{dollar};
 ghost use Rattle.witx_values.specs.Language.{IsOnTop};
 ghost use Rattle.witx_values.specs.TextTokens.{HoldsText};
+ghost use Rattle.witx_language.specs.declared.token_kind.TokenKind.TheVariants as kinds;
 ghost use Rattle.witx_language.specs.Actions.{the_language};
 ghost use Rattle.witx_language.specs.Values.{a_name, a_text, an_integer};
-ghost use Rattle.witx_syntax.specs.Stack.{Laid, quoted_view, value_view};
+ghost use Rattle.witx_syntax.specs.Stack.{IsOfKind, Laid, quoted_view, value_view};
 ghost use Rattle.witx_syntax_tree.specs.Views.{name_view};
 
 use crate::stack::push;
@@ -46,6 +47,43 @@ fn name_behind<'a>(spelling: &'a str) -> &'a str
     &spelling[1..]
 }
 
+/// Puts an identifier that stands in the text on the stack, with its place.
+fn name_leaf<'a>(tokens: &Tokens<'a>, at: usize, stack: &mut Stack<'a>) -> Done
+    requires inside { at < length tokens.now.marks.items }
+    requires tokens { HoldsText the_language tokens.now }
+    requires kind { IsOfKind kinds.Id tokens.now at }
+    ensures { Laid result tokens.now at stack.old.items stack.new.items }
+{
+    let name = name_behind(tokens.spelling(at));
+    let id = identifier(name, tokens.span(at));
+    push_name(Named { id }, stack)
+}
+
+/// Puts the text of a string on the stack, with its place.
+fn text_leaf<'a>(alloc: Global, tokens: &Tokens<'a>, at: usize, stack: &mut Stack<'a>) -> Done
+    requires inside { at < length tokens.now.marks.items }
+    requires tokens { HoldsText the_language tokens.now }
+    requires kind { IsOfKind kinds.Quoted tokens.now at }
+    ensures { Laid result tokens.now at stack.old.items stack.new.items }
+{
+    let text = string_spelled(alloc, tokens.spelling(at))?;
+    let span = tokens.span(at);
+    push_quoted(Quoted { text, span }, stack)
+}
+
+/// Puts the number of an integer on the stack.
+fn integer_leaf<'a>(tokens: &Tokens<'a>, at: usize, stack: &mut Stack<'a>) -> Done
+    requires inside { at < length tokens.now.marks.items }
+    requires tokens { HoldsText the_language tokens.now }
+    requires kind { IsOfKind kinds.Integer tokens.now at }
+    ensures { Laid result tokens.now at stack.old.items stack.new.items }
+{
+    match integer(tokens.spelling(at)) {
+        Some(value) => push_integer(Number { value }, stack),
+        None => Ok(()),
+    }
+}
+
 /// Puts what the token with the number stands for on the stack: an identifier for itself, a string
 /// for its text, each with its place, an integer for its number, other tokens for nothing.
 pub fn leaf<'a>(alloc: Global, tokens: &Tokens<'a>, at: usize, stack: &mut Stack<'a>) -> Done
@@ -54,20 +92,9 @@ pub fn leaf<'a>(alloc: Global, tokens: &Tokens<'a>, at: usize, stack: &mut Stack
     ensures { Laid result tokens.now at stack.old.items stack.new.items }
 {
     match tokens.kind(at) {
-        TokenKind::Id => {
-            let name = name_behind(tokens.spelling(at));
-            let id = identifier(name, tokens.span(at));
-            push_name(Named { id }, stack)
-        }
-        TokenKind::Quoted => {
-            let text = string_spelled(alloc, tokens.spelling(at))?;
-            let span = tokens.span(at);
-            push_quoted(Quoted { text, span }, stack)
-        }
-        TokenKind::Integer => match integer(tokens.spelling(at)) {
-            Some(value) => push_integer(Number { value }, stack),
-            None => Ok(()),
-        },
+        TokenKind::Id => name_leaf(tokens, at, stack),
+        TokenKind::Quoted => text_leaf(alloc, tokens, at, stack),
+        TokenKind::Integer => integer_leaf(tokens, at, stack),
         _ => Ok(()),
     }
 }

@@ -19,13 +19,11 @@ use witx_values::{Reading, read, text_tokens};
 fn parse_tokens<'a>(
     alloc: Global,
     actions: &Building<'a>,
-    text: &'a str,
     tokens: &Tokens<'a>,
 ) -> Result<TopLevelDocument<'a>, SyntaxError>
-    requires tokens { HoldsText the_language tokens.now }
-    requires text { tokens.now.text.now ≡ text.now }
-    ensures document { IfOk result (λ d. Reads text.now (document_view d)) }
-    ensures fault { IfErr result (λ e. IfParse e (λ f. IsParseFault text.now f)) }
+    requires { HoldsText the_language tokens.now }
+    ensures document { IfOk result (λ d. Reads tokens.now.text.now (document_view d)) }
+    ensures fault { IfErr result (λ e. IfParse e (λ f. IsParseFault tokens.now.text.now f)) }
 {
     let table = the_table();
     match read(alloc, actions, &table, Nonterminal::Text, tokens)? {
@@ -54,7 +52,7 @@ pub fn parse_document<'a>(alloc: Global, text: &'a str) -> Result<TopLevelDocume
         texts: PhantomData,
     };
     match text_tokens(alloc, &actions, text) {
-        Ok(tokens) => parse_tokens(alloc, &actions, text, &tokens),
+        Ok(tokens) => parse_tokens(alloc, &actions, &tokens),
         Err(LexError::Bad(fault)) => Err(SyntaxError::Parse(fault_at(
             text,
             lexical_message(fault.kind),

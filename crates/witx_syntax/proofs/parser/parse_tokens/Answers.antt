@@ -1,6 +1,5 @@
-use Rattle.std.proofs.Common.{ℕ, List, ap, ◌∙◌, subst}
+use Rattle.std.proofs.Common.{List, ap, ◌∙◌}
 use Rattle.std.specs.Prelude.{slice_index_or}
-use Rattle.witx_lex.specs.Meaning.{HasTokens}
 use Rattle.witx_values.specs.Language.{kinds_of}
 use Rattle.witx_values.specs.Texts.{start_of}
 use Rattle.witx_values.proofs.Readings.{value_sorted, text_value, text_fault}
@@ -19,28 +18,26 @@ use Rattle.witx_syntax.proofs.parser.parse_tokens.Goals as goal
 
 pub items_in-requires : goal.items_in-requires
 items_in-requires c =
-    let ls = c.requires.tokens.0 in
-    let held = c.requires.tokens.1 in
+    let ls = c.requires.0 in
+    let held = c.requires.1 in
     value_sorted the_language lawful value_view Text c.args.tokens.now.text.now ls held.marked.lexed c.in_ok-value.field-0 (c.in_ok-value.ensures ls held)
     c.in-Value.value c.in-Value.is
 
 pub returns-in-Value-clause-document : goal.returns-in-Value-clause-document
 returns-in-Value-clause-document c =
-    let ls = c.requires.tokens.0 in
-    let held = c.requires.tokens.1 in
-    let lexed = subst (λ (t : List ℕ). HasTokens t ls) c.requires.text held.marked.lexed in
-    text_value the_language lawful value_view Text c.args.text.now ls lexed c.in_ok-value.field-0 (c.in_ok-value.ensures ls held)
+    let ls = c.requires.0 in
+    let held = c.requires.1 in
+    text_value the_language lawful value_view Text c.args.tokens.now.text.now ls held.marked.lexed c.in_ok-value.field-0 (c.in_ok-value.ensures ls held)
     c.in-Value.value (some_items (document_view (record { items = c.items_in.result }))) c.in-Value.is c.items_in.ensures
 
 pub returns-in-Fault-clause-fault : goal.returns-in-Fault-clause-fault
 returns-in-Fault-clause-fault c =
-    let ls = c.requires.tokens.0 in
-    let held = c.requires.tokens.1 in
-    let lexed = subst (λ (t : List ℕ). HasTokens t ls) c.requires.text held.marked.lexed in
+    let ls = c.requires.0 in
+    let held = c.requires.1 in
+    let text = c.args.tokens.now.text.now in
     let fault = c.in-Fault.fault in
     let here = slice_index_or (kinds_of the_language ls) fault.at End in
-    text_fault the_language lawful value_view Text c.args.text.now ls lexed c.in_ok-value.field-0 (c.in_ok-value.ensures ls held)
+    text_fault the_language lawful value_view Text text ls held.marked.lexed c.in_ok-value.field-0 (c.in_ok-value.ensures ls held)
     telling fault (fault_view c.token_fault-fault.result) c.in-Fault.is
     (c.token_fault-fault.ensures ls held
-    ∙ ap (λ (expected : List TokenKind). fault_told_at c.args.tokens.now.text.now (message_of expected here) (start_of c.args.tokens.now.text.now ls fault.at)) c.as_slice.ensures.value
-    ∙ ap (λ (t : List ℕ). fault_told_at t (message_of fault.expected.items here) (start_of t ls fault.at)) c.requires.text)
+    ∙ ap (λ (expected : List TokenKind). fault_told_at text (message_of expected here) (start_of text ls fault.at)) c.as_slice.ensures.value)
