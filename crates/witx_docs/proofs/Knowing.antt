@@ -12,7 +12,6 @@ use Rattle.witx_ast.specs.Definitions.{DefinitionTree, typename_of, module_of, c
 use Rattle.witx_ast.specs.Ordered.{NamesStand, FieldNamesStand, ArmNamesStand, DefinitionStands, OrderedAfter, IsOrdered}
 use Rattle.witx_ast.specs.Closed.{ParamNamesStand, ItemNamesStand, AllNamesStand, ClosedAfter, IsClosed}
 use Rattle.witx_ast.specs.Items.{ItemTree, import_of, func_of}
-use Rattle.witx_ast.proofs.TreeKinds.{plain-behind}
 use Rattle.witx_ast.proofs.EntryLaws.{is_key}
 use Rattle.witx_ast.specs.declared.definition.Definition.{Definition}
 use Rattle.witx_ast.specs.declared.definition.Definition.TheVariants as definition
@@ -24,24 +23,23 @@ use Rattle.witx_layout.specs.declared.layout.SizeAlign.{SizeAlign}
 use Rattle.witx_layout.specs.declared.members.LayoutError.{LayoutError}
 use Rattle.witx_layout.specs.declared.members.LayoutError.TheVariants as layout_error
 use Rattle.witx_layout.specs.Numbers.{size_of}
-use Rattle.witx_layout.specs.Layouts.{plain_layout, layout_of}
-use Rattle.witx_layout.specs.Known.{Knows, KnowsFields, KnowsArms}
-use Rattle.witx_layout.proofs.Tabled.{KeptBy, Tabled, passed, tabled-start, ahead-start, next-known}
+use Rattle.witx_layout.specs.Known.{Tells, Knows, KnowsFields, KnowsArms}
+use Rattle.witx_layout.proofs.Tabled.{HasOf, KeptBy, Tabled, behind-same, passed, tabled-start, ahead-start, next-known}
 use Rattle.witx_docs.specs.LaidOut.{too_large, refusal_fits, document_laid_out, typenames_laid_out, typename_laid_out, modules_laid_out, laid_out}
 use Rattle.witx_markdown.specs.NamesKnown.{InParams, InItems, InDefinition, InDefinitions}
 use Rattle.witx_docs.proofs.Judging.{large-append, large-head, or-true}
 use Rattle.witx_markdown.proofs.NameSteps.{layout_steps}
 
--- the table has the layout of each typename that stands before
+-- the table tells the layout of each typename that stands before
 abbrev pub HasAll : List (List ℕ × SizeAlign) → List DefinitionTree → Type 0
-HasAll table before = (name : List ℕ) → (u : Tree) → typename_called before name ≡ Some u → found table name ≡ Some (layout_of u)
+HasAll table before = (name : List ℕ) → (u : Tree) → typename_called before name ≡ Some u → Tells (found table name) (plain u)
 
-behind-layout : (u t : Tree) → behind u ≡ behind t → layout_of u ≡ layout_of t
-behind-layout u t b = ap plain_layout (sym (plain-behind u) ∙ ap plain b ∙ plain-behind t)
+behind-told : (entry : Option SizeAlign) (u t : Tree) → behind u ≡ behind t → Tells entry (plain u) → Tells entry (plain t)
+behind-told entry u t b h = subst (Tells entry) (behind-same u t b) h
 
 mutual
   type-known : (table : List (List ℕ × SizeAlign)) (before : List DefinitionTree) → HasAll table before → (t : Tree) → NamesStand before t → Knows table t
-  type-known table before h (Tree.named n t d) s = h n s.0 s.1 ∙ ap Some (behind-layout s.0 t s.2)
+  type-known table before h (Tree.named n t d) s = behind-told (found table n) s.0 t s.2 (h n s.0 s.1)
   type-known table before h (Tree.builtin b) s = tt
   type-known table before h Tree.handle s = tt
   type-known table before h (Tree.list_of t) s = tt
@@ -111,7 +109,7 @@ closed-ordered xs s = ordered-after [] (map definition_tree xs) s
 
 has-all : (table : List (List ℕ × SizeAlign)) (ds : List DefinitionTree) → Tabled table ds → HasAll table ds
 unfolding KeptBy
-has-all table ds h n u c = h n ∙ ap (option_map (λ t. plain_layout (plain t))) c
+has-all table ds h n u c = subst (HasOf Tells (found table n)) c (h n)
 
 -- the loop over all definitions has ended
 pub all-known : (table : List (List ℕ × SizeAlign)) (xs : List Definition) (i : ℕ) → length xs ≤ i → IsClosed (map definition_tree xs) → Tabled table (passed xs i)

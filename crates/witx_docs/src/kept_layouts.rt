@@ -13,12 +13,12 @@ ghost use Rattle.witx_markdown.specs.NamesKnown.{InDefinitions};
 
 use std::alloc::Global;
 use witx_ast::{Definition, Document, names_are_distinct};
-use witx_base::{Duplicate, NameMap};
-use witx_layout::{LayoutError, SizeAlign};
+use witx_base::NameMap;
+use witx_layout::{LayoutError, SizeAlign, enter_layout};
 use witx_markdown::{NamedLayouts, type_layout};
 
-/// The layouts of the typenames of a closed document, by their names: one pass, in which a name is looked
-/// up and not looked through.
+/// The layouts of the typenames of a closed document, by their names; those whose type is written out flat need no
+/// entry. One pass, in which a name is looked up and not looked through.
 pub fn kept_layouts(alloc: Global, document: &Document) -> Result<NameMap<SizeAlign>, LayoutError>
     requires { IsClosed (map definition_tree document.now.definitions) }
     ensures known { IfOk result (λ table. InDefinitions (Knows table) (map definition_tree document.now.definitions)) }
@@ -55,6 +55,6 @@ fn keep_layout(table: &mut NameMap<SizeAlign>, definition: &Definition) -> Resul
         return Ok(());
     };
     let layout = type_layout(NamedLayouts::Kept(table), &named.tref)?;
-    table.insert(named.name.copy()?, layout)?;
+    enter_layout(table, named, layout)?;
     Ok(())
 }
