@@ -1,5 +1,5 @@
 -- `named-ok`, `named-wrong`: the checks of a typename or a module, from those of its inside.
-use Rattle.std.specs.Prelude.{◌≡◌, ℕ, List, [], ◌∷◌, Option, Some, None, Bool, true, false, cond, option_map, Result, Ok, Err, OnOk, OnErr}
+use Rattle.std.specs.Prelude.{◌≡◌, ◌||◌, ℕ, List, [], ◌∷◌, Option, Some, None, Bool, true, false, option_map}
 use Rattle.std.specs.Option.{is_some}
 use Rattle.std.proofs.Common.{refl, sym, ap, subst, ◌∙◌, inl, inr}
 use Rattle.witx_base.specs.Found.{found}
@@ -22,10 +22,12 @@ use Rattle.witx_scope.specs.declared.error.CheckError.{CheckError}
 use Rattle.witx_scope.specs.declared.error.CheckError.TheVariants as check_error
 use Rattle.witx_scope.specs.Blame.{Blames}
 use Rattle.witx_scope.specs.Answers.{IsCheckFault}
-use Rattle.witx_scope.specs.Introduced.{AreIntroduced}
+use Rattle.witx_scope.specs.declared.unfinished.Unfinished.{Unfinished}
+use Rattle.witx_scope.specs.Introduced.{is_named, is_unfinished, AreIntroduced}
 use Rattle.witx_scope.specs.Kept.{tree_with}
 use Rattle.witx_scope.specs.Positions.{is_same_name}
 use Rattle.witx_scope.proofs.FirstFaults.{fault-past, blames-head, blames-to}
+use Rattle.witx_scope.proofs.Settling.{is_some-pick}
 use Rattle.witx_scope.proofs.Steps.{funext}
 
 pub place-within : (old : Names) (es : List (List ℕ × Entry)) (place : ℕ → Location) (n : Name) (at : ℕ) → (within old es place n).place at ≡ place at
@@ -159,34 +161,35 @@ refuses-new old new n at a k = inl (takes-new old new n at a k)
 
 pub ruleset takes_rules = (within_rules, takes-none, takes-one, refuses-new)
 
--- ---- each entry's name stays introduced
+-- ---- a finished name has an entry in place of being unfinished
 
-still-some : {T : Type 0} (t : Bool) (v : T) (o : Option T) → is_some o ≡ true → is_some (cond t (Some v) o) ≡ true
-still-some true v o h = refl
-still-some false v o h = h
+some-tree : (o : Option Entry) → is_some (option_map entry_tree o) ≡ is_some o
+some-tree (Some e) = refl
+some-tree None = refl
 
-introduced-more : (old new : Names) (es : List (List ℕ × Entry)) (n : List ℕ) (at : Location) → AreIntroduced old es
-    → ((q : List ℕ) → found new q ≡ found ((n, at) ∷ old) q) → AreIntroduced new es
-introduced-more old new es n at h k q e = ap is_some (k q) ∙ still-some (is_same_name q n) at (found old q) (h q e)
+moved : (entry declared refused : Bool) → (entry || (declared || refused)) ≡ ((declared || entry) || refused)
+moved true true refused = refl
+moved true false refused = refl
+moved false true refused = refl
+moved false false refused = refl
 
-some-tree : (o : Option Entry) → is_some o ≡ true → is_some (option_map entry_tree o) ≡ true
-some-tree (Some e) h = refl
-some-tree None h = h
+entry-more : (es now : List (List ℕ × Entry)) (n q : List ℕ) (tree : DefinitionTree) → option_map entry_tree (found now q) ≡ tree_with es n tree q
+    → is_some (found now q) ≡ (is_same_name q n || is_some (found es q))
+entry-more es now n q tree f =
+    sym (some-tree (found now q))
+    ∙ (ap is_some f
+    ∙ (is_some-pick (is_same_name q n) tree (option_map entry_tree (found es q))
+    ∙ ap (λ (t : Bool). is_same_name q n || t) (some-tree (found es q))))
 
-finished-at : (t : Bool) (tree : DefinitionTree) (e : Option Entry) (at : Location) (o : Option Location) → (is_some e ≡ true → is_some o ≡ true)
-    → is_some (cond t (Some tree) (option_map entry_tree e)) ≡ true → is_some (cond t (Some at) o) ≡ true
-finished-at true tree e at o h s = refl
-finished-at false tree (Some e) at o h s = h refl
-finished-at false tree None at o h s = h s
-
-introduced-finished : (old new : Names) (es now : List (List ℕ × Entry)) (n m : List ℕ) (at : Location) (tree : DefinitionTree) → m ≡ n → AreIntroduced old es
-    → ((q : List ℕ) → found new q ≡ found ((n, at) ∷ old) q) → ((q : List ℕ) → option_map entry_tree (found now q) ≡ tree_with es m tree q) → AreIntroduced new now
-introduced-finished old new es now n m at tree same h k f q e =
+pub introduced-finished : (names : Names) (u v : Unfinished) (es now : List (List ℕ × Entry)) (n m : List ℕ) (tree : DefinitionTree) → m ≡ n
+    → AreIntroduced names u es → u.current ≡ Some n → v.current ≡ None → v.refused ≡ u.refused
+    → ((q : List ℕ) → option_map entry_tree (found now q) ≡ tree_with es m tree q) → AreIntroduced names v now
+introduced-finished names u v es now n m tree same h declared none refused f q =
     let f1 : option_map entry_tree (found now q) ≡ tree_with es n tree q = f q ∙ ap (λ (x : List ℕ). tree_with es x tree q) same in
-    ap is_some (k q) ∙ finished-at (is_same_name q n) tree (found es q) at (found old q) (h q) (sym (ap is_some f1) ∙ some-tree (found now q) e)
-
--- a declaration is kept, or its entry found no memory
-pub introduced-kept : {U X : Type 0} (r : Result U X) (old new : Names) (es now : List (List ℕ × Entry)) (n m : List ℕ) (at : Location) (tree : DefinitionTree) → m ≡ n → AreIntroduced old es
-    → ((q : List ℕ) → found new q ≡ found ((n, at) ∷ old) q) → ((q : List ℕ) → OnOk r (option_map entry_tree (found now q) ≡ tree_with es m tree q)) → OnErr r (now ≡ es) → AreIntroduced new now
-introduced-kept (Ok u) old new es now n m at tree same h k f e = introduced-finished old new es now n m at tree same h k f
-introduced-kept (Err x) old new es now n m at tree same h k f e = subst (λ (x : List (List ℕ × Entry)). AreIntroduced new x) (sym e) (introduced-more old new es n at h k)
+    let left : is_unfinished v q ≡ is_some (found u.refused q)
+    = ap (λ (o : Option (List ℕ)). is_named o q || is_some (found v.refused q)) none ∙ ap (λ (x : List (List ℕ × Unit {0})). is_some (found x q)) refused in
+    h q
+    ∙ (ap (λ (o : Option (List ℕ)). is_some (found es q) || (is_named o q || is_some (found u.refused q))) declared
+    ∙ (moved (is_some (found es q)) (is_same_name q n) (is_some (found u.refused q))
+    ∙ (ap (λ (t : Bool). t || is_some (found u.refused q)) (sym (entry-more es now n q tree f1))
+    ∙ ap (λ (t : Bool). is_some (found now q) || t) (sym left))))

@@ -1,6 +1,6 @@
 //! Modules: their items, in order and by name.
 
-ghost use Rattle.std.specs.Prelude.{◌≡◌, ◌∷◌, ◌++◌, [], IfOk, IfErr, OnOk, OnErr, None, map, option_map};
+ghost use Rattle.std.specs.Prelude.{◌≡◌, ◌∷◌, ◌++◌, [], IfOk, IfErr, OnOk, OnErr, Some, None, map, option_map};
 ghost use Rattle.witx_base.specs.Found.{found};
 ghost use Rattle.witx_ast.specs.Items.{item_tree, entry_item, ItemsFit};
 ghost use Rattle.witx_ast.specs.Definitions.{module_tree};
@@ -19,14 +19,15 @@ ghost use Rattle.witx_scope.specs.Inside.{TakesAtMost, RefusesDeclaration};
 ghost use Rattle.witx_scope.specs.Sites.{place_at, checks_module, makes_module};
 
 use crate::functions::checked_func;
-use std::alloc::Global;
 use std::rc::Rc;
 use witx_ast::{
     Entries, Module, ModuleDefinition, ModuleDefinitions, ModuleEntries, ModuleEntry, ModuleImport,
     ModuleImportVariant,
 };
 use witx_base::{Duplicate, Id, OutOfMemory};
-use witx_scope::{CheckError, Marks, Names, Scope, Site, StepsLeft, introduce, introduce_mark};
+use witx_scope::{
+    CheckError, Marks, Names, Scope, Site, StepsLeft, Unfinished, introduce, introduce_mark,
+};
 use witx_syntax_tree::{
     CommentSyntax, Documented, ModuleDeclSyntax, ModuleImportSyntax, ModuleSyntax,
 };
@@ -148,14 +149,14 @@ fn checked_items(
 #[tactic(auto, using(crate::proofs::Within::takes_rules))]
 pub fn checked_module(
     names: &mut Names,
+    unfinished: &mut Unfinished,
     entries: &Entries,
     steps: &StepsLeft,
-    alloc: Global,
     site: Site<'_>,
     decl: &ModuleSyntax<'_>,
 ) -> Result<Module, CheckError>
     requires place { site.place ≡ place_at site decl.now.name }
-    requires introduced { AreIntroduced names.old entries.now }
+    requires introduced { AreIntroduced names.old unfinished.old entries.now }
     ensures ok { OnOk result (first_fault (checks_module names.old entries.now site.entry decl.now) ≡ None) }
     ensures tree { IfOk result (λ m. module_tree m ≡ makes_module names.old entries.now site.entry decl.now) }
     ensures name { IfOk result (λ m. m.name ≡ decl.now.name.name.now) }
@@ -166,6 +167,8 @@ pub fn checked_module(
         decl.now.name.name.now (place_at site.entry decl.now.name)) }
     ensures left { OnErr result
         (TakesAtMost names.old names.new decl.now.name.name.now (place_at site.entry decl.now.name)) }
+    ensures introduced_after { AreIntroduced names.new unfinished.new entries.now }
+    ensures current { OnOk result (unfinished.new.current ≡ Some decl.now.name.name.now) }
 {
     let Site {
         text,
@@ -173,9 +176,11 @@ pub fn checked_module(
         place,
         comments,
     } = site;
-    let name = introduce(names, alloc, decl.name.name, place)?;
+    let alloc = names.allocator();
+    let name = introduce(names, unfinished, entries, alloc, decl.name.name, place)?;
     let scope = Scope {
         names,
+        unfinished,
         entries,
         text,
         path,

@@ -1,6 +1,6 @@
 //! Typenames.
 
-ghost use Rattle.std.specs.Prelude.{◌≡◌, ◌∷◌, IfOk, IfErr, OnOk, OnErr, None};
+ghost use Rattle.std.specs.Prelude.{◌≡◌, ◌∷◌, IfOk, IfErr, OnOk, OnErr, Some, None};
 ghost use Rattle.witx_base.specs.Found.{found};
 ghost use Rattle.witx_ast.specs.Views.{named_tree};
 ghost use Rattle.witx_scope.specs.Faults.{first_fault};
@@ -11,9 +11,8 @@ ghost use Rattle.witx_scope.specs.Inside.{TakesAtMost, RefusesDeclaration};
 ghost use Rattle.witx_scope.specs.Sites.{place_at, checks_typename, makes_typename};
 
 use crate::types::checked_type;
-use std::alloc::Global;
 use witx_ast::{Entries, NamedType};
-use witx_scope::{CheckError, Names, Scope, Site, StepsLeft, introduce, named};
+use witx_scope::{CheckError, Names, Scope, Site, StepsLeft, Unfinished, introduce, named};
 use witx_syntax_tree::TypenameSyntax;
 
 /// The named type of a declaration whose name stands at `place`, and is taken in before the type
@@ -21,14 +20,14 @@ use witx_syntax_tree::TypenameSyntax;
 #[tactic(auto, using(crate::proofs::Within::takes_rules))]
 pub fn checked_typename(
     names: &mut Names,
+    unfinished: &mut Unfinished,
     entries: &Entries,
     steps: &StepsLeft,
-    alloc: Global,
     site: Site<'_>,
     decl: &TypenameSyntax<'_>,
 ) -> Result<NamedType, CheckError>
     requires place { site.place ≡ place_at site decl.now.ident }
-    requires introduced { AreIntroduced names.old entries.now }
+    requires introduced { AreIntroduced names.old unfinished.old entries.now }
     ensures ok { OnOk result (first_fault (checks_typename names.old entries.now site.entry decl.now) ≡ None) }
     ensures tree { IfOk result (λ n. named_tree n ≡ makes_typename names.old entries.now site.entry decl.now) }
     ensures name { IfOk result (λ n. n.name ≡ decl.now.ident.name.now) }
@@ -39,6 +38,8 @@ pub fn checked_typename(
         decl.now.ident.name.now (place_at site.entry decl.now.ident)) }
     ensures left { OnErr result
         (TakesAtMost names.old names.new decl.now.ident.name.now (place_at site.entry decl.now.ident)) }
+    ensures introduced_after { AreIntroduced names.new unfinished.new entries.now }
+    ensures current { OnOk result (unfinished.new.current ≡ Some decl.now.ident.name.now) }
 {
     let Site {
         text,
@@ -47,9 +48,11 @@ pub fn checked_typename(
         comments,
     } = site;
     let at = decl.ident.span.start;
-    let name = introduce(names, alloc, decl.ident.name, place)?;
+    let alloc = names.allocator();
+    let name = introduce(names, unfinished, entries, alloc, decl.ident.name, place)?;
     let scope = Scope {
         names,
+        unfinished,
         entries,
         text,
         path,

@@ -117,13 +117,17 @@ pub fn validate_typename(
     let alloc = tables.alloc;
     match checked_typename(
         &mut tables.names,
+        &mut tables.unfinished,
         &tables.entries,
         &tables.steps,
-        alloc,
         site,
         decl,
     ) {
-        Ok(made) => Ok(keep_typename(definitions, &mut tables.entries, alloc, made)?),
+        Ok(made) => {
+            keep_typename(definitions, &mut tables.entries, alloc, made)?;
+            tables.unfinished.finish();
+            Ok(())
+        }
         Err(error) => Err(error),
     }
 }
@@ -142,13 +146,17 @@ pub fn validate_module(
     let alloc = tables.alloc;
     match checked_module(
         &mut tables.names,
+        &mut tables.unfinished,
         &tables.entries,
         &tables.steps,
-        alloc,
         site,
         decl,
     ) {
-        Ok(made) => Ok(keep_module(definitions, &mut tables.entries, alloc, made)?),
+        Ok(made) => {
+            keep_module(definitions, &mut tables.entries, alloc, made)?;
+            tables.unfinished.finish();
+            Ok(())
+        }
         Err(error) => Err(error),
     }
 }

@@ -15,8 +15,8 @@ use witx_ast::{Definitions, Document, Entries};
 use witx_base::{OutOfMemory, WitxPath};
 use witx_lex::LineCursor;
 use witx_scope::{
-    CheckError, ConstantPlaces, Names, SharedPath, Site, StepsLeft, Tables, shared_path,
-    with_shared,
+    CheckError, ConstantPlaces, Names, SharedPath, Site, StepsLeft, Tables, Unfinished,
+    shared_path, with_shared,
 };
 use witx_syntax_tree::{CommentSyntax, DeclSyntax};
 
@@ -38,6 +38,7 @@ impl DocValidation {
         Ok(DocValidation {
             tables: Tables {
                 names: Names::new(alloc),
+                unfinished: Unfinished::new(alloc),
                 entries: Entries::new(alloc),
                 constants: ConstantPlaces::new(alloc),
                 steps: StepsLeft::new(),
@@ -126,7 +127,8 @@ impl DocValidation {
         ensures entries { result.entries ≡ (kept_by self).entries }
         ensures ordered { IsOrdered (map definition_tree definitions) → IsOrdered (map definition_tree result.definitions) }
     {
-        Document::new(definitions, self.tables.entries)
+        let tables = self.tables;
+        Document::new(definitions, tables.entries)
     }
 }
 

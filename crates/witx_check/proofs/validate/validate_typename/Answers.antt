@@ -1,7 +1,7 @@
 use Rattle.std.proofs.lemmas.Result.{err_from_is_err_and}
 use Rattle.witx_comments.specs.Comments.{comments_view}
 use Rattle.witx_syntax_tree.specs.Views.{name_view, type_view}
-use Rattle.witx_check.proofs.Within.{introduced-kept}
+use Rattle.witx_check.proofs.Within.{introduced-finished}
 use Rattle.witx_check.proofs.Validating.{typename-refused, typename-late, typename-made}
 use Rattle.witx_check.proofs.validate.validate_typename.Goals as goal
 
@@ -23,8 +23,8 @@ returns-in_ok-keep_typename-in-Ok c =
     let k = c.in_ok-keep_typename-in-Ok.ensures in
     typename-made _ _ _ _ _ _ _ _ (name_view c.args.decl.now.ident) (comments_view c.args.site.comments.now) (type_view c.args.decl.now.def) c.in-Ok.made e.ok e.tree e.name e.kept k.appended k.senses k.trees
 
-pub invariant_of-tables : goal.invariant_of-tables
-invariant_of-tables c =
+pub invariant_of-tables-in-Ok : goal.invariant_of-tables-in-Ok
+invariant_of-tables-in-Ok c =
     let e = c.in-Ok.ensures in
-    let k = c.keep_typename.ensures in
-    record { introduced = introduced-kept c.keep_typename.result c.args.tables.now.names c.checked_typename.new.names c.args.tables.now.entries c.keep_typename.new.entries c.args.decl.now.ident.name.now c.in-Ok.made.name _ _ e.name c.args.tables.now.introduced e.kept k.trees k.entries_unchanged }
+    let k = c.in_ok-keep_typename-in-Ok.ensures in
+    record { introduced = introduced-finished c.checked_typename.new.names c.checked_typename.new.unfinished c.finish.new.self c.args.tables.now.entries c.keep_typename.new.entries c.args.decl.now.ident.name.now c.in-Ok.made.name _ e.name e.introduced_after e.current c.finish.ensures.current c.finish.ensures.refused k.trees }
