@@ -177,7 +177,7 @@ pub fn checked_module(
         comments,
     } = site;
     let alloc = names.allocator();
-    let name = introduce(names, unfinished, entries, alloc, decl.name.name, place)?;
+    let name = introduce(names, unfinished, entries, steps, decl.name.name, place)?;
     let scope = Scope {
         names,
         unfinished,

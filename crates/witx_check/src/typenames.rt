@@ -49,7 +49,7 @@ pub fn checked_typename(
     } = site;
     let at = decl.ident.span.start;
     let alloc = names.allocator();
-    let name = introduce(names, unfinished, entries, alloc, decl.ident.name, place)?;
+    let name = introduce(names, unfinished, entries, steps, decl.ident.name, place)?;
     let scope = Scope {
         names,
         unfinished,
