@@ -34,7 +34,7 @@ of-place text at e l =
       inside = l;
       feed = feed;
       lines = subst (λ n. lines_of text ≡ take n text ∷ lines_of (drop (n + 1) text)) e (slice_split_first is_feed text 0 here);
-      spelled = cut ∙ ap (λ byte. take at text ++ byte ∷ drop (at + 1) text) feed
+      spelled = cut ∙ ap (λ byte. take at text ++ byte ∷ drop (at + 1) text) feed;
     }
 
 pub first-feed : (text : List ℕ) (at : ℕ) → position is_feed text ≡ Some at → FirstFeed text at
