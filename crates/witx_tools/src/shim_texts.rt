@@ -1,6 +1,6 @@
 //! The shims of the functions of mapped modules.
 
-ghost use Rattle.std.specs.Prelude.{◌≡◌, ◌++◌, All, IfErr, IfOk, OnOk, Option, Some, codes, map, string_bytes};
+ghost use Rattle.std.specs.Prelude.{◌≡◌, ◌++◌, All, IfErr, IfOk, IfSome, OnOk, Option, Some, codes, map, string_bytes};
 ghost use Rattle.std.specs.List.{flat_map};
 ghost use Rattle.witx_compat.specs.Views.{function_view, module_view};
 ghost use Rattle.witx_ast.specs.Functions.{func_tree};
@@ -152,14 +152,27 @@ fn put_number(text: &mut String, number: usize) -> Result<(), AllocError>
     write!(text, " {number}")
 }
 
+/// The line that says why there is no shim; there is none for want of memory.
+fn refusal_text(refusal: &ShimError) -> Option<&'static str>
+    ensures { (why : Option ShimRefusal) → IsShimRefusal why refusal.now → IfSome result (λ line.
+        (r : ShimRefusal) × (why ≡ Some r) × (line.now ≡ refusal_line r)) }
+{
+    match refusal {
+        ShimError::OtherAbi => Some("  other abi\n"),
+        ShimError::OutOfMemory => None,
+        _ => Some("  not compatible\n"),
+    }
+}
+
 /// Why there is no shim; there is no text of want of memory.
 fn put_refusal(text: &mut String, refusal: ShimError) -> Result<(), OutOfMemory>
     ensures { (why : Option ShimRefusal) → IsShimRefusal why refusal → OnOk result ((r : ShimRefusal) × (why ≡ Some r)
         × (string_bytes text.new ≡ string_bytes text.old ++ refusal_line r)) }
 {
-    match refusal {
-        ShimError::OtherAbi => Ok(text.push_str("  other abi\n")?),
-        ShimError::OutOfMemory => Err(OutOfMemory),
-        _ => Ok(text.push_str("  not compatible\n")?),
+    let line = refusal_text(&refusal);
+    drop(refusal);
+    match line {
+        Some(line) => Ok(text.push_str(line)?),
+        None => Err(OutOfMemory),
     }
 }
