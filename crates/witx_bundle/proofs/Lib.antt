@@ -1,4 +1,5 @@
 pub mod Examples
+pub mod Feeds
 pub mod Fronts
 pub mod Headers
 pub mod LastTexts

@@ -1,7 +1,8 @@
 //! The lines of a bundle: headers, and the text before the next one.
 #![tactic(auto, using(crate::proofs::Headers::header_rules))]
 
-ghost use Rattle.std.specs.Prelude.{◌≡◌, ◌≤◌, [], ◌∷◌, ◌++◌, IfOk, IfSome, MatchOption, option_copied, Some, None, if◌then◌else◌, length, drop, position, ◌==◌};
+ghost use Rattle.std.specs.Prelude.{◌≡◌, ◌≤◌, [], ◌∷◌, ◌++◌, IfOk, IfSome, MatchOption, option_copied, Some, None, if◌then◌else◌, length, drop, position, take, false, ◌==◌};
+ghost use Rattle.std.specs.List.{list_any};
 ghost use Rattle.witx_bundle.specs.Bundles.{given, is_header, lines_of, path_after, text_before, without_return};
 ghost use Rattle.witx_bundle.specs.Fronts.{EndsFront};
 
@@ -18,11 +19,47 @@ pub fn cut_line(text: &str) -> Option<(&str, &str)>
     Some((&text[..at], &text[at + 1..]))
 }
 
-/// The place of the first line feed: a byte's own search, where `split_once` would read each character.
+/// How many bytes are looked at together.
+const BLOCK: usize = 32;
+
+/// The place of the first line feed. Blocks without one are passed whole, which takes a few instructions a block.
 fn line_feed(text: &str) -> Option<usize>
     ensures { result ≡ position (λ byte. byte == 10) text.now }
 {
-    text.as_bytes().iter().position(|byte| *byte == b'\n')
+    let bytes = text.as_bytes();
+    let start = feedless(bytes);
+    let at = first_feed(&bytes[start..])?;
+    Some(start + at)
+}
+
+/// The place of the first line feed, byte by byte.
+fn first_feed(bytes: &[u8]) -> Option<usize>
+    ensures { result ≡ position (λ byte. byte == 10) bytes.now }
+{
+    bytes.iter().position(|byte| *byte == b'\n')
+}
+
+/// How many bytes in front, in whole blocks, have no line feed among them.
+fn feedless(bytes: &[u8]) -> usize
+    ensures inside { result ≤ length bytes.now }
+    ensures none { list_any (λ byte. byte == 10) (take result bytes.now) ≡ false }
+{
+    let mut start = 0;
+    while bytes.len() - start >= BLOCK && !has_feed(&bytes[start..start + BLOCK]) {
+        start += BLOCK;
+    }
+    start
+}
+
+/// Whether a line feed is among the bytes. All are looked at, without a branch, so that they are compared side by side.
+fn has_feed(bytes: &[u8]) -> bool
+    ensures { result ≡ list_any (λ byte. byte == 10) bytes.now }
+{
+    let mut found = false;
+    for byte in bytes {
+        found |= *byte == b'\n';
+    }
+    found
 }
 
 /// Whether a file begins with the line.
