@@ -6,3 +6,4 @@ pub mod Lowering
 pub mod Gathering
 pub mod Answered
 pub mod Digits
+pub mod PlainNames

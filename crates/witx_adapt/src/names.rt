@@ -1,6 +1,7 @@
 //! Names in quotes, and signatures, as a listing has them.
 
 ghost use Rattle.std.specs.Prelude.{◌≡◌, ◌++◌, ◌<◌, ◌/◌, ◌%◌, ◌∷◌, [], OnOk, string_bytes, codes};
+ghost use Rattle.std.specs.Bool.{OnTrue};
 ghost use Rattle.std.specs.List.{flat_map};
 ghost use Rattle.std.specs.Str.{chars};
 ghost use Rattle.witx_adapt.specs.Names.{digit, escaped, in_quotes, signature, spaced, wasm_word, wasm_words};
@@ -21,10 +22,29 @@ pub fn put_quoted(text: &mut String, name: &str) -> Result<(), AllocError>
 fn put_escaped(text: &mut String, name: &str) -> Result<(), AllocError>
     ensures { OnOk result (string_bytes text.new ≡ string_bytes text.old ++ flat_map escaped (chars name.now)) }
 {
+    if is_plain(name) {
+        return text.push_str(name);
+    }
     for c in name.chars() {
         put_character(text, c)?;
     }
     Ok(())
+}
+
+/// Whether a name is known to stand in quotes as it is, as almost every name does.
+fn is_plain(name: &str) -> bool
+    ensures { OnTrue result (flat_map escaped (chars name.now) ≡ name.now) }
+{
+    name.as_bytes().iter().all(|byte| is_plain_byte(*byte))
+}
+
+/// Whether a byte is one of the characters that names are made of, which stand in quotes as themselves. The blank and `!`,
+/// rare in a name, are left out, so that one range takes the quote away too.
+fn is_plain_byte(byte: u8) -> bool
+    ensures ascii { OnTrue result (byte < 128) }
+    ensures unescaped { OnTrue result (escaped byte ≡ byte ∷ []) }
+{
+    b'#' <= byte && byte <= b'~' && byte != b'\\'
 }
 
 fn put_character(text: &mut String, c: char) -> Result<(), AllocError>
