@@ -15,3 +15,5 @@ one-digit (suc (suc (suc (suc (suc (suc (suc zero))))))) l = refl
 one-digit (suc (suc (suc (suc (suc (suc (suc (suc zero)))))))) l = refl
 one-digit (suc (suc (suc (suc (suc (suc (suc (suc (suc zero))))))))) l = refl
 one-digit (suc (suc (suc (suc (suc (suc (suc (suc (suc (suc n)))))))))) l = absurd (omega arith)
+
+pub ruleset digit_rules = (one-digit)

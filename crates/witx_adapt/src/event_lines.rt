@@ -1,7 +1,7 @@
 //! The line of each event of a listing.
 #![tactic(auto, using(witx_ast::proofs::Trees::tree_rules))]
 
-ghost use Rattle.std.specs.Prelude.{◌≡◌, ◌++◌, OnOk, string_bytes, map, codes, option_map};
+ghost use Rattle.std.specs.Prelude.{◌≡◌, ◌++◌, OnOk, IfSome, string_bytes, map, codes, option_map};
 ghost use Rattle.witx_ast.specs.Views.{tree_of, datatype_tree, named_tree};
 ghost use Rattle.witx_instructions.specs.Views.{event_of, kept_step};
 ghost use Rattle.witx_adapt.specs.Lines.{event_line, event_lines, event_text, number_field, payload_field, step_fields, step_name, two_names, type_field, finish_text};
@@ -118,8 +118,33 @@ fn put_fields(alloc: Global, text: &mut String, step: &Step) -> Result<(), OutOf
 fn put_number(text: &mut String, n: usize) -> Result<(), OutOfMemory>
     ensures { OnOk result (string_bytes text.new ≡ string_bytes text.old ++ number_field n) }
 {
-    text.push(' ')?;
-    Ok(put_decimal(text, n)?)
+    match short_field(n) {
+        Some(field) => Ok(text.push_str(field)?),
+        None => {
+            text.push(' ')?;
+            Ok(put_decimal(text, n)?)
+        }
+    }
+}
+
+/// The field of a number of one digit, as most numbers are, in one piece.
+#[tactic(auto, using(crate::proofs::Digits::digit_rules))]
+fn short_field(n: usize) -> Option<&'static str>
+    ensures { IfSome result (λ field. field.now ≡ number_field n) }
+{
+    match n {
+        0 => Some(" 0"),
+        1 => Some(" 1"),
+        2 => Some(" 2"),
+        3 => Some(" 3"),
+        4 => Some(" 4"),
+        5 => Some(" 5"),
+        6 => Some(" 6"),
+        7 => Some(" 7"),
+        8 => Some(" 8"),
+        9 => Some(" 9"),
+        _ => None,
+    }
 }
 
 /// A word behind a space.
