@@ -33,7 +33,7 @@ fn take_functions(
     alloc: Global,
     owner: &Module,
 ) -> Result<(), OutOfMemory> {
-    let name = owner.name.as_str().len();
+    let name = owner.name.len();
     for definition in owner.definitions().as_slice() {
         match definition {
             ModuleDefinition::Func(func) => {
@@ -53,7 +53,7 @@ fn take_function(
     owner: usize,
     func: &InterfaceFunc,
 ) -> Result<(), OutOfMemory> {
-    let names = owner.saturating_add(func.name.as_str().len());
+    let names = owner.saturating_add(func.name.len());
     allowance.take_number(names.saturating_mul(2))?;
     for param in func.params.as_slice() {
         take_mention(allowance, alloc, &param.tref)?;
@@ -96,7 +96,7 @@ fn take_mention<'a>(
 // A name stands in two or three lines.
 fn name_bytes(tref: &TypeRef) -> usize {
     match tref {
-        TypeRef::Name(named) => named.name.as_str().len().saturating_mul(3),
+        TypeRef::Name(named) => named.name.len().saturating_mul(3),
         TypeRef::Value(_) => 0,
     }
 }

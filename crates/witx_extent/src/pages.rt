@@ -28,7 +28,7 @@ fn take_definition(
 ) -> Result<(), OutOfMemory> {
     match definition {
         Definition::Typename(named) => {
-            allowance.take_shown(alloc, &named.tref, named.name.as_str().len())
+            allowance.take_shown(alloc, &named.tref, named.name.len())
         }
         Definition::Module(owner) => take_functions(allowance, alloc, owner),
         Definition::Constant(_) => Ok(()),
@@ -57,7 +57,7 @@ fn take_function(
     alloc: Global,
     func: &InterfaceFunc,
 ) -> Result<(), OutOfMemory> {
-    let path = func.name.as_str().len();
+    let path = func.name.len();
     take_params(allowance, alloc, func.params.as_slice(), path)?;
     take_params(allowance, alloc, func.results.as_slice(), path)
 }
@@ -69,7 +69,7 @@ fn take_params(
     path: usize,
 ) -> Result<(), OutOfMemory> {
     for param in params {
-        let inner = path.saturating_add(param.name.as_str().len());
+        let inner = path.saturating_add(param.name.len());
         allowance.take_shown(alloc, &param.tref, inner)?;
     }
     Ok(())
@@ -120,7 +120,7 @@ fn members_bytes(members: &[RecordMember]) -> usize {
     let mut bytes = 0usize;
     for member in members {
         bytes = bytes
-            .saturating_add(member.name.as_str().len())
+            .saturating_add(member.name.len())
             .saturating_add(FIELD);
     }
     bytes

@@ -91,7 +91,7 @@ impl Allowance {
 /// The bytes that a type shows beside its parts: a name stands with a link.
 fn own_bytes(tref: &TypeRef) -> usize {
     match tref {
-        TypeRef::Name(named) => named.name.as_str().len().saturating_mul(2),
+        TypeRef::Name(named) => named.name.len().saturating_mul(2),
         TypeRef::Value(_) => UNNAMED,
     }
 }
