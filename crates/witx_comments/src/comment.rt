@@ -28,6 +28,9 @@ impl<'a> CommentSyntax<'a> {
     pub fn docs(&self, alloc: Global) -> Result<Text, OutOfMemory>
         ensures { IfOk result (λ text. text ≡ documentation_of (comments_view self.now)) }
     {
+        if self.comments.is_empty() {
+            return Ok(Text::from_string(String::new(alloc)));
+        }
         documentation(alloc, self.comments.as_slice())
     }
 }

@@ -51,6 +51,8 @@ fn margin(comments: &[&str]) -> usize
 /// without that. From each nonempty line as many bytes are cut as the least indented one begins
 /// with in white space, fewer where that falls inside a character (the law
 /// `lines_are_cut_between_characters`). Each line ends in a line feed.
+// Few items have comments, so this stays out of line.
+#[inline(never)]
 pub fn documentation(alloc: Global, comments: &[&str]) -> Result<Text, OutOfMemory>
     ensures { IfOk result (λ text. text ≡ documentation_of (map (λ comment. comment.now) comments.now)) }
 {
