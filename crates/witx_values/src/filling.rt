@@ -36,6 +36,10 @@ impl<'t, 'a, A: Actions<'a>> TokenSink<'a> for Filling<'t, 'a, A> {
     }
 }
 
+/// A token takes three bytes of a text, and mostly more. For so many there is room at once, so that the lists of a long
+/// text aren't copied while they grow.
+const TOKEN_BYTES: usize = 3;
+
 /// The tokens of a text, with their kinds in the language of the actions; or the text's fault.
 pub fn text_tokens<'a, A: Actions<'a>>(
     alloc: Global,
@@ -46,10 +50,11 @@ pub fn text_tokens<'a, A: Actions<'a>>(
     ensures text { IfOk result (λ t. t.text.now ≡ text.now) }
     ensures fault { IfErr result (λ e. IfBad e (λ f. HasFault text.now f)) }
 {
+    let room = text.len() / TOKEN_BYTES;
     let mut filling: Filling<'_, 'a, A> = Filling {
         actions,
-        kinds: Vec::new(alloc),
-        marks: Vec::new(alloc),
+        kinds: Vec::with_capacity(alloc, room)?,
+        marks: Vec::with_capacity(alloc, room)?,
         comments: Vec::new(alloc),
     };
     let told = lex_into(alloc, text, &mut filling);

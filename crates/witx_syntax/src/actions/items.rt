@@ -19,11 +19,20 @@ use witx_syntax_tree::{
 };
 use witx_values::{appended, reversed};
 
-/// No top-level forms.
-pub fn no_items<'a>(alloc: Global, stack: &mut Stack<'a>) -> Done
+/// A top-level form has so many tokens, and mostly more. For so many forms there is room at once, so that the list of a
+/// long text isn't copied while it grows.
+const FORM_TOKENS: usize = 16;
+
+/// No top-level forms, with room for those of the tokens before the one with the number.
+// It is called once a text, so it stays out of line.
+#[inline(never)]
+pub fn no_items<'a>(alloc: Global, at: usize, stack: &mut Stack<'a>) -> Done
     ensures { IfOk result (λ _. MadeAlone production.NoItems stack.old.items stack.new.items) }
 {
-    push(stack, Value::Items(Vec::new(alloc)))
+    push(
+        stack,
+        Value::Items(Vec::with_capacity(alloc, at / FORM_TOKENS)?),
+    )
 }
 
 /// A top-level form, with its comments, in front of those behind it.
