@@ -1,7 +1,7 @@
 //! What types are made of: builtins, representations, tags, the names of members and cases.
 #![tactic(auto, using(witx_scope::proofs::Steps::step_rules))]
 
-ghost use Rattle.std.specs.Prelude.{◌≡◌, ◌<◌, ◌∷◌, ◌++◌, IfOk, IfErr, OnOk, Some, None, [], map, option_map};
+ghost use Rattle.std.specs.Prelude.{◌≡◌, ◌<◌, ◌∷◌, ◌++◌, IfOk, IfErr, IfSome, OnOk, Some, None, [], map, option_map};
 ghost use Rattle.witx_ast.specs.Tree.{Tree, behind, arms_of};
 ghost use Rattle.witx_ast.specs.Views.{tree_of, datatype_tree, record_tree, variant_tree, member_field, case_arm};
 ghost use Rattle.witx_scope.specs.Faults.{first_fault};
@@ -56,22 +56,21 @@ pub fn builtin_type(syntax: BuiltinSyntax) -> BuiltinType
 }
 
 /// The text of a number of one digit.
-fn digit(number: usize) -> &'static str
-    requires { number < 10 }
-    ensures { result.now ≡ number_name number }
+fn digit(number: usize) -> Option<&'static str>
+    ensures { IfSome result (λ text. text.now ≡ number_name number) }
 {
     match number {
-        0 => "0",
-        1 => "1",
-        2 => "2",
-        3 => "3",
-        4 => "4",
-        5 => "5",
-        6 => "6",
-        7 => "7",
-        8 => "8",
-        9 => "9",
-        _ => unreachable!(),
+        0 => Some("0"),
+        1 => Some("1"),
+        2 => Some("2"),
+        3 => Some("3"),
+        4 => Some("4"),
+        5 => Some("5"),
+        6 => Some("6"),
+        7 => Some("7"),
+        8 => Some("8"),
+        9 => Some("9"),
+        _ => None,
     }
 }
 
@@ -79,8 +78,8 @@ fn digit(number: usize) -> &'static str
 pub fn number_name(alloc: Global, i: usize) -> Result<Id, OutOfMemory>
     ensures { IfOk result (λ id. id ≡ number_name i) }
 {
-    if i < 10 {
-        return Ok(Id::new(alloc, digit(i))?);
+    if let Some(digit) = digit(i) {
+        return Ok(Id::new(alloc, digit)?);
     }
     let text = format!(in alloc; "{i}")?;
     Ok(Id::new(alloc, text.as_str())?)
