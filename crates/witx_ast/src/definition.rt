@@ -180,6 +180,13 @@ impl Definitions {
         self.items.push(definition)
     }
 
+    /// Takes memory for so many definitions more, at once; the definitions stay.
+    pub fn reserve(&mut self, additional: usize) -> Result<(), OutOfMemory>
+        ensures { self.new ≡ self.old }
+    {
+        self.items.reserve(additional)
+    }
+
     /// Drops the definitions from the one numbered `len` on.
     pub fn truncate(&mut self, len: usize)
         ensures { self.new ≡ take len self.old }

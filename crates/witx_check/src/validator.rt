@@ -49,6 +49,13 @@ impl DocValidation {
         })
     }
 
+    /// Takes memory for so many names more, at once; what is kept stays.
+    pub fn reserve(&mut self, additional: usize) -> Result<(), OutOfMemory>
+        ensures { kept_by self.new ≡ kept_by self.old }
+    {
+        self.tables.names.reserve(additional)
+    }
+
     /// The validator at one file, whose declarations have their spans in `text`.
     pub fn scope<'a>(&'a mut self, text: &'a str, path: &'a WitxPath) -> DocValidationScope<'a>
         ensures same_reference { result.doc.ghost_name ≡ self.entry.ghost_name }

@@ -1,6 +1,7 @@
 //! The steps of reading files in order: each answers one call, with the error that tells where.
 
 ghost use Rattle.std.specs.Prelude.{◌≡◌, List, Option, ℕ, IfOk, IfErr, OnOk};
+ghost use Rattle.witx_base.specs.Paths.{Path};
 ghost use Rattle.witx_order.specs.Items.{Declared};
 ghost use Rattle.witx_order.specs.Walks.{folder_of};
 ghost use Rattle.witx_files.specs.Files.{Files};
@@ -8,7 +9,7 @@ ghost use Rattle.witx_walk.specs.Answers.{Caused, told_fault};
 ghost use Rattle.witx_walk.specs.Meaning.{fault_behind};
 ghost use Rattle.witx_language.specs.FaultPlaces.{fault_view};
 ghost use Rattle.witx_walk.specs.Readings.{syntax_fault};
-ghost use Rattle.witx_walk.specs.Steps.{Holding, IsDeclared, declared_at, IsGot, IsReached, IsWell, NeverComes};
+ghost use Rattle.witx_walk.specs.Steps.{Holding, IsDeclared, declared_at, IsGot, IsReached, IsWell, NeverComes, Tracks};
 
 use crate::error::WitxError;
 use crate::walking::Walking;
@@ -86,6 +87,19 @@ pub fn shared_path(alloc: Global, path: WitxPath) -> Result<Rc<WitxPath>, WitxEr
         Ok(shared) => Ok(shared),
         Err(_) => Err(WitxError::OutOfMemory),
     }
+}
+
+/// Takes memory for so many declarations at once; what has been read stays.
+#[tactic(auto, using(crate::proofs::Room::room_rules))]
+pub fn make_room(walk: &mut Walking, declarations: usize) -> Result<(), WitxError>
+    ensures taken { walk.new.taken ≡ walk.old.taken }
+    ensures tracks { (taken : List Path) (declared : List Declared) → Tracks walk.old taken declared → Tracks walk.new taken declared }
+    ensures well { IsWell walk.old → IsWell walk.new }
+    ensures memory { IfErr result (λ e. e ≡ WitxError.OutOfMemory) }
+{
+    walk.definitions.reserve(declarations)?;
+    walk.validation.reserve(declarations)?;
+    Ok(())
 }
 
 /// Checks a declaration of the file at `path`, whose text `lines` goes through, and keeps its

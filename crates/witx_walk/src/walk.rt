@@ -15,7 +15,7 @@ ghost use Rattle.witx_walk.specs.Steps.{AreTakenIn, IsTakenIn, IsWell, NeverCome
 
 use crate::error::WitxError;
 use crate::path_set::PathSet;
-use crate::steps::{canonical_path, declare, folder_of, shared_path, text_at, unread};
+use crate::steps::{canonical_path, declare, folder_of, make_room, shared_path, text_at, unread};
 use crate::walking::{FileProgress, Walking};
 use std::alloc::Global;
 use witx_ast::{Definitions, Document};
@@ -64,6 +64,7 @@ fn take_in<I: WitxIo>(
         Ok(document) => {
             let shared = shared_path(alloc, path)?;
             let path = SharedPath::new(&shared);
+            make_room(walk, document.items.len())?;
             take_items(
                 alloc,
                 walk,

@@ -49,8 +49,8 @@ take_in-returns-in_err-text-clause-told g t c = λ fs links reading ef el er at 
     rw (p.1, p.2) (text-refused (world fs links reading) at o h taken ds _ _ e _ s b l _
     (λ q n. lacks _ fs q (c.in_ok-path.ensures.files ∙ ef) n) _ _ c.in_ok-path.ensures.answer.1 _ _ c.in_err-text.ensures.answer)
 
-pub take_in-returns-in_ok-shared-in-Ok-clause-told : goal.take_in-returns-in_ok-shared-in-Ok-clause-told
-take_in-returns-in_ok-shared-in-Ok-clause-told g t c = λ fs links reading ef el er at o h taken ds k e.
+pub take_in-returns-in_ok-make_room-in-Ok-clause-told : goal.take_in-returns-in_ok-make_room-in-Ok-clause-told
+take_in-returns-in_ok-make_room-in-Ok-clause-told g t c = λ fs links reading ef el er at o h taken ds k e.
     let s : c.in_ok-path.path ≡ canonical links c.args.joined = stands _ links _ _ el c.in_ok-path.ensures.answer.0 in
     let n : has_path c.args.walk.now.taken.paths c.in_ok-path.path ≡ false = sym c.contains.ensures ∙ c.if-contains.false in
     let b : is_taken taken c.in_ok-path.path ≡ false = is-taken _ taken k.paths _ _ _ c.contains.ensures c.if-contains.false in
@@ -61,18 +61,18 @@ take_in-returns-in_ok-shared-in-Ok-clause-told g t c = λ fs links reading ef el
     took (world fs links reading) at o h taken ds _ _ e _ s b l c.in_ok-text.text (holds _ fs _ _ (c.in_ok-path.ensures.files ∙ ef) c.in_ok-text.ensures.answer.0)
     _ _ _ _ _ _ _ _ i c.in_ok-folder.ensures.folder c.as_str-in-Ok.ensures (c.in_ok-text.ensures.answer.1 ∙ c.in_ok-path.ensures.answer.1)
     (rw (c.new-path.ensures ∙ c.in_ok-shared-in-Ok.ensures.path) at c.take_items.ensures.told fs links reading f a er o h (taken ++ c.in_ok-path.path ∷ []) ds
-    (tracks-more c.args.walk.now taken ds c.insert.new.self c.in_ok-path.path k
-    (has-more _ taken k.paths c.insert.new.self.paths c.in_ok-path.path n c.in_ok-insert.ensures.known c.in_ok-insert.ensures.count)))
+    (c.in_ok-make_room-in-Ok.ensures.tracks (taken ++ c.in_ok-path.path ∷ []) ds (tracks-more c.args.walk.now taken ds c.insert.new.self c.in_ok-path.path k
+    (has-more _ taken k.paths c.insert.new.self.paths c.in_ok-path.path n c.in_ok-insert.ensures.known c.in_ok-insert.ensures.count))))
 
-pub take_in-returns-in_ok-shared-in-Ok-clause-keeps : goal.take_in-returns-in_ok-shared-in-Ok-clause-keeps
-take_in-returns-in_ok-shared-in-Ok-clause-keeps g t c =
-    stay-on c.take_items.result c.args.walk.now.taken c.insert.new.self _ (inserted-stay _ _ _ c.in_ok-insert.ensures.known) c.take_items.ensures.keeps
+pub take_in-returns-in_ok-make_room-in-Ok-clause-keeps : goal.take_in-returns-in_ok-make_room-in-Ok-clause-keeps
+take_in-returns-in_ok-make_room-in-Ok-clause-keeps g t c =
+    stay-on c.take_items.result c.args.walk.now.taken c.insert.new.self _ (inserted-stay _ _ _ c.in_ok-insert.ensures.known) (rw c.in_ok-make_room-in-Ok.ensures.taken at c.take_items.ensures.keeps)
 
-pub take_in-returns-in_ok-shared-in-Ok-clause-reached : goal.take_in-returns-in_ok-shared-in-Ok-clause-reached
-take_in-returns-in_ok-shared-in-Ok-clause-reached g t c =
+pub take_in-returns-in_ok-make_room-in-Ok-clause-reached : goal.take_in-returns-in_ok-make_room-in-Ok-clause-reached
+take_in-returns-in_ok-make_room-in-Ok-clause-reached g t c =
     taken-on c.take_items.result (g.I.WitxIo.aliases c.args.io.now) c.args.joined c.insert.new.self _
     (known-taken _ c.args.joined c.in_ok-path.path c.insert.new.self c.in_ok-path.ensures.answer.0 (inserted-known c.args.walk.now.taken c.insert.new.self c.in_ok-path.path c.in_ok-insert.ensures.known))
-    c.take_items.ensures.keeps
+    (rw c.in_ok-make_room-in-Ok.ensures.taken at c.take_items.ensures.keeps)
 
 pub take_in-returns-in-Err-Parse-clause-told : goal.take_in-returns-in-Err-Parse-clause-told
 take_in-returns-in-Err-Parse-clause-told g t c = λ fs links reading ef el er at o h taken ds k e.
