@@ -128,6 +128,7 @@ fn push_module(
     ensures unlowerable { IfErr result (UnlowerableAt (first_unlowered (module_functions (module_tree owner.now.value)))) }
 {
     let items = owner.definitions().as_slice();
+    functions.reserve(items.len())?;
     for item in items {
         push_item(alloc, functions, owner, item)?;
     }

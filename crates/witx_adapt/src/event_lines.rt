@@ -151,7 +151,7 @@ fn short_field(n: usize) -> Option<&'static str>
 fn put_word(text: &mut String, word: &str) -> Result<(), AllocError>
     ensures { OnOk result (string_bytes text.new ≡ string_bytes text.old ++ (codes " " ++ word.now)) }
 {
-    text.push(' ')?;
+    text.push_str(" ")?;
     text.push_str(word)
 }
 
@@ -198,9 +198,9 @@ fn put_shown(alloc: Global, text: &mut String, ty: &TypeRef) -> Result<(), OutOf
 fn put_names(text: &mut String, module: &str, name: &str) -> Result<(), OutOfMemory>
     ensures { OnOk result (string_bytes text.new ≡ string_bytes text.old ++ two_names «module».now name.now) }
 {
-    text.push(' ')?;
+    text.push_str(" ")?;
     put_quoted(text, module)?;
-    text.push(' ')?;
+    text.push_str(" ")?;
     Ok(put_quoted(text, name)?)
 }
 

@@ -19,18 +19,34 @@ use witx_ast::{Abi, Constant, Definition, InterfaceFunc, Module, ModuleDefinitio
 use witx_base::{OutOfMemory, Text};
 use witx_layout::SizeAlign;
 
+/// A line of an event takes so many bytes, and mostly fewer.
+const LINE_BYTES: usize = 24;
+
+/// How many bytes the lines of all events take, about. For so many there is room at once, so that a long listing isn't
+/// copied while it grows.
+fn room_for(functions: &[AdaptedFunc]) -> usize {
+    let mut events = 0usize;
+    for entry in functions {
+        events = events
+            .saturating_add(entry.caller.events().len())
+            .saturating_add(entry.callee.events().len());
+    }
+    events.saturating_mul(LINE_BYTES)
+}
+
 /// The listing of an adapted document: the lines of each definition, in document order. Layouts and
 /// functions are taken from their lists in order, one for each typename and one for each function.
 #[tactic(auto, unfolding(crate::specs::Listings::listing_text))]
 pub fn listing(alloc: Global, adapted: &Adapted) -> Result<Text, OutOfMemory>
     ensures { IfOk result (λ t. t ≡ listing_text adapted.now) }
 {
-    let mut text = String::new(alloc);
+    let functions = adapted.functions.as_slice();
+    let mut text = String::with_capacity(alloc, room_for(functions))?;
     put_definitions(
         alloc,
         &mut text,
         adapted.document.definitions().as_slice(),
-        adapted.functions.as_slice(),
+        functions,
         adapted.layouts.as_slice(),
     )?;
     Ok(Text::from_string(text))

@@ -14,9 +14,9 @@ use witx_abi::WasmType;
 pub fn put_quoted(text: &mut String, name: &str) -> Result<(), AllocError>
     ensures { OnOk result (string_bytes text.new ≡ string_bytes text.old ++ in_quotes name.now) }
 {
-    text.push('"')?;
+    text.push_str("\"")?;
     put_escaped(text, name)?;
-    text.push('"')
+    text.push_str("\"")
 }
 
 fn put_escaped(text: &mut String, name: &str) -> Result<(), AllocError>
@@ -98,9 +98,9 @@ fn put_group(text: &mut String, types: &[WasmType]) -> Result<(), AllocError>
     ensures { OnOk result (string_bytes text.new
         ≡ string_bytes text.old ++ (codes "(" ++ wasm_words types.now ++ codes ")")) }
 {
-    text.push('(')?;
+    text.push_str("(")?;
     put_words(text, types)?;
-    text.push(')')
+    text.push_str(")")
 }
 
 fn put_words(text: &mut String, types: &[WasmType]) -> Result<(), AllocError>
@@ -127,8 +127,19 @@ pub fn put_more_words(text: &mut String, types: &[WasmType]) -> Result<(), Alloc
 fn put_spaced(text: &mut String, ty: WasmType) -> Result<(), AllocError>
     ensures { OnOk result (string_bytes text.new ≡ string_bytes text.old ++ spaced ty) }
 {
-    text.push(' ')?;
-    text.push_str(wasm_word(ty))
+    text.push_str(spaced_word(ty))
+}
+
+/// The word of a type of WebAssembly behind a blank.
+fn spaced_word(ty: WasmType) -> &'static str
+    ensures { result.now ≡ spaced ty }
+{
+    match ty {
+        WasmType::I32 => " i32",
+        WasmType::I64 => " i64",
+        WasmType::F32 => " f32",
+        WasmType::F64 => " f64",
+    }
 }
 
 /// The word of a type of WebAssembly.
