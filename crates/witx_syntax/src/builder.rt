@@ -56,7 +56,7 @@ fn perform<'a>(
     ensures { IfOk result (λ _. Made production tokens.now at stack.old.items stack.new.items) }
 {
     match production {
-        P::NoItems => items::no_items(alloc, at, stack),
+        P::NoItems => items::no_items(alloc, stack),
         P::MoreItems => items::more_items(alloc, tokens, at, stack),
         P::Use => items::use_of(stack),
         P::Typename => items::typename(stack),

@@ -19,20 +19,15 @@ use witx_syntax_tree::{
 };
 use witx_values::{appended, reversed};
 
-/// A top-level form has so many tokens, and mostly more. For so many forms there is room at once, so that the list of a
-/// long text isn't copied while it grows.
+/// A top-level form has so many tokens, and mostly more. For so many forms there is room from the last one on, so that the
+/// list of a long text isn't copied while it grows.
 const FORM_TOKENS: usize = 16;
 
-/// No top-level forms, with room for those of the tokens before the one with the number.
-// It is called once a text, so it stays out of line.
-#[inline(never)]
-pub fn no_items<'a>(alloc: Global, at: usize, stack: &mut Stack<'a>) -> Done
+/// No top-level forms.
+pub fn no_items<'a>(alloc: Global, stack: &mut Stack<'a>) -> Done
     ensures { IfOk result (λ _. MadeAlone production.NoItems stack.old.items stack.new.items) }
 {
-    push(
-        stack,
-        Value::Items(Vec::with_capacity(alloc, at / FORM_TOKENS)?),
-    )
+    push(stack, Value::Items(Vec::new(alloc)))
 }
 
 /// A top-level form, with its comments, in front of those behind it.
@@ -42,7 +37,10 @@ pub fn more_items<'a>(alloc: Global, tokens: &Tokens<'a>, at: usize, stack: &mut
     ensures { IfOk result (λ _. Made production.MoreItems tokens.now at stack.old.items stack.new.items) }
 {
     let comments = comments_at(alloc, tokens, at)?;
-    let (item, items): (TopLevelSyntax<'a>, Vec<Item<'a>>) = take_two(stack);
+    let (item, mut items): (TopLevelSyntax<'a>, Vec<Item<'a>>) = take_two(stack);
+    if items.is_empty() {
+        items.reserve(at / FORM_TOKENS)?;
+    }
     let items = appended(items, Documented { comments, item })?;
     push(stack, Value::Items(items))
 }
