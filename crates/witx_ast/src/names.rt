@@ -51,12 +51,15 @@ impl IntRepr {
     }
 }
 
+/// So many bytes have room at once, which most names take.
+const ROOM: usize = 32;
+
 impl TypeRef {
     /// The name under which the type is shown.
     pub fn type_name(&self, alloc: Global) -> Result<Text, OutOfMemory>
         ensures { IfOk result (λ t. t ≡ type_text (tree_of self.now)) }
     {
-        let mut out = String::new(alloc);
+        let mut out = String::with_capacity(alloc, ROOM)?;
         put_type(&mut out, self)?;
         Ok(Text::from_string(out))
     }
