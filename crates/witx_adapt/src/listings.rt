@@ -19,7 +19,7 @@ use witx_ast::{Abi, Constant, Definition, InterfaceFunc, Module, ModuleDefinitio
 use witx_base::{OutOfMemory, Text};
 use witx_layout::SizeAlign;
 
-/// A line of an event takes so many bytes, and mostly fewer.
+/// The lines of events take so many bytes on the average, or fewer.
 const LINE_BYTES: usize = 24;
 
 /// How many bytes the lines of all events take, about. For so many there is room at once, so that a long listing isn't

@@ -20,9 +20,9 @@ pub fn cut_line(text: &str) -> Option<(&str, &str)>
 }
 
 /// How many bytes are looked at together.
-const BLOCK: usize = 32;
+const BLOCK: usize = 16;
 
-/// The place of the first line feed. Blocks without one are passed whole, which takes a few instructions a block.
+/// The place of the first line feed. Blocks without one are passed whole, their bytes compared side by side where the compiler does so.
 fn line_feed(text: &str) -> Option<usize>
     ensures { result ≡ position (λ byte. byte == 10) text.now }
 {

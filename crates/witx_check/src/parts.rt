@@ -1,9 +1,9 @@
 //! What types are made of: builtins, representations, tags, the names of members and cases.
 #![tactic(auto, using(witx_scope::proofs::Steps::step_rules))]
 
-ghost use Rattle.std.specs.Prelude.{◌≡◌, ◌<◌, ◌∷◌, ◌++◌, IfOk, IfErr, IfSome, OnOk, Some, None, [], map, option_map};
+ghost use Rattle.std.specs.Prelude.{◌≡◌, ◌∷◌, ◌++◌, IfOk, IfErr, IfSome, OnOk, Some, None, [], map, option_map};
 ghost use Rattle.witx_ast.specs.Tree.{Tree, behind, arms_of};
-ghost use Rattle.witx_ast.specs.Views.{tree_of, datatype_tree, record_tree, variant_tree, member_field, case_arm};
+ghost use Rattle.witx_ast.specs.Views.{tree_of, datatype_tree, member_field, case_arm};
 ghost use Rattle.witx_scope.specs.Faults.{first_fault};
 ghost use Rattle.witx_scope.specs.Checks.{member_checks};
 ghost use Rattle.witx_scope.specs.Trees.{in_order, member_arm, flag_field, bool_tree, string_tree, expected_tree, number_name, union_name, enum_tree, flags_tree};
@@ -55,7 +55,7 @@ pub fn builtin_type(syntax: BuiltinSyntax) -> BuiltinType
     }
 }
 
-/// The text of a number of one digit.
+/// The text of a number, if it has one digit.
 fn digit(number: usize) -> Option<&'static str>
     ensures { IfSome result (λ text. text.now ≡ number_name number) }
 {

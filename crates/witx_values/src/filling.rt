@@ -36,8 +36,8 @@ impl<'t, 'a, A: Actions<'a>> TokenSink<'a> for Filling<'t, 'a, A> {
     }
 }
 
-/// A token takes three bytes of a text, and mostly more. For so many there is room at once, so that the lists of a long
-/// text aren't copied while they grow.
+/// Most texts have so many bytes to a token, or more. There is room for a token of each three at once, so that the lists of
+/// a long text aren't copied while they grow.
 const TOKEN_BYTES: usize = 3;
 
 /// The tokens of a text, with their kinds in the language of the actions; or the text's fault.

@@ -89,16 +89,16 @@ pub fn shared_path(alloc: Global, path: WitxPath) -> Result<Rc<WitxPath>, WitxEr
     }
 }
 
-/// Takes memory for so many declarations at once; what has been read stays.
+/// Takes memory at once for as many declarations as a file has items, of which some are uses; what has been read stays.
 #[tactic(auto, using(crate::proofs::Room::room_rules))]
-pub fn make_room(walk: &mut Walking, declarations: usize) -> Result<(), WitxError>
+pub fn make_room(walk: &mut Walking, items: usize) -> Result<(), WitxError>
     ensures taken { walk.new.taken ≡ walk.old.taken }
     ensures tracks { (taken : List Path) (declared : List Declared) → Tracks walk.old taken declared → Tracks walk.new taken declared }
     ensures well { IsWell walk.old → IsWell walk.new }
     ensures memory { IfErr result (λ e. e ≡ WitxError.OutOfMemory) }
 {
-    walk.definitions.reserve(declarations)?;
-    walk.validation.reserve(declarations)?;
+    walk.definitions.reserve(items)?;
+    walk.validation.reserve(items)?;
     Ok(())
 }
 

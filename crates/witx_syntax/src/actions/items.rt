@@ -19,8 +19,8 @@ use witx_syntax_tree::{
 };
 use witx_values::{appended, reversed};
 
-/// A top-level form has so many tokens, and mostly more. For so many forms there is room from the last one on, so that the
-/// list of a long text isn't copied while it grows.
+/// Many long texts have so many tokens to a top-level form, or more. There is room for a form of each sixteen from the last
+/// one on, so that the list isn't copied while it grows.
 const FORM_TOKENS: usize = 16;
 
 /// No top-level forms.
