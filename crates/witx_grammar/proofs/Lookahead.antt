@@ -129,28 +129,26 @@ begins_at_once e (Terminal a ∷ Terminal b ∷ []) ts few h = sym h
 begins_at_once e (Terminal a ∷ Terminal b ∷ Nonterminal f ∷ w) ts few h = sym h
 begins_at_once e (Terminal a ∷ Terminal b ∷ Terminal c ∷ w) ts few h = absurd (omega (arith, few))
 
--- and of a longer one only what is behind these is left to come.
-pub begins_on : {T N : Type 0} (e : T → T → Bool) (w : Wants T N) (ts : List T) → 2 < length (lookahead w) → begins_with e (lookahead (take 2 w)) ts ≡ true
-    → begins_with e (lookahead w) ts ≡ begins_with e (lookahead (drop 2 w)) (drop 2 ts)
-begins_on e [] ts many h = absurd (omega (arith, many))
-begins_on e (Nonterminal f ∷ w) ts many h = absurd (omega (arith, many))
-begins_on e (Terminal a ∷ []) ts many h = absurd (omega (arith, many))
-begins_on e (Terminal a ∷ Nonterminal f ∷ w) ts many h = absurd (omega (arith, many))
-begins_on e (Terminal a ∷ Terminal b ∷ w) [] many h = absurd cc
-begins_on e (Terminal a ∷ Terminal b ∷ w) (x ∷ []) many h = absurd (not_both (sym ((and_parts (e a x) false h).1)))
-begins_on e (Terminal a ∷ Terminal b ∷ w) (x ∷ y ∷ ts) many h =
+-- and of a longer one there are two tokens, and only what is behind these is left to come.
+two_and_on : {T N : Type 0} (e : T → T → Bool) (w : Wants T N) (ts : List T) → 2 < length (lookahead w) → begins_with e (lookahead (take 2 w)) ts ≡ true
+    → (2 ≤ length ts) × (begins_with e (lookahead w) ts ≡ begins_with e (lookahead (drop 2 w)) (drop 2 ts))
+two_and_on e [] ts many h = absurd (omega (arith, many))
+two_and_on e (Nonterminal f ∷ w) ts many h = absurd (omega (arith, many))
+two_and_on e (Terminal a ∷ []) ts many h = absurd (omega (arith, many))
+two_and_on e (Terminal a ∷ Nonterminal f ∷ w) ts many h = absurd (omega (arith, many))
+two_and_on e (Terminal a ∷ Terminal b ∷ w) [] many h = absurd cc
+two_and_on e (Terminal a ∷ Terminal b ∷ w) (x ∷ []) many h = absurd (not_both (sym ((and_parts (e a x) false h).1)))
+two_and_on e (Terminal a ∷ Terminal b ∷ w) (x ∷ y ∷ ts) many h =
     let both = and_parts (e a x) (e b y && true) h in
     let two = and_parts (e b y) true both.1 in
-    test_passes (e a x) (e b y && begins_with e (lookahead w) ts) both.0 ∙ test_passes (e b y) (begins_with e (lookahead w) ts) two.0
+    (omega arith, test_passes (e a x) (e b y && begins_with e (lookahead w) ts) both.0 ∙ test_passes (e b y) (begins_with e (lookahead w) ts) two.0)
+
+pub begins_on : {T N : Type 0} (e : T → T → Bool) (w : Wants T N) (ts : List T) → 2 < length (lookahead w) → begins_with e (lookahead (take 2 w)) ts ≡ true
+    → begins_with e (lookahead w) ts ≡ begins_with e (lookahead (drop 2 w)) (drop 2 ts)
+begins_on e w ts many h = (two_and_on e w ts many h).1
 
 pub two_begin : {T N : Type 0} (e : T → T → Bool) (w : Wants T N) (ts : List T) → 2 < length (lookahead w) → begins_with e (lookahead (take 2 w)) ts ≡ true → 2 ≤ length ts
-two_begin e [] ts many h = absurd (omega (arith, many))
-two_begin e (Nonterminal f ∷ w) ts many h = absurd (omega (arith, many))
-two_begin e (Terminal a ∷ []) ts many h = absurd (omega (arith, many))
-two_begin e (Terminal a ∷ Nonterminal f ∷ w) ts many h = absurd (omega (arith, many))
-two_begin e (Terminal a ∷ Terminal b ∷ w) [] many h = absurd cc
-two_begin e (Terminal a ∷ Terminal b ∷ w) (x ∷ []) many h = absurd (not_both (sym ((and_parts (e a x) false h).1)))
-two_begin e (Terminal a ∷ Terminal b ∷ w) (x ∷ y ∷ ts) many h = omega arith
+two_begin e w ts many h = (two_and_on e w ts many h).0
 
 pub some_is : (b : Bool) (n : ℕ) (r : Option ℕ) → r ≡ cond b (Some n) None → is_some r ≡ b
 some_is true n r e = ap (λ (o : Option ℕ). is_some o) e

@@ -1,8 +1,8 @@
 -- The lookahead of a predictive table shows the production that a derivation takes, so there is at most one derivation.
-use Rattle.std.proofs.Common.{◌≡◌, ℕ, zero, suc, Bool, true, false, cond, ◌&&◌, ◌||◌, List, [], ◌∷◌, ◌++◌, Option, Some, None, refl, sym, ap, ◌∙◌, subst, inl, inr, append_assoc}
+use Rattle.std.proofs.Common.{◌≡◌, ℕ, zero, suc, Bool, true, false, cond, ◌&&◌, List, [], ◌∷◌, ◌++◌, Option, Some, None, refl, sym, ap, ◌∙◌, subst, inl, inr, append_assoc}
 use Rattle.std.specs.Prelude.{◌⊎◌, not}
 use Rattle.std.specs.Bool.{Decides}
-use Rattle.std.proofs.lemmas.Bool.{and_parts}
+use Rattle.std.proofs.lemmas.Bool.{and_parts, or_left, or_right}
 use Rattle.std.specs.List.{list_all, list_any}
 use Rattle.witx_grammar.specs.declared.table.Symbol.TheVariants.{Terminal, Nonterminal}
 use Rattle.witx_grammar.specs.declared.table.Step.{Step}
@@ -25,14 +25,6 @@ some_is x y e = cc
 picked_one : {X : Type 0} (b : Bool) (c x : X) (o : Option X) → cond b (Some c) o ≡ Some x → (c ≡ x) ⊎ (o ≡ Some x)
 picked_one true c x o e = inl (some_is c x e)
 picked_one false c x o e = inr e
-
-or_left : (a b : Bool) → a ≡ true → (a || b) ≡ true
-or_left true b e = refl
-or_left false b e = absurd (not_both (sym e))
-
-or_right : (a b : Bool) → b ≡ true → (a || b) ≡ true
-or_right true b e = refl
-or_right false b e = e
 
 not_true : (a : Bool) → not a ≡ true → a ≡ true → ⊥
 not_true true e h = not_both (sym e)

@@ -21,10 +21,18 @@ AlikeBehind {T} {N} e next ps qs = (f : N) (ts : List T) → first_of e f ps (ne
 abbrev pub IsRest : {T N P : Type 0} → (T → T → Bool) → (N → N → Bool) → List (Rewrite T N P) → N → List T → List (Production T N P) → Type 0
 IsRest e q g f ts ps = first_of e f ps ts ≡ choose e q g f ts
 
+-- how many tokens the lookahead of a production takes
+abbrev pub lookahead_length : {T N P : Type 0} → Production T N P → ℕ
+lookahead_length p = length (lookahead p.symbols.now)
+
+-- the tokens begin with the lookahead of the production
+abbrev pub ComesNext : {T N P : Type 0} → (T → T → Bool) → List T → Production T N P → Type 0
+ComesNext e ts p = begins_with e (lookahead p.symbols.now) ts ≡ true
+
 -- The lookahead of the first of these productions, if there is one, takes n tokens; that of its first two symbols comes next.
 abbrev pub MayFit : {T N P : Type 0} → (T → T → Bool) → List T → ℕ → List (Production T N P) → Type 0
 MayFit e ts n [] = ⊤
-MayFit e ts n (p ∷ ps) = (n ≡ length (lookahead p.symbols.now)) × (begins_with e (lookahead (take 2 p.symbols.now)) ts ≡ true)
+MayFit e ts n (p ∷ ps) = (n ≡ lookahead_length p) × (begins_with e (lookahead (take 2 p.symbols.now)) ts ≡ true)
 
 -- what is kept holds wherever the two kinds come next
 abbrev pub IsKnown : {T N P : Type 0} → (T → T → Bool) → (N → N → Bool) → List (Rewrite T N P) → Known T N P → Type 0

@@ -2,7 +2,7 @@
 -- A bound limits how many nonterminals are opened at one place; a law says that it changes nothing.
 -- e compares kinds of tokens, q nonterminals.
 use Rattle.std.specs.Prelude.{ℕ, zero, suc, ◌+◌, Bool, true, false, if◌then◌else◌, List, [], ◌∷◌, ◌++◌, map, Option, Some, None}
-use Rattle.std.specs.List.{flat_map, list_any}
+use Rattle.std.specs.List.{filter, flat_map, list_any}
 use Rattle.std.specs.Global.{Vec}
 use Rattle.witx_grammar.specs.declared.table.Symbol.{Symbol}
 use Rattle.witx_grammar.specs.declared.table.Symbol.TheVariants.{Terminal, Nonterminal}
@@ -20,6 +20,17 @@ ways e q g (suc k) t (Nonterminal f ∷ w) = flat_map (λ x. ways e q g k t (x.s
 -- the same of several
 abbrev pub all_ways : {T N P : Type 0} → (T → T → Bool) → (N → N → Bool) → List (Rewrite T N P) → ℕ → T → List (Wants T N) → List (Wants T N)
 all_ways e q g k t ws = flat_map (ways e q g k t) ws
+
+-- A token of the kind, if one is named, can come where these symbols are wanted, as far as the first of them tells.
+abbrev pub may_come : {T N : Type 0} → (T → T → Bool) → Option T → Wants T N → Bool
+may_come e None w = true
+may_come e (Some t) [] = false
+may_come e (Some t) (Terminal u ∷ w) = e u t
+may_come e (Some t) (Nonterminal f ∷ w) = true
+
+-- the lists that such a token doesn't rule out
+abbrev pub not_ruled_out : {T N : Type 0} → (T → T → Bool) → Option T → List (Wants T N) → List (Wants T N)
+not_ruled_out e next ws = filter (may_come e next) ws
 
 -- the kinds of tokens that can come first
 abbrev pub firsts : {T N P : Type 0} → (N → N → Bool) → List (Rewrite T N P) → ℕ → Wants T N → List T

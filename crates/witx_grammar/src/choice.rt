@@ -1,7 +1,7 @@
 //! The choice of a production. What two kinds of tokens have ruled out once is not looked at again.
 
-ghost use Rattle.std.specs.Prelude.{◌≡◌, List, ◌++◌, length, map, option_map, take, true, IfOk, IfSome, if◌then◌else◌, Some, None};
-ghost use Rattle.witx_grammar.specs.Choices.{AreKnown, AlikeBehind, IsRest, MayFit, first_of};
+ghost use Rattle.std.specs.Prelude.{◌≡◌, length, option_map, take, true, IfOk, IfSome, if◌then◌else◌, Some, None};
+ghost use Rattle.witx_grammar.specs.Choices.{AreKnown, AlikeBehind, ComesNext, IsRest, MayFit, first_of, lookahead_length};
 ghost use Rattle.witx_grammar.specs.Grammar.{grammar, rewrite_view};
 ghost use Rattle.witx_grammar.specs.Prediction.{HasOneRuleEach, begins_with, choose as choose_of, lookahead};
 
@@ -169,8 +169,8 @@ fn first_if_fit<'a, T: Kind, N: Kind, P: Kind>(
     requires { IfSome front (λ n. MayFit T.eq tokens.now n productions.now) }
     ensures choice { IfSome result (λ c. (f : N) → first_of T.eq f productions.now tokens.now
         ≡ Some (rewrite_view f c.0.now)) }
-    ensures comes_next { IfSome result (λ c. begins_with T.eq (lookahead c.0.now.symbols.now) tokens.now ≡ true) }
-    ensures front { IfSome result (λ c. c.1 ≡ length (lookahead c.0.now.symbols.now)) }
+    ensures comes_next { IfSome result (λ c. ComesNext T.eq tokens.now c.0.now) }
+    ensures front { IfSome result (λ c. c.1 ≡ lookahead_length c.0.now) }
 {
     let Some(front) = front else {
         return None;
@@ -198,8 +198,8 @@ pub fn choose<'a, T: Kind, N: Kind, P: Kind>(
     ensures known { AreKnown T.eq N.eq (grammar table.now) known.new.items }
     ensures choice { option_map (λ c. rewrite_view wanted c.0.now) result
         ≡ choose_of T.eq N.eq (grammar table.now) wanted tokens.now }
-    ensures comes_next { IfSome result (λ c. begins_with T.eq (lookahead c.0.now.symbols.now) tokens.now ≡ true) }
-    ensures front { IfSome result (λ c. c.1 ≡ length (lookahead c.0.now.symbols.now)) }
+    ensures comes_next { IfSome result (λ c. ComesNext T.eq tokens.now c.0.now) }
+    ensures front { IfSome result (λ c. c.1 ≡ lookahead_length c.0.now) }
 {
     let (productions, front) = remaining(table, known, wanted, tokens);
     if let Some(choice) = first_if_fit(productions, front, tokens) {

@@ -6,8 +6,7 @@ ghost use Rattle.witx_grammar.specs.Grammar.{Derives, grammar, rewrite_view, rew
 ghost use Rattle.witx_grammar.specs.Choices.{all_wanted, still_wanted};
 ghost use Rattle.witx_grammar.specs.Prediction.{HasOneRuleEach, IsPredictive};
 ghost use Rattle.witx_grammar.specs.declared.table.Symbol.TheVariants.{Nonterminal};
-ghost use Rattle.witx_grammar.specs.declared.table.Step.{Step};
-ghost use Rattle.witx_grammar.specs.declared.table.Step.TheVariants.{Leaf};
+ghost use Rattle.witx_grammar.specs.{declared.table.Step.{Step}, declared.table.Step.TheVariants.{Leaf}};
 
 use crate::choice::{choose, nothing_known};
 use crate::kind::Kind;

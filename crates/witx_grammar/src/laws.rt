@@ -1,13 +1,11 @@
 //! What holds of every table, as functions that do nothing: each contract is a theorem.
 
 ghost use Rattle.std.specs.Prelude.{◌≡◌, ◌⊎◌, ◌≤◌, ℕ, List, [], ◌∷◌};
-ghost use Rattle.witx_grammar.specs.Grammar.{Derives, Rewrite, grammar};
-ghost use Rattle.witx_grammar.specs.Prediction.{IsPredictive};
+ghost use Rattle.witx_grammar.specs.{Grammar.{Derives, Rewrite, grammar}, Prediction.{IsPredictive}};
 ghost use Rattle.witx_grammar.specs.Faults.{HasDerivation, HasTokenFault, IsTokenFault, IsSameFault};
 ghost use Rattle.witx_grammar.specs.Search.{IsSearched, search_fault};
 ghost use Rattle.witx_grammar.specs.declared.table.Symbol.TheVariants.{Nonterminal};
-ghost use Rattle.witx_grammar.specs.declared.table.Step.{Step};
-ghost use Rattle.witx_grammar.specs.declared.table.Table.{Table};
+ghost use Rattle.witx_grammar.specs.{declared.table.Step.{Step}, declared.table.Table.{Table}};
 ghost use Rattle.witx_grammar.specs.declared.table.TheConstants.{DEPTH};
 
 use crate::kind::Kind;

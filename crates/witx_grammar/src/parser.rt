@@ -1,9 +1,7 @@
 //! The derivation of a list of tokens, or its fault.
 
 ghost use Rattle.std.specs.Prelude.{IfOk};
-ghost use Rattle.witx_grammar.specs.Grammar.{grammar};
-ghost use Rattle.witx_grammar.specs.Prediction.{IsPredictive};
-ghost use Rattle.witx_grammar.specs.Faults.{IsParsed};
+ghost use Rattle.witx_grammar.specs.{Grammar.{grammar}, Prediction.{IsPredictive}, Faults.{IsParsed}};
 
 use crate::engine::derive;
 use crate::fault::{Fault, find_fault};
@@ -25,8 +23,8 @@ pub enum Parsed<T, P> {
 /// A derivation takes time linear in its length: one `Step` a token and one a nonterminal. From which
 /// production on one is looked for is kept for each nonterminal and the next two kinds, as far as there
 /// is room; where nothing is kept, the heads of the rules are looked at, and then the productions of one.
-/// A fault takes, at each token before it, time in the number of productions and in the length of the
-/// lists of what is still wanted, which can grow with nesting.
+/// A fault takes, at each token before it, time in the number of productions and in the length of what is
+/// still wanted, which can grow with nesting; mostly one list of it is copied a token.
 pub fn parse<T: Kind, N: Kind, P: Kind>(
     alloc: Global,
     table: &Table<T, N, P>,
