@@ -1,10 +1,11 @@
 -- Names whose first eight bytes spell other numbers are ordered as these numbers; those of at most 15 bytes of one such
 -- number as the numbers behind, and last by their lengths.
 use Rattle.std.proofs.Common.{◌≡◌, ℕ, zero, suc, List, [], ◌∷◌, ◌+◌, ◌*◌, ◌<◌, ◌≤◌, get_or, drop, length, refl, sym, ap, subst, ◌∙◌, arith, nat_cmp, Ordering, Less, Equal, Greater}
+use Rattle.std.proofs.lemmas.List.{get_or-drop}
 use Rattle.std.specs.Cmp.Lexicographic.{slice_cmp}
 use Rattle.std.specs.Cmp.{nat_cmp_is, ranks}
 use Rattle.std.specs.Ordering.{MatchOrdering, ordering_then}
-use Rattle.witx_base.specs.Fronts.{AreBytes, with_bytes_behind, front_of, back_of}
+use Rattle.witx_base.specs.Fronts.{AreBytes, with_bytes_behind, number_of_eight, front_of, back_of}
 
 next : (k : ℕ) (xs : List ℕ) → get_or (drop 1 xs) k 0 ≡ get_or xs (suc k) 0
 next k [] = refl
@@ -22,10 +23,20 @@ peeled : (i : ℕ) (xs : List ℕ) → get_or (peel i xs) 0 0 ≡ get_or xs i 0
 peeled zero xs = refl
 peeled (suc i) xs = peeled i (drop 1 xs) ∙ next i xs
 
+eight-spelt : (xs : List ℕ) → number_of_eight xs ≡ get_or xs 0 0 * 72057594037927936 + get_or xs 1 0 * 281474976710656 + get_or xs 2 0 * 1099511627776
+    + get_or xs 3 0 * 4294967296 + get_or xs 4 0 * 16777216 + get_or xs 5 0 * 65536 + get_or xs 6 0 * 256 + get_or xs 7 0
+eight-spelt xs = omega (arith, peeled 1 xs, peeled 2 xs, peeled 3 xs, peeled 4 xs, peeled 5 xs, peeled 6 xs, peeled 7 xs)
+
 pub spelt : (xs : List ℕ) → front_of xs ≡ get_or xs 0 0 * 72057594037927936 + get_or xs 1 0 * 281474976710656 + get_or xs 2 0 * 1099511627776
     + get_or xs 3 0 * 4294967296 + get_or xs 4 0 * 16777216 + get_or xs 5 0 * 65536 + get_or xs 6 0 * 256 + get_or xs 7 0
 unfolding front_of
-spelt xs = omega (arith, peeled 1 xs, peeled 2 xs, peeled 3 xs, peeled 4 xs, peeled 5 xs, peeled 6 xs, peeled 7 xs)
+spelt xs = eight-spelt xs
+
+pub spelt-from : (at : ℕ) (xs : List ℕ) → number_of_eight (drop at xs) ≡ get_or xs at 0 * 72057594037927936 + get_or xs (at + 1) 0 * 281474976710656 + get_or xs (at + 2) 0 * 1099511627776
+    + get_or xs (at + 3) 0 * 4294967296 + get_or xs (at + 4) 0 * 16777216 + get_or xs (at + 5) 0 * 65536 + get_or xs (at + 6) 0 * 256 + get_or xs (at + 7) 0
+spelt-from at xs =
+    let first : get_or (drop at xs) 0 0 ≡ get_or xs at 0 = get_or-drop at xs 0 0 ∙ ap (λ (k : ℕ). get_or xs k 0) (omega arith) in
+    omega (arith, eight-spelt (drop at xs), first, get_or-drop at xs 1 0, get_or-drop at xs 2 0, get_or-drop at xs 3 0, get_or-drop at xs 4 0, get_or-drop at xs 5 0, get_or-drop at xs 6 0, get_or-drop at xs 7 0)
 
 -- that is what `drop` leaves
 peel-drop : (i : ℕ) (xs : List ℕ) → drop i xs ≡ peel i xs
@@ -36,11 +47,6 @@ peel-drop (suc i) [] = peel-nil i
     peel-nil zero = refl
     peel-nil (suc i) = peel-nil i
 peel-drop (suc i) (x ∷ xs) = peel-drop i xs
-
-pub back-spelt : (xs : List ℕ) → back_of xs ≡ get_or xs 7 0 * 72057594037927936 + get_or xs 8 0 * 281474976710656 + get_or xs 9 0 * 1099511627776
-    + get_or xs 10 0 * 4294967296 + get_or xs 11 0 * 16777216 + get_or xs 12 0 * 65536 + get_or xs 13 0 * 256 + get_or xs 14 0
-unfolding back_of
-back-spelt xs = rw (peel-drop 7 xs) (omega (arith, peeled 7 xs, peeled 8 xs, peeled 9 xs, peeled 10 xs, peeled 11 xs, peeled 12 xs, peeled 13 xs, peeled 14 xs))
 
 -- a lesser number stays less, whatever bytes come behind both
 rising : (count a b : ℕ) (xs ys : List ℕ) → AreBytes xs → a < b → with_bytes_behind a count xs < with_bytes_behind b count ys

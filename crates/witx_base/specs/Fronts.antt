@@ -11,8 +11,12 @@ abbrev pub with_bytes_behind : ℕ → ℕ → List ℕ → ℕ
 with_bytes_behind number zero bytes = number
 with_bytes_behind number (suc count) bytes = with_bytes_behind (number * 256 + get_or bytes 0 0) count (drop 1 bytes)
 
+-- the number of the first eight bytes
+abbrev pub number_of_eight : List ℕ → ℕ
+number_of_eight bytes = with_bytes_behind 0 8 bytes
+
 unfoldable pub front_of : List ℕ → ℕ
-front_of bytes = with_bytes_behind 0 8 bytes
+front_of bytes = number_of_eight bytes
 
 unfoldable pub back_of : List ℕ → ℕ
-back_of bytes = with_bytes_behind 0 8 (drop 7 bytes)
+back_of bytes = number_of_eight (drop 7 bytes)

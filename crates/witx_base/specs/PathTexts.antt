@@ -1,5 +1,6 @@
 -- The text of a path, and the parts between its slashes.
 use Rattle.std.specs.Prelude.{◌≡◌, ℕ, ◌+◌, List, [], ◌∷◌, false, ◌==◌, if◌then◌else◌}
+use Rattle.std.specs.Hash as fed
 use Rattle.std.specs.List.{AllByRecursion}
 use Rattle.std.specs.Ordering.{nat_cmp}
 use Rattle.std.specs.declared.cmp.Ordering.{Ordering}
@@ -27,3 +28,7 @@ rank byte = (if byte == 47 then 0 else byte + 1)
 
 abbrev pub slash_first : ℕ → ℕ → Ordering
 slash_first byte other = nat_cmp (rank byte) (rank other)
+
+-- what a path hands to a hasher: the number of its components, and each of them
+abbrev pub fed_path : Path → fed.HashWrites
+fed_path p = fed.slice fed.str p

@@ -1,8 +1,7 @@
 //! Which calls of a device in memory fail, and how many have.
 
 ghost use Rattle.std.specs.Prelude.{◌≡◌, ◌≤◌, is_err, OnErr};
-ghost use Rattle.witx_base.specs.Causes.{one_more, Rose};
-ghost use Rattle.witx_base.specs.Calls.{counted, fails_next, no_calls};
+ghost use Rattle.witx_base.specs.{Causes.{one_more, Rose}, Calls.{counted, fails_next, no_calls}};
 
 use crate::Calls;
 use crate::memory::Failed;

@@ -1,11 +1,10 @@
 //! Lists that own their items, whose contracts speak of plain lists.
 
 ghost use Rattle.std.specs.Prelude.{◌≡◌, ◌==◌, ◌∷◌, ◌++◌, [], length, take, is_ok, if◌then◌else◌, option_map, slice_get};
-ghost use Rattle.std.specs.List.{AllZip};
-ghost use Rattle.std.specs.Slice.Iter.{iter_rest};
+ghost use Rattle.std.specs.{List.{AllZip}, Slice.Iter.{iter_rest}};
 ghost use Rattle.std.specs.Cmp.Lexicographic.{pointwise, lists_equiv, lists_per, lists_po, lists_agrees, lists_total, lists_ties, slice_cmp, slice_partial_cmp};
-ghost use Rattle.std.specs.Hash as fed;
 ghost use Rattle.std.specs.Hash.{items_Alike};
+ghost use Rattle.std.specs.Hash as fed;
 
 use crate::duplicate::Duplicate;
 use crate::memory::OutOfMemory;
@@ -24,8 +23,7 @@ pub struct Items<T> {
 }
 
 impl<T> Model for Items<T> {
-    ghost use Rattle.std.specs.Prelude.{List};
-    ghost use Rattle.std.specs.Coded.{coded_list};
+    ghost use Rattle.std.specs.{Prelude.{List}, Coded.{coded_list}};
 
     ghost Value = { List T };
 

@@ -2,14 +2,10 @@
 //! call it to have the law.
 
 ghost use Rattle.std.specs.Prelude.{◌≡◌, ◌↔◌, ℕ, List, Option, Some, None, IfOk, IsTrue, [], ◌∷◌, ◌++◌};
-ghost use Rattle.std.specs.List.{AllZip};
-ghost use Rattle.std.specs.Option.{option_or};
-ghost use Rattle.std.specs.Ordering.{is_eq, nat_cmp};
+ghost use Rattle.std.specs.{List.{AllZip}, Option.{option_or}, Ordering.{is_eq, nat_cmp}};
 ghost use Rattle.std.specs.Cmp.Lexicographic.{slice_cmp};
-ghost use Rattle.witx_base.specs.Copies.{IsCopyOfEntries, IsCopyOfOption};
-ghost use Rattle.witx_base.specs.Found.{found};
-ghost use Rattle.witx_base.specs.Paths.{Path, file_name, join, parent};
-ghost use Rattle.witx_base.specs.Texts.{same_text};
+ghost use Rattle.witx_base.specs.{Copies.{IsCopyOfEntries, IsCopyOfOption}, Found.{found}};
+ghost use Rattle.witx_base.specs.{Paths.{Path, file_name, join, parent}, Texts.{same_text}};
 
 use crate::duplicate::Duplicate;
 use crate::items::Items;

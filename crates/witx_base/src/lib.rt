@@ -27,7 +27,7 @@ pub use laws::{
     paths_are_parent_and_name, paths_without_parent_are_nameless,
 };
 pub use mem_device::{MemSink, MemSource};
-pub use memory::{Failed, OutOfMemory};
+pub use memory::{Failed, MemoryRefused, OutOfMemory};
 pub use name::Id;
 pub use name_map::NameMap;
 pub use path::WitxPath;

@@ -9,6 +9,16 @@ pub struct OutOfMemory;
 #[derive(Clone, Copy, PartialEq, Eq, Debug)]
 pub struct Failed;
 
+/// What a call answers that wanted memory and got none: ours, and the two of std. An error that tells of it is made from
+/// each of them alike.
+pub trait MemoryRefused: Drop {}
+
+impl MemoryRefused for OutOfMemory {}
+
+impl MemoryRefused for AllocError {}
+
+impl<T: Drop> MemoryRefused for AllocFailed<T> {}
+
 impl From<AllocError> for OutOfMemory {
     fn from(_error: AllocError) -> OutOfMemory {
         OutOfMemory

@@ -1,7 +1,6 @@
 //! Names: owned texts whose first bytes, as one number, tell most of them apart.
 
-ghost use Rattle.std.specs.Prelude.{◌≡◌, ◌==◌, ◌↔◌, IfOk, IsTrue, Some, length, refl};
-ghost use Rattle.std.specs.Ordering.{nat_cmp};
+ghost use Rattle.std.specs.{Prelude.{◌≡◌, ◌==◌, ◌↔◌, IfOk, IsTrue, Some, length, refl}, Ordering.{nat_cmp}};
 ghost use Rattle.std.specs.Cmp.{partial_equiv_from_equiv};
 ghost use Rattle.std.specs.Cmp.Lexicographic.{pointwise, slice_cmp, nat_list_eq_equiv, nat_list_cmp_total, texts_ties, texts_po};
 ghost use Rattle.std.specs.Cmp.Rules.{hashing};
@@ -27,8 +26,7 @@ pub struct Id {
 
 impl Model for Id {
     ghost use Rattle.std.specs.Prelude.{◌≡◌, List, ℕ};
-    ghost use Rattle.witx_base.specs.Fronts.{AreBytes, front_of};
-    ghost use Rattle.witx_base.specs.Spellings.{spelled};
+    ghost use Rattle.witx_base.specs.{Fronts.{AreBytes, front_of}, Spellings.{spelled}};
 
     ghost Value = { List ℕ };
 

@@ -1,17 +1,13 @@
 //! Paths as owned values, whose contracts speak of their components.
 
-ghost use Rattle.std.specs.Prelude.{◌≡◌, ◌==◌, ◌<◌, ◌++◌, length, map, IfOk, option_copied, Some, None, string_bytes};
-ghost use Rattle.witx_base.specs.Paths.{behind_slashes, components_of, file_name, has_parent, is_absolute, is_kept, is_name, join, kept_parts, last_component, all_but_last, parent, path_of, path_text, without_current_dir};
-ghost use Rattle.std.specs.List.{slice_split};
-ghost use Rattle.std.specs.Prelude.{refl};
-ghost use Rattle.std.specs.Ordering.{nat_cmp};
+ghost use Rattle.std.specs.{Prelude.{◌≡◌, ◌==◌, IfOk, option_copied, refl, Some}, Ordering.{nat_cmp}};
 ghost use Rattle.std.specs.Cmp.{partial_equiv_from_equiv};
 ghost use Rattle.std.specs.Cmp.Lexicographic.{pointwise, slice_cmp, lists_per, lists_equiv, lists_total, lists_ties, nat_list_eq_equiv, nat_list_cmp_total, texts_ties};
-ghost use Rattle.std.specs.Cmp.Rules.{hashing};
-ghost use Rattle.std.specs.Hash as fed;
-ghost use Rattle.std.specs.Hash.{items_Alike};
-ghost use Rattle.std.proofs.Common.{rules};
+ghost use Rattle.std.specs.{Cmp.Rules.{hashing}, Hash.{items_Alike}};
+ghost use Rattle.witx_base.specs.Paths.{file_name, is_absolute, join, parent, path_of, path_text};
 ghost use Rattle.witx_base.specs.PathOrder.{paths_po};
+ghost use Rattle.std.specs.Hash as fed;
+ghost use Rattle.std.proofs.Common.{rules};
 
 use crate::duplicate::Duplicate;
 use crate::memory::OutOfMemory;
@@ -33,8 +29,7 @@ pub struct WitxPath {
 
 impl Model for WitxPath {
     ghost use Rattle.std.specs.Prelude.{List, ℕ};
-    ghost use Rattle.witx_base.specs.Paths.{path_of};
-    ghost use Rattle.witx_base.specs.PathTexts.{IsPathText};
+    ghost use Rattle.witx_base.specs.{Paths.{path_of}, PathTexts.{IsPathText}};
 
     ghost Value = { List (List ℕ) };
 

@@ -1,13 +1,12 @@
 //! Paths as they are written: texts whose parts between the slashes are the components.
 #![tactic(auto, using(crate::proofs::Written::written_rules))]
 
-ghost use Rattle.std.specs.Prelude.{◌≡◌, ◌==◌, ◌++◌, ◌∷◌, [], IfOk, length, false, None, Some, if◌then◌else◌, option_copied, option_map, MatchOption, string_bytes, codes, map};
-ghost use Rattle.witx_base.specs.Paths.{behind_slashes, components_of, file_name, is_absolute, is_current_dir, is_kept, is_name, is_root, join, kept_parts, name_among, parent, parts_of, path_of, path_text, root, without_current_dir};
-ghost use Rattle.std.specs.Hash as fed;
-ghost use Rattle.std.specs.List.{AllByRecursion, flat_map, fold};
-ghost use Rattle.std.specs.Ordering.{nat_cmp};
+ghost use Rattle.std.specs.Prelude.{◌≡◌, ◌==◌, ◌++◌, ◌∷◌, [], IfOk, length, false, None, Some, if◌then◌else◌, option_copied, option_map, MatchOption, string_bytes, map};
+ghost use Rattle.std.specs.{List.{AllByRecursion, flat_map, fold}, Ordering.{nat_cmp}};
 ghost use Rattle.std.specs.Cmp.Lexicographic.{slice_cmp};
-ghost use Rattle.witx_base.specs.PathTexts.{HasNoSlash, IsPathText, rank, slash_first};
+ghost use Rattle.witx_base.specs.Paths.{behind_slashes, components_of, file_name, is_absolute, is_current_dir, is_kept, is_name, is_root, join, kept_parts, name_among, parent, parts_of, path_of, path_text, root, without_current_dir};
+ghost use Rattle.witx_base.specs.PathTexts.{fed_path, HasNoSlash, IsPathText, rank, slash_first};
+ghost use Rattle.std.specs.Hash as fed;
 
 use crate::memory::OutOfMemory;
 use std::alloc::{AllocError, Global};
@@ -295,7 +294,7 @@ fn hash_parts<H: Hasher>(text: &str, state: &mut H)
 #[tactic(auto, using(crate::proofs::PartsHashed::relative_rules))]
 fn hash_relative<H: Hasher>(text: &str, state: &mut H)
     requires { parts_of text.now ≡ path_of text.now }
-    ensures { state.new ≡ fold H.write state.old (fed.slice fed.str (path_of text.now)) }
+    ensures { state.new ≡ fold H.write state.old (fed_path (path_of text.now)) }
 {
     state.write_usize(count_parts(text));
     hash_parts(text, state);
@@ -304,7 +303,7 @@ fn hash_relative<H: Hasher>(text: &str, state: &mut H)
 #[tactic(auto, using(crate::proofs::PartsHashed::rooted_rules))]
 fn hash_rooted<H: Hasher>(count: usize, rest: &str, state: &mut H)
     requires { count ≡ length (root ∷ parts_of rest.now) }
-    ensures { state.new ≡ fold H.write state.old (fed.slice fed.str (root ∷ parts_of rest.now)) }
+    ensures { state.new ≡ fold H.write state.old (fed_path (root ∷ parts_of rest.now)) }
 {
     state.write_usize(count);
     "/".hash(state);
@@ -313,7 +312,7 @@ fn hash_rooted<H: Hasher>(count: usize, rest: &str, state: &mut H)
 
 #[tactic(auto, using(crate::proofs::PartsHashed::rooted_rules))]
 fn hash_one<H: Hasher>(part: &str, state: &mut H)
-    ensures { state.new ≡ fold H.write state.old (fed.slice fed.str (part.now ∷ [])) }
+    ensures { state.new ≡ fold H.write state.old (fed_path (part.now ∷ [])) }
 {
     state.write_usize(1);
     part.hash(state);
@@ -322,7 +321,7 @@ fn hash_one<H: Hasher>(part: &str, state: &mut H)
 #[tactic(auto, using(crate::proofs::PartsHashed::single_rules))]
 fn hash_single<H: Hasher>(text: &str, state: &mut H)
     requires { parts_of text.now ≡ text.now ∷ [] }
-    ensures { state.new ≡ fold H.write state.old (fed.slice fed.str (path_of text.now)) }
+    ensures { state.new ≡ fold H.write state.old (fed_path (path_of text.now)) }
 {
     if text.is_empty() {
         state.write_usize(0);
@@ -335,7 +334,7 @@ fn hash_single<H: Hasher>(text: &str, state: &mut H)
 #[tactic(auto, using(crate::proofs::PartsHashed::path_rules))]
 pub fn hash_path<H: Hasher>(text: &str, state: &mut H)
     requires { IsPathText text.now }
-    ensures { state.new ≡ fold H.write state.old (fed.slice fed.str (path_of text.now)) }
+    ensures { state.new ≡ fold H.write state.old (fed_path (path_of text.now)) }
 {
     match cut_first(text) {
         Some((first, rest)) => {

@@ -1,11 +1,8 @@
 //! How a name's text is held: a short one in the name itself, a longer one once for all its copies.
 
-ghost use Rattle.std.specs.Prelude.{◌≡◌, ◌≤◌, IfOk, get_or, length};
-ghost use Rattle.std.specs.Ordering.{nat_cmp};
-ghost use Rattle.std.specs.Str.{IsUtf8};
+ghost use Rattle.std.specs.{Prelude.{◌≡◌, ◌≤◌, IfOk, drop, get_or, length}, Ordering.{nat_cmp}, Str.{IsUtf8}};
 ghost use Rattle.std.specs.Cmp.Lexicographic.{slice_cmp};
-ghost use Rattle.witx_base.specs.Fronts.{AreBytes, back_of, front_of};
-ghost use Rattle.witx_base.specs.Spellings.{spelled};
+ghost use Rattle.witx_base.specs.{Fronts.{AreBytes, back_of, front_of, number_of_eight}, Spellings.{spelled}};
 
 use crate::memory::OutOfMemory;
 use crate::text::Text;
@@ -106,15 +103,31 @@ impl ShortText {
         }
     }
 
+    /// The number of eight bytes, the first of which has this place.
+    #[inline]
+    fn number_from(&self, at: usize) -> u64
+        requires { at ≤ 7 }
+        ensures { result ≡ number_of_eight (drop at self.now) }
+    {
+        let bytes = &self.bytes;
+        u64::from_be_bytes([
+            bytes[at],
+            bytes[at + 1],
+            bytes[at + 2],
+            bytes[at + 3],
+            bytes[at + 4],
+            bytes[at + 5],
+            bytes[at + 6],
+            bytes[at + 7],
+        ])
+    }
+
     /// The number of the first eight bytes.
     #[inline]
     pub fn front(&self) -> u64
         ensures { result ≡ front_of self.now }
     {
-        let bytes = &self.bytes;
-        u64::from_be_bytes([
-            bytes[0], bytes[1], bytes[2], bytes[3], bytes[4], bytes[5], bytes[6], bytes[7],
-        ])
+        self.number_from(0)
     }
 
     /// The number of the eight bytes behind the first seven.
@@ -122,10 +135,7 @@ impl ShortText {
     pub fn back(&self) -> u64
         ensures { result ≡ back_of self.now }
     {
-        let bytes = &self.bytes;
-        u64::from_be_bytes([
-            bytes[7], bytes[8], bytes[9], bytes[10], bytes[11], bytes[12], bytes[13], bytes[14],
-        ])
+        self.number_from(7)
     }
 
     /// The order of two texts of one front.

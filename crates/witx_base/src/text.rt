@@ -1,7 +1,6 @@
 //! Owned texts, whose contracts speak of their bytes.
 
-ghost use Rattle.std.specs.Prelude.{◌≡◌, ◌==◌, IfOk, length, Some, refl, string_bytes};
-ghost use Rattle.std.specs.Ordering.{nat_cmp};
+ghost use Rattle.std.specs.{Prelude.{◌≡◌, ◌==◌, IfOk, length, Some, refl, string_bytes}, Ordering.{nat_cmp}};
 ghost use Rattle.std.specs.Cmp.{partial_equiv_from_equiv};
 ghost use Rattle.std.specs.Cmp.Lexicographic.{pointwise, slice_cmp, nat_list_eq_equiv, nat_list_cmp_total, texts_ties, texts_po};
 ghost use Rattle.std.specs.Cmp.Rules.{hashing};

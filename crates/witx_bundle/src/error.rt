@@ -2,8 +2,7 @@
 
 ghost use Rattle.std.specs.Prelude.{◌≡◌};
 
-use std::alloc::AllocError;
-use witx_base::OutOfMemory;
+use witx_base::MemoryRefused;
 
 /// Why bytes are no bundle.
 #[derive(Clone, Copy, PartialEq, Eq, Debug)]
@@ -18,24 +17,13 @@ pub enum BundleError {
     OutOfMemory,
 }
 
-impl From<OutOfMemory> for BundleError {
+impl<E: MemoryRefused> From<E> for BundleError {
     ghost use Rattle.std.specs.Prelude.{◌≡◌};
     ghost use Rattle.witx_bundle.specs.declared.error.BundleError.TheVariants.{OutOfMemory};
 
     ghost from_gives = { λ _ e. e ≡ OutOfMemory };
 
-    fn from(_error: OutOfMemory) -> BundleError {
-        BundleError::OutOfMemory
-    }
-}
-
-impl From<AllocError> for BundleError {
-    ghost use Rattle.std.specs.Prelude.{◌≡◌};
-    ghost use Rattle.witx_bundle.specs.declared.error.BundleError.TheVariants.{OutOfMemory};
-
-    ghost from_gives = { λ _ e. e ≡ OutOfMemory };
-
-    fn from(_error: AllocError) -> BundleError {
+    fn from(_refused: E) -> BundleError {
         BundleError::OutOfMemory
     }
 }

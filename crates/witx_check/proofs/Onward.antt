@@ -12,7 +12,8 @@ use Rattle.witx_scope.specs.SyntaxChecks.{lacks_name, union_checks, variant_chec
 use Rattle.witx_scope.proofs.FirstFaults.{fault-past, fault-append, blames-head, blames-append, blames-to, step-past, step-head, step-wrong}
 use Rattle.witx_scope.proofs.NamePlaces.{has-push, seen-more}
 use Rattle.std.specs.Map.{keys_of}
-use Rattle.witx_check.proofs.SyntaxTrees.{form_rules, field-FieldSyntax, case-CaseSyntax}
+use Rattle.witx_syntax_tree.proofs.TypeViews.{view-Field}
+use Rattle.witx_check.proofs.SyntaxTrees.{form_rules, case-CaseSyntax}
 use Rattle.witx_comments.specs.declared.comment.Documented.{Documented}
 use Rattle.witx_syntax_tree.specs.declared.tree.FieldSyntax.{FieldSyntax}
 use Rattle.witx_syntax_tree.specs.declared.tree.CaseSyntax.{CaseSyntax}
@@ -64,7 +65,7 @@ pub ruleset push_rules = (member-pushed, case-pushed)
 
 pub rows-drop : (fs : List (Documented FieldSyntax)) (i : ℕ) (f : Documented FieldSyntax) → i < length fs → f ≡ get_or fs i f
     → fields_view (drop i fs) ≡ one_field (comments_view f.comments) (name_view f.item.name) (type_view f.item.type_) (fields_view (drop (i + 1) fs))
-rows-drop fs i f l p = rw (drop_more fs i f l, ← p, field-FieldSyntax f.item) refl
+rows-drop fs i f l p = rw (drop_more fs i f l, ← p, view-Field f.item) refl
 
 pub rows-end : (fs : List (Documented FieldSyntax)) (i : ℕ) → length fs ≤ i → fields_view (drop i fs) ≡ no_fields
 rows-end fs i l = rw (drop_all i fs l) refl

@@ -1,2 +1,4 @@
+pub mod Declaring
+pub mod Params
 pub mod Scopes
 pub mod Validators

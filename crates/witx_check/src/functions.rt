@@ -2,18 +2,13 @@
 
 ghost use Rattle.std.specs.Prelude.{◌≡◌, ◌∷◌, ◌++◌, IfOk, IfErr, OnOk, None, [], map};
 ghost use Rattle.witx_base.specs.Found.{found};
-ghost use Rattle.witx_ast.specs.Views.{tree_of};
-ghost use Rattle.witx_ast.specs.Functions.{param_field, func_tree};
-ghost use Rattle.witx_scope.specs.Faults.{first_fault};
-ghost use Rattle.witx_scope.specs.Names.{new_mark};
-ghost use Rattle.witx_scope.specs.Checks.{field_checks};
-ghost use Rattle.witx_scope.specs.Trees.{fields_meant};
+ghost use Rattle.witx_ast.specs.{Views.{tree_of}, Functions.{param_field, func_tree}};
+ghost use Rattle.witx_scope.specs.{Faults.{first_fault}, Names.{FindsOnOk, new_mark}, Checks.{field_checks}};
 ghost use Rattle.witx_scope.specs.Functions.{abi_of, fields_scope, result_checks, checks_inside, checks_func, makes_func, with_export};
+ghost use Rattle.witx_scope.specs.{SyntaxChecks.{made_field}, Blame.{Blames}, Senses.{here_of}};
+ghost use Rattle.witx_check.specs.Params.{AreParams};
 ghost use Rattle.witx_comments.specs.Comments.{comments_view};
 ghost use Rattle.witx_syntax_tree.specs.Views.{fields_view};
-ghost use Rattle.witx_scope.specs.SyntaxChecks.{made_field};
-ghost use Rattle.witx_scope.specs.Blame.{Blames};
-ghost use Rattle.witx_scope.specs.Senses.{here_of};
 
 use crate::types::checked_type;
 use std::alloc::Global;
@@ -54,7 +49,7 @@ pub fn checked_params(
     names: &mut Marks,
 ) -> Result<Params, CheckError>
     ensures ok { OnOk result (first_fault (field_checks (here_of scope.now) names.old (fields_view fields.now)) ≡ None) }
-    ensures tree { IfOk result (λ ps. map param_field ps ≡ fields_meant (here_of scope.now) (fields_view fields.now)) }
+    ensures tree { IfOk result (AreParams scope.now fields.now) }
     ensures kept { OnOk result ((q : _) → found names.new q ≡ found (fields_scope names.old (fields_view fields.now)) q) }
     ensures fault { IfErr result
         (λ e. Blames e (first_fault (field_checks (here_of scope.now) names.old (fields_view fields.now)))) }
@@ -78,7 +73,7 @@ pub fn checked_results(
     names: &mut Marks,
 ) -> Result<Params, CheckError>
     ensures ok { OnOk result (first_fault (result_checks (here_of scope.now) names.old (fields_view fields.now)) ≡ None) }
-    ensures tree { IfOk result (λ ps. map param_field ps ≡ fields_meant (here_of scope.now) (fields_view fields.now)) }
+    ensures tree { IfOk result (AreParams scope.now fields.now) }
     ensures fault { IfErr result (λ e. Blames e
         (first_fault (result_checks (here_of scope.now) names.old (fields_view fields.now)))) }
 {
@@ -99,7 +94,7 @@ fn func_name(
 ) -> Result<Id, CheckError>
     ensures ok { OnOk result (new_mark (here_of scope.now) taken.old func.now.export func.now.export_loc.start ≡ None) }
     ensures id { IfOk result (λ id. id ≡ func.now.export) }
-    ensures kept { (q : _) → OnOk result (found taken.new q ≡ found (with_export func.now taken.old) q) }
+    ensures kept { FindsOnOk result taken.new (with_export func.now taken.old) }
     ensures fault { IfErr result
         (λ e. Blames e (new_mark (here_of scope.now) taken.old func.now.export func.now.export_loc.start)) }
 {
@@ -113,7 +108,7 @@ fn func_params(
 ) -> Result<Params, CheckError>
     requires { own.old ≡ [] }
     ensures ok { OnOk result (first_fault (field_checks (here_of scope.now) [] (fields_view func.now.params)) ≡ None) }
-    ensures tree { IfOk result (λ ps. map param_field ps ≡ fields_meant (here_of scope.now) (fields_view func.now.params)) }
+    ensures tree { IfOk result (AreParams scope.now func.now.params) }
     ensures kept { OnOk result ((q : _) → found own.new q ≡ found (fields_scope [] (fields_view func.now.params)) q) }
     ensures fault { IfErr result
         (λ e. Blames e (first_fault (field_checks (here_of scope.now) [] (fields_view func.now.params)))) }
@@ -128,8 +123,7 @@ fn func_results(
 ) -> Result<Params, CheckError>
     ensures ok { OnOk result
         (first_fault (result_checks (here_of scope.now) own.old (fields_view func.now.results)) ≡ None) }
-    ensures tree { IfOk result (λ ps. map param_field ps
-        ≡ fields_meant (here_of scope.now) (fields_view func.now.results)) }
+    ensures tree { IfOk result (AreParams scope.now func.now.results) }
     ensures fault { IfErr result (λ e. Blames e
         (first_fault (result_checks (here_of scope.now) own.old (fields_view func.now.results)))) }
 {
@@ -155,10 +149,8 @@ fn take_steps(scope: &Scope<'_>, results: &Params) -> Result<(), OutOfMemory> {
 #[tactic(auto, using(crate::proofs::Funcs::inner_rules))]
 fn func_inside(func: &InterfaceFuncSyntax<'_>, scope: &Scope<'_>) -> Result<Inside, CheckError>
     ensures ok { OnOk result (first_fault (checks_inside (here_of scope.now) func.now) ≡ None) }
-    ensures params { IfOk result (λ made. map param_field made.params
-        ≡ fields_meant (here_of scope.now) (fields_view func.now.params)) }
-    ensures results { IfOk result (λ made. map param_field made.results
-        ≡ fields_meant (here_of scope.now) (fields_view func.now.results)) }
+    ensures params { IfOk result (λ made. AreParams scope.now func.now.params made.params) }
+    ensures results { IfOk result (λ made. AreParams scope.now func.now.results made.results) }
     ensures fault { IfErr result (λ e. Blames e (first_fault (checks_inside (here_of scope.now) func.now))) }
 {
     let mut own = Marks::new(scope.alloc);
@@ -182,7 +174,7 @@ pub fn checked_func(
     ensures ok { OnOk result (first_fault (checks_func (here_of scope.now) taken.old func.now) ≡ None) }
     ensures tree { IfOk result (λ f. func_tree f ≡ makes_func (here_of scope.now) (comments_view comments.now) func.now) }
     ensures fault { IfErr result (λ e. Blames e (first_fault (checks_func (here_of scope.now) taken.old func.now))) }
-    ensures kept { (q : _) → OnOk result (found taken.new q ≡ found (with_export func.now taken.old) q) }
+    ensures kept { FindsOnOk result taken.new (with_export func.now taken.old) }
 {
     let name = func_name(func, scope, taken)?;
     let inside = func_inside(func, scope)?;

@@ -1,9 +1,7 @@
 //! The laws that let a reader go from what a validator keeps to the positions of declarations.
 
 ghost use Rattle.std.specs.Prelude.{◌≡◌, ◌∷◌};
-ghost use Rattle.witx_scope.specs.Senses.{kept_sense};
-ghost use Rattle.witx_scope.specs.Positions.{denotes};
-ghost use Rattle.witx_scope.specs.Declarations.{nothing_before};
+ghost use Rattle.witx_scope.specs.{Senses.{kept_sense}, Positions.{denotes}, Declarations.{nothing_before}};
 ghost use Rattle.witx_scope.specs.Kept.{Keeps, KeepsNames};
 ghost use Rattle.witx_check.specs.Validators.{nothing_kept};
 

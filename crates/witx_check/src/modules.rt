@@ -1,22 +1,15 @@
 //! Modules: their items, in order and by name.
 
-ghost use Rattle.std.specs.Prelude.{◌≡◌, ◌∷◌, ◌++◌, [], IfOk, IfErr, OnOk, OnErr, Some, None, map, option_map};
+ghost use Rattle.std.specs.Prelude.{◌≡◌, ◌∷◌, ◌++◌, [], IfOk, IfErr, OnOk, Some, None, map, option_map};
 ghost use Rattle.witx_base.specs.Found.{found};
-ghost use Rattle.witx_ast.specs.Items.{item_tree, entry_item, ItemsFit};
-ghost use Rattle.witx_ast.specs.Definitions.{module_tree};
-ghost use Rattle.witx_comments.specs.Documentation.{documentation_of};
-ghost use Rattle.witx_comments.specs.Comments.{comments_view};
+ghost use Rattle.witx_ast.specs.{Items.{item_tree, entry_item, ItemsFit}, Definitions.{module_tree}};
+ghost use Rattle.witx_comments.specs.{Documentation.{documentation_of}, Comments.{comments_view}};
 ghost use Rattle.witx_syntax_tree.specs.Views.{noted_decl};
-ghost use Rattle.witx_scope.specs.Faults.{first_fault};
-ghost use Rattle.witx_scope.specs.Names.{new_mark};
-ghost use Rattle.witx_scope.specs.Blame.{Blames};
-ghost use Rattle.witx_scope.specs.Answers.{IsCheckFault};
-ghost use Rattle.witx_scope.specs.Senses.{here_of};
-ghost use Rattle.witx_scope.specs.DeclarationForms.{items_in};
+ghost use Rattle.witx_scope.specs.{Faults.{first_fault}, Names.{FindsOnOk, new_mark}, Blame.{Blames}};
+ghost use Rattle.witx_scope.specs.{Senses.{here_of}, DeclarationForms.{items_in}};
 ghost use Rattle.witx_scope.specs.Modules.{with_name, item_called, item_with, item_checks, items_checks, item_meant};
-ghost use Rattle.witx_scope.specs.Introduced.{AreIntroduced};
-ghost use Rattle.witx_scope.specs.Inside.{TakesAtMost, RefusesDeclaration};
-ghost use Rattle.witx_scope.specs.Sites.{place_at, checks_module, makes_module};
+ghost use Rattle.witx_scope.specs.{Introduced.{AreIntroduced}, Sites.{place_at, checks_module, makes_module}};
+ghost use Rattle.witx_check.specs.Declaring.{with_declared, RefusesName, LeavesName};
 
 use crate::functions::checked_func;
 use std::rc::Rc;
@@ -48,8 +41,7 @@ fn checked_import(
     ensures ok { OnOk result (new_mark (here_of scope.now) marks.old import.now.name import.now.name_loc.start ≡ None) }
     ensures name { IfOk result (λ made. made.name ≡ import.now.name) }
     ensures docs { IfOk result (λ made. made.docs ≡ documentation_of (comments_view comments.now)) }
-    ensures kept { (q : _) → OnOk result (found marks.new q
-        ≡ found ((import.now.name, import.now.name_loc.start) ∷ marks.old) q) }
+    ensures kept { FindsOnOk result marks.new ((import.now.name, import.now.name_loc.start) ∷ marks.old) }
     ensures fault { IfErr result
         (λ e. Blames e (new_mark (here_of scope.now) marks.old import.now.name import.now.name_loc.start)) }
 {
@@ -70,7 +62,7 @@ fn checked_item(
 ) -> Result<ModuleDefinition, CheckError>
     ensures ok { OnOk result (first_fault (item_checks (here_of scope.now) marks.old (noted_decl decl.now).decl) ≡ None) }
     ensures tree { IfOk result (λ made. item_tree made ≡ item_meant (here_of scope.now) (noted_decl decl.now)) }
-    ensures kept { (q : _) → OnOk result (found marks.new q ≡ found (with_name (noted_decl decl.now).decl marks.old) q) }
+    ensures kept { FindsOnOk result marks.new (with_name (noted_decl decl.now).decl marks.old) }
     ensures fault { IfErr result (λ e. Blames e
         (first_fault (item_checks (here_of scope.now) marks.old (noted_decl decl.now).decl))) }
 {
@@ -161,12 +153,9 @@ pub fn checked_module(
     ensures tree { IfOk result (λ m. module_tree m ≡ makes_module names.old entries.now site.entry decl.now) }
     ensures name { IfOk result (λ m. m.name ≡ decl.now.name.name.now) }
     ensures fault { IfErr result (λ e. Blames e (first_fault (checks_module names.old entries.now site.entry decl.now))) }
-    ensures kept { (q : _) → OnOk result (found names.new q
-        ≡ found ((decl.now.name.name.now, place_at site.entry decl.now.name) ∷ names.old) q) }
-    ensures refused { IfErr result (λ e. IsCheckFault e → RefusesDeclaration names.old names.new
-        decl.now.name.name.now (place_at site.entry decl.now.name)) }
-    ensures left { OnErr result
-        (TakesAtMost names.old names.new decl.now.name.name.now (place_at site.entry decl.now.name)) }
+    ensures kept { FindsOnOk result names.new (with_declared site.entry decl.now.name names.old) }
+    ensures refused { RefusesName result names.old names.new site.entry decl.now.name }
+    ensures left { LeavesName result names.old names.new site.entry decl.now.name }
     ensures introduced_after { AreIntroduced names.new unfinished.new entries.now }
     ensures current { OnOk result (unfinished.new.current ≡ Some decl.now.name.name.now) }
 {

@@ -2,17 +2,15 @@
 #![tactic(auto, using(witx_scope::proofs::Steps::step_rules))]
 
 ghost use Rattle.std.specs.Prelude.{◌≡◌, ◌∷◌, ◌++◌, IfOk, IfErr, IfSome, OnOk, Some, None, [], map, option_map};
+ghost use Rattle.std.specs.Map.{keys_of};
 ghost use Rattle.witx_ast.specs.Tree.{Tree, behind, arms_of};
 ghost use Rattle.witx_ast.specs.Views.{tree_of, datatype_tree, member_field, case_arm};
-ghost use Rattle.witx_scope.specs.Faults.{first_fault};
-ghost use Rattle.witx_scope.specs.Checks.{member_checks};
+ghost use Rattle.witx_scope.specs.{Faults.{first_fault}, Checks.{member_checks}};
 ghost use Rattle.witx_scope.specs.Trees.{in_order, member_arm, flag_field, bool_tree, string_tree, expected_tree, number_name, union_name, enum_tree, flags_tree};
-ghost use Rattle.witx_scope.specs.Tags.{builtin_type, repr_check, repr_meant, repr_of, has_name, case_check, size_check, tag_check, repr_in, names_in, arm_names};
-ghost use Rattle.witx_base.specs.Found.{found};
+ghost use Rattle.witx_scope.specs.Tags.{builtin_type, repr_check, repr_meant, repr_of, has_name, case_check, size_check, tag_check, repr_in, names_in, names_of_cases};
+ghost use Rattle.witx_scope.specs.Names.{FindsOnOk};
 ghost use Rattle.witx_scope.specs.SyntaxChecks.{made_field, made_arm, member_views, enum_checks, flags_checks, name_check, Sees};
-ghost use Rattle.witx_scope.specs.Blame.{Blames};
-ghost use Rattle.witx_scope.specs.Senses.{here_of};
-ghost use Rattle.std.specs.Map.{keys_of};
+ghost use Rattle.witx_scope.specs.{Blame.{Blames}, Senses.{here_of}};
 
 use std::alloc::Global;
 use std::rc::Rc;
@@ -306,7 +304,7 @@ pub fn ordered_type(alloc: Global, tag: Tag, cases: Cases) -> Result<TypeRef, Ou
 }
 
 fn tag_names(alloc: Global, cases: &[Case]) -> Result<TagNames, OutOfMemory>
-    ensures { IfOk result (λ ns. ns ≡ arm_names (arms_of (map case_arm cases.now))) }
+    ensures { IfOk result (λ ns. ns ≡ names_of_cases cases.now) }
 {
     TagNames::new(alloc, case_names(alloc, cases)?)
 }
@@ -388,7 +386,7 @@ fn take_case(
 ) -> Result<(), CheckError>
     ensures ok { OnOk result
         (case_check (Some names.now) (keys_of seen.old) name.now ((here_of scope.now).place at) ≡ None) }
-    ensures kept { (q : _) → OnOk result (found seen.new q ≡ found ((name.now, at) ∷ seen.old) q) }
+    ensures kept { FindsOnOk result seen.new ((name.now, at) ∷ seen.old) }
     ensures fault { IfErr result (λ e. Blames e
         (case_check (Some names.now) (keys_of seen.old) name.now ((here_of scope.now).place at))) }
 {

@@ -1,14 +1,10 @@
 //! Typenames.
 
-ghost use Rattle.std.specs.Prelude.{◌≡◌, ◌∷◌, IfOk, IfErr, OnOk, OnErr, Some, None};
-ghost use Rattle.witx_base.specs.Found.{found};
+ghost use Rattle.std.specs.Prelude.{◌≡◌, IfOk, IfErr, OnOk, Some, None};
 ghost use Rattle.witx_ast.specs.Views.{named_tree};
-ghost use Rattle.witx_scope.specs.Faults.{first_fault};
-ghost use Rattle.witx_scope.specs.Blame.{Blames};
-ghost use Rattle.witx_scope.specs.Answers.{IsCheckFault};
-ghost use Rattle.witx_scope.specs.Introduced.{AreIntroduced};
-ghost use Rattle.witx_scope.specs.Inside.{TakesAtMost, RefusesDeclaration};
-ghost use Rattle.witx_scope.specs.Sites.{place_at, checks_typename, makes_typename};
+ghost use Rattle.witx_scope.specs.{Faults.{first_fault}, Blame.{Blames}, Introduced.{AreIntroduced}};
+ghost use Rattle.witx_scope.specs.{Names.{FindsOnOk}, Sites.{place_at, checks_typename, makes_typename}};
+ghost use Rattle.witx_check.specs.Declaring.{with_declared, RefusesName, LeavesName};
 
 use crate::types::checked_type;
 use witx_ast::{Entries, NamedType};
@@ -32,12 +28,9 @@ pub fn checked_typename(
     ensures tree { IfOk result (λ n. named_tree n ≡ makes_typename names.old entries.now site.entry decl.now) }
     ensures name { IfOk result (λ n. n.name ≡ decl.now.ident.name.now) }
     ensures fault { IfErr result (λ e. Blames e (first_fault (checks_typename names.old entries.now site.entry decl.now))) }
-    ensures kept { (q : _) → OnOk result (found names.new q
-        ≡ found ((decl.now.ident.name.now, place_at site.entry decl.now.ident) ∷ names.old) q) }
-    ensures refused { IfErr result (λ e. IsCheckFault e → RefusesDeclaration names.old names.new
-        decl.now.ident.name.now (place_at site.entry decl.now.ident)) }
-    ensures left { OnErr result
-        (TakesAtMost names.old names.new decl.now.ident.name.now (place_at site.entry decl.now.ident)) }
+    ensures kept { FindsOnOk result names.new (with_declared site.entry decl.now.ident names.old) }
+    ensures refused { RefusesName result names.old names.new site.entry decl.now.ident }
+    ensures left { LeavesName result names.old names.new site.entry decl.now.ident }
     ensures introduced_after { AreIntroduced names.new unfinished.new entries.now }
     ensures current { OnOk result (unfinished.new.current ≡ Some decl.now.ident.name.now) }
 {

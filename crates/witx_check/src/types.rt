@@ -4,13 +4,11 @@
 ghost use Rattle.std.specs.Prelude.{◌≡◌, IfOk, IfErr, OnOk, None, [], map, option_map};
 ghost use Rattle.witx_syntax_tree.specs.Views.{type_view, fields_view, types_view, union_fields_view, cases_view, boxed_view};
 ghost use Rattle.witx_scope.specs.SyntaxChecks.{lacks_name, checks_of, payload_view, part_checks, record_checks, record_meant, tuple_checks, tuple_meant, expected_checks, expected_meant, all_tag_checks, union_checks, union_meant, variant_checks, variant_meant};
-ghost use Rattle.witx_ast.specs.Views.{tree_of, member_field, case_arm};
 ghost use Rattle.witx_scope.specs.Faults.{first_fault};
 ghost use Rattle.witx_scope.specs.Checks.{field_checks, each_type_checks, maybe_checks, case_checks};
 ghost use Rattle.witx_scope.specs.Trees.{tree_meant, fields_meant, types_meant, maybe_tree, union_arms, case_arms};
-ghost use Rattle.witx_scope.specs.Tags.{tag_repr, tag_names};
-ghost use Rattle.witx_scope.specs.Blame.{Blames};
-ghost use Rattle.witx_scope.specs.Senses.{here_of};
+ghost use Rattle.witx_scope.specs.{Tags.{tag_repr, tag_names}, Blame.{Blames}, Senses.{here_of}};
+ghost use Rattle.witx_ast.specs.Views.{tree_of, member_field, case_arm};
 
 use crate::parts::{
     Tag, bool_type, builtin_type, checked_case, checked_enum, checked_flags, checked_size,

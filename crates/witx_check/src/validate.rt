@@ -1,14 +1,12 @@
 //! Whole declarations, checked and kept.
 #![tactic(auto, using(crate::proofs::Finishing::keeping_rules))]
 
-ghost use Rattle.std.specs.Prelude.{◌≡◌, ◌∷◌, ◌++◌, [], OnOk, OnErr, Some, map, option_map};
-ghost use Rattle.witx_base.specs.Found.{found};
+ghost use Rattle.std.specs.Prelude.{◌≡◌, ◌∷◌, ◌++◌, [], OnOk, OnErr, Some, map};
 ghost use Rattle.witx_ast.specs.Definitions.{definition_tree, entry_tree, module_of, module_tree};
 ghost use Rattle.witx_ast.specs.Views.{named_tree};
-ghost use Rattle.witx_scope.specs.Names.{a_type, a_module};
-ghost use Rattle.witx_scope.specs.Kept.{entry_sense_of, sense_with, tree_with, made_typename};
-ghost use Rattle.witx_scope.specs.Sites.{kept_in, place_at, typename_at, module_at, constant_at};
-ghost use Rattle.witx_scope.specs.Validates.{Validates};
+ghost use Rattle.witx_scope.specs.{Names.{a_type, a_module}, Kept.{entry_sense_of, made_typename}};
+ghost use Rattle.witx_scope.specs.Sites.{place_at, typename_at, module_at, constant_at};
+ghost use Rattle.witx_check.specs.Declaring.{SensesOnOk, TreesOnOk, TablesTake};
 
 use crate::modules::checked_module;
 use crate::typenames::checked_typename;
@@ -29,10 +27,8 @@ fn finish(
     entry: Entry,
 ) -> Result<(), OutOfMemory>
     ensures definitions { OnOk result (definitions.new ≡ definitions.old ++ definition ∷ []) }
-    ensures senses { (q : _) → OnOk result (entry_sense_of (found entries.new q)
-        ≡ sense_with entries.old name (entry_sense_of (Some entry)) q) }
-    ensures trees { (q : _) → OnOk result (option_map entry_tree (found entries.new q)
-        ≡ tree_with entries.old name (entry_tree entry) q) }
+    ensures senses { SensesOnOk result entries.old entries.new name (entry_sense_of (Some entry)) }
+    ensures trees { TreesOnOk result entries.old entries.new name (entry_tree entry) }
     ensures unchanged { OnErr result (definitions.new ≡ definitions.old) }
     ensures entries_unchanged { OnErr result (entries.new ≡ entries.old) }
 {
@@ -56,10 +52,8 @@ fn keep_typename(
 ) -> Result<(), OutOfMemory>
     ensures appended { OnOk result (map definition_tree definitions.new
         ≡ map definition_tree definitions.old ++ made_typename made ∷ []) }
-    ensures senses { (q : _) → OnOk result (entry_sense_of (found entries.new q)
-        ≡ sense_with entries.old made.name (Some (a_type (named_tree made))) q) }
-    ensures trees { (q : _) → OnOk result (option_map entry_tree (found entries.new q)
-        ≡ tree_with entries.old made.name (made_typename made) q) }
+    ensures senses { SensesOnOk result entries.old entries.new made.name (Some (a_type (named_tree made))) }
+    ensures trees { TreesOnOk result entries.old entries.new made.name (made_typename made) }
     ensures unchanged { OnErr result (definitions.new ≡ definitions.old) }
     ensures entries_unchanged { OnErr result (entries.new ≡ entries.old) }
 {
@@ -84,10 +78,8 @@ fn keep_module(
 ) -> Result<(), OutOfMemory>
     ensures appended { OnOk result (map definition_tree definitions.new
         ≡ map definition_tree definitions.old ++ module_of (module_tree made) ∷ []) }
-    ensures senses { (q : _) → OnOk result (entry_sense_of (found entries.new q)
-        ≡ sense_with entries.old made.name (Some a_module) q) }
-    ensures trees { (q : _) → OnOk result (option_map entry_tree (found entries.new q)
-        ≡ tree_with entries.old made.name (module_of (module_tree made)) q) }
+    ensures senses { SensesOnOk result entries.old entries.new made.name (Some a_module) }
+    ensures trees { TreesOnOk result entries.old entries.new made.name (module_of (module_tree made)) }
     ensures unchanged { OnErr result (definitions.new ≡ definitions.old) }
     ensures entries_unchanged { OnErr result (entries.new ≡ entries.old) }
 {
@@ -111,7 +103,7 @@ pub fn validate_typename(
     definitions: &mut Definitions,
 ) -> Result<(), CheckError>
     requires { site.place ≡ place_at site decl.now.ident }
-    ensures { Validates (kept_in tables.old) (kept_in tables.new) definitions.old definitions.new
+    ensures { TablesTake tables.old tables.new definitions.old definitions.new
         (typename_at site.entry decl.now) result }
 {
     let alloc = tables.alloc;
@@ -140,7 +132,7 @@ pub fn validate_module(
     definitions: &mut Definitions,
 ) -> Result<(), CheckError>
     requires { site.place ≡ place_at site decl.now.name }
-    ensures { Validates (kept_in tables.old) (kept_in tables.new) definitions.old definitions.new
+    ensures { TablesTake tables.old tables.new definitions.old definitions.new
         (module_at site.entry decl.now) result }
 {
     let alloc = tables.alloc;
@@ -169,7 +161,7 @@ pub fn validate_constant(
     definitions: &mut Definitions,
 ) -> Result<(), CheckError>
     requires { site.place ≡ place_at site decl.now.item.name }
-    ensures { Validates (kept_in tables.old) (kept_in tables.new) definitions.old definitions.new
+    ensures { TablesTake tables.old tables.new definitions.old definitions.new
         (constant_at site.entry decl.now) result }
 {
     take_constant(tables, site, decl, definitions)

@@ -1,11 +1,10 @@
 //! The validator: what it keeps between declarations, and the document that it ends in.
 
 ghost use Rattle.std.specs.Prelude.{◌≡◌, IfOk, map};
-ghost use Rattle.witx_ast.specs.Definitions.{definition_tree, DefinitionsFit};
-ghost use Rattle.witx_ast.specs.Ordered.{IsOrdered};
+ghost use Rattle.witx_ast.specs.{Definitions.{definition_tree, DefinitionsFit}, Ordered.{IsOrdered}};
 ghost use Rattle.witx_check.specs.Scopes.{TakesIn, kept_at, site_in, site_of};
-ghost use Rattle.witx_scope.specs.Validates.{Validates};
 ghost use Rattle.witx_check.specs.Validators.{kept_by, nothing_kept};
+ghost use Rattle.witx_scope.specs.Validates.{Validates};
 
 use crate::validate::{validate_constant, validate_module, validate_typename};
 use crate::validation_scope::DocValidationScope;

@@ -1,8 +1,7 @@
 //! The comments of an item: what is kept of them, and copies of it.
 
 ghost use Rattle.std.specs.Prelude.{◌≡◌, IfOk};
-ghost use Rattle.witx_comments.specs.Comments.{comments_view};
-ghost use Rattle.witx_comments.specs.Copies.{IsCopyOfDocumented};
+ghost use Rattle.witx_comments.specs.{Comments.{comments_view}, Copies.{IsCopyOfDocumented}};
 ghost use Rattle.witx_comments.specs.Documentation.{documentation_of};
 
 use crate::documentation_text::documentation;

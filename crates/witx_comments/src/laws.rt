@@ -1,8 +1,6 @@
 //! A law of documentation, as the contract of a function that does nothing.
 
-ghost use Rattle.std.specs.Prelude.{ℕ, List};
-ghost use Rattle.std.specs.List.{AllByRecursion};
-ghost use Rattle.std.specs.Str.{IsUtf8};
+ghost use Rattle.std.specs.{Prelude.{ℕ, List}, List.{AllByRecursion}, Str.{IsUtf8}};
 ghost use Rattle.witx_comments.specs.Documentation.{doc_lines, AreCutBetweenCharacters};
 
 /// No line of documentation that comments give is cut inside a character.

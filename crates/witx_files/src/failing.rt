@@ -3,8 +3,7 @@
 ghost use Rattle.std.specs.Prelude.{◌≡◌, Some};
 ghost use Rattle.witx_base.specs.Calls.{fails_next, no_calls};
 ghost use Rattle.witx_files.specs.Answers.{IsText, IsLine, IsCanonical};
-ghost use Rattle.witx_files.specs.FailingFiles.{is_failed, after_call};
-ghost use Rattle.witx_files.specs.Files.{canonical};
+ghost use Rattle.witx_files.specs.{FailingFiles.{is_failed, after_call}, Files.{canonical}};
 
 use crate::fault::{IoError, IoFault};
 use crate::io::WitxIo;

@@ -1,8 +1,7 @@
 //! What a reader of files by path has to give.
 
 ghost use Rattle.std.specs.Prelude.{◌≡◌, ℕ, Option};
-ghost use Rattle.witx_files.specs.Answers.{IsText, IsLine, IsCanonical};
-ghost use Rattle.witx_files.specs.Files.{Files, Aliases};
+ghost use Rattle.witx_files.specs.{Answers.{IsText, IsLine, IsCanonical}, Files.{Files, Aliases}};
 
 use crate::fault::IoError;
 use std::alloc::Global;

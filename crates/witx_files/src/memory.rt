@@ -2,8 +2,7 @@
 
 ghost use Rattle.std.specs.Prelude.{◌≡◌, [], Some, None, OnErr, OnOk, if◌then◌else◌};
 ghost use Rattle.witx_base.specs.Paths.{Path};
-ghost use Rattle.witx_files.specs.Answers.{IsLineOf};
-ghost use Rattle.witx_files.specs.Files.{text_in, same_path};
+ghost use Rattle.witx_files.specs.{Answers.{IsLineOf}, Files.{text_in, same_path}};
 
 use crate::fault::{IoError, IoFault};
 use crate::io::WitxIo;

@@ -10,12 +10,12 @@ use Rattle.witx_grammar.proofs.Makes.{Language, silent, telling, inner, outer, b
 use Rattle.witx_import_list.proofs.Pieces.{type_tokens, group_tokens, line_tokens, list_tokens, list-has-tokens}
 use Rattle.witx_import_list.specs.ListTexts.{list_text, AreNames}
 use Rattle.witx_imports.specs.declared.import.WasmImport.{WasmImport}
-use Rattle.witx_imports.specs.declared.nonterminal.Nonterminal.{Nonterminal as FormName}
-use Rattle.witx_imports.specs.declared.nonterminal.Nonterminal.TheVariants as n
-use Rattle.witx_imports.specs.declared.production.ProductionName.{ProductionName}
-use Rattle.witx_imports.specs.declared.production.ProductionName.TheVariants as p
-use Rattle.witx_imports.specs.declared.token_kind.TokenKind.{TokenKind}
-use Rattle.witx_imports.specs.declared.token_kind.TokenKind.TheVariants as kind
+use Rattle.witx_imports.specs.declared.symbols.Nonterminal.{Nonterminal as FormName}
+use Rattle.witx_imports.specs.declared.symbols.Nonterminal.TheVariants as n
+use Rattle.witx_imports.specs.declared.symbols.ProductionName.{ProductionName}
+use Rattle.witx_imports.specs.declared.symbols.ProductionName.TheVariants as p
+use Rattle.witx_imports.specs.declared.symbols.TokenKind.{TokenKind}
+use Rattle.witx_imports.specs.declared.symbols.TokenKind.TheVariants as kind
 use Rattle.witx_imports.specs.Actions.{import_act, words}
 use Rattle.witx_imports.specs.Grammar.{import_written, import_grammar}
 use Rattle.witx_imports.specs.Reads.{Lists}

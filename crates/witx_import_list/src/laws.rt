@@ -2,8 +2,7 @@
 
 ghost use Rattle.std.specs.Prelude.{List};
 ghost use Rattle.witx_import_list.specs.ListTexts.{AreNames, list_text};
-ghost use Rattle.witx_imports.specs.declared.import.WasmImport.{WasmImport};
-ghost use Rattle.witx_imports.specs.Reads.{Lists};
+ghost use Rattle.witx_imports.specs.{declared.import.WasmImport.{WasmImport}, Reads.{Lists}};
 
 /// The text of a list of imports whose names are texts, as all names of the code are, reads as these
 /// imports, and so `read_imports` gives them back.

@@ -5,13 +5,13 @@ use Rattle.std.specs.Cmp.Lexicographic.{pointwise}
 use Rattle.std.specs.List.{AllPairs, enumerate_from, filter_map, find}
 use Rattle.std.proofs.lemmas.List.Kept.{AllPairs-cons}
 use Rattle.std.specs.Prelude.{All, slice_get, ◌⊎◌}
-use Rattle.std.proofs.lemmas.Bool.{and_parts}
+use Rattle.std.proofs.lemmas.Bool.{and_from, and_parts}
 use Rattle.std.proofs.lemmas.Bool.Decides.{Decides-eqb}
 use Rattle.std.proofs.lemmas.Slice.Eq.{slice_eq-Decides}
 use Rattle.witx_base.specs.Texts.{same_text}
 use Rattle.witx_grammar.specs.Grammar.{In}
 use Rattle.witx_grammar.specs.Kinds.{enum_exact}
-use Rattle.witx_values.proofs.Truths.{not_both, both_true}
+use Rattle.witx_values.proofs.Truths.{not_both}
 use Rattle.witx_machine.specs.contracts.surface.WasmType.{the_type}
 use Rattle.witx_machine.specs.contracts.surface.WasmTypePartialEq.TheImpl as words
 use Rattle.witx_machine.specs.declared.surface.WasmType.{WasmType}
@@ -46,7 +46,7 @@ names_of i x e =
     record { owner = (text_decides x.module i.module).0 p.0; name = (text_decides x.name i.name).0 p.1 }
 
 named : (i x : WasmImport) → HasNames i x → has_import_names i x ≡ true
-named i x h = both_true (same_text x.module i.module) (same_text x.name i.name) ((text_decides x.module i.module).1 h.owner) ((text_decides x.name i.name).1 h.name)
+named i x h = and_from (same_text x.module i.module) (same_text x.name i.name) ((text_decides x.module i.module).1 h.owner) ((text_decides x.name i.name).1 h.name)
 
 unnamed : (i x : WasmImport) → has_import_names i x ≡ false → HasNames i x → ⊥
 unnamed i x f h = not_both (sym (named i x h) ∙ f)
@@ -61,7 +61,7 @@ same_import i x h e =
 
 words_of : (i x : WasmImport) → x ≡ i → has_words i x ≡ true
 words_of i x e =
-    both_true (same_words x.params i.params) (same_words x.results i.results)
+    and_from (same_words x.params i.params) (same_words x.results i.results)
     ((words_decide x.params i.params).1 (ap (λ (y : WasmImport). y.params) e)) ((words_decide x.results i.results).1 (ap (λ (y : WasmImport). y.results) e))
 
 -- ---- what the search finds

@@ -4,8 +4,8 @@ use Rattle.witx_lex.specs.Slices.{SpellsToken}
 use Rattle.witx_lex.specs.Tokens.{Token, left, right, id, word, annot, int, quoted, Lexed}
 use Rattle.witx_values.proofs.Fitting.{no_value, none_left}
 use Rattle.witx_values.proofs.Mute.{no_sorts_spelled}
-use Rattle.witx_imports.specs.declared.token_kind.TokenKind.{TokenKind}
-use Rattle.witx_imports.specs.declared.token_kind.TokenKind.TheVariants.{Quoted, Other}
+use Rattle.witx_imports.specs.declared.symbols.TokenKind.{TokenKind}
+use Rattle.witx_imports.specs.declared.symbols.TokenKind.TheVariants.{Quoted, Other}
 use Rattle.witx_imports.specs.Actions.{import_language}
 use Rattle.witx_imports.specs.Lawful.{lawful}
 use Rattle.witx_imports.specs.Sorts.{import_terminal_sorts}

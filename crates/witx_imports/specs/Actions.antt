@@ -6,11 +6,11 @@ use Rattle.witx_machine.specs.declared.surface.WasmType.TheVariants as w
 use Rattle.witx_values.specs.Language.{Language}
 use Rattle.witx_values.specs.Parts.{Meaning, in_place}
 use Rattle.witx_imports.specs.declared.import.WasmImport.{WasmImport}
-use Rattle.witx_imports.specs.declared.nonterminal.Nonterminal.{Nonterminal}
-use Rattle.witx_imports.specs.declared.production.ProductionName.{ProductionName}
-use Rattle.witx_imports.specs.declared.production.ProductionName.TheVariants as p
-use Rattle.witx_imports.specs.declared.token_kind.TokenKind.{TokenKind}
-use Rattle.witx_imports.specs.declared.token_kind.TokenKind.TheVariants.{End}
+use Rattle.witx_imports.specs.declared.symbols.Nonterminal.{Nonterminal}
+use Rattle.witx_imports.specs.declared.symbols.ProductionName.{ProductionName}
+use Rattle.witx_imports.specs.declared.symbols.ProductionName.TheVariants as p
+use Rattle.witx_imports.specs.declared.symbols.TokenKind.{TokenKind}
+use Rattle.witx_imports.specs.declared.symbols.TokenKind.TheVariants.{End}
 use Rattle.witx_imports.specs.declared.value.Sort.{Sort}
 use Rattle.witx_imports.specs.Grammar.{import_productions, import_written}
 use Rattle.witx_imports.specs.Sorts.{import_sorting, import_sort_of, import_terminal_sorts, import_nonterminal_sort}

@@ -2,14 +2,19 @@
 -- An optional part is two productions, and a repetition is a nonterminal that ends with its closing parenthesis.
 use Rattle.std.specs.Prelude.{List, [], ◌∷◌, map}
 use Rattle.witx_grammar.specs.Grammar.{Rewrite}
+use Rattle.witx_grammar.specs.Prediction.{IsPredictive}
 use Rattle.witx_grammar.specs.declared.table.Symbol.TheVariants.{Terminal as T, Nonterminal as N}
+use Rattle.witx_grammar.specs.declared.table.Table.{Table}
 use Rattle.witx_values.specs.Language.{Written, write, production_of}
-use Rattle.witx_imports.specs.declared.token_kind.TokenKind.{TokenKind}
-use Rattle.witx_imports.specs.declared.token_kind.TokenKind.TheVariants.{Left, Right, Id, Quoted, ImportWord, FuncWord, ParamWord, ResultWord, I32Word, I64Word, F32Word, F64Word, End}
-use Rattle.witx_imports.specs.declared.nonterminal.Nonterminal.{Nonterminal}
-use Rattle.witx_imports.specs.declared.nonterminal.Nonterminal.TheVariants as n
-use Rattle.witx_imports.specs.declared.production.ProductionName.{ProductionName}
-use Rattle.witx_imports.specs.declared.production.ProductionName.TheVariants as p
+use Rattle.witx_imports.specs.contracts.symbols.NonterminalPartialEq.TheImpl as nonterminals
+use Rattle.witx_imports.specs.contracts.symbols.ProductionNamePartialEq.TheImpl as productions
+use Rattle.witx_imports.specs.contracts.symbols.TokenKindPartialEq.TheImpl as kinds
+use Rattle.witx_imports.specs.declared.symbols.TokenKind.{TokenKind}
+use Rattle.witx_imports.specs.declared.symbols.TokenKind.TheVariants.{Left, Right, Id, Quoted, ImportWord, FuncWord, ParamWord, ResultWord, I32Word, I64Word, F32Word, F64Word, End}
+use Rattle.witx_imports.specs.declared.symbols.Nonterminal.{Nonterminal}
+use Rattle.witx_imports.specs.declared.symbols.Nonterminal.TheVariants as n
+use Rattle.witx_imports.specs.declared.symbols.ProductionName.{ProductionName}
+use Rattle.witx_imports.specs.declared.symbols.ProductionName.TheVariants as p
 
 -- which nonterminal each production writes, and by what
 abbrev pub import_written : ProductionName → Written TokenKind Nonterminal
@@ -44,3 +49,7 @@ import_productions =
 
 abbrev pub import_grammar : List (Rewrite TokenKind Nonterminal ProductionName)
 import_grammar = map (production_of import_written) import_productions
+
+-- the lookahead of a table shows each production
+abbrev pub IsPredictiveImportTable : Table TokenKind Nonterminal ProductionName → Type 0
+IsPredictiveImportTable t = IsPredictive kinds.ghosts.eq nonterminals.ghosts.eq productions.ghosts.eq t

@@ -4,7 +4,7 @@ use Rattle.witx_lex.specs.Tokens.{Token, word}
 use Rattle.witx_values.specs.Language.{IsLawful, parts_of, made_sort}
 use Rattle.witx_values.proofs.Mute.{no_sorts_spelled}
 use Rattle.witx_values.proofs.Parts.{IsHeld, IsSorting, made_fits}
-use Rattle.witx_imports.specs.declared.token_kind.TokenKind.TheVariants.{Other}
+use Rattle.witx_imports.specs.declared.symbols.TokenKind.TheVariants.{Other}
 use Rattle.witx_imports.specs.declared.value.Sort.{Sort}
 use Rattle.witx_imports.specs.declared.value.Sort.TheVariants as s
 use Rattle.witx_imports.specs.Actions.{import_meaning, import_language}

@@ -6,8 +6,8 @@ use Rattle.witx_values.specs.Texts.{Telling, HasValue, IsTextFault}
 use Rattle.witx_imports.specs.declared.error.ImportsError.{ImportsError}
 use Rattle.witx_imports.specs.declared.error.ImportsError.TheVariants.{Bad, OutOfMemory}
 use Rattle.witx_imports.specs.declared.import.WasmImport.{WasmImport}
-use Rattle.witx_imports.specs.declared.nonterminal.Nonterminal.TheVariants.{Text}
-use Rattle.witx_imports.specs.declared.token_kind.TokenKind.{TokenKind}
+use Rattle.witx_imports.specs.declared.symbols.Nonterminal.TheVariants.{Text}
+use Rattle.witx_imports.specs.declared.symbols.TokenKind.{TokenKind}
 use Rattle.witx_imports.specs.Actions.{import_language}
 use Rattle.witx_imports.specs.Values.{some_imports}
 
@@ -36,3 +36,7 @@ IsBadAt text place = IsTextFault import_language Text telling_places text place
 abbrev pub BadPlace : ImportsError → (LineColumn → Type 0) → Type 0
 BadPlace (Bad line column) P = P (record { line = line; column = column })
 BadPlace OutOfMemory P = Unit {0}
+
+-- the place that an error tells is that of the text's fault
+abbrev pub TellsBadPlace : ImportsError → List ℕ → Type 0
+TellsBadPlace e text = BadPlace e (λ place. IsBadAt text place)

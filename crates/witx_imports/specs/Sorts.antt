@@ -3,10 +3,10 @@ use Rattle.std.specs.Prelude.{ℕ, List, [], ◌∷◌, Option, Some, None}
 use Rattle.witx_machine.specs.declared.surface.WasmType.{WasmType}
 use Rattle.witx_values.specs.Parts.{Sorting}
 use Rattle.witx_imports.specs.declared.import.WasmImport.{WasmImport}
-use Rattle.witx_imports.specs.declared.nonterminal.Nonterminal.{Nonterminal as FormName}
-use Rattle.witx_imports.specs.declared.nonterminal.Nonterminal.TheVariants as n
-use Rattle.witx_imports.specs.declared.token_kind.TokenKind.{TokenKind}
-use Rattle.witx_imports.specs.declared.token_kind.TokenKind.TheVariants.{Quoted}
+use Rattle.witx_imports.specs.declared.symbols.Nonterminal.{Nonterminal as FormName}
+use Rattle.witx_imports.specs.declared.symbols.Nonterminal.TheVariants as n
+use Rattle.witx_imports.specs.declared.symbols.TokenKind.{TokenKind}
+use Rattle.witx_imports.specs.declared.symbols.TokenKind.TheVariants.{Quoted}
 use Rattle.witx_imports.specs.declared.value.Sort.{Sort}
 use Rattle.witx_imports.specs.declared.value.Sort.TheVariants as s
 use Rattle.witx_imports.specs.Values.{Signature, ImportVal, a_name, a_type, some_types, a_signature, an_import, some_imports}

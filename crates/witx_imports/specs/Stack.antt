@@ -3,9 +3,9 @@ use Rattle.std.specs.Prelude.{◌≡◌, ℕ, ◌++◌, List, [], reverse, Resul
 use Rattle.witx_lex.specs.Tokens.{Lexed}
 use Rattle.witx_imports.specs.declared.value.Value.{Value}
 use Rattle.witx_imports.specs.declared.value.Value.TheVariants as value
-use Rattle.witx_imports.specs.declared.production.ProductionName.{ProductionName}
-use Rattle.witx_imports.specs.declared.production.ProductionName.TheVariants as p
-use Rattle.witx_imports.specs.declared.token_kind.TokenKind.{TokenKind}
+use Rattle.witx_imports.specs.declared.symbols.ProductionName.{ProductionName}
+use Rattle.witx_imports.specs.declared.symbols.ProductionName.TheVariants as p
+use Rattle.witx_imports.specs.declared.symbols.TokenKind.{TokenKind}
 use Rattle.witx_values.specs.Language.{stack_of}
 use Rattle.witx_values.specs.TextTokens.{AreHeld}
 use Rattle.witx_values.specs.Texts.{token_at}

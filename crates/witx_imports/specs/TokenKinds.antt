@@ -1,8 +1,8 @@
 -- Kinds of tokens: each word of the grammar is of one, tied to its spelling here and nowhere else.
 use Rattle.std.specs.Prelude.{List, [], ◌∷◌, codes}
 use Rattle.witx_lex.specs.Tokens.{Token, left, right, id, word, quoted}
-use Rattle.witx_imports.specs.declared.token_kind.TokenKind.{TokenKind}
-use Rattle.witx_imports.specs.declared.token_kind.TokenKind.TheVariants.{Left, Right, Id, Quoted, ImportWord, FuncWord, ParamWord, ResultWord, I32Word, I64Word, F32Word, F64Word, Other}
+use Rattle.witx_imports.specs.declared.symbols.TokenKind.{TokenKind}
+use Rattle.witx_imports.specs.declared.symbols.TokenKind.TheVariants.{Left, Right, Id, Quoted, ImportWord, FuncWord, ParamWord, ResultWord, I32Word, I64Word, F32Word, F64Word, Other}
 use Rattle.witx_values.specs.Words.{Spelling, spelled, kind_spelled}
 
 -- the words, those that stand often first

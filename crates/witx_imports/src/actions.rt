@@ -2,9 +2,8 @@
 
 ghost use Rattle.std.specs.Prelude.{◌≡◌, ◌++◌, reverse, IfOk};
 ghost use Rattle.witx_values.specs.Language.{Ready};
-ghost use Rattle.witx_imports.specs.Actions.{import_language};
-ghost use Rattle.witx_imports.specs.declared.production.ProductionName.TheVariants as production;
-ghost use Rattle.witx_imports.specs.Stack.{ImportMade, import_value_view};
+ghost use Rattle.witx_imports.specs.{Actions.{import_language}, Stack.{ImportMade, import_value_view}};
+ghost use Rattle.witx_imports.specs.declared.symbols.ProductionName.TheVariants as production;
 
 use crate::import::WasmImport;
 use crate::stack::push;

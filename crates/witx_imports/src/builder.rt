@@ -2,18 +2,13 @@
 
 ghost use Rattle.std.specs.Prelude.{IfOk};
 ghost use Rattle.witx_values.specs.Language.{Ready};
-ghost use Rattle.witx_imports.specs.declared.value.Sort.{Sort};
-ghost use Rattle.witx_imports.specs.Actions.{import_language};
-ghost use Rattle.witx_imports.specs.Lawful.{lawful};
-ghost use Rattle.witx_imports.specs.Stack.{ImportMade, import_value_view};
-ghost use Rattle.witx_imports.specs.Values.{ImportVal};
+ghost use Rattle.witx_imports.specs.{declared.value.Sort.{Sort}, Actions.{import_language}, Lawful.{lawful}};
+ghost use Rattle.witx_imports.specs.{Stack.{ImportMade, import_value_view}, Values.{ImportVal}};
 
 use crate::actions;
 use crate::leaf::leaf;
-use crate::nonterminal::Nonterminal;
-use crate::production::ProductionName as P;
 use crate::stack::push;
-use crate::token_kind::TokenKind;
+use crate::symbols::{Nonterminal, ProductionName as P, TokenKind};
 use crate::value::Value;
 use crate::words::kind_of;
 use std::alloc::Global;

@@ -3,8 +3,7 @@
 ghost use Rattle.std.specs.Prelude.{◌≡◌};
 ghost use Rattle.witx_imports.specs.declared.error.ImportsError.TheVariants.{OutOfMemory};
 
-use std::alloc::AllocError;
-use witx_base::OutOfMemory;
+use witx_base::MemoryRefused;
 
 /// Why a text is no list of imports.
 #[derive(PartialEq, Eq, Drop)]
@@ -15,18 +14,10 @@ pub enum ImportsError {
     OutOfMemory,
 }
 
-impl From<OutOfMemory> for ImportsError {
+impl<E: MemoryRefused> From<E> for ImportsError {
     ghost from_gives = { λ _ e. e ≡ OutOfMemory };
 
-    fn from(_refused: OutOfMemory) -> ImportsError {
-        ImportsError::OutOfMemory
-    }
-}
-
-impl From<AllocError> for ImportsError {
-    ghost from_gives = { λ _ e. e ≡ OutOfMemory };
-
-    fn from(_refused: AllocError) -> ImportsError {
+    fn from(_refused: E) -> ImportsError {
         ImportsError::OutOfMemory
     }
 }

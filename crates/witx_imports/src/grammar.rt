@@ -6,12 +6,9 @@
 
 ghost use Rattle.std.specs.Prelude.{◌≡◌};
 ghost use Rattle.witx_grammar.specs.Grammar.{grammar};
-ghost use Rattle.witx_grammar.specs.Prediction.{IsPredictive};
-ghost use Rattle.witx_imports.specs.Grammar.{import_grammar};
+ghost use Rattle.witx_imports.specs.Grammar.{IsPredictiveImportTable, import_grammar};
 
-use crate::nonterminal::Nonterminal;
-use crate::production::ProductionName;
-use crate::token_kind::TokenKind;
+use crate::symbols::{Nonterminal, ProductionName, TokenKind};
 use witx_grammar::{Production, Rule, Symbol, Table};
 use witx_values::rule;
 
@@ -54,8 +51,7 @@ static RULES: [Rule<'static, TokenKind, Nonterminal, ProductionName>; 8] = [
 
 /// The grammar.
 pub fn the_table() -> Table<'static, TokenKind, Nonterminal, ProductionName>
-    ensures predictive { IsPredictive ⟦<TokenKind as PartialEq>⟧.eq ⟦<Nonterminal as PartialEq>⟧.eq
-        ⟦<ProductionName as PartialEq>⟧.eq result }
+    ensures predictive { IsPredictiveImportTable result }
     ensures grammar { grammar result ≡ import_grammar }
 {
     Table { rules: &RULES }

@@ -1,18 +1,14 @@
 //! What holds of every text, as functions that do nothing: each contract is a theorem.
 
-ghost use Rattle.std.specs.Prelude.{◌≡◌, ◌⊎◌, ◌<◌, ℕ, List};
+ghost use Rattle.std.specs.{Prelude.{◌≡◌, ◌⊎◌, ◌<◌, ℕ, List}, List.{AllPairs}};
 ghost use Rattle.witx_imports.specs.declared.import.WasmImport.{WasmImport};
 ghost use Rattle.witx_imports.specs.declared.fault.ImportFault.{ImportFault};
-ghost use Rattle.std.specs.List.{AllPairs};
-ghost use Rattle.witx_grammar.specs.Grammar.{In};
-ghost use Rattle.witx_imports.specs.Exact.{IsFaultAmong, import_number};
-ghost use Rattle.witx_imports.specs.Faults.{import_faults};
+ghost use Rattle.witx_imports.specs.{Exact.{IsFaultAmong, import_number}, Faults.{import_faults}};
 ghost use Rattle.witx_imports.specs.Reads.{IsBadAt, LineColumn, Lists};
+ghost use Rattle.witx_grammar.specs.Grammar.{In};
 
 use crate::grammar::the_table;
-use crate::nonterminal::Nonterminal;
-use crate::production::ProductionName;
-use crate::token_kind::TokenKind;
+use crate::symbols::{Nonterminal, ProductionName, TokenKind};
 use witx_grammar::{at_most_one_derivation, derivation_or_fault};
 
 /// A text is at most one list of imports.

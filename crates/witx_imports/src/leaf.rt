@@ -1,14 +1,12 @@
 //! What tokens stand for: it is read off their spelling.
 
 ghost use Rattle.std.specs.Prelude.{◌<◌, length, IfOk};
-ghost use Rattle.witx_values.specs.Language.{IsOnTop};
-ghost use Rattle.witx_values.specs.TextTokens.{HoldsText};
-ghost use Rattle.witx_imports.specs.Actions.{import_language};
-ghost use Rattle.witx_imports.specs.Stack.{ImportLaid, import_value_view};
+ghost use Rattle.witx_values.specs.{Language.{IsOnTop}, TextTokens.{HoldsText}};
+ghost use Rattle.witx_imports.specs.{Actions.{import_language}, Stack.{ImportLaid, import_value_view}};
 ghost use Rattle.witx_imports.specs.Values.{a_name};
 
 use crate::stack::push;
-use crate::token_kind::TokenKind;
+use crate::symbols::TokenKind;
 use crate::value::Value;
 use std::alloc::Global;
 use witx_base::{Id, OutOfMemory, Text};

@@ -11,11 +11,9 @@ mod grammar;
 mod import;
 mod laws;
 mod leaf;
-mod nonterminal;
-mod production;
 mod reader;
 mod stack;
-mod token_kind;
+mod symbols;
 mod value;
 mod words;
 

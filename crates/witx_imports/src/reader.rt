@@ -3,15 +3,14 @@
 ghost use Rattle.std.specs.Prelude.{◌≡◌, IfOk, IfErr};
 ghost use Rattle.witx_values.specs.TextTokens.{HoldsText};
 ghost use Rattle.witx_imports.specs.Actions.{import_language};
-ghost use Rattle.witx_imports.specs.Reads.{BadPlace, IsBadAt, Lists, line_column_at};
+ghost use Rattle.witx_imports.specs.Reads.{BadPlace, Lists, TellsBadPlace, line_column_at};
 
 use crate::builder::Building;
 use crate::error::ImportsError;
 use crate::grammar::the_table;
 use crate::import::WasmImports;
-use crate::nonterminal::Nonterminal;
 use crate::stack::imports_in;
-use crate::token_kind::TokenKind;
+use crate::symbols::{Nonterminal, TokenKind};
 use std::alloc::Global;
 use std::marker::PhantomData;
 use witx_lex::{LexError, line_column};
@@ -35,7 +34,7 @@ fn read_tokens<'a>(
     requires tokens { HoldsText import_language tokens.now }
     requires text { tokens.now.text.now ≡ text.now }
     ensures imports { IfOk result (λ imports. Lists text.now imports) }
-    ensures fault { IfErr result (λ e. BadPlace e (λ place. IsBadAt text.now place)) }
+    ensures fault { IfErr result (λ e. TellsBadPlace e text.now) }
 {
     let table = the_table();
     match read(alloc, actions, &table, Nonterminal::Text, tokens)? {
@@ -55,7 +54,7 @@ fn read_tokens<'a>(
 /// those before it, or the end of the text where a form is still open.
 pub fn read_imports(alloc: Global, text: &str) -> Result<WasmImports, ImportsError>
     ensures imports { IfOk result (λ imports. Lists text.now imports) }
-    ensures fault { IfErr result (λ e. BadPlace e (λ place. IsBadAt text.now place)) }
+    ensures fault { IfErr result (λ e. TellsBadPlace e text.now) }
 {
     let actions = Building {
         alloc,

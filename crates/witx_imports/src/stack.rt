@@ -3,8 +3,7 @@
 ghost use Rattle.std.specs.Prelude.{◌≡◌, IfOk};
 ghost use Rattle.witx_values.specs.Language.{IsOnTop};
 ghost use Rattle.witx_imports.specs.declared.value.Sort.TheVariants as sorts;
-ghost use Rattle.witx_imports.specs.Sorts.{import_sort_of};
-ghost use Rattle.witx_imports.specs.Stack.{import_value_view};
+ghost use Rattle.witx_imports.specs.{Sorts.{import_sort_of}, Stack.{import_value_view}};
 ghost use Rattle.witx_imports.specs.Values.{some_imports};
 
 use crate::import::WasmImports;

@@ -5,7 +5,7 @@ ghost use Rattle.witx_lex.specs.Views.{token_view};
 ghost use Rattle.witx_imports.specs.TokenKinds.{import_words, import_token_kind as kind_of_token};
 ghost use Rattle.witx_values.specs.Words.{spelling_view};
 
-use crate::token_kind::TokenKind;
+use crate::symbols::TokenKind;
 use witx_lex::Token;
 use witx_values::kind_spelled;
 

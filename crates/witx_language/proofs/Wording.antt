@@ -1,22 +1,14 @@
 -- The message of a fault depends on which kinds can stand, and not on their order.
 use Rattle.std.proofs.Common.{◌≡◌, Bool, true, false, cond, ◌&&◌, ◌||◌, List, [], ◌∷◌, Option, Some, None, codes, refl, inl, inr, sym, ap, ◌∙◌, subst}
 use Rattle.std.specs.List.{list_all, list_any}
-use Rattle.std.proofs.lemmas.Bool.{and_parts}
+use Rattle.std.proofs.lemmas.Bool.{and_from, and_parts, or_left, or_right}
 use Rattle.witx_grammar.specs.Grammar.{In}
-use Rattle.witx_values.proofs.Truths.{not_both, both_true}
+use Rattle.witx_values.proofs.Truths.{not_both}
 use Rattle.witx_language.specs.declared.token_kind.TokenKind.{TokenKind}
 use Rattle.witx_language.specs.declared.token_kind.TokenKind.TheVariants.{Integer, BigInteger, End}
 use Rattle.witx_language.specs.Messages.{first_kind, alone, only_kind, message_of_only, message_of}
 use Rattle.witx_language.specs.TokenKinds.{is_kind}
 use Rattle.witx_language.proofs.Apart.{is_exact, same_tests}
-
-or_left : (a b : Bool) → a ≡ true → (a || b) ≡ true
-or_left true b e = refl
-or_left false b e = absurd (not_both (sym e))
-
-or_right : (a b : Bool) → b ≡ true → (a || b) ≡ true
-or_right true b e = refl
-or_right false b e = e
 
 or_first : (a b : Bool) → b ≡ false → (a || b) ≡ true → a ≡ true
 or_first true b f e = refl
@@ -37,7 +29,7 @@ pass_of_all p (k ∷ ks) all u (inr i) = pass_of_all p ks (and_parts (p k) (list
 
 all_of_passes : (p : TokenKind → Bool) (ks : List TokenKind) → ((u : TokenKind) → In u ks → p u ≡ true) → list_all p ks ≡ true
 all_of_passes p [] h = refl
-all_of_passes p (k ∷ ks) h = both_true (p k) (list_all p ks) (h k (inl refl)) (all_of_passes p ks (λ u i. h u (inr i)))
+all_of_passes p (k ∷ ks) h = and_from (p k) (list_all p ks) (h k (inl refl)) (all_of_passes p ks (λ u i. h u (inr i)))
 
 any_of_one : (p : TokenKind → Bool) (ks : List TokenKind) (u : TokenKind) → In u ks → p u ≡ true → list_any p ks ≡ true
 any_of_one p [] u i e = absurd i

@@ -2,8 +2,13 @@
 -- An optional part is two productions, and a repetition is a nonterminal that ends with its closing parenthesis.
 use Rattle.std.specs.Prelude.{List, [], ◌∷◌, map}
 use Rattle.witx_grammar.specs.Grammar.{Rewrite}
+use Rattle.witx_grammar.specs.Prediction.{IsPredictive}
 use Rattle.witx_grammar.specs.declared.table.Symbol.TheVariants.{Terminal as T, Nonterminal as N}
+use Rattle.witx_grammar.specs.declared.table.Table.{Table}
 use Rattle.witx_values.specs.Language.{Written, write, production_of}
+use Rattle.witx_language.specs.contracts.nonterminal.NonterminalPartialEq.TheImpl as nonterminals
+use Rattle.witx_language.specs.contracts.production.ProductionNamePartialEq.TheImpl as productions
+use Rattle.witx_language.specs.contracts.token_kind.TokenKindPartialEq.TheImpl as kinds
 use Rattle.witx_language.specs.declared.token_kind.TokenKind.{TokenKind}
 use Rattle.witx_language.specs.declared.token_kind.TokenKind.TheVariants.{Left, Right, Id, Quoted, Integer, End, AtWitx, AtInterface, UseWord, TypenameWord, ModuleWord, ConstWord, CharWord, U8Word, U16Word, U32Word, U64Word, S8Word, S16Word, S32Word, S64Word, F32Word, F64Word, StringWord, BoolWord, EnumWord, FlagsWord, RecordWord, FieldWord, TupleWord, ListWord, HandleWord, ExpectedWord, ErrorWord, UnionWord, VariantWord, CaseWord, TagWord, ReprWord, PointerWord, ConstPointerWord, UsizeWord, Char8Word, ImportWord, MemoryWord, FuncWord, ExportWord, ParamWord, ResultWord, NoreturnWord, StoredWord}
 use Rattle.witx_language.specs.declared.nonterminal.Nonterminal.{Nonterminal}
@@ -112,3 +117,7 @@ the_names =
 
 abbrev pub the_grammar : List (Rewrite TokenKind Nonterminal ProductionName)
 the_grammar = map production the_names
+
+-- the lookahead of a table shows each production
+abbrev pub IsPredictiveTable : Table TokenKind Nonterminal ProductionName → Type 0
+IsPredictiveTable t = IsPredictive kinds.ghosts.eq nonterminals.ghosts.eq productions.ghosts.eq t

@@ -1,8 +1,7 @@
 //! The entries of a function, by kind. The last item of a list stands first.
 
 ghost use Rattle.std.specs.Prelude.{◌≡◌, reverse, IfOk};
-ghost use Rattle.witx_language.specs.Actions.{with_entry};
-ghost use Rattle.witx_language.specs.Entries.{entries_value, entry_view};
+ghost use Rattle.witx_language.specs.{Actions.{with_entry}, Entries.{entries_value, entry_view}};
 ghost use Rattle.witx_syntax_tree.specs.Views.{fields_view};
 
 use witx_base::OutOfMemory;

@@ -3,9 +3,8 @@
 ghost use Rattle.std.specs.Prelude.{◌≡◌};
 ghost use Rattle.witx_language.specs.declared.error.SyntaxError.TheVariants.{OutOfMemory};
 
-use std::alloc::AllocError;
 use thiserror::Error;
-use witx_base::{OutOfMemory, WitxPath};
+use witx_base::{MemoryRefused, WitxPath};
 
 /// Why a text has no tree, and where, both counted from 1 and the column in bytes.
 #[derive(Clone, Copy, PartialEq, Eq, Debug)]
@@ -34,18 +33,10 @@ pub enum SyntaxError {
     OutOfMemory,
 }
 
-impl From<OutOfMemory> for SyntaxError {
+impl<E: MemoryRefused> From<E> for SyntaxError {
     ghost from_gives = { λ _ e. e ≡ OutOfMemory };
 
-    fn from(_refused: OutOfMemory) -> SyntaxError {
-        SyntaxError::OutOfMemory
-    }
-}
-
-impl From<AllocError> for SyntaxError {
-    ghost from_gives = { λ _ e. e ≡ OutOfMemory };
-
-    fn from(_refused: AllocError) -> SyntaxError {
+    fn from(_refused: E) -> SyntaxError {
         SyntaxError::OutOfMemory
     }
 }

@@ -6,9 +6,7 @@ ghost use Rattle.witx_language.specs.declared.token_kind.TokenKind.TheVariants.{
 ghost use Rattle.witx_language.specs.FaultPlaces.{fault_view, fault_told_at};
 ghost use Rattle.witx_language.specs.Messages.{message_of as message_of_kinds};
 ghost use Rattle.witx_lex.specs.Tokens.{Lexed};
-ghost use Rattle.witx_values.specs.Language.{kinds_of};
-ghost use Rattle.witx_values.specs.TextTokens.{AreHeld};
-ghost use Rattle.witx_values.specs.Texts.{start_of};
+ghost use Rattle.witx_values.specs.{Language.{kinds_of}, TextTokens.{AreHeld}, Texts.{start_of}};
 
 use crate::error::ParseFault;
 use crate::messages::message_of;

@@ -7,8 +7,7 @@
 
 ghost use Rattle.std.specs.Prelude.{◌≡◌};
 ghost use Rattle.witx_grammar.specs.Grammar.{grammar};
-ghost use Rattle.witx_grammar.specs.Prediction.{IsPredictive};
-ghost use Rattle.witx_language.specs.Grammar.{the_grammar};
+ghost use Rattle.witx_language.specs.Grammar.{IsPredictiveTable, the_grammar};
 
 use crate::nonterminal::Nonterminal;
 use crate::production::ProductionName;
@@ -130,8 +129,7 @@ static RULES: [Rule<'static, TokenKind, Nonterminal, ProductionName>; 20] = [
 
 /// The grammar.
 pub fn the_table() -> Table<'static, TokenKind, Nonterminal, ProductionName>
-    ensures predictive { IsPredictive ⟦<TokenKind as PartialEq>⟧.eq ⟦<Nonterminal as PartialEq>⟧.eq
-        ⟦<ProductionName as PartialEq>⟧.eq result }
+    ensures predictive { IsPredictiveTable result }
     ensures grammar { grammar result ≡ the_grammar }
 {
     Table { rules: &RULES }

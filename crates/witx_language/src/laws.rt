@@ -1,13 +1,10 @@
 //! What holds of the language, as functions that do nothing: each contract is a theorem.
 
-ghost use Rattle.std.specs.Prelude.{◌≡◌, ◌≢◌, ℕ, List};
-ghost use Rattle.std.specs.List.{AllPairs};
+ghost use Rattle.std.specs.{Prelude.{◌≡◌, ◌≢◌, ℕ, List}, List.{AllPairs}};
 ghost use Rattle.witx_lex.specs.Tokens.{Lexed};
-ghost use Rattle.witx_values.specs.declared.marks.TextTokens.{TextTokens};
-ghost use Rattle.witx_values.specs.TextTokens.{AreMarked};
+ghost use Rattle.witx_values.specs.{declared.marks.TextTokens.{TextTokens}, TextTokens.{AreMarked}};
 ghost use Rattle.witx_values.specs.Texts.{token_at};
-ghost use Rattle.witx_language.specs.CommentsHeld.{comments_held};
-ghost use Rattle.witx_language.specs.TokenKinds.{all_kinds};
+ghost use Rattle.witx_language.specs.{CommentsHeld.{comments_held}, TokenKinds.{all_kinds}};
 
 use witx_grammar::Kind;
 

@@ -1,7 +1,6 @@
 //! Messages of faults.
 
-ghost use Rattle.std.specs.Prelude.{◌≡◌, ◌||◌, ◌&&◌};
-ghost use Rattle.std.specs.List.{list_all, list_any};
+ghost use Rattle.std.specs.{Prelude.{◌≡◌, ◌||◌, ◌&&◌}, List.{list_all, list_any}};
 ghost use Rattle.witx_language.specs.declared.token_kind.TokenKind.TheVariants.{End, Integer, BigInteger};
 ghost use Rattle.witx_language.specs.Messages.{first_kind as first_kind_of, only_kind as only_kind_of, message_of as message_of_kinds, message_of_only, lexical_message as message_of_kind};
 ghost use Rattle.witx_language.specs.TokenKinds.{is_kind};

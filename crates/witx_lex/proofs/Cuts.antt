@@ -14,9 +14,9 @@ use Rattle.witx_lex.specs.declared.error.LexKind.TheVariants.{UnexpectedCharacte
 use Rattle.witx_lex.specs.Characters.{is_name_character}
 use Rattle.witx_lex.specs.Faults.{parts_length, IsFaultAt}
 use Rattle.witx_lex.specs.Meaning.{Seen, nothing, comment, token, piece_seen}
-use Rattle.witx_lex.specs.Pieces.{Part, Piece, blank, line, block, opening, closing, run, quoted, spelling, part_spelling, open_after, Stands}
+use Rattle.witx_lex.specs.Pieces.{Part, Piece, opening, closing, run, spelling, part_spelling, open_after, Stands}
 use Rattle.witx_lex.specs.Sinks.{TookToken, TookSeen, HandedOn}
-use Rattle.witx_lex.specs.Tokens.{Token, Lexed, quoted as quoted_token}
+use Rattle.witx_lex.specs.Tokens.{Token, Lexed}
 use Rattle.witx_lex.proofs.Found.{found_run, stands_opening, stands_closing}
 use Rattle.witx_lex.proofs.Progress.{Sofar, Sofar_more, Sofar_token, open_comment}
 use Rattle.witx_lex.proofs.Texts.{run_stops, IsCharBoundary-ascii_run}
@@ -31,6 +31,11 @@ some_behind text at within = omega (arith, length-drop at text)
 
 next : (text : List ℕ) (at : ℕ) → drop 1 (drop at text) ≡ drop (at + 1) text
 next text at = drop-drop 1 at text
+
+-- a piece that stands at the beginning of what is left of a text
+pub stands_behind : (n at len : ℕ) (text rest : List ℕ) (p : Piece) → rest ≡ drop at text → Stands n p rest (drop len rest) → Stands n p (drop at text) (drop (at + len) text)
+stands_behind n at len text rest p e h =
+    subst (λ (t : List ℕ). Stands n p (drop at text) t) (drop-drop len at text) (subst (λ (t : List ℕ). Stands n p t (drop len t)) e h)
 
 pub opening_behind : (n at : ℕ) (text : List ℕ) → at < length text → get_or text at 0 ≡ 40 → get_or text (at + 1) 0 ≢ 59 → n < 100
     → Stands n opening (drop at text) (drop (at + 1) text)
@@ -114,15 +119,6 @@ fault_inside n k (b ∷ bs) BadCharacter f = omega (arith, inside_parts k f.1 bs
 fault_inside n k (b ∷ bs) NotUtf8 f = omega (arith, f.0)
 
 -- ---- handing on
-
-pub open_string : (n : ℕ) (p : Piece) (t : List ℕ) → piece_seen p ≡ token (quoted_token t) → open_after n p ≡ n
-open_string n (blank b) t e = refl
-open_string n (line u) t e = refl
-open_string n (block u) t e = refl
-open_string n opening t e = absurd cc
-open_string n closing t e = absurd cc
-open_string n (run r) t e = refl
-open_string n (quoted ps) t e = refl
 
 pub handed_token : {X : Type 0} (Took : X → List Lexed → List (List ℕ) → Type 0) (text : List ℕ) (old new : X) (from : Cut) (p : Piece) (t : Token) (end depth : ℕ) (r : Result Cut LexError)
     → Stands from.depth p (drop from.at text) (drop end text) → end ≡ from.at + length (spelling p) → depth ≡ open_after from.depth p → piece_seen p ≡ token t

@@ -1,6 +1,6 @@
 -- At most one part of a string stands at the front of a text, so where no further part stands settles all parts: `parts_stop`.
 use Rattle.std.proofs.Common.{◌≡◌, ◌≢◌, ℕ, ◌+◌, ◌<◌, Bool, true, false, cond, ◌&&◌, ◌||◌, ◌==◌, List, [], ◌∷◌, ◌++◌, length, get_or, take, drop, Option, Some, None, refl, sym, ap, ◌∙◌, inl, inr, arith, append_assoc}
-use Rattle.std.proofs.lemmas.Bool.{and_parts}
+use Rattle.std.proofs.lemmas.Bool.{and_parts, or_left, or_right}
 use Rattle.std.proofs.lemmas.Bool.Decides.{nat_tests}
 use Rattle.std.proofs.lemmas.List.{append_cancel_left, length-append, length-take-le, drop_more, drop-drop, take-append-drop, get_or_at}
 use Rattle.std.specs.List.{prefix_len, list_all, flat_map}
@@ -41,13 +41,6 @@ or_parts false true true r true e = inr (refl, refl)
 or_parts false true true r false e = absurd cc
 or_parts false true false r s e = absurd cc
 or_parts false false c r s e = absurd cc
-
-or_left : (a b : Bool) → a ≡ true → (a || b) ≡ true
-or_left a b e = rw e refl
-
-or_right : (a b : Bool) → b ≡ true → (a || b) ≡ true
-or_right true b e = refl
-or_right false b e = e
 
 hex_all : (after : Bool) (ds : List ℕ) → digits_follow 16 after ds ≡ true → list_all is_digit_or_underscore ds ≡ true
 hex_all after [] e = refl

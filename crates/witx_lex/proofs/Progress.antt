@@ -7,7 +7,7 @@ use Rattle.std.proofs.lemmas.Str.{IsUtf8-drop, IsCharBoundary-start, IsCharBound
 use Rattle.std.specs.List.{list_all, flat_map}
 use Rattle.std.specs.Prelude.{IsTrue, ◌⊎◌}
 use Rattle.std.specs.Str.{IsCharBoundary}
-use Rattle.witx_lex.specs.Tokens.{Token, Lexed}
+use Rattle.witx_lex.specs.Tokens.{Token, left, right, quoted as quoted_token, Lexed}
 use Rattle.witx_lex.specs.Characters.{begins, is_blank, is_name_character}
 use Rattle.witx_lex.specs.Pieces.{Piece, blank, line, block, opening, closing, run, quoted, spelling, part_spelling, open_after, open_after_all, Stands, Stand, ArePieces}
 use Rattle.witx_lex.specs.Meaning.{nothing, comment, token, piece_seen, tokens_from, tokens_of}
@@ -107,23 +107,24 @@ Sofar_done text at depth comments tokens le s =
 
 -- ---- what was seen
 
+-- only a parenthesis changes how many are open
+open_same : (n : ℕ) (p : Piece) → piece_seen p ≢ token left → piece_seen p ≢ token right → open_after n p ≡ n
+open_same n (blank b) f g = refl
+open_same n (line t) f g = refl
+open_same n (block t) f g = refl
+open_same n opening f g = absurd (f refl)
+open_same n closing f g = absurd (g refl)
+open_same n (run r) f g = refl
+open_same n (quoted ps) f g = refl
+
 open_nothing : (n : ℕ) (p : Piece) → piece_seen p ≡ nothing → open_after n p ≡ n
-open_nothing n (blank b) e = refl
-open_nothing n (line t) e = refl
-open_nothing n (block t) e = refl
-open_nothing n opening e = absurd cc
-open_nothing n closing e = absurd cc
-open_nothing n (run r) e = refl
-open_nothing n (quoted ps) e = refl
+open_nothing n p e = open_same n p (λ h. cc) (λ h. cc)
 
 pub open_comment : (n : ℕ) (p : Piece) (t : List ℕ) → piece_seen p ≡ comment t → open_after n p ≡ n
-open_comment n (blank b) u e = refl
-open_comment n (line t) u e = refl
-open_comment n (block t) u e = refl
-open_comment n opening u e = absurd cc
-open_comment n closing u e = absurd cc
-open_comment n (run r) u e = refl
-open_comment n (quoted ps) u e = refl
+open_comment n p t e = open_same n p (λ h. cc) (λ h. cc)
+
+pub open_string : (n : ℕ) (p : Piece) (t : List ℕ) → piece_seen p ≡ token (quoted_token t) → open_after n p ≡ n
+open_string n p t e = open_same n p (λ h. cc) (λ h. cc)
 
 Sofar_nothing : (text : List ℕ) (at depth len new_at : ℕ) (comments : List (List ℕ)) (tokens : List Lexed) (p : Piece) → IsUtf8 text
     → Sofar text at depth comments tokens → Stands depth p (drop at text) (drop len (drop at text)) → len ≡ length (spelling p) → new_at ≡ at + len → piece_seen p ≡ nothing

@@ -1,7 +1,6 @@
 //! The classes of characters, as tests of bytes.
 
-ghost use Rattle.std.specs.Prelude.{◌≡◌, ◌≤◌, slice_index};
-ghost use Rattle.std.specs.Char.{is_digit};
+ghost use Rattle.std.specs.{Prelude.{◌≡◌, ◌≤◌, slice_index}, Char.{is_digit}};
 ghost use Rattle.witx_lex.specs.Characters as spec;
 
 /// The byte at the index, or 0 past the end.

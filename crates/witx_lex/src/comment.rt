@@ -1,10 +1,9 @@
 //! Comments.
 
-ghost use Rattle.std.specs.Prelude.{◌≡◌, ℕ, ◌≤◌, length, slice_index};
+ghost use Rattle.std.specs.Prelude.{◌≡◌, ◌≤◌, ◌+◌, ◌∷◌, ◌++◌, ℕ, List, Some, drop, length, slice_index, take};
 ghost use Rattle.std.specs.List.{prefix_len};
 ghost use Rattle.witx_lex.specs.Characters as spec;
-ghost use Rattle.witx_lex.specs.BlockScan.{block_len};
-ghost use Rattle.witx_lex.specs.Pieces.{most_open};
+ghost use Rattle.witx_lex.specs.{BlockScan.{block_len}, Blocks.{IsBlockText}, Pieces.{most_open}};
 ghost use Rattle.witx_lex.specs.Reads.{FoundPiece, ReadsPiece};
 
 use crate::characters::is_line_byte;
@@ -70,3 +69,12 @@ fn block_len(bytes: &[u8]) -> Option<usize>
     }
     None
 }
+
+/// The scan that counts open comments finds the end of a block comment exactly where one is: what it
+/// passes is the inside of a comment with its `;)` behind, and each such inside it passes.
+pub fn block_scan_is_exact()
+    ensures found { (text : List ℕ) (k : ℕ) → block_len 0 text ≡ Some k
+        → IsBlockText (take k text) × (text ≡ take k text ++ spec.semicolon ∷ spec.right_paren ∷ drop (k + 2) text) }
+    ensures complete { (inside rest : List ℕ) → IsBlockText inside
+        → block_len 0 (inside ++ spec.semicolon ∷ spec.right_paren ∷ rest) ≡ Some (length inside) }
+{}

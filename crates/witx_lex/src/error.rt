@@ -3,8 +3,7 @@
 ghost use Rattle.std.specs.Prelude.{◌≡◌};
 ghost use Rattle.witx_lex.specs.declared.error.LexError.TheVariants.{OutOfMemory};
 
-use std::alloc::{AllocError, AllocFailed};
-use witx_base::OutOfMemory;
+use witx_base::MemoryRefused;
 
 /// What is wrong at a place where no piece can stand.
 #[derive(Clone, Copy, PartialEq, Eq, Debug)]
@@ -47,26 +46,10 @@ pub enum LexError {
     OutOfMemory,
 }
 
-impl From<OutOfMemory> for LexError {
+impl<E: MemoryRefused> From<E> for LexError {
     ghost from_gives = { λ _ e. e ≡ OutOfMemory };
 
-    fn from(_refused: OutOfMemory) -> LexError {
-        LexError::OutOfMemory
-    }
-}
-
-impl From<AllocError> for LexError {
-    ghost from_gives = { λ _ e. e ≡ OutOfMemory };
-
-    fn from(_refused: AllocError) -> LexError {
-        LexError::OutOfMemory
-    }
-}
-
-impl<T: Drop> From<AllocFailed<T>> for LexError {
-    ghost from_gives = { λ _ e. e ≡ OutOfMemory };
-
-    fn from(_refused: AllocFailed<T>) -> LexError {
+    fn from(_refused: E) -> LexError {
         LexError::OutOfMemory
     }
 }

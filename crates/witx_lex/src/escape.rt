@@ -1,13 +1,9 @@
 //! Escapes in strings.
 
 ghost use Rattle.std.specs.Prelude.{◌≡◌, ◌≤◌, ◌<◌, ◌++◌, ◌∷◌, [], ◌&&◌, IsTrue, MatchOption, OnOk, Some, None, if◌then◌else◌, length, slice_index};
-ghost use Rattle.std.specs.List.{prefix_len};
-ghost use Rattle.std.specs.Option.{SomeIff};
-ghost use Rattle.std.specs.Char.{is_digit};
-ghost use Rattle.std.specs.Str.Parse.{digits_value};
+ghost use Rattle.std.specs.{List.{prefix_len}, Option.{SomeIff}, Char.{is_digit}, Str.Parse.{digits_value}};
 ghost use Rattle.witx_lex.specs.Characters as spec;
-ghost use Rattle.witx_lex.specs.Faults.{NoPart};
-ghost use Rattle.witx_lex.specs.Escapes.{IsEscape, escaped_bytes};
+ghost use Rattle.witx_lex.specs.{Faults.{NoPart}, Escapes.{IsEscape, escaped_bytes}};
 
 use crate::characters::{are_digits, byte_of, is_digit};
 use std::alloc::AllocError;

@@ -1,13 +1,10 @@
 //! The pieces of a text, handed to what takes the tokens.
 
-ghost use Rattle.std.specs.Prelude.{◌≡◌, ◌≢◌, ◌≤◌, ◌<◌, ◌+◌, IsTrue, IfOk, IfErr, false, length, slice_index};
-ghost use Rattle.std.specs.Str.{IsCharBoundary};
-ghost use Rattle.witx_lex.specs.declared.error.LexError.TheVariants.{Bad, OutOfMemory};
-ghost use Rattle.witx_lex.specs.Characters as spec;
-ghost use Rattle.witx_lex.specs.Faults.{IfBad};
-ghost use Rattle.witx_lex.specs.Pieces.{most_open};
-ghost use Rattle.witx_lex.specs.Sinks.{FaultFrom, HandedOn, TookToken};
+ghost use Rattle.std.specs.Prelude.{◌≡◌, ◌≢◌, ◌+◌, IsTrue, IfOk, IfErr, false, slice_index};
+ghost use Rattle.witx_lex.specs.{declared.error.LexError.TheVariants.{Bad, OutOfMemory}, Faults.{IfBad}};
+ghost use Rattle.witx_lex.specs.Sinks.{FaultFrom, HandsOnPiece, HasMoreBehind, TookToken};
 ghost use Rattle.witx_lex.specs.Views.{token_view};
+ghost use Rattle.witx_lex.specs.Characters as spec;
 
 use crate::cut::Cut;
 use crate::error::{LexError, LexFault, LexKind};
@@ -52,11 +49,9 @@ pub fn hand_run<'a, S: TokenSink<'a>>(
     from: Cut,
     sink: &mut S,
 ) -> Result<Cut, LexError>
-    requires within { from.at < length text.now }
-    requires boundary { IsCharBoundary text.now from.at }
-    requires deep { from.depth ≤ most_open }
+    requires here { HasMoreBehind text.now from }
     requires name { IsTrue (spec.is_name_character (slice_index text.now from.at)) }
-    ensures handed { IfOk result (λ to. HandedOn S.Took text.now sink.old sink.new from to) }
+    ensures handed { HandsOnPiece S.Took text.now sink.old sink.new from result }
     ensures fault { IfErr result (λ e. IfBad e (λ f. FaultFrom text.now from f)) }
 {
     let end = name_end(text.as_bytes(), from.at + 1);
@@ -74,14 +69,12 @@ pub fn hand_other<'a, S: TokenSink<'a>>(
     from: Cut,
     sink: &mut S,
 ) -> Result<Cut, LexError>
-    requires within { from.at < length text.now }
-    requires boundary { IsCharBoundary text.now from.at }
-    requires deep { from.depth ≤ most_open }
+    requires here { HasMoreBehind text.now from }
     requires solid { spec.is_blank (slice_index text.now from.at) ≡ false }
     requires unnamed { spec.is_name_character (slice_index text.now from.at) ≡ false }
     requires no_opening { slice_index text.now from.at ≡ 40 → slice_index text.now (from.at + 1) ≡ 59 }
     requires no_closing { slice_index text.now from.at ≢ 41 }
-    ensures handed { IfOk result (λ to. HandedOn S.Took text.now sink.old sink.new from to) }
+    ensures handed { HandsOnPiece S.Took text.now sink.old sink.new from result }
     ensures fault { IfErr result (λ e. IfBad e (λ f. FaultFrom text.now from f)) }
 {
     match read_piece(alloc, &text[from.at..]) {

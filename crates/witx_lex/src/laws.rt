@@ -1,15 +1,9 @@
 //! What holds of every text, whatever reads it. Each law is the contract of a function that does
 //! nothing: call it to have the law.
 
-ghost use Rattle.std.specs.Prelude.{◌≡◌, ◌⊎◌, ◌+◌, ◌∷◌, ◌++◌, ℕ, List, Some, All, length, take, drop};
-ghost use Rattle.witx_lex.specs.declared.error.LexKind.{LexKind};
-ghost use Rattle.witx_lex.specs.BlockScan.{block_len};
-ghost use Rattle.witx_lex.specs.Blocks.{IsBlockText};
-ghost use Rattle.witx_lex.specs.Characters.{right_paren, semicolon};
-ghost use Rattle.witx_lex.specs.Faults.{IsFault, IsFaultAt};
-ghost use Rattle.witx_lex.specs.Meaning.{HasTokens};
-ghost use Rattle.witx_lex.specs.Pieces.{ArePieces, Piece, Stands};
-ghost use Rattle.witx_lex.specs.Slices.{StandsAt};
+ghost use Rattle.std.specs.Prelude.{◌≡◌, ◌⊎◌, ℕ, List, All};
+ghost use Rattle.witx_lex.specs.{declared.error.LexKind.{LexKind}, Faults.{IsFault, IsFaultAt}};
+ghost use Rattle.witx_lex.specs.{Meaning.{HasTokens}, Pieces.{ArePieces, Piece, Stands}, Slices.{StandsAt}};
 ghost use Rattle.witx_lex.specs.Tokens.{Lexed};
 
 /// A text has at most one list of pieces.
@@ -54,13 +48,4 @@ pub fn a_text_has_pieces_or_a_fault()
 pub fn tokens_are_slices()
     ensures { (text : List ℕ) (tokens : List Lexed)
         → HasTokens text tokens → All (StandsAt text) tokens }
-{}
-
-/// The scan that counts open comments finds the end of a block comment exactly where one is: what it
-/// passes is the inside of a comment with its `;)` behind, and each such inside it passes.
-pub fn block_scan_is_exact()
-    ensures found { (text : List ℕ) (k : ℕ) → block_len 0 text ≡ Some k
-        → IsBlockText (take k text) × (text ≡ take k text ++ semicolon ∷ right_paren ∷ drop (k + 2) text) }
-    ensures complete { (inside rest : List ℕ) → IsBlockText inside
-        → block_len 0 (inside ++ semicolon ∷ right_paren ∷ rest) ≡ Some (length inside) }
 {}

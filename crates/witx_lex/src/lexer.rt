@@ -1,8 +1,7 @@
 //! From a text to its tokens.
 
 ghost use Rattle.std.specs.Prelude.{[], OnOk, IfErr};
-ghost use Rattle.witx_lex.specs.Faults.{HasFault, IfBad};
-ghost use Rattle.witx_lex.specs.Sinks.{TookTokens};
+ghost use Rattle.witx_lex.specs.{Faults.{HasFault, IfBad}, Sinks.{TookTokens}};
 
 use crate::characters::{byte_at, is_blank, is_name};
 use crate::cut::{Cut, MOST_OPEN};

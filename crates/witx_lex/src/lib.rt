@@ -19,11 +19,12 @@ mod sink;
 mod string;
 mod token;
 
+pub use comment::block_scan_is_exact;
 pub use cut::{MOST_OPEN, most_open_parentheses};
 pub use error::{LexError, LexFault, LexKind};
 pub use laws::{
-    a_fault_is_unique, a_text_has_pieces_or_a_fault, block_scan_is_exact, no_piece_at_a_fault,
-    pieces_are_unique, pieces_exclude_a_fault, tokens_are_slices, tokens_are_unique,
+    a_fault_is_unique, a_text_has_pieces_or_a_fault, no_piece_at_a_fault, pieces_are_unique,
+    pieces_exclude_a_fault, tokens_are_slices, tokens_are_unique,
 };
 pub use lexer::lex_into;
 pub use line_cursor::LineCursor;

@@ -1,9 +1,8 @@
 //! The tokens of a text as a list.
 
 ghost use Rattle.std.specs.Prelude.{◌≡◌, IfOk, IfErr};
-ghost use Rattle.witx_lex.specs.Faults.{HasFault, IfBad};
+ghost use Rattle.witx_lex.specs.{Faults.{HasFault, IfBad}, Views.{texts_view, tokens_view}};
 ghost use Rattle.witx_lex.specs.Meaning as meaning;
-ghost use Rattle.witx_lex.specs.Views.{texts_view, tokens_view};
 
 use crate::error::LexError;
 use crate::lexer::lex_into;

@@ -1,8 +1,7 @@
 //! The pieces of a text that are read byte by byte: comments and strings.
 
 ghost use Rattle.std.specs.Prelude.{◌<◌, ◌≡◌, ◌≢◌, ◌≤◌, ℕ, false, length, slice_index};
-ghost use Rattle.witx_lex.specs.Characters.{is_blank, is_name_character};
-ghost use Rattle.witx_lex.specs.Pieces.{most_open};
+ghost use Rattle.witx_lex.specs.{Characters.{is_blank, is_name_character}, Pieces.{most_open}};
 ghost use Rattle.witx_lex.specs.Reads.{ReadsPiece, IsBad};
 
 use crate::characters::byte_at;

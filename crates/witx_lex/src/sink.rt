@@ -1,9 +1,7 @@
 //! What takes the tokens of a text, so that each reader keeps of a token only what it needs.
 
 ghost use Rattle.std.specs.Prelude.{◌++◌, ◌∷◌, [], ℕ, List, OnOk};
-ghost use Rattle.witx_lex.specs.Sinks.{lexed_token};
-ghost use Rattle.witx_lex.specs.Tokens.{Lexed};
-ghost use Rattle.witx_lex.specs.Views.{token_view};
+ghost use Rattle.witx_lex.specs.{Sinks.{lexed_token}, Tokens.{Lexed}, Views.{token_view}};
 
 use crate::token::{Span, Token};
 use witx_base::OutOfMemory;

@@ -1,11 +1,8 @@
 //! Strings.
 
 ghost use Rattle.std.specs.Prelude.{◌≡◌, ℕ, ◌≤◌, List, IfOk, slice_index};
-ghost use Rattle.witx_lex.specs.Pieces.{most_open};
-ghost use Rattle.witx_lex.specs.Meaning.{token};
-ghost use Rattle.witx_lex.specs.Reads.{ReadsPiece, seen_view};
-ghost use Rattle.witx_lex.specs.Slices.{SpellsToken};
-ghost use Rattle.witx_lex.specs.Tokens.{quoted};
+ghost use Rattle.witx_lex.specs.{Pieces.{most_open}, Meaning.{token}, Reads.{ReadsPiece, seen_view}};
+ghost use Rattle.witx_lex.specs.{Slices.{SpellsToken}, Tokens.{quoted}};
 
 use crate::characters::is_raw;
 use crate::error::{LexError, LexKind};

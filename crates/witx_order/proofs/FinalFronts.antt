@@ -1,41 +1,16 @@
 -- There is exactly one final front, and its verdict is the verdict.
-use Rattle.std.proofs.Common.{◌≡◌, ℕ, List, [], ◌∷◌, ◌++◌, Bool, true, false, refl, sym, ap, ◌∙◌, subst, length, Option, Some, None, Result, Ok, Err, cond, nat_lt, append_assoc, append-nil}
-use Rattle.witx_base.specs.Paths.{Path, file_name}
-use Rattle.witx_order.specs.Items.{TextItem, declaration, use_of, Declared, SyntaxFault}
-use Rattle.witx_order.specs.Walks.{World, Mark, start, decl, skip, end, OpenFile, Place, place, Wish, wish, reach, declare, close, unread, nameless, done, handed_wish, inner_wish, outer_wish, Next, go, stuck, over, next, met, started, is_taken, beginning, Marks, none, more, IsWalk, WalkRefusal, faulty}
+use Rattle.std.proofs.Common.{◌≡◌, ℕ, List, [], ◌∷◌, ◌++◌, Bool, true, false, refl, sym, ap, ◌∙◌, subst, length, Option, Some, None, cond, nat_lt, append_assoc, append-nil}
+use Rattle.witx_base.specs.Paths.{Path}
+use Rattle.witx_order.specs.Items.{Declared}
+use Rattle.witx_order.specs.Walks.{World, Mark, start, decl, skip, end, Place, Wish, wish, reach, declare, close, unread, nameless, done, Next, go, stuck, over, next, met, started, is_taken, beginning, Marks, none, more, IsWalk, WalkRefusal, faulty}
 use Rattle.witx_order.specs.Verdicts.{Verdict, fine, refused, Turn, on, ends, turn, turned, passed, checked, Leads, here, along, IsVerdict}
 use Rattle.witx_order.specs.Fronts.{declarations, AreSound, Comes, IsFinal, at_end, at_fault}
-
-abbrev Keeps : List Declared → Wish → Type 0
-Keeps d (reach pl j x) = pl.declared ≡ d
-Keeps d (declare δ pl) = pl.declared ≡ d ++ δ ∷ []
-Keeps d (close p pl) = pl.declared ≡ d
-Keeps d (unread p f) = Unit {0}
-Keeps d (nameless p) = Unit {0}
-Keeps d done = Unit {0}
+use Rattle.witx_order.proofs.Leaving.{Leaves, wish-leaves}
 
 abbrev GoKeeps : {F : Type 0} → List Declared → Next F → Type 0
 GoKeeps d (go m b) = b.declared ≡ d ++ declarations (m ∷ [])
 GoKeeps d (stuck r) = Unit {0}
 GoKeeps d over = Unit {0}
-
-handed-keeps : (o : Option (List ℕ)) (p : Path) (ps taken : List Path) (ds : List Declared) → Keeps ds (handed_wish o p (place [] ps taken ds))
-handed-keeps None p ps taken ds = tt
-handed-keeps (Some n) p ps taken ds = refl
-
-outer-keeps : (hs taken : List Path) (ds : List Declared) → Keeps ds (outer_wish hs taken ds)
-outer-keeps [] taken ds = tt
-outer-keeps (p ∷ ps) taken ds = handed-keeps (file_name p) p ps taken ds
-
-inner-keeps : (p : Path) (text : List ℕ) (folder : Path) (left : Result (List TextItem) SyntaxFault) (outer : List OpenFile) (hs taken : List Path) (ds : List Declared) → Keeps ds (inner_wish p text folder left outer hs taken ds)
-inner-keeps p text folder (Err f) outer hs taken ds = tt
-inner-keeps p text folder (Ok []) outer hs taken ds = refl
-inner-keeps p text folder (Ok (declaration x ∷ xs)) outer hs taken ds = refl
-inner-keeps p text folder (Ok (use_of u ∷ xs)) outer hs taken ds = refl
-
-at-keeps : (open_files : List OpenFile) (hs taken : List Path) (ds : List Declared) → Keeps ds (wish (place open_files hs taken ds))
-at-keeps [] hs taken ds = outer-keeps hs taken ds
-at-keeps (f ∷ outer) hs taken ds = inner-keeps f.path f.text f.folder f.left outer hs taken ds
 
 cond-keeps : {F : Type 0} (d : List Declared) (b : Bool) (x y : Next F) → GoKeeps d x → GoKeeps d y → GoKeeps d (cond b x y)
 cond-keeps d true x y h k = h
@@ -71,20 +46,20 @@ module _ {F : Type 0} (w : World F) where
   started-keeps pl p x None d e = tt
   started-keeps pl p x (Some text) d e = to-nil pl.declared d e
 
-  met-keeps : (x : Wish) (d : List Declared) → Keeps d x → GoKeeps d (met w x)
-  met-keeps (reach pl j x) d e =
-      cond-keeps d (is_taken pl.taken (w.canonical j)) _ _ (to-nil pl.declared d e)
-      (cond-keeps d (nat_lt (length pl.taken) 1024) _ _ (started-keeps pl (w.canonical j) x (w.text_at (w.canonical j)) d e) tt)
-  met-keeps (declare δ pl) d e = e
-  met-keeps (close p pl) d e = to-nil pl.declared d e
-  met-keeps (unread p f) d e = tt
-  met-keeps (nameless p) d e = tt
-  met-keeps done d e = tt
+  met-keeps : (x : Wish) (taken : List Path) (d : List Declared) → Leaves taken d x → GoKeeps d (met w x)
+  met-keeps (reach pl j x) taken d e =
+      cond-keeps d (is_taken pl.taken (w.canonical j)) _ _ (to-nil pl.declared d e.1)
+      (cond-keeps d (nat_lt (length pl.taken) 1024) _ _ (started-keeps pl (w.canonical j) x (w.text_at (w.canonical j)) d e.1) tt)
+  met-keeps (declare δ pl) taken d e = e.1
+  met-keeps (close p pl) taken d e = to-nil pl.declared d e.1
+  met-keeps (unread p f) taken d e = tt
+  met-keeps (nameless p) taken d e = tt
+  met-keeps done taken d e = tt
 
   next-keeps : (a : Place) (m : Mark) (b : Place) → next w a ≡ go m b → b.declared ≡ a.declared ++ declarations (m ∷ [])
   next-keeps a m b e =
       let P : Next F → Type 0 = GoKeeps a.declared in
-      subst P e (met-keeps (wish a) a.declared (at-keeps a.open_files a.handed a.taken a.declared))
+      subst P e (met-keeps (wish a) a.taken a.declared (wish-leaves a))
 
   -- marks without a fault
   data Way : Place → List Mark → Place → Type 0 where

@@ -71,18 +71,19 @@ module _ {F : Type 0} (w : World F) where
     pub splits : ms ≡ inner ++ end f.path ∷ outer
     pub rest : Outer outer
 
+  -- the marks that are left are the group of a path, and behind it those that a place leaves
+  pub record Group (Rest : List OpenFile → List Path → List Mark → Type 0) (pl : Place) (j d : Path) (ms : List Mark) : Type 0 where
+    pub group : List Mark
+    pub behind : List Mark
+    pub reaches : Reached w j d group
+    pub splits : ms ≡ group ++ behind
+    pub rest : Rest pl.open_files pl.handed behind
+
   abbrev Rest : List OpenFile → List Path → List Mark → Type 0
   Rest [] hs ms = Handed w hs ms
   Rest (f ∷ o) hs ms = Closes f ms (λ ns. Rest o hs ns)
 
-  record Group (pl : Place) (j d : Path) (ms : List Mark) : Type 0 where
-    group : List Mark
-    behind : List Mark
-    reaches : Reached w j d group
-    splits : ms ≡ group ++ behind
-    rest : Rest pl.open_files pl.handed behind
-
-  group-of : (pl : Place) (j d : Path) (m : Mark) (b : Place) (ms : List Mark) → reached w pl (w.canonical j) d ≡ go m b → Rest b.open_files b.handed ms → Group pl j d (m ∷ ms)
+  group-of : (pl : Place) (j d : Path) (m : Mark) (b : Place) (ms : List Mark) → reached w pl (w.canonical j) d ≡ go m b → Rest b.open_files b.handed ms → Group Rest pl j d (m ∷ ms)
   group-of pl j d m b ms e h =
       elim (reach-cases pl (w.canonical j) d (is_taken pl.taken (w.canonical j)) m b refl e) [
         | inl s ↦ (let P : Place → Type 0 = λ x. Rest x.open_files x.handed ms in

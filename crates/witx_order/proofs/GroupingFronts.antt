@@ -6,7 +6,7 @@ use Rattle.witx_order.specs.Items.{TextItem, declaration, use_of, Declared, Synt
 use Rattle.witx_order.specs.Walks.{World, Mark, start, decl, skip, end, OpenFile, open_file, declared_in, Place, place, wish, reach, handed_wish, inner_wish, go, next, met, reached, is_taken, folder_of, Marks, none, more, IsFront}
 use Rattle.witx_order.specs.Groups.{Contents, no_items, declared, used, Reached, skipped, opened, StartsOnce}
 use Rattle.witx_order.specs.GroupFronts.{ContentsFront, stops, declares, uses, stops_inside, OpenGroup, begun, read, HandedFront, stops_there, hands, stops_in_it, IsGroupedFront}
-use Rattle.witx_order.proofs.Grouping.{same-mark, same-place, same-ok, reach-cases, Closes, marks-append, start-any, start-next, reached-gone, once-of}
+use Rattle.witx_order.proofs.Grouping.{same-mark, same-place, same-ok, reach-cases, Closes, Group, marks-append, start-any, start-next, reached-gone, once-of}
 
 module _ {F : Type 0} (w : World F) where
   -- the marks that are left are a front of those of the file's items that are left, and the file stays open
@@ -22,13 +22,6 @@ module _ {F : Type 0} (w : World F) where
   Rest [] hs ms = HandedFront w hs ms
   Rest (f ∷ o) hs ms = Stays f ms ⊎ Closes w f ms (λ ns. Rest o hs ns)
 
-  record Group (pl : Place) (j d : Path) (ms : List Mark) : Type 0 where
-    group : List Mark
-    behind : List Mark
-    reaches : Reached w j d group
-    splits : ms ≡ group ++ behind
-    rest : Rest pl.open_files pl.handed behind
-
   file_stays : (j d : Path) (text : List ℕ) (o : List OpenFile) (hs : List Path) (ms : List Mark) → w.text_at (w.canonical j) ≡ Some text
       → Stays (open_file (w.canonical j) text (folder_of (w.canonical j) d) (w.reading text)) ms → OpenGroup w j d (start (w.canonical j) d ∷ ms)
   file_stays j d text o hs ms q (inl none_left) = subst (λ x. OpenGroup w j d (start (w.canonical j) d ∷ x)) (sym none_left) (begun j d text q)
@@ -36,7 +29,7 @@ module _ {F : Type 0} (w : World F) where
 
   file_starts : (pl : Place) (j d : Path) (text : List ℕ) (ms : List Mark) → w.text_at (w.canonical j) ≡ Some text
       → Rest (open_file (w.canonical j) text (folder_of (w.canonical j) d) (w.reading text) ∷ pl.open_files) pl.handed ms
-      → Group pl j d (start (w.canonical j) d ∷ ms) ⊎ OpenGroup w j d (start (w.canonical j) d ∷ ms)
+      → Group w Rest pl j d (start (w.canonical j) d ∷ ms) ⊎ OpenGroup w j d (start (w.canonical j) d ∷ ms)
   file_starts pl j d text ms q (inl k) = inr (file_stays j d text pl.open_files pl.handed ms q k)
   file_starts pl j d text ms q (inr k) = inl (record {
     group = start (w.canonical j) d ∷ (k.inner ++ end (w.canonical j) ∷ []);
@@ -47,16 +40,16 @@ module _ {F : Type 0} (w : World F) where
   })
 
   group-of : (pl : Place) (j d : Path) (m : Mark) (b : Place) (ms : List Mark) → reached w pl (w.canonical j) d ≡ go m b → Rest b.open_files b.handed ms
-      → Group pl j d (m ∷ ms) ⊎ OpenGroup w j d (m ∷ ms)
+      → Group w Rest pl j d (m ∷ ms) ⊎ OpenGroup w j d (m ∷ ms)
   group-of pl j d m b ms e h =
       let P : Place → Type 0 = λ x. Rest x.open_files x.handed ms in
       elim (reach-cases w pl (w.canonical j) d (is_taken pl.taken (w.canonical j)) m b refl e) [
         | inl s ↦ inl (record { group = skip (w.canonical j) ∷ []; behind = ms; reaches = skipped j d; splits = ap (λ x. x ∷ ms) s.mark; rest = subst P s.at h })
-        | inr s ↦ subst (λ x. Group pl j d (x ∷ ms) ⊎ OpenGroup w j d (x ∷ ms)) (sym s.mark) (file_starts pl j d s.text ms s.holds (subst P s.at h))
+        | inr s ↦ subst (λ x. Group w Rest pl j d (x ∷ ms) ⊎ OpenGroup w j d (x ∷ ms)) (sym s.mark) (file_starts pl j d s.text ms s.holds (subst P s.at h))
       ]
 
   outer-group : (p : Path) (n : List ℕ) (ps taken : List Path) (ds : List Declared) (ms : List Mark) → file_name p ≡ Some n
-      → Group (place [] ps taken ds) (join (all_but_last p) (n ∷ [])) (all_but_last p) ms ⊎ OpenGroup w (join (all_but_last p) (n ∷ [])) (all_but_last p) ms → HandedFront w (p ∷ ps) ms
+      → Group w Rest (place [] ps taken ds) (join (all_but_last p) (n ∷ [])) (all_but_last p) ms ⊎ OpenGroup w (join (all_but_last p) (n ∷ [])) (all_but_last p) ms → HandedFront w (p ∷ ps) ms
   outer-group p n ps taken ds ms q (inl g) =
       let P : List Mark → Type 0 = λ x. HandedFront w (p ∷ ps) x in
       subst P (sym g.splits) (hands p n ps g.group g.behind q g.reaches g.rest)
@@ -112,7 +105,7 @@ module _ {F : Type 0} (w : World F) where
       })
 
   inner-group : (p : Path) (text : List ℕ) (folder : Path) (xs : List TextItem) (o : List OpenFile) (hs taken : List Path) (ds : List Declared) (u : List ℕ) (ms : List Mark)
-      → Group (place (open_file p text folder (Ok xs) ∷ o) hs taken ds) (join folder (path_of u)) folder ms ⊎ OpenGroup w (join folder (path_of u)) folder ms
+      → Group w Rest (place (open_file p text folder (Ok xs) ∷ o) hs taken ds) (join folder (path_of u)) folder ms ⊎ OpenGroup w (join folder (path_of u)) folder ms
       → Inner p text folder (use_of u ∷ xs) o hs ms
   inner-group p text folder xs o hs taken ds u ms (inl g) =
       let P : List Mark → Type 0 = λ x. Inner p text folder (use_of u ∷ xs) o hs x in

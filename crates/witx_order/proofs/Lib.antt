@@ -1,5 +1,6 @@
 pub mod Steps
 pub mod HandedPaths
+mod Leaving
 pub mod OnlyOne
 pub mod Ending
 pub mod FinalFronts

@@ -1,39 +1,13 @@
 -- What a mark adds to the paths that have started, and how many there are where there are too many.
-use Rattle.std.proofs.Common.{◌≡◌, ℕ, ◌≤◌, List, [], ◌∷◌, ◌++◌, Bool, true, false, refl, subst, length, Option, Some, None, Result, Ok, Err, cond, nat_lt, arith, inl, inr, ◌⊎◌}
+use Rattle.std.proofs.Common.{◌≡◌, ℕ, ◌≤◌, List, [], ◌∷◌, ◌++◌, Bool, true, false, refl, subst, length, Option, Some, None, cond, nat_lt, arith, inl, inr, ◌⊎◌}
 use Rattle.std.proofs.lemmas.Bool.Decides.{nat_tests}
-use Rattle.witx_base.specs.Paths.{Path, file_name}
-use Rattle.witx_order.specs.Items.{TextItem, declaration, use_of, Declared, SyntaxFault}
-use Rattle.witx_order.specs.Walks.{World, skip, OpenFile, Place, place, Wish, wish, reach, declare, close, unread, nameless, done, handed_wish, inner_wish, outer_wish, Next, go, stuck, over, next, met, reached, started, is_taken, bad_path, too_many, missing, unreadable, faulty}
+use Rattle.witx_base.specs.Paths.{Path}
+use Rattle.witx_order.specs.Items.{Declared}
+use Rattle.witx_order.specs.Walks.{World, skip, Place, Wish, wish, reach, declare, close, unread, nameless, done, Next, go, stuck, over, next, met, reached, started, is_taken, bad_path, too_many, missing, unreadable, faulty}
+use Rattle.witx_order.proofs.Leaving.{Leaves, wish-leaves}
 
 no-less : (m n : ℕ) → nat_lt m n ≡ false → n ≤ m
 no-less m n e = grind (arith, nat_tests)
-
--- the place to which a wish leads has these paths
-abbrev LeavesTaken : List Path → Wish → Type 0
-LeavesTaken taken (reach at j d) = at.taken ≡ taken
-LeavesTaken taken (declare δ at) = at.taken ≡ taken
-LeavesTaken taken (close p at) = at.taken ≡ taken
-LeavesTaken taken (unread p f) = Unit {0}
-LeavesTaken taken (nameless p) = Unit {0}
-LeavesTaken taken done = Unit {0}
-
-handed-leaves : (o : Option (List ℕ)) (p : Path) (ps taken : List Path) (ds : List Declared) → LeavesTaken taken (handed_wish o p (place [] ps taken ds))
-handed-leaves None p ps taken ds = tt
-handed-leaves (Some n) p ps taken ds = refl
-
-outer-leaves : (hs taken : List Path) (ds : List Declared) → LeavesTaken taken (outer_wish hs taken ds)
-outer-leaves [] taken ds = tt
-outer-leaves (p ∷ ps) taken ds = handed-leaves (file_name p) p ps taken ds
-
-inner-leaves : (p : Path) (text : List ℕ) (folder : Path) (left : Result (List TextItem) SyntaxFault) (outer : List OpenFile) (hs taken : List Path) (ds : List Declared) → LeavesTaken taken (inner_wish p text folder left outer hs taken ds)
-inner-leaves p text folder (Err f) outer hs taken ds = tt
-inner-leaves p text folder (Ok []) outer hs taken ds = refl
-inner-leaves p text folder (Ok (declaration x ∷ xs)) outer hs taken ds = refl
-inner-leaves p text folder (Ok (use_of u ∷ xs)) outer hs taken ds = refl
-
-at-leaves : (open_files : List OpenFile) (hs taken : List Path) (ds : List Declared) → LeavesTaken taken (wish (place open_files hs taken ds))
-at-leaves [] hs taken ds = outer-leaves hs taken ds
-at-leaves (f ∷ outer) hs taken ds = inner-leaves f.path f.text f.folder f.left outer hs taken ds
 
 module _ {F : Type 0} (w : World F) where
   -- the same paths, or one more, which has a file
@@ -63,16 +37,16 @@ module _ {F : Type 0} (w : World F) where
   reach-takes at p d true q = inl refl
   reach-takes at p d false q = room-takes at p d (nat_lt (length at.taken) 1024) refl q
 
-  met-takes : (x : Wish) (taken : List Path) → LeavesTaken taken x → NextTakes taken (met w x)
-  met-takes (reach at j d) taken e =
+  met-takes : (x : Wish) (taken : List Path) (ds : List Declared) → Leaves taken ds x → NextTakes taken (met w x)
+  met-takes (reach at j d) taken ds e =
       let P : List Path → Type 0 = λ t. NextTakes t (reached w at (w.canonical j) d) in
-      subst P e (reach-takes at (w.canonical j) d (is_taken at.taken (w.canonical j)) refl)
-  met-takes (declare δ at) taken e = inl e
-  met-takes (close p at) taken e = inl e
-  met-takes (unread p f) taken e = tt
-  met-takes (nameless p) taken e = tt
-  met-takes done taken e = tt
+      subst P e.0 (reach-takes at (w.canonical j) d (is_taken at.taken (w.canonical j)) refl)
+  met-takes (declare δ at) taken ds e = inl e.0
+  met-takes (close p at) taken ds e = inl e.0
+  met-takes (unread p f) taken ds e = tt
+  met-takes (nameless p) taken ds e = tt
+  met-takes done taken ds e = tt
 
   -- what the next mark of a place adds
   pub next-takes : (a : Place) → NextTakes a.taken (next w a)
-  next-takes a = met-takes (wish a) a.taken (at-leaves a.open_files a.handed a.taken a.declared)
+  next-takes a = met-takes (wish a) a.taken a.declared (wish-leaves a)

@@ -5,8 +5,7 @@ ghost use Rattle.witx_ast.specs.Definitions.{definition_tree};
 ghost use Rattle.witx_render.specs.DocumentTexts as printed;
 ghost use Rattle.witx_walk.specs.Answers.{answer_of};
 ghost use Rattle.witx_walk.specs.OneFile.{IsOfOneFile, IsSourceAnswer, IsSourceVerdict};
-ghost use Rattle.witx_read_back.specs.Plain.{IsPlain};
-ghost use Rattle.witx_read_back.specs.ReadBack.{IsMeant, IsReadBack};
+ghost use Rattle.witx_read_back.specs.{Plain.{IsPlain}, ReadBack.{IsMeant, IsReadBack}};
 
 use crate::laws::printed_texts_mean_the_same;
 use std::alloc::Global;

@@ -7,7 +7,7 @@ use Rattle.std.specs.Cmp.Lexicographic.{slice_cmp}
 use Rattle.witx_files.specs.declared.location.Location.{Location}
 use Rattle.witx_ast.specs.declared.definition.Constant.{Constant}
 use Rattle.witx_scope.specs.declared.constants.ConstantName.{ConstantName}
-use Rattle.witx_scope.specs.Constants.{constant_place, place_under, place_with}
+use Rattle.witx_scope.specs.Constants.{constant_place, place_under}
 use Rattle.witx_scope.specs.Positions.{is_same_name}
 use Rattle.witx_scope.proofs.ConstantKeys.{constant_cmp, key-found, both-equal}
 use Rattle.witx_scope.proofs.Steps.{is_eq-swap}
@@ -20,7 +20,7 @@ swap-key a b = both-equal (slice_cmp nat_cmp a.ty b.ty) (slice_cmp nat_cmp a.nam
 
 pub places-more : (old new : List (ConstantName × Location)) (key : ConstantName) (p : Location)
     → ((q : ConstantName) → lookup (λ other. is_eq (constant_cmp q other)) new ≡ cond (is_eq (constant_cmp key q)) (Some p) (lookup (λ other. is_eq (constant_cmp q other)) old))
-    → (ty n : List ℕ) → constant_place new ty n ≡ cond (is_same_name ty key.ty && is_same_name n key.name) (Some p) (constant_place old ty n)
+    → (ty n : List ℕ) → constant_place new ty n ≡ place_under old key.ty key.name p ty n
 places-more old new key p more ty n =
     let q : ConstantName = record { ty = ty; name = n } in
     sym (key-found new q)
@@ -31,8 +31,8 @@ places-more old new key p more ty n =
 -- the same for a constant whose two names the key has
 pub places-of : (old new : List (ConstantName × Location)) (key : ConstantName) (p : Location) (c : Constant)
     → (key.ty ≡ c.ty) × (key.name ≡ c.name)
-    → ((ty n : List ℕ) → constant_place new ty n ≡ place_under old key p ty n)
-    → (ty n : List ℕ) → constant_place new ty n ≡ place_with old c p ty n
+    → ((ty n : List ℕ) → constant_place new ty n ≡ place_under old key.ty key.name p ty n)
+    → (ty n : List ℕ) → constant_place new ty n ≡ place_under old c.ty c.name p ty n
 places-of old new key p c same more ty n =
     more ty n
     ∙ (ap (λ x. cond (is_same_name ty x && is_same_name n key.name) (Some p) (constant_place old ty n)) same.0

@@ -1,5 +1,5 @@
 -- What an error of the code says.
-use Rattle.std.specs.Prelude.{◌≡◌, Option, Some}
+use Rattle.std.specs.Prelude.{◌≡◌, Option, Some, Result, IfErr}
 use Rattle.witx_scope.specs.Faults.{Fault}
 use Rattle.witx_scope.specs.Faults as fault
 use Rattle.witx_scope.specs.declared.error.ValidationError.{ValidationError}
@@ -24,3 +24,7 @@ fault_of (error.ConstantTooLarge n v m l) = fault.constant_too_large n v m l
 abbrev pub Blames : CheckError → Option Fault → Type 0
 Blames (check_error.Validation e) f = Some (fault_of e) ≡ f
 Blames check_error.OutOfMemory f = Unit {0}
+
+-- so says a refusal
+abbrev pub BlamesOnErr : {U : Type 0} → Result U CheckError → Option Fault → Type 0
+BlamesOnErr r fault = IfErr r (λ e. Blames e fault)

@@ -1,5 +1,6 @@
 -- The constants that a validator keeps: where the constant of a type's name and a name stands.
-use Rattle.std.specs.Prelude.{ℕ, List, Option, Some, option_map, cond, Bool, ◌&&◌}
+use Rattle.std.specs.Prelude.{◌≡◌, ℕ, List, Option, Some, option_map, cond, Bool, ◌&&◌, Result, OnOk}
+use Rattle.std.specs.BTreeMap.{BTreeMap}
 use Rattle.std.specs.Map.{lookup}
 use Rattle.witx_files.specs.declared.location.Location.{Location}
 use Rattle.witx_comments.specs.Documentation.{documentation_of}
@@ -26,14 +27,15 @@ made_constant d = record {
   docs = documentation_of (comments_view d.comments);
 }
 
--- the same with one place more, under two names,
-abbrev pub place_under : List (ConstantName × Location) → ConstantName → Location → List ℕ → List ℕ → Option Location
-place_under old key at type_name name =
-    cond (is_same_name type_name key.ty && is_same_name name key.name) (Some at) (constant_place old type_name name)
+-- the same with one place more, under a type's name and a name
+abbrev pub place_under : List (ConstantName × Location) → List ℕ → List ℕ → Location → List ℕ → List ℕ → Option Location
+place_under old ty n at type_name name =
+    cond (is_same_name type_name ty && is_same_name name n) (Some at) (constant_place old type_name name)
 
--- and with one constant more, whose name stands at a place
-abbrev pub place_with : List (ConstantName × Location) → Constant → Location → List ℕ → List ℕ → Option Location
-place_with old c at type_name name = cond (is_same_name type_name c.ty && is_same_name name c.name) (Some at) (constant_place old type_name name)
+-- where it is done, that place is kept, and all others as before
+abbrev pub PlacesOnOk : {U E : Type 0} → Result U E → BTreeMap ConstantName Location → BTreeMap ConstantName Location → List ℕ → List ℕ → Location → Type 0
+PlacesOnOk r old new ty n at =
+    (type_name name : List ℕ) → OnOk r (constant_place new.entries type_name name ≡ place_under old.entries ty n at type_name name)
 
 -- the name of a constant, which stands at a place
 abbrev pub repeated_constant : List (ConstantName × Location) → ConstSyntax → Location → Check

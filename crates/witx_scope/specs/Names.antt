@@ -1,6 +1,6 @@
 -- What a name denotes inside a declaration, and the two checks of names: a new name stands nowhere earlier in its scope,
 -- and a used name denotes a type.
-use Rattle.std.specs.Prelude.{ℕ, List, Some, None, option_map, codes}
+use Rattle.std.specs.Prelude.{◌≡◌, ℕ, List, Some, None, option_map, codes, Result, OnOk}
 use Rattle.witx_base.specs.Found.{found}
 use Rattle.witx_files.specs.declared.location.Location.{Location}
 use Rattle.witx_ast.specs.Tree.{Tree}
@@ -23,6 +23,10 @@ Names = List (List ℕ × Location)
 
 abbrev pub new_name : Names → List ℕ → Location → Check
 new_name before n at = option_map (λ earlier. name_already_exists n at earlier) (found before n)
+
+-- where it is done, what is found under a name afterwards is what these entries have
+abbrev pub FindsOnOk : {V U E : Type 0} → Result U E → List (List ℕ × V) → List (List ℕ × V) → Type 0
+FindsOnOk r now entries = (name : List ℕ) → OnOk r (found now name ≡ found entries name)
 
 -- names inside one declaration, with the offsets at which they stand
 abbrev pub NameMarks : Type 0

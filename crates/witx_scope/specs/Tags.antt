@@ -1,14 +1,16 @@
 -- Representations and tags: which builtins are unsigned, what a tag may be, and what a union or a variant takes from it.
 -- The names of a tag are those of its cases, in their order.
-use Rattle.std.specs.Prelude.{ℕ, List, [], ◌∷◌, ◌==◌, Option, Some, None, Bool, true, false, cond, codes, length, not, ◌&&◌, ◌||◌}
+use Rattle.std.specs.Prelude.{ℕ, List, [], ◌∷◌, ◌==◌, Option, Some, None, Bool, true, false, cond, codes, length, map, not, ◌&&◌, ◌||◌}
 use Rattle.std.specs.Option.{is_some}
 use Rattle.witx_base.specs.Found.{found}
 use Rattle.witx_base.specs.Texts.{same_text}
 use Rattle.witx_files.specs.declared.location.Location.{Location}
 use Rattle.witx_syntax_tree.specs.declared.tree.BuiltinSyntax.{BuiltinSyntax}
 use Rattle.witx_ast.specs.declared.types.BuiltinType.{BuiltinType}
+use Rattle.witx_ast.specs.declared.types.Case.{Case}
 use Rattle.witx_ast.specs.declared.types.IntRepr.{IntRepr}
-use Rattle.witx_ast.specs.Tree.{Tree, behind, Arms, no_arms, bare, carries}
+use Rattle.witx_ast.specs.Tree.{Tree, behind, Arms, no_arms, bare, carries, arms_of}
+use Rattle.witx_ast.specs.Views.{case_arm}
 use Rattle.witx_ast.specs.Words.{kind_word}
 use Rattle.witx_scope.specs.Faults.{wrong_kind_name, invalid_repr, invalid_union_tag, union_size_mismatch, invalid_union_field, Check}
 use Rattle.witx_syntax_tree.specs.declared.tree.BuiltinSyntax.TheVariants as word
@@ -57,6 +59,9 @@ abbrev pub arm_names : Arms → List (List ℕ)
 arm_names no_arms = []
 arm_names (bare n docs cs) = n ∷ arm_names cs
 arm_names (carries n t docs cs) = n ∷ arm_names cs
+
+abbrev pub names_of_cases : List Case → List (List ℕ)
+names_of_cases cases = arm_names (arms_of (map case_arm cases))
 
 -- what a tag of this type, names looked through, fails
 abbrev pub tag_check : Tree → Location → Check

@@ -2,14 +2,10 @@
 #![tactic(auto, using(crate::proofs::NamePlaces::place_rules))]
 
 ghost use Rattle.std.specs.Prelude.{◌≡◌, length, map, option_map, slice_get, cond, IfOk, OnOk, Some, None};
-ghost use Rattle.std.specs.Option.{option_or};
-ghost use Rattle.std.specs.Ordering.{is_eq, nat_cmp};
-ghost use Rattle.std.specs.Cmp.Lexicographic.{slice_cmp};
+ghost use Rattle.std.specs.{Option.{option_or}, Ordering.{is_eq, nat_cmp}, Cmp.Lexicographic.{slice_cmp}};
 ghost use Rattle.witx_base.specs.Found.{found};
 ghost use Rattle.witx_ast.specs.Views.{tree_of, case_arm};
-ghost use Rattle.witx_scope.specs.Tags.{has_name, arm_names};
-ghost use Rattle.witx_ast.specs.Tree.{arms_of};
-ghost use Rattle.witx_scope.specs.NamePlaces.{place_in, case_placed};
+ghost use Rattle.witx_scope.specs.{Tags.{has_name, names_of_cases}, NamePlaces.{place_in, case_placed}};
 ghost use Rattle.witx_scope.specs.Trees.{arm_called, bare_arm, in_order};
 
 use crate::room::with_room;
@@ -31,8 +27,7 @@ pub struct TagNames {
 }
 
 impl Model for TagNames {
-    ghost use Rattle.std.specs.Prelude.{List, ℕ, ◌≡◌};
-    ghost use Rattle.std.specs.Option.{is_some};
+    ghost use Rattle.std.specs.{Prelude.{List, ℕ, ◌≡◌}, Option.{is_some}};
     ghost use Rattle.witx_base.specs.Found.{found};
     ghost use Rattle.witx_scope.specs.Tags.{has_name};
 
@@ -108,7 +103,7 @@ fn places_of(alloc: Global, names: &[Id]) -> Result<Places, OutOfMemory>
 /// The names of the cases, in order.
 #[tactic(auto, using(crate::proofs::ArmNames::name_rules))]
 pub fn case_names(alloc: Global, cases: &[Case]) -> Result<Items<Id>, OutOfMemory>
-    ensures { IfOk result (λ ns. ns ≡ arm_names (arms_of (map case_arm cases.now))) }
+    ensures { IfOk result (λ ns. ns ≡ names_of_cases cases.now) }
 {
     let mut names: Items<Id> = with_room(alloc, cases.len())?;
     for case in cases {

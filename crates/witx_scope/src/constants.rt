@@ -1,13 +1,10 @@
 //! Constants: their keys, the greatest number of each integer type, and their checks.
 
-ghost use Rattle.std.specs.Prelude.{◌≡◌, IfOk, IfErr, OnOk, Some, None};
-ghost use Rattle.witx_ast.specs.Views.{named_tree};
-ghost use Rattle.witx_ast.specs.Tree.{behind};
-ghost use Rattle.witx_scope.specs.Blame.{Blames};
-ghost use Rattle.witx_scope.specs.Constants.{made_constant, repeated_constant};
+ghost use Rattle.std.specs.Prelude.{◌≡◌, IfOk, OnOk, Some, None};
+ghost use Rattle.witx_ast.specs.{Views.{named_tree}, Tree.{behind}};
+ghost use Rattle.witx_scope.specs.{Blame.{BlamesOnErr}, Constants.{made_constant, repeated_constant}};
 ghost use Rattle.witx_scope.specs.Faults.{first_fault};
-ghost use Rattle.witx_scope.specs.Integers.{greatest_number, greatest_in, value_check};
-ghost use Rattle.witx_scope.specs.Senses.{here_of};
+ghost use Rattle.witx_scope.specs.{Integers.{greatest_number, greatest_in, value_check}, Senses.{here_of}};
 ghost use Rattle.witx_scope.specs.Sites.{kept_in, place_at, checks_constant};
 ghost use Rattle.witx_scope.specs.SyntaxChecks.{denoted_tree, integer_name_checks};
 
@@ -71,7 +68,7 @@ fn greatest_of(named: &NamedType) -> Option<u64>
 fn greatest_named(scope: &Scope<'_>, ty: &IdSyntax<'_>) -> Result<u64, CheckError>
     ensures ok { OnOk result (first_fault (integer_name_checks (here_of scope.now) ty.now) ≡ None) }
     ensures greatest { IfOk result (λ n. greatest_in (behind (denoted_tree (here_of scope.now) ty.now)) ≡ Some n) }
-    ensures fault { IfErr result (λ e. Blames e (first_fault (integer_name_checks (here_of scope.now) ty.now))) }
+    ensures fault { BlamesOnErr result (first_fault (integer_name_checks (here_of scope.now) ty.now)) }
 {
     let named = denoted(scope, ty)?;
     scope.steps.take_names(&named.tref)?;
@@ -94,7 +91,7 @@ fn new_constant(
 ) -> Result<Constant, CheckError>
     ensures ok { OnOk result (repeated_constant places.now.entries decl.now.item place.now ≡ None) }
     ensures constant { IfOk result (λ c. c ≡ made_constant decl.now) }
-    ensures fault { IfErr result (λ e. Blames e (repeated_constant places.now.entries decl.now.item place.now)) }
+    ensures fault { BlamesOnErr result (repeated_constant places.now.entries decl.now.item place.now) }
 {
     let key = ConstantName {
         ty: Id::new(alloc, decl.item.ty.name)?,
@@ -123,8 +120,8 @@ fn checked_value(
 ) -> Result<(), CheckError>
     ensures ok { OnOk result (value_check name.now.name.now value
         ((here_of scope.now).place name.now.span.start) (Some largest) ≡ None) }
-    ensures fault { IfErr result (λ e. Blames e (value_check name.now.name.now value
-        ((here_of scope.now).place name.now.span.start) (Some largest))) }
+    ensures fault { BlamesOnErr result
+        (value_check name.now.name.now value ((here_of scope.now).place name.now.span.start) (Some largest)) }
 {
     if value <= largest {
         Ok(())
@@ -142,8 +139,7 @@ pub fn checked_constant(
     requires { site.now.place ≡ place_at site.now decl.now.item.name }
     ensures ok { OnOk result (first_fault (checks_constant (kept_in tables.now) site.now decl.now.item) ≡ None) }
     ensures constant { IfOk result (λ c. c ≡ made_constant decl.now) }
-    ensures fault { IfErr result
-        (λ e. Blames e (first_fault (checks_constant (kept_in tables.now) site.now decl.now.item))) }
+    ensures fault { BlamesOnErr result (first_fault (checks_constant (kept_in tables.now) site.now decl.now.item)) }
 {
     let scope = Scope {
         names: &tables.names,

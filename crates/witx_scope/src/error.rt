@@ -3,10 +3,9 @@
 ghost use Rattle.std.specs.Prelude.{◌≡◌};
 
 use crate::report::repr_word;
-use std::alloc::{AllocError, AllocFailed};
 use thiserror::Error;
 use witx_ast::BuiltinType;
-use witx_base::{OutOfMemory, Text};
+use witx_base::{MemoryRefused, Text};
 use witx_files::Location;
 
 /// What is wrong with a declaration, and where. `Display` gives the message.
@@ -94,32 +93,12 @@ pub enum CheckError {
     OutOfMemory,
 }
 
-impl From<OutOfMemory> for CheckError {
+impl<E: MemoryRefused> From<E> for CheckError {
     ghost use Rattle.witx_scope.specs.declared.error.CheckError.TheVariants as check_error;
 
     ghost from_gives = { λ _ e. e ≡ check_error.OutOfMemory };
 
-    fn from(_error: OutOfMemory) -> CheckError {
-        CheckError::OutOfMemory
-    }
-}
-
-impl From<AllocError> for CheckError {
-    ghost use Rattle.witx_scope.specs.declared.error.CheckError.TheVariants as check_error;
-
-    ghost from_gives = { λ _ e. e ≡ check_error.OutOfMemory };
-
-    fn from(_error: AllocError) -> CheckError {
-        CheckError::OutOfMemory
-    }
-}
-
-impl<T: Drop> From<AllocFailed<T>> for CheckError {
-    ghost use Rattle.witx_scope.specs.declared.error.CheckError.TheVariants as check_error;
-
-    ghost from_gives = { λ _ e. e ≡ check_error.OutOfMemory };
-
-    fn from(_refused: AllocFailed<T>) -> CheckError {
+    fn from(_refused: E) -> CheckError {
         CheckError::OutOfMemory
     }
 }

@@ -1,10 +1,8 @@
 //! The fault of each check, with its place.
 
 ghost use Rattle.std.specs.Prelude.{◌≡◌, IfOk, Some};
-ghost use Rattle.witx_scope.specs.Places.{location_in};
+ghost use Rattle.witx_scope.specs.{Places.{location_in}, Blame.{Blames}, Senses.{here_of}};
 ghost use Rattle.witx_scope.specs.Faults as fault;
-ghost use Rattle.witx_scope.specs.Blame.{Blames};
-ghost use Rattle.witx_scope.specs.Senses.{here_of};
 
 use crate::error::{CheckError, ValidationError};
 use crate::place::SharedPlace;

@@ -1,11 +1,9 @@
 //! Constants that are accepted, and where they are kept.
 
-ghost use Rattle.std.specs.Prelude.{◌≡◌, ◌∷◌, ◌++◌, [], IfOk, IfErr, OnOk, OnErr, None, List, ℕ, map};
+ghost use Rattle.std.specs.Prelude.{◌≡◌, ◌∷◌, ◌++◌, [], IfOk, OnOk, OnErr, None, map};
 ghost use Rattle.witx_ast.specs.Definitions.{definition_tree, constant_of};
-ghost use Rattle.witx_scope.specs.Blame.{Blames};
-ghost use Rattle.witx_scope.specs.Constants.{constant_place, made_constant, place_under, place_with};
-ghost use Rattle.witx_scope.specs.Faults.{first_fault};
-ghost use Rattle.witx_scope.specs.Sites.{kept_in, place_at, checks_constant};
+ghost use Rattle.witx_scope.specs.{Blame.{BlamesOnErr}, Constants.{PlacesOnOk, made_constant}};
+ghost use Rattle.witx_scope.specs.{Faults.{first_fault}, Sites.{kept_in, place_at, checks_constant}};
 
 use crate::constants::{ConstantName, ConstantPlaces, checked_constant};
 use crate::error::CheckError;
@@ -32,8 +30,7 @@ fn keep_place(
     key: ConstantName,
     place: SharedPlace,
 ) -> Result<(), OutOfMemory>
-    ensures places { (ty n : List ℕ) → OnOk result (constant_place places.new.entries ty n
-        ≡ place_under places.old.entries key place ty n) }
+    ensures places { PlacesOnOk result places.old places.new key.ty key.name place }
     ensures unchanged { OnErr result (places.new.entries ≡ places.old.entries) }
 {
     places.insert(key, place)?;
@@ -51,8 +48,7 @@ fn keep_constant(
 ) -> Result<(), OutOfMemory>
     ensures appended { OnOk result (map definition_tree definitions.new
         ≡ map definition_tree definitions.old ++ constant_of constant ∷ []) }
-    ensures places { (ty n : List ℕ) → OnOk result (constant_place places.new.entries ty n
-        ≡ place_with places.old.entries constant place ty n) }
+    ensures places { PlacesOnOk result places.old places.new constant.ty constant.name place }
     ensures unchanged { OnErr result (definitions.new ≡ definitions.old) }
     ensures places_unchanged { OnErr result (places.new.entries ≡ places.old.entries) }
 {
@@ -79,12 +75,9 @@ pub fn take_constant(
     ensures ok { OnOk result (first_fault (checks_constant (kept_in tables.old) site.entry decl.now.item) ≡ None) }
     ensures appended { OnOk result (map definition_tree definitions.new
         ≡ map definition_tree definitions.old ++ constant_of (made_constant decl.now) ∷ []) }
-    ensures places { (ty n : List ℕ)
-        → OnOk result (constant_place tables.new.constants.entries ty n
-        ≡ place_with tables.old.constants.entries (made_constant decl.now)
-        (place_at site.entry decl.now.item.name) ty n) }
-    ensures fault { IfErr result
-        (λ e. Blames e (first_fault (checks_constant (kept_in tables.old) site.entry decl.now.item))) }
+    ensures places { PlacesOnOk result tables.old.constants tables.new.constants
+        decl.now.item.ty.name.now decl.now.item.name.name.now (place_at site.entry decl.now.item.name) }
+    ensures fault { BlamesOnErr result (first_fault (checks_constant (kept_in tables.old) site.entry decl.now.item)) }
     ensures unchanged { OnErr result (definitions.new ≡ definitions.old) }
     ensures places_unchanged { OnErr result (tables.new.constants.entries ≡ tables.old.constants.entries) }
     ensures names { tables.new.names ≡ tables.old.names }

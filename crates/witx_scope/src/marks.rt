@@ -1,8 +1,9 @@
 //! Names inside one declaration, and the offset at which each stands.
 #![tactic(auto, using(crate::proofs::Marking::marking_rules))]
 
-ghost use Rattle.std.specs.Prelude.{◌≡◌, ◌∷◌, [], IfOk, OnOk, None, option_map};
+ghost use Rattle.std.specs.Prelude.{◌≡◌, ◌∷◌, [], IfOk, None, option_map};
 ghost use Rattle.witx_base.specs.Found.{found};
+ghost use Rattle.witx_scope.specs.Names.{FindsOnOk};
 
 use crate::names::place_of;
 use std::alloc::Global;
@@ -52,7 +53,7 @@ impl Marks {
     /// Puts a name that isn't there.
     fn put(&mut self, name: Id, at: usize) -> Result<(), OutOfMemory>
         requires { found self.old name ≡ None }
-        ensures { (q : _) → OnOk result (found self.new q ≡ found ((name, at) ∷ self.old) q) }
+        ensures { FindsOnOk result self.new ((name, at) ∷ self.old) }
     {
         if self.few.len() < FEW {
             self.few.push((name, at))?;
@@ -77,7 +78,7 @@ impl Marks {
 
     /// Puts a name, in place of the one that is there.
     pub fn insert(&mut self, name: Id, at: usize) -> Result<(), OutOfMemory>
-        ensures { (q : _) → OnOk result (found self.new q ≡ found ((name, at) ∷ self.old) q) }
+        ensures { FindsOnOk result self.new ((name, at) ∷ self.old) }
     {
         if self.get(&name).is_some() {
             self.more.insert(name, at)?;

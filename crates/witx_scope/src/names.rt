@@ -4,11 +4,9 @@
 ghost use Rattle.std.specs.Prelude.{◌≡◌, ◌||◌, ◌++◌, ◌∷◌, [], IfOk, IfErr, OnOk, OnErr, Some, None, true, option_map};
 ghost use Rattle.std.specs.Option.{is_some};
 ghost use Rattle.witx_base.specs.Found.{found};
-ghost use Rattle.witx_scope.specs.Names.{new_mark, new_name};
-ghost use Rattle.witx_scope.specs.Introduced.{AreIntroduced, is_unfinished};
-ghost use Rattle.witx_scope.specs.Positions.{is_same_name};
-ghost use Rattle.witx_scope.specs.Blame.{Blames};
-ghost use Rattle.witx_scope.specs.Senses.{here_of};
+ghost use Rattle.witx_scope.specs.Names.{FindsOnOk, new_mark, new_name};
+ghost use Rattle.witx_scope.specs.{Introduced.{AreIntroduced, is_unfinished}, Positions.{is_same_name}};
+ghost use Rattle.witx_scope.specs.{Blame.{Blames, BlamesOnErr}, Senses.{here_of}};
 ghost use Rattle.witx_scope.specs.SyntaxChecks.{used_check, denoted_tree};
 ghost use Rattle.witx_ast.specs.Views.{tree_of, named_tree};
 
@@ -34,8 +32,8 @@ pub fn introduce_mark(
 ) -> Result<Id, CheckError>
     ensures ok { OnOk result (new_mark (here_of scope.now) marks.old name.now at ≡ None) }
     ensures id { IfOk result (λ id. id ≡ name.now) }
-    ensures kept { (q : _) → OnOk result (found marks.new q ≡ found ((name.now, at) ∷ marks.old) q) }
-    ensures fault { IfErr result (λ e. Blames e (new_mark (here_of scope.now) marks.old name.now at)) }
+    ensures kept { FindsOnOk result marks.new ((name.now, at) ∷ marks.old) }
+    ensures fault { BlamesOnErr result (new_mark (here_of scope.now) marks.old name.now at) }
 {
     let id = Id::new(scope.alloc, name)?;
     match marks.take(id.copy()?, at)? {
@@ -47,7 +45,7 @@ pub fn introduce_mark(
 /// Takes a name that may stand there into a scope inside the declaration.
 #[tactic(auto, using(crate::proofs::Steps::step_rules))]
 pub fn mark(marks: &mut Marks, name: Id, at: usize) -> Result<(), OutOfMemory>
-    ensures { (q : _) → OnOk result (found marks.new q ≡ found ((name, at) ∷ marks.old) q) }
+    ensures { FindsOnOk result marks.new ((name, at) ∷ marks.old) }
 {
     marks.insert(name, at)?;
     Ok(())
@@ -118,8 +116,8 @@ pub fn introduce(
     requires { AreIntroduced names.old unfinished.old entries.now }
     ensures ok { OnOk result (new_name names.old name.now at ≡ None) }
     ensures id { IfOk result (λ id. id ≡ name.now) }
-    ensures kept { (q : _) → OnOk result (found names.new q ≡ found ((name.now, at) ∷ names.old) q) }
-    ensures fault { IfErr result (λ e. Blames e (new_name names.old name.now at)) }
+    ensures kept { FindsOnOk result names.new ((name.now, at) ∷ names.old) }
+    ensures fault { BlamesOnErr result (new_name names.old name.now at) }
     ensures err { IfErr result (λ _. names.new ≡ names.old) }
     ensures introduced { AreIntroduced names.new unfinished.new entries.now }
     ensures current { OnOk result (unfinished.new.current ≡ Some name.now) }
@@ -139,7 +137,7 @@ pub fn introduce(
 pub fn denoted<'a>(scope: &Scope<'a>, name: &IdSyntax<'_>) -> Result<&'a Rc<NamedType>, CheckError>
     ensures ok { OnOk result (used_check (here_of scope.now) name.now ≡ None) }
     ensures tree { IfOk result (λ named. named_tree named.now.value ≡ denoted_tree (here_of scope.now) name.now) }
-    ensures fault { IfErr result (λ e. Blames e (used_check (here_of scope.now) name.now)) }
+    ensures fault { BlamesOnErr result (used_check (here_of scope.now) name.now) }
 {
     let at = name.span.start;
     let id = Id::new(scope.alloc, name.name)?;
@@ -160,7 +158,7 @@ pub fn denoted<'a>(scope: &Scope<'a>, name: &IdSyntax<'_>) -> Result<&'a Rc<Name
 pub fn used(scope: &Scope<'_>, name: &IdSyntax<'_>) -> Result<TypeRef, CheckError>
     ensures ok { OnOk result (used_check (here_of scope.now) name.now ≡ None) }
     ensures tree { IfOk result (λ t. tree_of t ≡ denoted_tree (here_of scope.now) name.now) }
-    ensures fault { IfErr result (λ e. Blames e (used_check (here_of scope.now) name.now)) }
+    ensures fault { BlamesOnErr result (used_check (here_of scope.now) name.now) }
 {
     Ok(TypeRef::Name(denoted(scope, name)?.clone()?))
 }

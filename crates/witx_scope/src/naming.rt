@@ -1,8 +1,7 @@
 //! A type that is given a name.
 
 ghost use Rattle.std.specs.Prelude.{◌≡◌, IfOk};
-ghost use Rattle.witx_comments.specs.Documentation.{documentation_of};
-ghost use Rattle.witx_comments.specs.Comments.{comments_view};
+ghost use Rattle.witx_comments.specs.{Documentation.{documentation_of}, Comments.{comments_view}};
 
 use std::alloc::Global;
 use witx_ast::{NamedType, TypeRef};

@@ -1,8 +1,7 @@
 //! What a user reads of a fault: its message, and the lines in which it stands.
 
 ghost use Rattle.std.specs.Prelude.{◌≡◌, ◌++◌, IfOk, codes, option_map, string_bytes};
-ghost use Rattle.witx_scope.specs.Blame.{fault_of};
-ghost use Rattle.witx_scope.specs.Messages.{message, fault_location, quoted, repr_word};
+ghost use Rattle.witx_scope.specs.{Blame.{fault_of}, Messages.{message, fault_location, quoted, repr_word}};
 ghost use Rattle.witx_scope.specs.Reports.{IsReport, earlier_location};
 
 use crate::error::ValidationError;

@@ -1,8 +1,7 @@
 //! Names that are introduced and not finished.
 #![tactic(auto, using(crate::proofs::Settling::settling_rules))]
 
-ghost use Rattle.std.specs.Prelude.{◌≡◌, ◌||◌, OnOk, Some, None, false};
-ghost use Rattle.std.specs.Option.{is_some};
+ghost use Rattle.std.specs.{Prelude.{◌≡◌, ◌||◌, OnOk, Some, None, false}, Option.{is_some}};
 ghost use Rattle.witx_base.specs.Found.{found};
 ghost use Rattle.witx_scope.specs.Introduced.{is_named, is_unfinished};
 

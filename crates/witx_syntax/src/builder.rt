@@ -1,12 +1,10 @@
 //! The actions of the grammar.
 
 ghost use Rattle.std.specs.Prelude.{◌≡◌, IfOk, map};
-ghost use Rattle.witx_values.specs.Language.{IsOnTop, Ready};
-ghost use Rattle.witx_values.specs.TextTokens.{HoldsMarks};
+ghost use Rattle.witx_values.specs.{Language.{IsOnTop, Ready}, TextTokens.{HoldsMarks}};
 ghost use Rattle.witx_language.specs.declared.sort.Sort as sorts;
 ghost use Rattle.witx_language.specs.declared.sort.Sort.TheVariants as variants;
-ghost use Rattle.witx_language.specs.Sorts.{sort_of};
-ghost use Rattle.witx_language.specs.Actions.{the_language};
+ghost use Rattle.witx_language.specs.{Sorts.{sort_of}, Actions.{the_language}};
 ghost use Rattle.witx_language.specs.Values.{Val, a_builtin, a_type, some_items};
 ghost use Rattle.witx_language.proofs.Lawful.{lawful};
 ghost use Rattle.witx_syntax.specs.Stack.{Made, value_view};

@@ -1,12 +1,10 @@
 //! What the values of each sort hold.
 
 ghost use Rattle.std.specs.Prelude.{◌≡◌};
-ghost use Rattle.witx_language.specs.declared.sort.Sort.{Sort};
+ghost use Rattle.witx_language.specs.{declared.sort.Sort.{Sort}, Sorts.{sort_of}};
 ghost use Rattle.witx_language.specs.declared.sort.Sort.TheVariants as sorts;
-ghost use Rattle.witx_language.specs.Sorts.{sort_of};
-ghost use Rattle.witx_syntax.specs.declared.value.Value.{Value};
+ghost use Rattle.witx_syntax.specs.{declared.value.Value.{Value}, Stack.{value_view}};
 ghost use Rattle.witx_syntax.specs.declared.value.Value.TheVariants as values;
-ghost use Rattle.witx_syntax.specs.Stack.{value_view};
 
 use crate::value::{
     BuiltinWord, Case, Decl, Field, Item, Member, Named, Number, Quoted, UnionField, Value,

@@ -1,9 +1,8 @@
 //! What holds of every text, as functions that do nothing: each contract is a theorem.
 
 ghost use Rattle.std.specs.Prelude.{◌≡◌, ◌⊎◌, ℕ, List};
-ghost use Rattle.witx_syntax.specs.Names.{AllNames, StandsInText};
+ghost use Rattle.witx_syntax.specs.{Names.{AllNames, StandsInText}, Reads.{IsFaultOf, Reads}};
 ghost use Rattle.witx_language.specs.FaultPlaces.{Told};
-ghost use Rattle.witx_syntax.specs.Reads.{IsFaultOf, Reads};
 ghost use Rattle.witx_syntax_tree.specs.Trees.{Document};
 
 use witx_grammar::{at_most_one_derivation, derivation_or_fault};

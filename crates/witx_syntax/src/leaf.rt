@@ -2,11 +2,9 @@
 
 ghost use Rattle.std.specs.Prelude.{◌≡◌, ℕ, ◌<◌, ◌∷◌, List, length, IfOk};
 ghost use Rattle.witx_lex.specs.Characters.{dollar};
-ghost use Rattle.witx_values.specs.Language.{IsOnTop};
-ghost use Rattle.witx_values.specs.TextTokens.{HoldsText};
+ghost use Rattle.witx_values.specs.{Language.{IsOnTop}, TextTokens.{HoldsText}};
 ghost use Rattle.witx_language.specs.declared.token_kind.TokenKind.TheVariants as kinds;
-ghost use Rattle.witx_language.specs.Actions.{the_language};
-ghost use Rattle.witx_language.specs.Values.{a_name, a_text, an_integer};
+ghost use Rattle.witx_language.specs.{Actions.{the_language}, Values.{a_name, a_text, an_integer}};
 ghost use Rattle.witx_syntax.specs.Stack.{IsOfKind, Laid, quoted_view, value_view};
 ghost use Rattle.witx_syntax_tree.specs.Views.{name_view};
 

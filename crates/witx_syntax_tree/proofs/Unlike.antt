@@ -131,109 +131,96 @@ number-kind y (is_ident v p) = rw (p, view-Ident v) refl
 number-kind y (is_string p) = rw (p, view-String) refl
 number-kind y (is_boolean p) = rw (p, view-Bool) refl
 
-pub not-Enum : (y : TypedefSyntax) (s : Shown y) → number s ≡ 0 → ((v : EnumSyntax) → y ≡ typedef.Enum v → ⊥) → ⊥
-not-Enum y (is_enum_of v p) h f = f v p
-not-Enum y _ h f = omega arith
+-- a type is none of this variant
+abbrev IsNo : {V : Type 0} → (V → TypedefSyntax) → TypedefSyntax → Type 0
+IsNo {V} variant y = (v : V) → y ≡ variant v → ⊥
 
-pub not-Tuple : (y : TypedefSyntax) (s : Shown y) → number s ≡ 1 → ((v : TupleSyntax) → y ≡ typedef.Tuple v → ⊥) → ⊥
-not-Tuple y (is_tuple_of v p) h f = f v p
-not-Tuple y _ h f = omega arith
+-- a type is of another variant than a type with this tree
+abbrev IsOther : TypeTree → TypedefSyntax → Type 0
+IsOther (TypeTree.enum_of a b) y = IsNo typedef.Enum y
+IsOther (TypeTree.tuple_of a) y = IsNo typedef.Tuple y
+IsOther (TypeTree.expected a b) y = IsNo typedef.Expected y
+IsOther (TypeTree.flags_of a b) y = IsNo typedef.Flags y
+IsOther (TypeTree.record_of a) y = IsNo typedef.Record y
+IsOther (TypeTree.union_of a b) y = IsNo typedef.Union y
+IsOther (TypeTree.variant_of a b) y = IsNo typedef.Variant y
+IsOther TypeTree.handle y = IsNo typedef.Handle y
+IsOther (TypeTree.list_of a) y = IsNo typedef.List y
+IsOther (TypeTree.pointer_to a) y = IsNo typedef.Pointer y
+IsOther (TypeTree.const_pointer_to a) y = IsNo typedef.ConstPointer y
+IsOther (TypeTree.builtin a) y = IsNo typedef.Builtin y
+IsOther (TypeTree.ident a) y = IsNo typedef.Ident y
+IsOther TypeTree.string y = y ≡ typedef.String → ⊥
+IsOther TypeTree.boolean y = y ≡ typedef.Bool → ⊥
 
-pub not-Expected : (y : TypedefSyntax) (s : Shown y) → number s ≡ 2 → ((v : ExpectedSyntax) → y ≡ typedef.Expected v → ⊥) → ⊥
-not-Expected y (is_expected v p) h f = f v p
-not-Expected y _ h f = omega arith
+no-other : (t : TypeTree) (y : TypedefSyntax) (s : Shown y) → kind t ≡ number s → IsOther t y → ⊥
+no-other (TypeTree.enum_of a b) y (is_enum_of v p) h f = f v p
+no-other (TypeTree.tuple_of a) y (is_tuple_of v p) h f = f v p
+no-other (TypeTree.expected a b) y (is_expected v p) h f = f v p
+no-other (TypeTree.flags_of a b) y (is_flags_of v p) h f = f v p
+no-other (TypeTree.record_of a) y (is_record_of v p) h f = f v p
+no-other (TypeTree.union_of a b) y (is_union_of v p) h f = f v p
+no-other (TypeTree.variant_of a b) y (is_variant_of v p) h f = f v p
+no-other TypeTree.handle y (is_handle v p) h f = f v p
+no-other (TypeTree.list_of a) y (is_list_of v p) h f = f v p
+no-other (TypeTree.pointer_to a) y (is_pointer_to v p) h f = f v p
+no-other (TypeTree.const_pointer_to a) y (is_const_pointer_to v p) h f = f v p
+no-other (TypeTree.builtin a) y (is_builtin v p) h f = f v p
+no-other (TypeTree.ident a) y (is_ident v p) h f = f v p
+no-other TypeTree.string y (is_string p) h f = f p
+no-other TypeTree.boolean y (is_boolean p) h f = f p
+no-other _ y _ h f = omega arith
 
-pub not-Flags : (y : TypedefSyntax) (s : Shown y) → number s ≡ 3 → ((v : FlagsSyntax) → y ≡ typedef.Flags v → ⊥) → ⊥
-not-Flags y (is_flags_of v p) h f = f v p
-not-Flags y _ h f = omega arith
+other : (x y : TypedefSyntax) (t : TypeTree) → type_view x ≡ t → IsOther t y → false ≡ same_type (type_view x) (type_view y)
+other x y t e f = apart _ _ (λ h. no-other t y (shown y) (sym (ap kind e) ∙ h ∙ number-kind y (shown y)) f)
 
-pub not-Record : (y : TypedefSyntax) (s : Shown y) → number s ≡ 4 → ((v : RecordSyntax) → y ≡ typedef.Record v → ⊥) → ⊥
-not-Record y (is_record_of v p) h f = f v p
-not-Record y _ h f = omega arith
+-- a type of this variant is never the same as one of another
+abbrev pub IsApart : {V : Type 0} → (V → TypedefSyntax) → Type 0
+IsApart {V} variant = (x y : TypedefSyntax) (v : V) → x ≡ variant v → IsNo variant y → false ≡ same_type (type_view x) (type_view y)
 
-pub not-Union : (y : TypedefSyntax) (s : Shown y) → number s ≡ 5 → ((v : UnionSyntax) → y ≡ typedef.Union v → ⊥) → ⊥
-not-Union y (is_union_of v p) h f = f v p
-not-Union y _ h f = omega arith
+pub other-Enum : IsApart typedef.Enum
+other-Enum x y v p f = other x y _ (ap type_view p ∙ view-Enum v) f
 
-pub not-Variant : (y : TypedefSyntax) (s : Shown y) → number s ≡ 6 → ((v : VariantSyntax) → y ≡ typedef.Variant v → ⊥) → ⊥
-not-Variant y (is_variant_of v p) h f = f v p
-not-Variant y _ h f = omega arith
+pub other-Tuple : IsApart typedef.Tuple
+other-Tuple x y v p f = other x y _ (ap type_view p ∙ view-Tuple v) f
 
-pub not-Handle : (y : TypedefSyntax) (s : Shown y) → number s ≡ 7 → ((v : HandleSyntax) → y ≡ typedef.Handle v → ⊥) → ⊥
-not-Handle y (is_handle v p) h f = f v p
-not-Handle y _ h f = omega arith
+pub other-Expected : IsApart typedef.Expected
+other-Expected x y v p f = other x y _ (ap type_view p ∙ view-Expected v) f
 
-pub not-List : (y : TypedefSyntax) (s : Shown y) → number s ≡ 8 → ((v : Box TypedefSyntax Global) → y ≡ typedef.List v → ⊥) → ⊥
-not-List y (is_list_of v p) h f = f v p
-not-List y _ h f = omega arith
+pub other-Flags : IsApart typedef.Flags
+other-Flags x y v p f = other x y _ (ap type_view p ∙ view-Flags v) f
 
-pub not-Pointer : (y : TypedefSyntax) (s : Shown y) → number s ≡ 9 → ((v : Box TypedefSyntax Global) → y ≡ typedef.Pointer v → ⊥) → ⊥
-not-Pointer y (is_pointer_to v p) h f = f v p
-not-Pointer y _ h f = omega arith
+pub other-Record : IsApart typedef.Record
+other-Record x y v p f = other x y _ (ap type_view p ∙ view-Record v) f
 
-pub not-ConstPointer : (y : TypedefSyntax) (s : Shown y) → number s ≡ 10 → ((v : Box TypedefSyntax Global) → y ≡ typedef.ConstPointer v → ⊥) → ⊥
-not-ConstPointer y (is_const_pointer_to v p) h f = f v p
-not-ConstPointer y _ h f = omega arith
+pub other-Union : IsApart typedef.Union
+other-Union x y v p f = other x y _ (ap type_view p ∙ view-Union v) f
 
-pub not-Builtin : (y : TypedefSyntax) (s : Shown y) → number s ≡ 11 → ((v : BuiltinSyntax) → y ≡ typedef.Builtin v → ⊥) → ⊥
-not-Builtin y (is_builtin v p) h f = f v p
-not-Builtin y _ h f = omega arith
+pub other-Variant : IsApart typedef.Variant
+other-Variant x y v p f = other x y _ (ap type_view p ∙ view-Variant v) f
 
-pub not-Ident : (y : TypedefSyntax) (s : Shown y) → number s ≡ 12 → ((v : IdSyntax) → y ≡ typedef.Ident v → ⊥) → ⊥
-not-Ident y (is_ident v p) h f = f v p
-not-Ident y _ h f = omega arith
+pub other-Handle : IsApart typedef.Handle
+other-Handle x y v p f = other x y _ (ap type_view p ∙ view-Handle v) f
 
-pub not-String : (y : TypedefSyntax) (s : Shown y) → number s ≡ 13 → (y ≡ typedef.String → ⊥) → ⊥
-not-String y (is_string p) h f = f p
-not-String y _ h f = omega arith
+pub other-List : IsApart typedef.List
+other-List x y v p f = other x y _ (ap type_view p ∙ view-List v) f
 
-pub not-Bool : (y : TypedefSyntax) (s : Shown y) → number s ≡ 14 → (y ≡ typedef.Bool → ⊥) → ⊥
-not-Bool y (is_boolean p) h f = f p
-not-Bool y _ h f = omega arith
+pub other-Pointer : IsApart typedef.Pointer
+other-Pointer x y v p f = other x y _ (ap type_view p ∙ view-Pointer v) f
 
-pub other-Enum : (x y : TypedefSyntax) (v : EnumSyntax) → x ≡ typedef.Enum v → ((v : EnumSyntax) → y ≡ typedef.Enum v → ⊥) → false ≡ same_type (type_view x) (type_view y)
-other-Enum x y v p f = apart _ _ (λ h. not-Enum y (shown y) (sym (number-kind y (shown y)) ∙ sym h ∙ (ap (λ t. kind (type_view t)) p ∙ ap kind (view-Enum v))) f)
+pub other-ConstPointer : IsApart typedef.ConstPointer
+other-ConstPointer x y v p f = other x y _ (ap type_view p ∙ view-ConstPointer v) f
 
-pub other-Tuple : (x y : TypedefSyntax) (v : TupleSyntax) → x ≡ typedef.Tuple v → ((v : TupleSyntax) → y ≡ typedef.Tuple v → ⊥) → false ≡ same_type (type_view x) (type_view y)
-other-Tuple x y v p f = apart _ _ (λ h. not-Tuple y (shown y) (sym (number-kind y (shown y)) ∙ sym h ∙ (ap (λ t. kind (type_view t)) p ∙ ap kind (view-Tuple v))) f)
+pub other-Builtin : IsApart typedef.Builtin
+other-Builtin x y v p f = other x y _ (ap type_view p ∙ view-Builtin v) f
 
-pub other-Expected : (x y : TypedefSyntax) (v : ExpectedSyntax) → x ≡ typedef.Expected v → ((v : ExpectedSyntax) → y ≡ typedef.Expected v → ⊥) → false ≡ same_type (type_view x) (type_view y)
-other-Expected x y v p f = apart _ _ (λ h. not-Expected y (shown y) (sym (number-kind y (shown y)) ∙ sym h ∙ (ap (λ t. kind (type_view t)) p ∙ ap kind (view-Expected v))) f)
-
-pub other-Flags : (x y : TypedefSyntax) (v : FlagsSyntax) → x ≡ typedef.Flags v → ((v : FlagsSyntax) → y ≡ typedef.Flags v → ⊥) → false ≡ same_type (type_view x) (type_view y)
-other-Flags x y v p f = apart _ _ (λ h. not-Flags y (shown y) (sym (number-kind y (shown y)) ∙ sym h ∙ (ap (λ t. kind (type_view t)) p ∙ ap kind (view-Flags v))) f)
-
-pub other-Record : (x y : TypedefSyntax) (v : RecordSyntax) → x ≡ typedef.Record v → ((v : RecordSyntax) → y ≡ typedef.Record v → ⊥) → false ≡ same_type (type_view x) (type_view y)
-other-Record x y v p f = apart _ _ (λ h. not-Record y (shown y) (sym (number-kind y (shown y)) ∙ sym h ∙ (ap (λ t. kind (type_view t)) p ∙ ap kind (view-Record v))) f)
-
-pub other-Union : (x y : TypedefSyntax) (v : UnionSyntax) → x ≡ typedef.Union v → ((v : UnionSyntax) → y ≡ typedef.Union v → ⊥) → false ≡ same_type (type_view x) (type_view y)
-other-Union x y v p f = apart _ _ (λ h. not-Union y (shown y) (sym (number-kind y (shown y)) ∙ sym h ∙ (ap (λ t. kind (type_view t)) p ∙ ap kind (view-Union v))) f)
-
-pub other-Variant : (x y : TypedefSyntax) (v : VariantSyntax) → x ≡ typedef.Variant v → ((v : VariantSyntax) → y ≡ typedef.Variant v → ⊥) → false ≡ same_type (type_view x) (type_view y)
-other-Variant x y v p f = apart _ _ (λ h. not-Variant y (shown y) (sym (number-kind y (shown y)) ∙ sym h ∙ (ap (λ t. kind (type_view t)) p ∙ ap kind (view-Variant v))) f)
-
-pub other-Handle : (x y : TypedefSyntax) (v : HandleSyntax) → x ≡ typedef.Handle v → ((v : HandleSyntax) → y ≡ typedef.Handle v → ⊥) → false ≡ same_type (type_view x) (type_view y)
-other-Handle x y v p f = apart _ _ (λ h. not-Handle y (shown y) (sym (number-kind y (shown y)) ∙ sym h ∙ (ap (λ t. kind (type_view t)) p ∙ ap kind (view-Handle v))) f)
-
-pub other-List : (x y : TypedefSyntax) (v : Box TypedefSyntax Global) → x ≡ typedef.List v → ((v : Box TypedefSyntax Global) → y ≡ typedef.List v → ⊥) → false ≡ same_type (type_view x) (type_view y)
-other-List x y v p f = apart _ _ (λ h. not-List y (shown y) (sym (number-kind y (shown y)) ∙ sym h ∙ (ap (λ t. kind (type_view t)) p ∙ ap kind (view-List v))) f)
-
-pub other-Pointer : (x y : TypedefSyntax) (v : Box TypedefSyntax Global) → x ≡ typedef.Pointer v → ((v : Box TypedefSyntax Global) → y ≡ typedef.Pointer v → ⊥) → false ≡ same_type (type_view x) (type_view y)
-other-Pointer x y v p f = apart _ _ (λ h. not-Pointer y (shown y) (sym (number-kind y (shown y)) ∙ sym h ∙ (ap (λ t. kind (type_view t)) p ∙ ap kind (view-Pointer v))) f)
-
-pub other-ConstPointer : (x y : TypedefSyntax) (v : Box TypedefSyntax Global) → x ≡ typedef.ConstPointer v → ((v : Box TypedefSyntax Global) → y ≡ typedef.ConstPointer v → ⊥) → false ≡ same_type (type_view x) (type_view y)
-other-ConstPointer x y v p f = apart _ _ (λ h. not-ConstPointer y (shown y) (sym (number-kind y (shown y)) ∙ sym h ∙ (ap (λ t. kind (type_view t)) p ∙ ap kind (view-ConstPointer v))) f)
-
-pub other-Builtin : (x y : TypedefSyntax) (v : BuiltinSyntax) → x ≡ typedef.Builtin v → ((v : BuiltinSyntax) → y ≡ typedef.Builtin v → ⊥) → false ≡ same_type (type_view x) (type_view y)
-other-Builtin x y v p f = apart _ _ (λ h. not-Builtin y (shown y) (sym (number-kind y (shown y)) ∙ sym h ∙ (ap (λ t. kind (type_view t)) p ∙ ap kind (view-Builtin v))) f)
-
-pub other-Ident : (x y : TypedefSyntax) (v : IdSyntax) → x ≡ typedef.Ident v → ((v : IdSyntax) → y ≡ typedef.Ident v → ⊥) → false ≡ same_type (type_view x) (type_view y)
-other-Ident x y v p f = apart _ _ (λ h. not-Ident y (shown y) (sym (number-kind y (shown y)) ∙ sym h ∙ (ap (λ t. kind (type_view t)) p ∙ ap kind (view-Ident v))) f)
+pub other-Ident : IsApart typedef.Ident
+other-Ident x y v p f = other x y _ (ap type_view p ∙ view-Ident v) f
 
 pub other-String : (x y : TypedefSyntax) → x ≡ typedef.String → (y ≡ typedef.String → ⊥) → false ≡ same_type (type_view x) (type_view y)
-other-String x y p f = apart _ _ (λ h. not-String y (shown y) (sym (number-kind y (shown y)) ∙ sym h ∙ (ap (λ t. kind (type_view t)) p ∙ ap kind view-String)) f)
+other-String x y p f = other x y _ (ap type_view p ∙ view-String) f
 
 pub other-Bool : (x y : TypedefSyntax) → x ≡ typedef.Bool → (y ≡ typedef.Bool → ⊥) → false ≡ same_type (type_view x) (type_view y)
-other-Bool x y p f = apart _ _ (λ h. not-Bool y (shown y) (sym (number-kind y (shown y)) ∙ sym h ∙ (ap (λ t. kind (type_view t)) p ∙ ap kind view-Bool)) f)
+other-Bool x y p f = other x y _ (ap type_view p ∙ view-Bool) f
 
 pub ruleset other_rules = (other-Enum, other-Tuple, other-Expected, other-Flags, other-Record, other-Union, other-Variant, other-Handle, other-List, other-Pointer, other-ConstPointer, other-Builtin, other-Ident, other-String, other-Bool)

@@ -1,8 +1,7 @@
 //! What equality decides of each type of syntax, and that copies equal their originals, as functions
 //! that do nothing: each contract is a theorem.
 
-ghost use Rattle.std.specs.Prelude.{◌≡◌, map};
-ghost use Rattle.std.specs.Bool.{Decides};
+ghost use Rattle.std.specs.{Prelude.{◌≡◌, map}, Bool.{Decides}};
 ghost use Rattle.witx_comments.specs.Comments.{comments_view};
 ghost use Rattle.witx_syntax_tree.specs.Compared.{Compares, case_reading, constant_reading, documented_reading, field_reading};
 ghost use Rattle.witx_syntax_tree.specs.Unplaced.{unplaced, unplaced_decl, unplaced_document, unplaced_item};

@@ -1,11 +1,9 @@
 //! Copies: each has the reading of what it is made of, names with their places, and comments.
 #![tactic(auto, using(crate::proofs::Copied::copy_rules))]
 
-ghost use Rattle.std.specs.Prelude.{◌≡◌, IfOk};
-ghost use Rattle.witx_comments.specs.Comments.{comments_view};
+ghost use Rattle.std.specs.{Prelude.{◌≡◌, IfOk}, List.{AllZip}};
+ghost use Rattle.witx_comments.specs.{Comments.{comments_view}, Copies.{IsCopyOfDocumented}};
 ghost use Rattle.witx_syntax_tree.specs.Views.{boxed_view, case_view, decl_view, declaration_view, document_view, field_view, item_view, type_view};
-ghost use Rattle.std.specs.List.{AllZip};
-ghost use Rattle.witx_comments.specs.Copies.{IsCopyOfDocumented};
 ghost use Rattle.witx_syntax_tree.specs.Copies.{ReadsAs};
 ghost use Rattle.witx_syntax_tree.specs.declared.tree.DeclSyntax.TheVariants as declaration;
 ghost use Rattle.witx_syntax_tree.specs.declared.tree.ModuleDeclSyntax.TheVariants as decl;

@@ -76,8 +76,7 @@ pub enum TypedefSyntax<'a> {
 // By their readings, so that the derived comparisons of the types below say the same.
 impl<'a> PartialEq for TypedefSyntax<'a> {
     ghost use Rattle.std.specs.Cmp.{on_per, partial_equiv_from_equiv};
-    ghost use Rattle.witx_syntax_tree.specs.Views.{type_view};
-    ghost use Rattle.witx_syntax_tree.specs.Same.{same_type};
+    ghost use Rattle.witx_syntax_tree.specs.{Views.{type_view}, Same.{same_type}};
     ghost use Rattle.witx_syntax_tree.specs.SameLaws.{type_equivalence};
 
     ghost eq = { λ a b. same_type (type_view a) (type_view b) };
@@ -110,8 +109,7 @@ impl<'a> PartialEq for TypedefSyntax<'a> {
 
 impl<'a> Eq for TypedefSyntax<'a> {
     ghost use Rattle.std.specs.Cmp.{on_equiv};
-    ghost use Rattle.witx_syntax_tree.specs.Views.{type_view};
-    ghost use Rattle.witx_syntax_tree.specs.SameLaws.{type_equivalence};
+    ghost use Rattle.witx_syntax_tree.specs.{Views.{type_view}, SameLaws.{type_equivalence}};
 
     ghost laws = { on_equiv type_view type_equivalence };
 }

@@ -1,8 +1,8 @@
 -- Where no two words are spelled alike, a text that is one of them is of that one's kind, wherever it stands.
-use Rattle.std.proofs.Common.{◌≡◌, ℕ, zero, suc, ◌<◌, Bool, true, false, cond, ◌||◌, List, [], ◌∷◌, length, get_or, map, refl, sym, ap, ◌∙◌, arith}
+use Rattle.std.proofs.Common.{◌≡◌, ℕ, zero, suc, ◌<◌, Bool, true, false, cond, List, [], ◌∷◌, length, get_or, map, refl, sym, ap, ◌∙◌, arith}
 use Rattle.std.specs.Prelude.{not}
 use Rattle.std.specs.List.{list_any}
-use Rattle.std.proofs.lemmas.Bool.{and_parts}
+use Rattle.std.proofs.lemmas.Bool.{and_parts, or_left, or_right}
 use Rattle.witx_base.specs.Texts.{same_text}
 use Rattle.witx_base.proofs.Names.{same-equal}
 use Rattle.witx_grammar.specs.Prediction.{are_distinct}
@@ -19,15 +19,7 @@ module _ {K M : Type 0} (other : K) where
       → list_any (λ s. same_text s.text u) (map spelling_view ws) ≡ true
   one_is [] i d u lt same = absurd (omega (arith, lt))
   one_is (w ∷ ws) zero d u lt same = or_left _ _ same
-    where
-      or_left : (a b : Bool) → a ≡ true → (a || b) ≡ true
-      or_left true b e = refl
-      or_left false b e = absurd cc
   one_is (w ∷ ws) (suc i) d u lt same = let less : i < length ws = omega (arith, lt) in or_right _ _ (one_is ws i d u less same)
-    where
-      or_right : (a b : Bool) → b ≡ true → (a || b) ≡ true
-      or_right true b e = refl
-      or_right false b e = e
 
   -- the word in front is another
   other_in_front : (b : Bool) (w : code.Word K M) (ws : List (code.Word K M)) (i : ℕ) (d : code.Word K M) (t : List ℕ) → i < length ws

@@ -2,11 +2,12 @@
 -- T are the kinds of tokens, N the nonterminals, P the names of productions, L the tokens, S the sorts and V the values.
 use Rattle.std.specs.Prelude.{◌≡◌, List, [], ◌∷◌, ◌++◌, map, reverse}
 use Rattle.std.specs.List.{flat_map}
-use Rattle.witx_grammar.specs.Grammar.{Rewrite, Wants, Derives}
+use Rattle.witx_grammar.specs.Grammar.{Rewrite, Wants, Derives, grammar}
 use Rattle.witx_grammar.specs.Reading.{values}
 use Rattle.witx_grammar.specs.declared.table.Symbol.{Symbol}
 use Rattle.witx_grammar.specs.declared.table.Symbol.TheVariants.{Terminal, Nonterminal}
 use Rattle.witx_grammar.specs.declared.table.Step.{Step}
+use Rattle.witx_grammar.specs.declared.table.Table.{Table}
 
 -- a nonterminal, and what is wanted in its place
 pub record Written (T N : Type 0) : Type 0 where
@@ -50,6 +51,10 @@ module _ {T N P L S V : Type 0} (a : Language T N P L S V) where
   -- the grammar: the productions of all names
   abbrev pub grammar_of : List (Rewrite T N P)
   grammar_of = map (production_of a.written) a.names
+
+  -- the table of the code has this grammar
+  abbrev pub IsTableOf : Table T N P → Type 0
+  IsTableOf table = grammar table ≡ grammar_of
 
   -- the kinds of the tokens, and then, once, that of the end
   abbrev pub kinds_of : List L → List T

@@ -1,13 +1,16 @@
 -- The tokens of a text as they are held to be read: the kind of each, where it stands, and the comments one after the other.
-use Rattle.std.specs.Prelude.{◌≡◌, ℕ, ◌+◌, ◌<◌, List, [], ◌∷◌, ◌++◌, map, length}
+use Rattle.std.specs.Prelude.{◌≡◌, ℕ, ◌+◌, ◌<◌, List, [], ◌∷◌, ◌++◌, map, length, Result, IfOk}
 use Rattle.std.specs.List.{flat_map}
+use Rattle.witx_base.specs.declared.memory.OutOfMemory.{OutOfMemory}
 use Rattle.witx_lex.specs.Meaning.{HasTokens}
 use Rattle.witx_lex.specs.Tokens.{Lexed}
 use Rattle.witx_lex.specs.Views.{texts_view}
 use Rattle.witx_lex.specs.declared.token.Span.{Span}
 use Rattle.witx_values.specs.declared.marks.Mark.{Mark}
 use Rattle.witx_values.specs.declared.marks.TextTokens.{TextTokens}
+use Rattle.witx_values.specs.declared.reader.Reading.{Reading}
 use Rattle.witx_values.specs.Language.{Language, kinds_of}
+use Rattle.witx_values.specs.Readings.{HasReading}
 use Rattle.witx_values.specs.Texts.{token_at}
 
 -- where a token stands
@@ -55,3 +58,7 @@ pub record AreHeld {T N P S V : Type 0} (a : Language T N P Lexed S V) (held : T
 -- the tokens of the text are held so, with their kinds in the language
 abbrev pub HoldsText : {T N P S V : Type 0} → Language T N P Lexed S V → TextTokens T → Type 0
 HoldsText a held = (ls : List Lexed) × AreHeld a held ls
+
+-- what comes out is the reading of the tokens that are held
+abbrev pub GivesReading : {T N P S V X : Type 0} → Language T N P Lexed S V → (X → V) → N → TextTokens T → Result (Reading X T) OutOfMemory → Type 0
+GivesReading a value_of f held result = (ls : List Lexed) → AreHeld a held ls → IfOk result (λ r. HasReading a value_of f ls r)

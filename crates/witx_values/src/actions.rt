@@ -1,11 +1,9 @@
 //! What the tokens and the productions of a grammar stand for.
 
 ghost use Rattle.std.specs.Prelude.{◌≡◌, ◌<◌, ◌++◌, List, drop, length, IfOk};
-ghost use Rattle.witx_lex.specs.Tokens.{Lexed};
-ghost use Rattle.witx_lex.specs.Views.{token_view};
+ghost use Rattle.witx_lex.specs.{Tokens.{Lexed}, Views.{token_view}};
 ghost use Rattle.witx_values.specs.Language.{Language, IsLawful, Holds, parts_of, stack_of};
-ghost use Rattle.witx_values.specs.TextTokens.{AreHeld, HoldsText};
-ghost use Rattle.witx_values.specs.Texts.{token_at};
+ghost use Rattle.witx_values.specs.{TextTokens.{AreHeld, HoldsText}, Texts.{token_at}};
 
 use crate::marks::TextTokens;
 use witx_base::OutOfMemory;

@@ -6,8 +6,7 @@
 
 ghost use Rattle.std.specs.Prelude.{◌≡◌, List, [], ◌∷◌, IfOk};
 ghost use Rattle.witx_lex.specs.Tokens.{Lexed};
-ghost use Rattle.witx_values.specs.Language.{IsDerived, stands_for};
-ghost use Rattle.witx_values.specs.TextTokens.{AreHeld, HoldsText};
+ghost use Rattle.witx_values.specs.{Language.{IsDerived, stands_for}, TextTokens.{AreHeld, HoldsText}};
 
 use crate::actions::Actions;
 use crate::marks::TextTokens;

@@ -1,8 +1,7 @@
 //! From a text to the tokens that are held of it.
 
 ghost use Rattle.std.specs.Prelude.{◌≡◌, IfOk, IfErr};
-ghost use Rattle.witx_lex.specs.Faults.{HasFault, IfBad};
-ghost use Rattle.witx_lex.specs.Views.{texts_view};
+ghost use Rattle.witx_lex.specs.{Faults.{HasFault, IfBad}, Views.{texts_view}};
 ghost use Rattle.witx_values.specs.TextTokens.{AreTold, HoldsText};
 
 use crate::actions::Actions;

@@ -1,9 +1,7 @@
 //! The tokens of a text, held by their kinds and by where they stand.
 
 ghost use Rattle.std.specs.Prelude.{◌≡◌, ◌<◌, ◌≤◌, List, length, slice_index_or, slice_range, take, IfOk};
-ghost use Rattle.witx_lex.specs.Slices.{SpellsToken};
-ghost use Rattle.witx_lex.specs.Tokens.{Lexed};
-ghost use Rattle.witx_lex.specs.Views.{texts_view};
+ghost use Rattle.witx_lex.specs.{Slices.{SpellsToken}, Tokens.{Lexed}, Views.{texts_view}};
 ghost use Rattle.witx_values.specs.TextTokens.{AreMarked, HoldsMarks, IsTokenSpan, comments_before, span_of};
 ghost use Rattle.witx_values.specs.Texts.{start_of, token_at};
 

@@ -1,9 +1,8 @@
 //! The words of a language, and the kinds of tokens that they are.
 
-ghost use Rattle.std.specs.Prelude.{◌≡◌, ◌<◌, ◌==◌, length, map};
-ghost use Rattle.std.specs.Cmp.Lexicographic.{pointwise};
+ghost use Rattle.std.specs.{Prelude.{◌≡◌, ◌<◌, ◌==◌, length, map}, Cmp.Lexicographic.{pointwise}};
 ghost use Rattle.witx_base.specs.Texts.{same_text};
-ghost use Rattle.witx_values.specs.Words.{AreApart, kind_spelled as kind_spelled_of, spelling_view};
+ghost use Rattle.witx_values.specs.Words.{AreApart, kind_among, spelling_view};
 
 use witx_grammar::Kind;
 
@@ -44,7 +43,7 @@ fn is_spelled(word: &str, text: &str) -> bool
 
 /// The kind of tokens that are spelled so, or `other` where no word is.
 pub fn kind_spelled<K: Kind, M>(words: &[Word<K, M>], other: K, text: &str) -> K
-    ensures { result ≡ kind_spelled_of other (map spelling_view words.now) text.now }
+    ensures { result ≡ kind_among other words.now text.now }
 {
     for word in words {
         if is_spelled(word.text, text) {
@@ -77,7 +76,7 @@ pub fn kind_numbered<K: Kind, M>(
     text: &str,
 ) -> K
     requires { AreApart (map spelling_view words.now) }
-    ensures { result ≡ kind_spelled_of other (map spelling_view words.now) text.now }
+    ensures { result ≡ kind_among other words.now text.now }
 {
     let number = usize::from(numbers[sum_of(text)]);
     if number < words.len() && is_spelled(words[number].text, text) {

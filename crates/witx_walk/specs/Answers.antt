@@ -1,11 +1,14 @@
 -- What reading files in order answers: the document that they mean, or the refusal that comes first, with its place.
 -- Where a call of the reader fails, the answer is that failure, with the path of the call.
-use Rattle.std.specs.Prelude.{◌≡◌, ◌≤◌, ◌<◌, ◌⊎◌, ℕ, List, map, length, Option, Some, None, Result, Ok, Err, false}
+use Rattle.std.specs.Prelude.{◌≡◌, ◌≤◌, ◌<◌, ◌⊎◌, ℕ, List, map, length, Option, Some, None, Result, Ok, Err, Contains, false}
 use Rattle.witx_base.specs.Causes.{Rose}
-use Rattle.witx_base.specs.Paths.{Path}
+use Rattle.witx_base.specs.Paths.{Path, file_name}
 use Rattle.witx_files.specs.Files.{Files, Aliases}
 use Rattle.witx_files.specs.Answers.{Lacks}
 use Rattle.witx_files.specs.declared.fault.IoFault.TheVariants.{NotFound, LineNotFound, Failed}
+use Rattle.witx_files.specs.declared.io.WitxIo as WitxIo
+use Rattle.witx_ast.specs.Closed.{IsClosed}
+use Rattle.witx_ast.specs.Ordered.{IsOrdered}
 use Rattle.witx_ast.specs.Definitions.{DefinitionTree, definition_tree}
 use Rattle.witx_ast.specs.Entries.{Held}
 use Rattle.witx_ast.specs.declared.definition.Definition.{Definition}
@@ -52,6 +55,13 @@ RefusesFiles w at before now (Parse e) = (now ≡ before) × Ends w at (refused 
 RefusesFiles w at before now (Validation e) = (now ≡ before) × Ends w at (refused (faulty (fault_of e)))
 RefusesFiles w at before now OutOfMemory = now ≡ before
 
+-- a document whose definitions are ordered, and one whose definitions are closed
+abbrev pub IsOrderedDocument : Held Definition Entry → Type 0
+IsOrderedDocument document = IsOrdered (map definition_tree document.definitions)
+
+abbrev pub IsClosedDocument : Held Definition Entry → Type 0
+IsClosedDocument document = IsClosed (map definition_tree document.definitions)
+
 -- an answer, given as the definitions of its document
 abbrev pub Answer : Type 0
 Answer = Result (List DefinitionTree) WitxError
@@ -85,6 +95,11 @@ WhereTold files aliases P =
 -- the answer to the files at these paths, where files and aliases are told
 abbrev pub IsWalkAnswer : Option Files → Option Aliases → List Path → ℕ → ℕ → Answer → Type 0
 IsWalkAnswer files aliases handed before now r = WhereTold files aliases (λ w. Answers w handed before now r)
+
+-- the same by what a reader tells before and after
+abbrev pub WalkAnswers : {I : Type 0} → WitxIo.Ghosts I → I → I → List Path → Result (Held Definition Entry) WitxError → Type 0
+WalkAnswers g before after handed r =
+    IsWalkAnswer (g.files before) (g.aliases before) handed (g.faults before) (g.faults after) (answer_of r)
 
 -- it is the verdict
 abbrev pub IsVerdictOf : Option Files → Option Aliases → List Path → Answer → Type 0
@@ -124,3 +139,11 @@ HasCause IsNameless files before now OutOfMemory = now ≡ before
 abbrev pub Caused : {U : Type 0} → (Path → Type 0) → Option Files → ℕ → ℕ → Result U WitxError → Type 0
 Caused IsNameless files before now (Ok u) = now ≡ before
 Caused IsNameless files before now (Err e) = HasCause IsNameless files before now e
+
+-- the same by what a reader tells before and after
+abbrev pub CausedBy : {U I : Type 0} → WitxIo.Ghosts I → (Path → Type 0) → I → I → Result U WitxError → Type 0
+CausedBy g IsNameless before after r = Caused IsNameless (g.files before) (g.faults before) (g.faults after) r
+
+-- one of the paths that were handed over, without a file name
+abbrev pub NamelessIn : List Path → Path → Type 0
+NamelessIn handed path = Contains handed path × (file_name path ≡ None)

@@ -42,6 +42,10 @@ pub record HasPaths (paths : BTreeSet Path) (taken : List Path) : Type 0 where
 abbrev pub StayTaken : PathSet → PathSet → Type 0
 StayTaken old new = (path : Path) → has_path old.paths path ≡ true → has_path new.paths path ≡ true
 
+-- no fewer are taken in than were
+abbrev pub HasNoFewerPaths : PathSet → PathSet → Type 0
+HasNoFewerPaths old new = btree_set_len old.paths ≤ btree_set_len new.paths
+
 -- where aliases are told, the path that this one stands for was taken in
 abbrev pub IsTakenIn : Option Aliases → Path → PathSet → Type 0
 IsTakenIn aliases joined taken = (links : Aliases) → aliases ≡ Some links → has_path taken.paths (canonical links joined) ≡ true
@@ -61,6 +65,10 @@ pub record Holding (walk : Walking) (declared : List Declared) : Type 0 where
 pub record Tracks (walk : Walking) (taken : List Path) (declared : List Declared) : Type 0 where
   pub paths : HasPaths walk.taken.paths taken
   pub holding : Holding walk declared
+
+-- what was read stays
+abbrev pub StaysTracked : Walking → Walking → Type 0
+StaysTracked old new = (taken : List Path) (declared : List Declared) → Tracks old taken declared → Tracks new taken declared
 
 -- what is kept is what some declarations leave
 abbrev pub IsWell : Walking → Type 0

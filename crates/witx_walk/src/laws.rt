@@ -2,8 +2,7 @@
 
 ghost use Rattle.witx_scope.specs.Faults.{Fault};
 ghost use Rattle.witx_order.specs.Laws.{FrontVerdict, OneFinalFront};
-ghost use Rattle.witx_walk.specs.Answers.{OneAnswer};
-ghost use Rattle.witx_walk.specs.Readings.{OneReading};
+ghost use Rattle.witx_walk.specs.{Answers.{OneAnswer}, Readings.{OneReading}};
 
 use witx_syntax::{
     a_document_or_a_fault, at_most_one_document, at_most_one_parse_fault, no_fault_where_read,

@@ -1,9 +1,7 @@
 //! A set of paths.
 
-ghost use Rattle.std.specs.Prelude.{◌≡◌, ◌+◌, [], cond, true, false, OnOk};
-ghost use Rattle.std.specs.BTreeSet.{btree_set_len};
-ghost use Rattle.witx_base.specs.Paths.{Path};
-ghost use Rattle.witx_base.specs.PathOrder.{same_path};
+ghost use Rattle.std.specs.{Prelude.{◌≡◌, ◌+◌, [], cond, true, false, OnOk}, BTreeSet.{btree_set_len}};
+ghost use Rattle.witx_base.specs.{Paths.{Path}, PathOrder.{same_path}};
 ghost use Rattle.witx_walk.specs.Steps.{has_path, HasPaths};
 
 use std::alloc::Global;

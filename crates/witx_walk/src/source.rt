@@ -1,10 +1,7 @@
 //! One text by itself.
 
-ghost use Rattle.std.specs.Prelude.{IfOk, IfErr, map};
-ghost use Rattle.witx_ast.specs.Definitions.{definition_tree};
-ghost use Rattle.witx_ast.specs.Ordered.{IsOrdered};
-ghost use Rattle.witx_ast.specs.Closed.{IsClosed};
-ghost use Rattle.witx_walk.specs.Answers.{answer_of};
+ghost use Rattle.std.specs.Prelude.{IfOk, IfErr};
+ghost use Rattle.witx_walk.specs.Answers.{answer_of, IsOrderedDocument, IsClosedDocument};
 ghost use Rattle.witx_walk.specs.OneFile.{IsOfOneFile, IsSourceAnswer, IsSourceVerdict};
 
 use crate::error::WitxError;
@@ -20,8 +17,8 @@ use witx_files::MockFs;
 /// A use of `-` is skipped, since that file has started; any other use is `Io` with its path, not
 /// found. `BadPath` and `TooManyFiles` never come.
 pub fn parse(alloc: Global, source: &str) -> Result<Document, WitxError>
-    ensures ordered { IfOk result (λ document. IsOrdered (map definition_tree document.definitions)) }
-    ensures closed { IfOk result (λ document. IsClosed (map definition_tree document.definitions)) }
+    ensures ordered { IfOk result IsOrderedDocument }
+    ensures closed { IfOk result IsClosedDocument }
     ensures answer { IsSourceAnswer source.now (answer_of result) }
     ensures verdict { IsSourceVerdict source.now (answer_of result) }
     ensures one_file { IfErr result IsOfOneFile }

@@ -1,15 +1,12 @@
 //! The steps of reading files in order: each answers one call, with the error that tells where.
 
 ghost use Rattle.std.specs.Prelude.{◌≡◌, List, Option, ℕ, IfOk, IfErr, OnOk};
-ghost use Rattle.witx_base.specs.Paths.{Path};
-ghost use Rattle.witx_order.specs.Items.{Declared};
-ghost use Rattle.witx_order.specs.Walks.{folder_of};
+ghost use Rattle.witx_order.specs.{Items.{Declared}, Walks.{folder_of}};
 ghost use Rattle.witx_files.specs.Files.{Files};
-ghost use Rattle.witx_walk.specs.Answers.{Caused, told_fault};
-ghost use Rattle.witx_walk.specs.Meaning.{fault_behind};
-ghost use Rattle.witx_language.specs.FaultPlaces.{fault_view};
+ghost use Rattle.witx_walk.specs.{Answers.{Caused, told_fault}, Meaning.{fault_behind}};
 ghost use Rattle.witx_walk.specs.Readings.{syntax_fault};
-ghost use Rattle.witx_walk.specs.Steps.{Holding, IsDeclared, declared_at, IsGot, IsReached, IsWell, NeverComes, Tracks};
+ghost use Rattle.witx_walk.specs.Steps.{Holding, IsDeclared, declared_at, IsGot, IsReached, IsWell, NeverComes, StaysTracked};
+ghost use Rattle.witx_language.specs.FaultPlaces.{fault_view};
 
 use crate::error::WitxError;
 use crate::walking::Walking;
@@ -93,7 +90,7 @@ pub fn shared_path(alloc: Global, path: WitxPath) -> Result<Rc<WitxPath>, WitxEr
 #[tactic(auto, using(crate::proofs::Room::room_rules))]
 pub fn make_room(walk: &mut Walking, items: usize) -> Result<(), WitxError>
     ensures taken { walk.new.taken ≡ walk.old.taken }
-    ensures tracks { (taken : List Path) (declared : List Declared) → Tracks walk.old taken declared → Tracks walk.new taken declared }
+    ensures tracks { StaysTracked walk.old walk.new }
     ensures well { IsWell walk.old → IsWell walk.new }
     ensures memory { IfErr result (λ e. e ≡ WitxError.OutOfMemory) }
 {

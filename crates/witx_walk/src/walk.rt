@@ -1,17 +1,13 @@
 //! Files in order: each file once, at the first mention of its path, and the files that it uses
 //! where it uses them.
 
-ghost use Rattle.std.specs.Prelude.{◌≡◌, ◌<◌, ◌≤◌, ◌∷◌, [], List, map, Ok, Err, IfErr, IfOk, OnOk, Contains, None};
-ghost use Rattle.std.specs.BTreeSet.{btree_set_len};
+ghost use Rattle.std.specs.Prelude.{◌≡◌, ◌∷◌, [], List, map, Ok, Err, IfErr, IfOk, OnOk, None};
 ghost use Rattle.witx_base.specs.Paths.{Path, file_name};
 ghost use Rattle.witx_syntax_tree.specs.Views.{noted_item};
-ghost use Rattle.witx_ast.specs.Definitions.{definition_tree};
-ghost use Rattle.witx_ast.specs.Ordered.{IsOrdered};
-ghost use Rattle.witx_ast.specs.Closed.{IsClosed};
 ghost use Rattle.witx_order.specs.Items.{Declared, TextItem, items_of, item_of};
 ghost use Rattle.witx_order.specs.Walks.{OpenFile, Place, open_file, place, reach, wish};
-ghost use Rattle.witx_walk.specs.Answers.{Caused, IsWalkAnswer, answer_of, IsVerdictOf, WhereTold};
-ghost use Rattle.witx_walk.specs.Steps.{AreTakenIn, IsTakenIn, IsWell, NeverComes, WalkOutcome, StayTaken, Tracks};
+ghost use Rattle.witx_walk.specs.Answers.{CausedBy, NamelessIn, IsOrderedDocument, IsClosedDocument, WalkAnswers, answer_of, IsVerdictOf, WhereTold};
+ghost use Rattle.witx_walk.specs.Steps.{AreTakenIn, HasNoFewerPaths, IsTakenIn, IsWell, NeverComes, WalkOutcome, StayTaken, Tracks};
 
 use crate::error::WitxError;
 use crate::path_set::PathSet;
@@ -39,10 +35,10 @@ fn take_in<I: WitxIo>(
 ) -> Result<(), WitxError>
     ensures files { I.files io.new ≡ I.files io.old }
     ensures aliases { I.aliases io.new ≡ I.aliases io.old }
-    ensures grows { OnOk result (btree_set_len walk.old.taken.paths ≤ btree_set_len walk.new.taken.paths) }
+    ensures grows { OnOk result (HasNoFewerPaths walk.old.taken walk.new.taken) }
     ensures keeps { OnOk result (StayTaken walk.old.taken walk.new.taken) }
     ensures reached { OnOk result (IsTakenIn (I.aliases io.old) joined walk.new.taken) }
-    ensures cause { Caused NeverComes (I.files io.old) (I.faults io.old) (I.faults io.new) result }
+    ensures cause { CausedBy I.WitxIo NeverComes io.old io.new result }
     ensures well { IsWell walk.old → OnOk result (IsWell walk.new) }
     ensures told { WhereTold (I.files io.old) (I.aliases io.old) (λ w.
         (at : Place) (open_files : List OpenFile) (handed taken : List Path) (declared : List Declared)
@@ -93,9 +89,9 @@ fn take_items<I: WitxIo>(
 ) -> Result<(), WitxError>
     ensures files { I.files io.new ≡ I.files io.old }
     ensures aliases { I.aliases io.new ≡ I.aliases io.old }
-    ensures grows { OnOk result (btree_set_len walk.old.taken.paths ≤ btree_set_len walk.new.taken.paths) }
+    ensures grows { OnOk result (HasNoFewerPaths walk.old.taken walk.new.taken) }
     ensures keeps { OnOk result (StayTaken walk.old.taken walk.new.taken) }
-    ensures cause { Caused NeverComes (I.files io.old) (I.faults io.old) (I.faults io.new) result }
+    ensures cause { CausedBy I.WitxIo NeverComes io.old io.new result }
     ensures well { IsWell walk.old → OnOk result (IsWell walk.new) }
     ensures told { WhereTold (I.files io.old) (I.aliases io.old) (λ w.
         (open_files : List OpenFile) (handed taken : List Path) (declared : List Declared)
@@ -125,11 +121,11 @@ fn take_item<I: WitxIo>(
 ) -> Result<(), WitxError>
     ensures files { I.files io.new ≡ I.files io.old }
     ensures aliases { I.aliases io.new ≡ I.aliases io.old }
-    ensures grows { OnOk result (btree_set_len walk.old.taken.paths ≤ btree_set_len walk.new.taken.paths) }
+    ensures grows { OnOk result (HasNoFewerPaths walk.old.taken walk.new.taken) }
     ensures keeps { OnOk result (StayTaken walk.old.taken walk.new.taken) }
     ensures uses { AreTakenIn (I.aliases io.old) folder.now progress.old.uses walk.old.taken
         → OnOk result (AreTakenIn (I.aliases io.old) folder.now progress.new.uses walk.new.taken) }
-    ensures cause { Caused NeverComes (I.files io.old) (I.faults io.old) (I.faults io.new) result }
+    ensures cause { CausedBy I.WitxIo NeverComes io.old io.new result }
     ensures well { IsWell walk.old → OnOk result (IsWell walk.new) }
     ensures told { WhereTold (I.files io.old) (I.aliases io.old) (λ w.
         (left : List TextItem) (open_files : List OpenFile) (handed taken : List Path) (declared : List Declared)
@@ -168,8 +164,7 @@ fn take_handed<I: WitxIo>(
 ) -> Result<(), WitxError>
     ensures files { I.files io.new ≡ I.files io.old }
     ensures aliases { I.aliases io.new ≡ I.aliases io.old }
-    ensures cause { Caused (λ p. (p ≡ path.now)
-        × (file_name p ≡ None)) (I.files io.old) (I.faults io.old) (I.faults io.new) result }
+    ensures cause { CausedBy I.WitxIo (λ p. (p ≡ path.now) × (file_name p ≡ None)) io.old io.new result }
     ensures well { IsWell walk.old → OnOk result (IsWell walk.new) }
     ensures told { WhereTold (I.files io.old) (I.aliases io.old) (λ w.
         (left taken : List Path) (declared : List Declared)
@@ -195,8 +190,7 @@ fn take_all<I: WitxIo>(
 ) -> Result<(), WitxError>
     ensures files { I.files io.new ≡ I.files io.old }
     ensures aliases { I.aliases io.new ≡ I.aliases io.old }
-    ensures cause { Caused (λ p. Contains paths.now p
-        × (file_name p ≡ None)) (I.files io.old) (I.faults io.old) (I.faults io.new) result }
+    ensures cause { CausedBy I.WitxIo (NamelessIn paths.now) io.old io.new result }
     ensures well { IsWell walk.old → OnOk result (IsWell walk.new) }
     ensures told { WhereTold (I.files io.old) (I.aliases io.old) (λ w.
         (taken : List Path) (declared : List Declared)
@@ -223,12 +217,10 @@ fn new_walk(alloc: Global) -> Result<Walking, WitxError>
 fn read_all<I: WitxIo>(alloc: Global, paths: &[WitxPath], io: &mut I) -> Result<Document, WitxError>
     ensures files { I.files io.new ≡ I.files io.old }
     ensures aliases { I.aliases io.new ≡ I.aliases io.old }
-    ensures cause { Caused (λ p. Contains paths.now p
-        × (file_name p ≡ None)) (I.files io.old) (I.faults io.old) (I.faults io.new) result }
-    ensures ordered { IfOk result (λ document. IsOrdered (map definition_tree document.definitions)) }
-    ensures closed { IfOk result (λ document. IsClosed (map definition_tree document.definitions)) }
-    ensures answer { IsWalkAnswer (I.files io.old) (I.aliases io.old) paths.now (I.faults io.old)
-        (I.faults io.new) (answer_of result) }
+    ensures cause { CausedBy I.WitxIo (NamelessIn paths.now) io.old io.new result }
+    ensures ordered { IfOk result IsOrderedDocument }
+    ensures closed { IfOk result IsClosedDocument }
+    ensures answer { WalkAnswers I.WitxIo io.old io.new paths.now result }
 {
     let mut walk = new_walk(alloc)?;
     take_all(alloc, &mut walk, paths, io)?;
@@ -250,12 +242,10 @@ pub fn parse_witx_with<I: WitxIo>(
 ) -> Result<Document, WitxError>
     ensures files { I.files io.new ≡ I.files io.old }
     ensures aliases { I.aliases io.new ≡ I.aliases io.old }
-    ensures cause { Caused (λ p. Contains paths.now p
-        × (file_name p ≡ None)) (I.files io.old) (I.faults io.old) (I.faults io.new) result }
-    ensures ordered { IfOk result (λ document. IsOrdered (map definition_tree document.definitions)) }
-    ensures closed { IfOk result (λ document. IsClosed (map definition_tree document.definitions)) }
-    ensures answer { IsWalkAnswer (I.files io.old) (I.aliases io.old) paths.now (I.faults io.old)
-        (I.faults io.new) (answer_of result) }
+    ensures cause { CausedBy I.WitxIo (NamelessIn paths.now) io.old io.new result }
+    ensures ordered { IfOk result IsOrderedDocument }
+    ensures closed { IfOk result IsClosedDocument }
+    ensures answer { WalkAnswers I.WitxIo io.old io.new paths.now result }
     ensures verdict { IsVerdictOf (I.files io.old) (I.aliases io.old) paths.now (answer_of result) }
 {
     read_all(alloc, paths, io)

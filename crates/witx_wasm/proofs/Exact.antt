@@ -51,6 +51,37 @@ again-before read R exact next x Q front rest z h k =
     let first : read (front ++ rest) ≡ Ok (x, h.1 ++ rest) = ap read regrouped ∙ exact.again x h.0 (h.1 ++ rest) h.3 in
     ap (λ (r : Reading _). r >>= next) first ∙ k h.1 h.4
 
+-- two readings, one behind the other, whose values make up one
+module _ {A B C : Type 0} (read : List ℕ → Reading A) (R : A → List ℕ → Type 0) (second : List ℕ → Reading B) (S : B → List ℕ → Type 0) (read-exact : IsExact read R) (second-exact : IsExact second S)
+    (make : A → B → C) (head : C → A) (last : C → B) (whole : (c : C) → make (head c) (last c) ≡ c) (parts : (a : A) (b : B) → (head (make a b) ≡ a) × (last (make a b) ≡ b)) where
+  abbrev pair_at : List ℕ → Reading C
+  pair_at bytes = read bytes >>= λ a. second a.1 >>= λ b. Ok (make a.0 b.0, b.1)
+
+  abbrev pair_done : C → List ℕ → Reading C
+  pair_done c rest = Ok (c, rest)
+
+  abbrev IsPair : C → List ℕ → Type 0
+  IsPair c = R (head c) before S (last c)
+
+  pair-made : (bytes mid rest : List ℕ) (x : A) (y : B) (c : C) → pair_done (make x y) mid ≡ pair_done c rest → Takes (R x before S y) bytes mid → Takes (IsPair c) bytes rest
+  pair-made bytes mid rest x y c same t =
+      subst (λ (q : C × List ℕ). Takes (IsPair q.0) bytes q.1) (ok_is (make x y, mid) (c, rest) same)
+      (subst (λ (u : A). Takes (R u before S (last (make x y))) bytes mid) (sym (parts x y).0) (subst (λ (v : B). Takes (R x before S v) bytes mid) (sym (parts x y).1) t))
+
+  pair-sound : (bytes : List ℕ) (c : C) (rest : List ℕ) → pair_at bytes ≡ Ok (c, rest) → Takes (IsPair c) bytes rest
+  pair-sound bytes c rest e =
+      let a = bind_ok (read bytes) (λ a. second a.1 >>= λ b. Ok (make a.0 b.0, b.1)) (c, rest) e in
+      let b = bind_ok (second a.0.1) (λ b. Ok (make a.0.0 b.0, b.1)) (c, rest) a.2 in
+      pair-made bytes b.0.1 rest a.0.0 b.0.0 c b.2
+      (takes-before (R a.0.0) (S b.0.0) bytes a.0.1 b.0.1 (read-exact.sound bytes a.0.0 a.0.1 a.1) (second-exact.sound a.0.1 b.0.0 b.0.1 b.1))
+
+  pair-again : (c : C) (front rest : List ℕ) → IsPair c front → pair_at (front ++ rest) ≡ Ok (c, rest)
+  pair-again c front rest h =
+      again-before read R read-exact _ (head c) (S (last c)) front rest (c, rest) h (λ b p. rw (second-exact.again (last c) b rest p) (ap (λ (x : C). done (x, rest)) (whole c)))
+
+  pub pair-exact : IsExact pair_at IsPair
+  pair-exact = record { sound = pair-sound; again = pair-again }
+
 -- ---- bytes
 
 byte-sound : (bytes : List ℕ) (x : ℕ) (rest : List ℕ) → byte_at bytes ≡ Ok (x, rest) → Takes (byte x) bytes rest

@@ -1,7 +1,7 @@
 -- Readings of types and imports are exact for their forms.
 use Rattle.std.proofs.Common.{◌≡◌, ℕ, ◌<◌, ◌≤◌, Bool, true, false, cond, ltb, eqb, List, [], ◌∷◌, ◌++◌, Option, Some, None, Result, Ok, Err, ◌⊎◌, inl, inr, refl, ap, subst, ◌∙◌, arith}
 use Rattle.std.proofs.lemmas.Bool.{eqb-true, eqb-false, ltb-true, ltb-false, lt-ltb}
-use Rattle.witx_wasm.proofs.Exact.{Takes, IsExact, takes-before, bind_ok, guard_ok, hold_ok, ok_is, again-before, byte-exact, u32-exact, vector-exact, name-exact}
+use Rattle.witx_wasm.proofs.Exact.{Takes, IsExact, takes-before, bind_ok, guard_ok, hold_ok, ok_is, again-before, pair-exact, byte-exact, u32-exact, vector-exact, name-exact}
 use Rattle.witx_wasm.specs.Binary.{IsValueType, IsFunctionType, AreLimits, IsLimits, IsTableType, IsGlobalType, IsDescription}
 use Rattle.witx_wasm.specs.Codes.{reference_code, value_code, mutability_code}
 use Rattle.witx_wasm.specs.Forms.{byte, ◌before◌, IsU32, IsVector, IsName}
@@ -11,14 +11,12 @@ use Rattle.witx_wasm.specs.Reading.{reference_of, value_of_reference, value_type
 use Rattle.witx_wasm.specs.declared.fault.FaultKind.{FaultKind}
 use Rattle.witx_wasm.specs.declared.fault.FaultKind.TheVariants as kinds
 use Rattle.witx_wasm.specs.declared.module.FunctionType.{FunctionType}
-use Rattle.witx_wasm.specs.declared.module.GlobalType.{GlobalType}
 use Rattle.witx_wasm.specs.declared.module.Import.{Import}
 use Rattle.witx_wasm.specs.declared.module.ImportDescription.{ImportDescription}
 use Rattle.witx_wasm.specs.declared.module.ImportDescription.TheVariants.{Function, Table, Memory, Global}
 use Rattle.witx_wasm.specs.declared.module.Limits.{Limits}
 use Rattle.witx_wasm.specs.declared.module.ReferenceType.{ReferenceType}
 use Rattle.witx_wasm.specs.declared.module.ReferenceType.TheVariants.{Func, Extern}
-use Rattle.witx_wasm.specs.declared.module.TableType.{TableType}
 use Rattle.witx_wasm.specs.declared.module.ValueType.{ValueType}
 use Rattle.witx_wasm.specs.declared.module.ValueType.TheVariants.{I32, I64, F32, F64, Reference}
 
@@ -198,22 +196,11 @@ limits-again least (Some most) front rest h =
 pub limits-exact : IsExact limits_at IsLimits
 limits-exact = record { sound = limits-sound; again = λ l front rest. limits-again l.least l.most front rest }
 
-table-sound : (bytes : List ℕ) (t : TableType) (rest : List ℕ) → table_at bytes ≡ Ok (t, rest) → Takes (IsTableType t) bytes rest
-unfolding table_at
-table-sound bytes t rest e =
-    let a = bind_ok (reference_at bytes) (λ element. limits_at element.1 >>= λ limits. Ok (record { element = element.0; limits = limits.0 }, limits.1)) (t, rest) e in
-    let b = bind_ok (limits_at a.0.1) (λ limits. Ok (record { element = a.0.0; limits = limits.0 }, limits.1)) (t, rest) a.2 in
-    let made : TableType × List ℕ = (record { element = a.0.0; limits = b.0.0 }, b.0.1) in
-    subst (λ (p : TableType × List ℕ). Takes (IsTableType p.0) bytes p.1) (ok_is made (t, rest) b.2)
-    (takes-before (byte (reference_code a.0.0)) (IsLimits b.0.0) bytes a.0.1 b.0.1 (reference-exact.sound bytes a.0.0 a.0.1 a.1) (limits-exact.sound a.0.1 b.0.0 b.0.1 b.1))
-
-table-again : (t : TableType) (front rest : List ℕ) → IsTableType t front → table_at (front ++ rest) ≡ Ok (t, rest)
-unfolding table_at
-table-again t front rest h =
-    again-before reference_at (λ r. byte (reference_code r)) reference-exact _ t.element (IsLimits t.limits) front rest (t, rest) h (λ b p. rw (limits-exact.again t.limits b rest p) refl)
-
 pub table-exact : IsExact table_at IsTableType
-table-exact = record { sound = table-sound; again = table-again }
+unfolding table_at
+table-exact =
+    pair-exact reference_at (λ r. byte (reference_code r)) limits_at IsLimits reference-exact limits-exact (λ element limits. record { element = element; limits = limits }) (λ t. t.element) (λ t. t.limits)
+    (λ t. refl) (λ element limits. (refl, refl))
 
 mutable-is : (n : ℕ) (t : Bool) → n ≤ 1 → eqb n 1 ≡ t → n ≡ mutability_code t
 mutable-is n true le h = eqb-true n 1 h
@@ -237,22 +224,11 @@ mutability-again false front rest h = rw (byte-exact.again 0 front rest h) refl
 mutability-exact : IsExact mutability_at (λ m. byte (mutability_code m))
 mutability-exact = record { sound = mutability-sound; again = mutability-again }
 
-global-sound : (bytes : List ℕ) (g : GlobalType) (rest : List ℕ) → global_at bytes ≡ Ok (g, rest) → Takes (IsGlobalType g) bytes rest
-unfolding global_at
-global-sound bytes g rest e =
-    let a = bind_ok (value_at bytes) (λ value. mutability_at value.1 >>= λ m. Ok (record { value = value.0; mutable = m.0 }, m.1)) (g, rest) e in
-    let b = bind_ok (mutability_at a.0.1) (λ m. Ok (record { value = a.0.0; mutable = m.0 }, m.1)) (g, rest) a.2 in
-    let made : GlobalType × List ℕ = (record { value = a.0.0; mutable = b.0.0 }, b.0.1) in
-    subst (λ (p : GlobalType × List ℕ). Takes (IsGlobalType p.0) bytes p.1) (ok_is made (g, rest) b.2)
-    (takes-before (IsValueType a.0.0) (byte (mutability_code b.0.0)) bytes a.0.1 b.0.1 (value-exact.sound bytes a.0.0 a.0.1 a.1) (mutability-exact.sound a.0.1 b.0.0 b.0.1 b.1))
-
-global-again : (g : GlobalType) (front rest : List ℕ) → IsGlobalType g front → global_at (front ++ rest) ≡ Ok (g, rest)
-unfolding global_at
-global-again g front rest h =
-    again-before value_at IsValueType value-exact _ g.value (byte (mutability_code g.mutable)) front rest (g, rest) h (λ b p. rw (mutability-exact.again g.mutable b rest p) refl)
-
 pub global-exact : IsExact global_at IsGlobalType
-global-exact = record { sound = global-sound; again = global-again }
+unfolding global_at
+global-exact =
+    pair-exact value_at IsValueType mutability_at (λ m. byte (mutability_code m)) value-exact mutability-exact (λ value mutable. record { value = value; mutable = mutable }) (λ g. g.value) (λ g. g.mutable)
+    (λ g. refl) (λ value mutable. (refl, refl))
 
 -- ---- imports, in a module of so many types
 

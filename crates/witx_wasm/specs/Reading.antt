@@ -238,10 +238,14 @@ abbrev pub told : ℕ → ReadError → ModuleError
 told end (stopped.Stop s) = errors.Fault (record { kind = s.kind; at = end - s.left })
 told end stopped.OutOfMemory = errors.OutOfMemory
 
+-- the claim holds of the fault, if the error has one
+abbrev pub OfFault : ModuleError → (Fault → Type 0) → Type 0
+OfFault (errors.Fault fault) P = P fault
+OfFault errors.OutOfMemory P = Unit {0}
+
 -- an error is this fault, unless memory was refused
 abbrev pub Denies : {B : Type 0} → ModuleError → Result B Fault → Type 0
-Denies errors.OutOfMemory result = Unit {0}
-Denies (errors.Fault fault) result = result ≡ Err fault
+Denies e result = OfFault e (λ fault. result ≡ Err fault)
 
 -- what a function answers, seen by view, is this, unless memory was refused
 abbrev pub Tells : {A B : Type 0} → (A → B) → Result A ModuleError → Result B Fault → Type 0
@@ -250,18 +254,16 @@ Tells view (Err e) result = Denies e result
 
 -- the claim holds of the fault that an error tells, unless memory was refused
 abbrev pub ComesAsErr : ModuleError → (Result Progress Fault → Type 0) → Type 0
-ComesAsErr (errors.Fault fault) P = P (Err fault)
-ComesAsErr errors.OutOfMemory P = Unit {0}
+ComesAsErr e P = OfFault e (λ fault. P (Err fault))
 
 -- the claim holds of what a function answers, unless memory was refused
 abbrev pub HoldsOfAnswer : Result Progress ModuleError → (Result Progress Fault → Type 0) → Type 0
 HoldsOfAnswer (Ok known) P = P (Ok known)
 HoldsOfAnswer (Err e) P = ComesAsErr e P
 
--- the claim holds of the fault, if the error has one
-abbrev pub OfFault : ModuleError → (Fault → Type 0) → Type 0
-OfFault (errors.Fault fault) P = P fault
-OfFault errors.OutOfMemory P = Unit {0}
+-- the fault that an error tells is that of the bytes
+abbrev pub TellsByteFault : ModuleError → List ℕ → Type 0
+TellsByteFault e bytes = OfFault e (λ fault. HasByteFault fault bytes)
 
 -- the answer for bytes that are this module: it, unless memory was refused
 abbrev pub IsAnswerFor : WasmModule → Result WasmModule ModuleError → Type 0

@@ -4,8 +4,7 @@ ghost use Rattle.std.specs.Prelude.{◌≡◌};
 ghost use Rattle.witx_wasm.specs.declared.fault.ModuleError.TheVariants as module_errors;
 ghost use Rattle.witx_wasm.specs.declared.fault.ReadError.TheVariants as read_errors;
 
-use std::alloc::AllocError;
-use witx_base::OutOfMemory;
+use witx_base::{MemoryRefused, OutOfMemory};
 
 /// What is wrong at a place of the bytes.
 #[derive(Clone, Copy, PartialEq, Eq)]
@@ -97,18 +96,10 @@ pub enum ReadError {
     OutOfMemory,
 }
 
-impl From<OutOfMemory> for ReadError {
+impl<E: MemoryRefused> From<E> for ReadError {
     ghost from_gives = { λ _ e. e ≡ read_errors.OutOfMemory };
 
-    fn from(_refused: OutOfMemory) -> ReadError {
-        ReadError::OutOfMemory
-    }
-}
-
-impl From<AllocError> for ReadError {
-    ghost from_gives = { λ _ e. e ≡ read_errors.OutOfMemory };
-
-    fn from(_refused: AllocError) -> ReadError {
+    fn from(_refused: E) -> ReadError {
         ReadError::OutOfMemory
     }
 }

@@ -1,4 +1,5 @@
 //! Imports: two names, and what is wanted.
+#![tactic(auto, unfolding(crate::specs::Reading::type_number_at, crate::specs::Reading::description_at, crate::specs::Reading::import_at))]
 
 ghost use Rattle.std.specs.Prelude.{◌≡◌};
 ghost use Rattle.witx_wasm.specs.Readers.{ReadsBytes};
@@ -12,7 +13,6 @@ use crate::types::{global, limits, table};
 use std::alloc::Global;
 
 /// The number of one of so many types.
-#[tactic(auto, unfolding(crate::specs::Reading::type_number_at))]
 fn type_number(count: usize, bytes: &[u8]) -> Result<(u32, &[u8]), ReadError>
     ensures { ReadsBytes (λ x. (x.0, x.1.now)) result (type_number_at count bytes.now) }
 {
@@ -35,7 +35,6 @@ fn kind_fault(byte: u8) -> FaultKind
 }
 
 /// What is wanted, in a module of so many types.
-#[tactic(auto, unfolding(crate::specs::Reading::description_at))]
 fn description(count: usize, bytes: &[u8]) -> Result<(ImportDescription, &[u8]), ReadError>
     ensures { ReadsBytes (λ x. (x.0, x.1.now)) result (description_at count bytes.now) }
 {
@@ -62,7 +61,6 @@ fn description(count: usize, bytes: &[u8]) -> Result<(ImportDescription, &[u8]),
 }
 
 /// An import of a module of so many types.
-#[tactic(auto, unfolding(crate::specs::Reading::import_at))]
 fn import(alloc: Global, count: usize, bytes: &[u8]) -> Result<(Import, &[u8]), ReadError>
     ensures { ReadsBytes (λ x. (x.0, x.1.now)) result (import_at count bytes.now) }
 {

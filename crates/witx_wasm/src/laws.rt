@@ -1,10 +1,8 @@
 //! What holds of all bytes, as functions that do nothing: each contract is a theorem.
 
 ghost use Rattle.std.specs.Prelude.{◌≡◌, ◌⊎◌, ℕ, List};
-ghost use Rattle.witx_wasm.specs.declared.fault.Fault.{Fault};
-ghost use Rattle.witx_wasm.specs.declared.module.WasmModule.{WasmModule};
-ghost use Rattle.witx_wasm.specs.Modules.{IsModule};
-ghost use Rattle.witx_wasm.specs.Reading.{HasByteFault};
+ghost use Rattle.witx_wasm.specs.{declared.fault.Fault.{Fault}, declared.module.WasmModule.{WasmModule}};
+ghost use Rattle.witx_wasm.specs.{Modules.{IsModule}, Reading.{HasByteFault}};
 
 /// Bytes are at most one module.
 pub fn at_most_one_module()

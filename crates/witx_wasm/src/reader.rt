@@ -1,6 +1,6 @@
 //! Vectors: a number, and so many values of one form.
 
-ghost use Rattle.std.specs.Prelude.{◌≡◌, ℕ, List};
+ghost use Rattle.std.specs.Prelude.{ℕ, List};
 ghost use Rattle.witx_wasm.specs.Readers.{Reading, ReadsBytes, many_at, vector_at};
 
 use crate::fault::ReadError;

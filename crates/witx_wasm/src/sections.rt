@@ -1,9 +1,8 @@
 //! Sections in their order, and modules.
 
 ghost use Rattle.std.specs.Prelude.{◌≡◌, ◌<◌, ◌-◌, IfOk, IfErr, length};
-ghost use Rattle.witx_wasm.specs.Modules.{IsModule, section_place, magic, version};
-ghost use Rattle.witx_wasm.specs.Readers.{ReadsBytes, all_of, vector_at};
-ghost use Rattle.witx_wasm.specs.Reading.{section_number_at, frame_at, contents_at, section_at, placed, preamble_at, Sections, nothing_known, told, Tells, HoldsOfAnswer, HasByteFault, OfFault, IsAnswerFor};
+ghost use Rattle.witx_wasm.specs.{Modules.{IsModule, section_place}, Readers.{ReadsBytes, all_of, vector_at}};
+ghost use Rattle.witx_wasm.specs.Reading.{section_number_at, frame_at, contents_at, section_at, placed, preamble_at, Sections, nothing_known, told, Tells, HoldsOfAnswer, TellsByteFault, IsAnswerFor};
 ghost use Rattle.witx_wasm.specs.declared.module.WasmModule.{WasmModule};
 
 use crate::fault::{Fault, FaultKind, ModuleError, ReadError};
@@ -223,7 +222,7 @@ fn behind_version(bytes: &[u8]) -> Result<&[u8], ReadError>
 pub fn read_module(alloc: Global, bytes: &[u8]) -> Result<WasmModule, ModuleError>
     ensures read { IfOk result (λ m. IsModule m bytes.now) }
     ensures only { (m : WasmModule) → IsModule m bytes.now → IsAnswerFor m result }
-    ensures fault { IfErr result (λ e. OfFault e (λ fault. HasByteFault fault bytes.now)) }
+    ensures fault { IfErr result (λ e. TellsByteFault e bytes.now) }
 {
     module(alloc, bytes)
 }
@@ -231,7 +230,7 @@ pub fn read_module(alloc: Global, bytes: &[u8]) -> Result<WasmModule, ModuleErro
 /// The module, or its fault.
 fn module(alloc: Global, bytes: &[u8]) -> Result<WasmModule, ModuleError>
     ensures read { IfOk result (λ m. IsModule m bytes.now) }
-    ensures fault { IfErr result (λ e. OfFault e (λ fault. HasByteFault fault bytes.now)) }
+    ensures fault { IfErr result (λ e. TellsByteFault e bytes.now) }
 {
     let rest = preamble(bytes)?;
     let known = sections(alloc, bytes.len(), rest)?;

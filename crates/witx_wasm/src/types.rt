@@ -39,16 +39,9 @@ fn value_of(byte: u8) -> Option<ValueType>
 fn reference_fault(other: FaultKind, byte: u8) -> FaultKind
     ensures { result ≡ reference_fault other byte }
 {
-    if byte < 0x63 {
-        other
-    } else if byte < 0x65 {
-        FaultKind::HeapType
-    } else if byte < 0x69 {
-        other
-    } else if byte < 0x75 {
-        FaultKind::HeapType
-    } else {
-        other
+    match byte {
+        0x63..=0x64 | 0x69..=0x74 => FaultKind::HeapType,
+        _ => other,
     }
 }
 
@@ -66,16 +59,9 @@ fn value_fault(byte: u8) -> FaultKind
 fn form_fault(byte: u8) -> FaultKind
     ensures { result ≡ type_form_fault byte }
 {
-    if byte < 0x4E {
-        FaultKind::FunctionForm
-    } else if byte < 0x51 {
-        FaultKind::CompositeType
-    } else if byte < 0x5E {
-        FaultKind::FunctionForm
-    } else if byte < 0x60 {
-        FaultKind::CompositeType
-    } else {
-        FaultKind::FunctionForm
+    match byte {
+        0x4E..=0x50 | 0x5E..=0x5F => FaultKind::CompositeType,
+        _ => FaultKind::FunctionForm,
     }
 }
 
@@ -154,14 +140,11 @@ fn function_type(alloc: Global, bytes: &[u8]) -> Result<(FunctionType, &[u8]), R
 fn limits_fault(flag: u8) -> FaultKind
     ensures { result ≡ limits_fault flag }
 {
-    if flag < 4 {
-        FaultKind::Shared
-    } else if flag < 8 {
-        FaultKind::Wide
-    } else if flag < 16 {
-        FaultKind::PageSize
-    } else {
-        FaultKind::Limits
+    match flag {
+        0..=3 => FaultKind::Shared,
+        4..=7 => FaultKind::Wide,
+        8..=15 => FaultKind::PageSize,
+        _ => FaultKind::Limits,
     }
 }
 

@@ -1,8 +1,7 @@
 //! The values of top-level forms and of declarations of modules.
 
 ghost use Rattle.std.specs.Prelude.{IfOk};
-ghost use Rattle.witx_values.specs.Language.{Ready};
-ghost use Rattle.witx_values.specs.TextTokens.{HoldsMarks};
+ghost use Rattle.witx_values.specs.{Language.{Ready}, TextTokens.{HoldsMarks}};
 ghost use Rattle.witx_language.specs.Actions.{the_language};
 ghost use Rattle.witx_language.specs.declared.production.ProductionName.TheVariants as production;
 ghost use Rattle.witx_syntax.specs.Stack.{Made, MadeAlone, value_view};

@@ -1,7 +1,7 @@
 use Rattle.witx_grammar.specs.Grammar.{grammar}
 use Rattle.witx_values.proofs.Laws.{value_or_fault}
 use Rattle.witx_values.proofs.Parts.{held}
-use Rattle.witx_imports.specs.declared.nonterminal.Nonterminal.TheVariants.{Text}
+use Rattle.witx_imports.specs.declared.symbols.Nonterminal.TheVariants.{Text}
 use Rattle.witx_imports.specs.declared.value.Sort.TheVariants.{Imports}
 use Rattle.witx_imports.specs.Actions.{import_language}
 use Rattle.witx_imports.specs.Lawful.{is_sorting, lawful}

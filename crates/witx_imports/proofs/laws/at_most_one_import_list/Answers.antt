@@ -1,7 +1,7 @@
 use Rattle.std.proofs.Common.{◌≡◌}
 use Rattle.witx_grammar.specs.Grammar.{grammar}
 use Rattle.witx_values.proofs.Laws.{one_value}
-use Rattle.witx_imports.specs.declared.nonterminal.Nonterminal.TheVariants.{Text}
+use Rattle.witx_imports.specs.declared.symbols.Nonterminal.TheVariants.{Text}
 use Rattle.witx_imports.specs.Actions.{import_language}
 use Rattle.witx_imports.specs.Values.{some_imports}
 use Rattle.witx_imports.proofs.laws.at_most_one_import_list.Goals as goal

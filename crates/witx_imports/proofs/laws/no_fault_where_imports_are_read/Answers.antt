@@ -1,5 +1,5 @@
 use Rattle.witx_values.proofs.Laws.{no_fault_there}
-use Rattle.witx_imports.specs.declared.nonterminal.Nonterminal.TheVariants.{Text}
+use Rattle.witx_imports.specs.declared.symbols.Nonterminal.TheVariants.{Text}
 use Rattle.witx_imports.specs.Actions.{import_language}
 use Rattle.witx_imports.specs.Reads.{telling_places}
 use Rattle.witx_imports.specs.Values.{some_imports}

@@ -4,7 +4,7 @@ use Rattle.witx_values.proofs.Held.{kind_at, kinds_count, marks_count}
 use Rattle.witx_values.specs.Language.{stack_of}
 use Rattle.witx_values.specs.TextTokens.{AreHeld}
 use Rattle.witx_values.specs.Texts.{token_at}
-use Rattle.witx_imports.specs.declared.token_kind.TokenKind.TheVariants.{Quoted}
+use Rattle.witx_imports.specs.declared.symbols.TokenKind.TheVariants.{Quoted}
 use Rattle.witx_imports.specs.Actions.{import_language}
 use Rattle.witx_imports.specs.Stack.{import_value_view}
 use Rattle.witx_imports.specs.TokenKinds.{import_token_kind}

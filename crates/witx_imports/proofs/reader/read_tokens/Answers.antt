@@ -2,7 +2,7 @@ use Rattle.std.proofs.Common.{◌≡◌, ℕ, List, ap, ◌∙◌, subst}
 use Rattle.witx_lex.specs.Meaning.{HasTokens}
 use Rattle.witx_values.specs.Texts.{start_of}
 use Rattle.witx_values.proofs.Readings.{value_sorted, text_value, text_fault}
-use Rattle.witx_imports.specs.declared.nonterminal.Nonterminal.TheVariants.{Text}
+use Rattle.witx_imports.specs.declared.symbols.Nonterminal.TheVariants.{Text}
 use Rattle.witx_imports.specs.Actions.{import_language}
 use Rattle.witx_imports.specs.Lawful.{lawful}
 use Rattle.witx_imports.specs.Reads.{IsBadAt, telling_places, line_column_at}

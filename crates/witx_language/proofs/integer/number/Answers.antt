@@ -2,7 +2,8 @@ use Rattle.std.proofs.Common.{◌≡◌, ℕ, ◌+◌, ◌*◌, ◌<◌, ◌^◌
 use Rattle.std.proofs.lemmas.List.{drop_all}
 use Rattle.std.specs.Char.{digit_value}
 use Rattle.witx_language.specs.Integers.{number, small}
-use Rattle.witx_language.proofs.Digits.{value_from, value_digit, value_other, too_large, small_some, small_low, small_is}
+use Rattle.witx_lex.proofs.Scalars.{past_digit, past_other, value_from}
+use Rattle.witx_language.proofs.Digits.{too_large, small_some, small_low, small_is}
 use Rattle.witx_language.proofs.integer.number.Goals as goal
 use Rattle.witx_language.proofs.integer.number.Goals.{in-Some+in-Some-behind, in_default}
 
@@ -30,13 +31,11 @@ digits-preserved c =
           let value-is : c.match-to_digit.value ≡ l.value * c.args.base + digit_value (get_or ds l.byte-index 0)
           = w.value-is ∙ sum ∙ ap (λ (d : ℕ). l.value * c.args.base + d) (sym same) in (
             omega (arith, w.value-is, low),
-            ap (λ (n : ℕ). value_from c.args.base n (drop (l.byte-index + 1) ds)) value-is
-                ∙ sym (value_digit c.args.base ds l.byte-index l.value c.digits-test.true (omega (arith, same, ap digit_value c.from.ensures, h.0))) ∙ l.invariant.1,
+            past_digit c.args.base ds l.byte-index l.value c.match-to_digit.value (number c.args.base ds) c.digits-test.true (omega (arith, same, ap digit_value c.from.ensures, h.0)) value-is l.invariant.1,
           )
       | in_default w ↦ (
         omega (arith, w.value-is, l.invariant.0),
-        ap (λ (n : ℕ). value_from c.args.base n (drop (l.byte-index + 1) ds)) w.value-is
-            ∙ sym (value_other c.args.base ds l.byte-index l.value c.digits-test.true (subst (λ (b : ℕ). digit_value b < c.args.base → ⊥) c.from.ensures w.in_default.ensures.value)) ∙ l.invariant.1,
+        past_other c.args.base ds l.byte-index l.value c.match-to_digit.value (number c.args.base ds) _ c.from.ensures c.digits-test.true w.in_default.ensures.value w.value-is l.invariant.1,
       )
     ]
 

@@ -1,6 +1,6 @@
 use Rattle.std.proofs.Common.{◌≡◌, ◌<◌, ◌^◌, drop}
 use Rattle.witx_language.specs.Integers.{number}
-use Rattle.witx_language.proofs.Digits.{value_from}
+use Rattle.witx_lex.proofs.Scalars.{value_from}
 use Rattle.witx_language.proofs.integer.number.Given as goal
 
 -- the digits from here on write the rest of the number

@@ -1,8 +1,8 @@
 use Rattle.std.proofs.Common.{◌≡◌, List, drop, IfOk, refl, subst}
 use Rattle.witx_lex.specs.Tokens.{Lexed}
 use Rattle.witx_values.specs.Language.{stack_of}
-use Rattle.witx_imports.specs.declared.production.ProductionName.{ProductionName}
-use Rattle.witx_imports.specs.declared.production.ProductionName.TheVariants as p
+use Rattle.witx_imports.specs.declared.symbols.ProductionName.{ProductionName}
+use Rattle.witx_imports.specs.declared.symbols.ProductionName.TheVariants as p
 use Rattle.witx_imports.specs.Actions.{import_act}
 use Rattle.witx_imports.specs.Stack.{import_performed, import_value_view}
 use Rattle.witx_imports.specs.Values.{ImportVal}
