@@ -2,11 +2,12 @@
 use Rattle.std.specs.Prelude.{◌≡◌, ℕ, true, List, [], ◌∷◌, Bool, false, ◌&&◌, map, Option, None, Some, option_map}
 use Rattle.std.proofs.Common.{arith, refl, sym}
 use Rattle.std.specs.Cmp.Lexicographic.{pointwise}
-use Rattle.witx_ast.specs.Tree.{Tree, Arms, no_arms, arm, fields_of, arms_of}
+use Rattle.witx_ast.specs.Tree.{Tree, named, Arms, no_arms, arm, fields_of, arms_of}
 use Rattle.witx_ast.specs.Views.{tree_of, datatype_tree, named_tree, member_field, case_arm}
 use Rattle.witx_base.specs.SameBytes.{same_bytes}
 use Rattle.witx_ast.specs.Same.{same_tree, same_fields, same_arms}
-use Rattle.witx_ast.proofs.Trees.{tree-Name, tree-Value, tree-NamedType, tree-Record, tree-Variant, tree-Handle, tree-List, tree-Pointer, tree-ConstPointer, tree-Builtin, tree-RecordDatatype, tree-VariantDatatype, tree-RecordMember, tree-Case}
+use Rattle.witx_ast.proofs.TreeKinds.{form_tree, form-is}
+use Rattle.witx_ast.proofs.Trees.{tree-Name, tree-Value, tree-NamedType, tree-RecordMember, tree-Case}
 use Rattle.witx_ast.specs.declared.types.Datatype.{Datatype, Record, Variant, Handle, List as ListOf, Pointer, ConstPointer, Builtin}
 use Rattle.witx_ast.specs.declared.types.NamedType.{NamedType}
 use Rattle.witx_ast.specs.declared.types.RecordMember.{RecordMember}
@@ -78,74 +79,33 @@ pub names-apart : (m n : NamedType) → (same_bytes m.name n.name && same_bytes 
     → same_tree (named_tree m) (named_tree n) ≡ false
 names-apart m n h = rw (tree-NamedType m, tree-NamedType n) (apart (same_bytes m.name n.name) (same_bytes m.docs n.docs) (same_tree (tree_of m.tref) (tree_of n.tref)) h)
 
+forms-same : (d e : Datatype) → datatypes.ghosts.eq d e ≡ same_tree (form_tree d) (form_tree e)
+forms-same (Record r) (Record s) = rw (← rows-same (out-RecordDatatype r).members (out-RecordDatatype s).members) refl
+forms-same (Variant v) (Variant w) = rw (← arms-same (out-Variant v).cases (out-Variant w).cases) refl
+forms-same (Handle h) (Handle g) = refl
+forms-same (ListOf t) (ListOf u) = refl
+forms-same (Pointer t) (Pointer u) = refl
+forms-same (ConstPointer t) (ConstPointer u) = refl
+forms-same (Builtin b) (Builtin c) = refl
+forms-same _ _ = refl
+
 pub datatype-same : (d e : Datatype) → datatypes.ghosts.eq d e ≡ same_tree (datatype_tree d) (datatype_tree e)
-datatype-same (Record r1) (Record r2) = rw (tree-Record r1, tree-RecordDatatype r1, tree-Record r2, tree-RecordDatatype r2, ← rows-same (out-RecordDatatype r1).members (out-RecordDatatype r2).members) refl
-datatype-same (Record r1) (Variant v2) = rw (tree-Record r1, tree-RecordDatatype r1, tree-Variant v2, tree-VariantDatatype v2) refl
-datatype-same (Record r1) (Handle h2) = rw (tree-Record r1, tree-RecordDatatype r1, tree-Handle h2) refl
-datatype-same (Record r1) (ListOf t2) = rw (tree-Record r1, tree-RecordDatatype r1, tree-List t2) refl
-datatype-same (Record r1) (Pointer t2) = rw (tree-Record r1, tree-RecordDatatype r1, tree-Pointer t2) refl
-datatype-same (Record r1) (ConstPointer t2) = rw (tree-Record r1, tree-RecordDatatype r1, tree-ConstPointer t2) refl
-datatype-same (Record r1) (Builtin b2) = rw (tree-Record r1, tree-RecordDatatype r1, tree-Builtin b2) refl
-datatype-same (Variant v1) (Record r2) = rw (tree-Variant v1, tree-VariantDatatype v1, tree-Record r2, tree-RecordDatatype r2) refl
-datatype-same (Variant v1) (Variant v2) = rw (tree-Variant v1, tree-VariantDatatype v1, tree-Variant v2, tree-VariantDatatype v2, ← arms-same (out-Variant v1).cases (out-Variant v2).cases) refl
-datatype-same (Variant v1) (Handle h2) = rw (tree-Variant v1, tree-VariantDatatype v1, tree-Handle h2) refl
-datatype-same (Variant v1) (ListOf t2) = rw (tree-Variant v1, tree-VariantDatatype v1, tree-List t2) refl
-datatype-same (Variant v1) (Pointer t2) = rw (tree-Variant v1, tree-VariantDatatype v1, tree-Pointer t2) refl
-datatype-same (Variant v1) (ConstPointer t2) = rw (tree-Variant v1, tree-VariantDatatype v1, tree-ConstPointer t2) refl
-datatype-same (Variant v1) (Builtin b2) = rw (tree-Variant v1, tree-VariantDatatype v1, tree-Builtin b2) refl
-datatype-same (Handle h1) (Record r2) = rw (tree-Handle h1, tree-Record r2, tree-RecordDatatype r2) refl
-datatype-same (Handle h1) (Variant v2) = rw (tree-Handle h1, tree-Variant v2, tree-VariantDatatype v2) refl
-datatype-same (Handle h1) (Handle h2) = rw (tree-Handle h1) refl
-datatype-same (Handle h1) (ListOf t2) = rw (tree-Handle h1, tree-List t2) refl
-datatype-same (Handle h1) (Pointer t2) = rw (tree-Handle h1, tree-Pointer t2) refl
-datatype-same (Handle h1) (ConstPointer t2) = rw (tree-Handle h1, tree-ConstPointer t2) refl
-datatype-same (Handle h1) (Builtin b2) = rw (tree-Handle h1, tree-Builtin b2) refl
-datatype-same (ListOf t1) (Record r2) = rw (tree-List t1, tree-Record r2, tree-RecordDatatype r2) refl
-datatype-same (ListOf t1) (Variant v2) = rw (tree-List t1, tree-Variant v2, tree-VariantDatatype v2) refl
-datatype-same (ListOf t1) (Handle h2) = rw (tree-List t1, tree-Handle h2) refl
-datatype-same (ListOf t1) (ListOf t2) = rw (tree-List t1, tree-List t2) refl
-datatype-same (ListOf t1) (Pointer t2) = rw (tree-List t1, tree-Pointer t2) refl
-datatype-same (ListOf t1) (ConstPointer t2) = rw (tree-List t1, tree-ConstPointer t2) refl
-datatype-same (ListOf t1) (Builtin b2) = rw (tree-List t1, tree-Builtin b2) refl
-datatype-same (Pointer t1) (Record r2) = rw (tree-Pointer t1, tree-Record r2, tree-RecordDatatype r2) refl
-datatype-same (Pointer t1) (Variant v2) = rw (tree-Pointer t1, tree-Variant v2, tree-VariantDatatype v2) refl
-datatype-same (Pointer t1) (Handle h2) = rw (tree-Pointer t1, tree-Handle h2) refl
-datatype-same (Pointer t1) (ListOf t2) = rw (tree-Pointer t1, tree-List t2) refl
-datatype-same (Pointer t1) (Pointer t2) = rw (tree-Pointer t1, tree-Pointer t2) refl
-datatype-same (Pointer t1) (ConstPointer t2) = rw (tree-Pointer t1, tree-ConstPointer t2) refl
-datatype-same (Pointer t1) (Builtin b2) = rw (tree-Pointer t1, tree-Builtin b2) refl
-datatype-same (ConstPointer t1) (Record r2) = rw (tree-ConstPointer t1, tree-Record r2, tree-RecordDatatype r2) refl
-datatype-same (ConstPointer t1) (Variant v2) = rw (tree-ConstPointer t1, tree-Variant v2, tree-VariantDatatype v2) refl
-datatype-same (ConstPointer t1) (Handle h2) = rw (tree-ConstPointer t1, tree-Handle h2) refl
-datatype-same (ConstPointer t1) (ListOf t2) = rw (tree-ConstPointer t1, tree-List t2) refl
-datatype-same (ConstPointer t1) (Pointer t2) = rw (tree-ConstPointer t1, tree-Pointer t2) refl
-datatype-same (ConstPointer t1) (ConstPointer t2) = rw (tree-ConstPointer t1, tree-ConstPointer t2) refl
-datatype-same (ConstPointer t1) (Builtin b2) = rw (tree-ConstPointer t1, tree-Builtin b2) refl
-datatype-same (Builtin b1) (Record r2) = rw (tree-Builtin b1, tree-Record r2, tree-RecordDatatype r2) refl
-datatype-same (Builtin b1) (Variant v2) = rw (tree-Builtin b1, tree-Variant v2, tree-VariantDatatype v2) refl
-datatype-same (Builtin b1) (Handle h2) = rw (tree-Builtin b1, tree-Handle h2) refl
-datatype-same (Builtin b1) (ListOf t2) = rw (tree-Builtin b1, tree-List t2) refl
-datatype-same (Builtin b1) (Pointer t2) = rw (tree-Builtin b1, tree-Pointer t2) refl
-datatype-same (Builtin b1) (ConstPointer t2) = rw (tree-Builtin b1, tree-ConstPointer t2) refl
-datatype-same (Builtin b1) (Builtin b2) = rw (tree-Builtin b1, tree-Builtin b2) refl
+datatype-same d e = rw (form-is d, form-is e) (forms-same d e)
+
+-- a name is no form
+name-form : (name : List ℕ) (t : Tree) (docs : List ℕ) (d : Datatype) → same_tree (named name t docs) (form_tree d) ≡ false
+name-form name t docs (Record r) = refl
+name-form name t docs _ = refl
+
+form-name : (name : List ℕ) (t : Tree) (docs : List ℕ) (d : Datatype) → same_tree (form_tree d) (named name t docs) ≡ false
+form-name name t docs (Record r) = refl
+form-name name t docs _ = refl
 
 pub name-value : (n : NamedType) (d : Datatype) → same_tree (named_tree n) (datatype_tree d) ≡ false
-name-value n (Record r) = rw (tree-NamedType n, tree-Record r, tree-RecordDatatype r) refl
-name-value n (Variant v) = rw (tree-NamedType n, tree-Variant v, tree-VariantDatatype v) refl
-name-value n (Handle h) = rw (tree-NamedType n, tree-Handle h) refl
-name-value n (ListOf t) = rw (tree-NamedType n, tree-List t) refl
-name-value n (Pointer t) = rw (tree-NamedType n, tree-Pointer t) refl
-name-value n (ConstPointer t) = rw (tree-NamedType n, tree-ConstPointer t) refl
-name-value n (Builtin b) = rw (tree-NamedType n, tree-Builtin b) refl
+name-value n d = rw (tree-NamedType n, form-is d) (name-form n.name (tree_of n.tref) n.docs d)
 
 pub value-name : (n : NamedType) (d : Datatype) → same_tree (datatype_tree d) (named_tree n) ≡ false
-value-name n (Record r) = rw (tree-NamedType n, tree-Record r, tree-RecordDatatype r) refl
-value-name n (Variant v) = rw (tree-NamedType n, tree-Variant v, tree-VariantDatatype v) refl
-value-name n (Handle h) = rw (tree-NamedType n, tree-Handle h) refl
-value-name n (ListOf t) = rw (tree-NamedType n, tree-List t) refl
-value-name n (Pointer t) = rw (tree-NamedType n, tree-Pointer t) refl
-value-name n (ConstPointer t) = rw (tree-NamedType n, tree-ConstPointer t) refl
-value-name n (Builtin b) = rw (tree-NamedType n, tree-Builtin b) refl
+value-name n d = rw (tree-NamedType n, form-is d) (form-name n.name (tree_of n.tref) n.docs d)
 
 pub trefs-decide : (b : Bool) (x y : TypeRef) → b ≡ same_tree (tree_of x) (tree_of y) → (IsTrue b → tree_of x ≡ tree_of y) × (tree_of x ≡ tree_of y → IsTrue b)
 trefs-decide b x y e = same-decides b (tree_of x) (tree_of y) e

@@ -5,16 +5,19 @@ use Rattle.std.proofs.lemmas.List.{drop_more}
 use Rattle.witx_base.specs.Texts.{same_text}
 use Rattle.witx_ast.specs.Views.{tree_of, case_arm}
 use Rattle.witx_ast.specs.Words.{expected_payloads, is_bool_arms, is_bare, all_arms_bare}
-use Rattle.witx_ast.proofs.Trees.{tree_rules, tree-Case}
+use Rattle.witx_ast.proofs.Trees.{tree-Case}
 use Rattle.witx_ast.specs.declared.types.Case.{Case}
 use Rattle.witx_ast.specs.declared.types.TypeRef.{TypeRef}
 
+pair-is : (xs : List Case) (a b : Case) → length xs ≡ 2 → a ≡ get_or xs 0 a → b ≡ get_or xs 1 b → xs ≡ a ∷ b ∷ []
+pair-is [] a b l p q = grind arith
+pair-is (x ∷ []) a b l p q = grind arith
+pair-is (x ∷ y ∷ []) a b l p q = cc
+pair-is (x ∷ y ∷ z ∷ zs) a b l p q = grind arith
+
 pub expected-two : (xs : List Case) (a b : Case) → length xs ≡ 2 → a ≡ get_or xs 0 a → b ≡ get_or xs 1 b
     → expected_payloads (map case_arm xs) ≡ (if same_text a.name (codes "ok") && same_text b.name (codes "err") then Some (option_map tree_of a.tref, option_map tree_of b.tref) else None)
-expected-two [] a b l p q = grind arith
-expected-two (x ∷ []) a b l p q = grind arith
-expected-two (x ∷ y ∷ []) a b l p q = grind (arith, tree_rules)
-expected-two (x ∷ y ∷ z ∷ zs) a b l p q = grind arith
+expected-two xs a b l p q = rw (pair-is xs a b l p q, tree-Case a, tree-Case b) refl
 
 pub expected-other : (xs : List Case) → (length xs ≡ 2 → ⊥) → expected_payloads (map case_arm xs) ≡ None
 expected-other [] l = refl
@@ -24,10 +27,7 @@ expected-other (x ∷ y ∷ z ∷ zs) l = refl
 
 pub bool-two : (xs : List Case) (a b : Case) → length xs ≡ 2 → a ≡ get_or xs 0 a → b ≡ get_or xs 1 b
     → is_bool_arms (map case_arm xs) ≡ same_text a.name (codes "false") && same_text b.name (codes "true") && (is_bare (option_map tree_of a.tref) && is_bare (option_map tree_of b.tref))
-bool-two [] a b l p q = grind arith
-bool-two (x ∷ []) a b l p q = grind arith
-bool-two (x ∷ y ∷ []) a b l p q = grind (arith, tree_rules)
-bool-two (x ∷ y ∷ z ∷ zs) a b l p q = grind arith
+bool-two xs a b l p q = rw (pair-is xs a b l p q, tree-Case a, tree-Case b) refl
 
 pub bool-other : (xs : List Case) → (length xs ≡ 2 → ⊥) → is_bool_arms (map case_arm xs) ≡ false
 bool-other [] l = refl

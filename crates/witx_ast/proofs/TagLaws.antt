@@ -14,23 +14,15 @@ flags-decide RecordKind.Tuple n = always
 flags-decide RecordKind.Other n = always
 
 pub node-decides : (t : Plain) → Decides (node_fits t) (NodeFits t)
-node-decides (Plain.builtin b) = always
-node-decides Plain.handle = always
-node-decides (Plain.list_of t) = always
-node-decides (Plain.pointer_to t) = always
-node-decides (Plain.const_pointer_to t) = always
 node-decides (Plain.record_of kind ms) = flags-decide kind (field_count ms)
 node-decides (Plain.variant_of repr cs) = decides-and _ _ (decides-le (arm_count cs) (2 ^ repr_bits repr)) (decides-le (arm_count cs) (2 ^ 32))
+node-decides _ = always
 
 mutual
   pub fits-decides : (t : Plain) → Decides (fits t) (AllFit t)
-  fits-decides (Plain.builtin b) = always
-  fits-decides Plain.handle = always
-  fits-decides (Plain.list_of t) = always
-  fits-decides (Plain.pointer_to t) = always
-  fits-decides (Plain.const_pointer_to t) = always
   fits-decides (Plain.record_of kind ms) = decides-and _ _ (node-decides (Plain.record_of kind ms)) (fields-decide ms)
   fits-decides (Plain.variant_of repr cs) = decides-and _ _ (node-decides (Plain.variant_of repr cs)) (arms-decide cs)
+  fits-decides _ = always
 
   pub fields-decide : (ms : Fields) → Decides (fields_fit ms) (AllFieldsFit ms)
   fields-decide Fields.no_fields = always

@@ -1,10 +1,8 @@
 //! Which results a function may have, under each way of calling it.
 #![tactic(auto, using(crate::proofs::ResultLaws::result_rules))]
 
-ghost use Rattle.std.specs.Prelude.{◌≡◌, Some, None, map, option_map, MatchResult};
-ghost use Rattle.std.specs.Option.{option_copied};
-ghost use Rattle.witx_ast.specs.Tree.{behind, fields_of};
-ghost use Rattle.witx_ast.specs.Views.{tree_of, member_field};
+ghost use Rattle.std.specs.{Prelude.{◌≡◌, Some, None, map, option_map, MatchResult}, Option.{option_copied}};
+ghost use Rattle.witx_ast.specs.{Tree.{behind, fields_of}, Views.{tree_of, member_field}};
 ghost use Rattle.witx_ast.specs.Functions.{param_field};
 ghost use Rattle.witx_ast.specs.Results.{results_reason, result_reason, type_reason, payloads_reason, ok_named, all_named};
 

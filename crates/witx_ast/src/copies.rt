@@ -1,12 +1,13 @@
-//! Copies of types, of what they are made of, and of the items of modules.
+//! Copies of types, of what they are made of, of the items of modules, and of the definitions of documents.
 #![tactic(auto, using(crate::proofs::TreeKinds::kind_rules))]
 
 ghost use Rattle.std.specs.Prelude.{◌≡◌};
 ghost use Rattle.witx_ast.specs.Functions.{param_field, func_tree};
-ghost use Rattle.witx_ast.specs.Copies.{HoldSameItem, HoldSameItemEntry};
+ghost use Rattle.witx_ast.specs.Copies.{HoldSame, HoldSameEntry, HoldSameItem, HoldSameItemEntry};
 ghost use Rattle.witx_ast.specs.Views.{tree_of, datatype_tree, named_tree, record_tree, variant_tree, member_field, case_arm};
 
-use crate::definition::Constant;
+use crate::copying::{copied, copied_variant};
+use crate::definition::{Constant, Definition, Entry};
 use crate::function::{InterfaceFunc, InterfaceFuncParam};
 use crate::module::{ModuleDefinition, ModuleEntry, ModuleImport};
 use crate::types::{Case, Datatype, NamedType, RecordDatatype, RecordMember, TypeRef, Variant};
@@ -17,10 +18,7 @@ impl Clone for TypeRef {
     ghost is_clone = { λ t copy. tree_of copy ≡ tree_of t };
 
     fn clone(&self) -> Result<TypeRef, AllocError> {
-        match self {
-            TypeRef::Name(named) => Ok(TypeRef::Name(named.clone()?)),
-            TypeRef::Value(datatype) => Ok(TypeRef::Value(datatype.clone()?)),
-        }
+        copied_variant!(self => TypeRef { Name.clone, Value.clone })
     }
 }
 
@@ -28,11 +26,7 @@ impl Duplicate for NamedType {
     ghost is_copy = { λ n c. named_tree c ≡ named_tree n };
 
     fn copy(&self) -> Result<NamedType, OutOfMemory> {
-        Ok(NamedType {
-            name: self.name.copy()?,
-            tref: self.tref.clone()?,
-            docs: self.docs.copy()?,
-        })
+        copied!(self => NamedType { name, tref, docs })
     }
 }
 
@@ -40,11 +34,7 @@ impl Duplicate for RecordMember {
     ghost is_copy = { λ m c. member_field c ≡ member_field m };
 
     fn copy(&self) -> Result<RecordMember, OutOfMemory> {
-        Ok(RecordMember {
-            name: self.name.copy()?,
-            tref: self.tref.clone()?,
-            docs: self.docs.copy()?,
-        })
+        copied!(self => RecordMember { name, tref, docs })
     }
 }
 
@@ -52,15 +42,7 @@ impl Duplicate for Case {
     ghost is_copy = { λ a c. case_arm c ≡ case_arm a };
 
     fn copy(&self) -> Result<Case, OutOfMemory> {
-        let tref = match &self.tref {
-            Some(tref) => Some(tref.clone()?),
-            None => None,
-        };
-        Ok(Case {
-            name: self.name.copy()?,
-            tref,
-            docs: self.docs.copy()?,
-        })
+        copied!(self => Case { name, tref, docs })
     }
 }
 
@@ -69,10 +51,7 @@ impl Duplicate for RecordDatatype {
 
     #[tactic(auto, using(crate::proofs::TreeKinds::kind_rules, crate::proofs::Copied::copy_rules))]
     fn copy(&self) -> Result<RecordDatatype, OutOfMemory> {
-        Ok(RecordDatatype {
-            kind: self.kind,
-            members: self.members.copy()?,
-        })
+        copied!(self => RecordDatatype { members; kind })
     }
 }
 
@@ -81,10 +60,7 @@ impl Duplicate for Variant {
 
     #[tactic(auto, using(crate::proofs::TreeKinds::kind_rules, crate::proofs::Copied::copy_rules))]
     fn copy(&self) -> Result<Variant, OutOfMemory> {
-        Ok(Variant {
-            tag_repr: self.tag_repr,
-            cases: self.cases.copy()?,
-        })
+        copied!(self => Variant { cases; tag_repr })
     }
 }
 
@@ -116,11 +92,7 @@ impl Duplicate for InterfaceFuncParam {
     ghost is_copy = { λ p c. param_field c ≡ param_field p };
 
     fn copy(&self) -> Result<InterfaceFuncParam, OutOfMemory> {
-        Ok(InterfaceFuncParam {
-            name: self.name.copy()?,
-            tref: self.tref.clone()?,
-            docs: self.docs.copy()?,
-        })
+        copied!(self => InterfaceFuncParam { name, tref, docs })
     }
 }
 
@@ -129,14 +101,7 @@ impl Duplicate for InterfaceFunc {
 
     #[tactic(auto, using(crate::proofs::Copied::copy_rules))]
     fn copy(&self) -> Result<InterfaceFunc, OutOfMemory> {
-        Ok(InterfaceFunc {
-            abi: self.abi,
-            name: self.name.copy()?,
-            params: self.params.copy()?,
-            results: self.results.copy()?,
-            noreturn: self.noreturn,
-            docs: self.docs.copy()?,
-        })
+        copied!(self => InterfaceFunc { name, params, results, docs; abi, noreturn })
     }
 }
 
@@ -144,11 +109,7 @@ impl Duplicate for ModuleImport {
     ghost is_copy = { λ i c. c ≡ i };
 
     fn copy(&self) -> Result<ModuleImport, OutOfMemory> {
-        Ok(ModuleImport {
-            name: self.name.copy()?,
-            variant: self.variant,
-            docs: self.docs.copy()?,
-        })
+        copied!(self => ModuleImport { name, docs; variant })
     }
 }
 
@@ -156,10 +117,7 @@ impl Duplicate for ModuleDefinition {
     ghost is_copy = { HoldSameItem };
 
     fn copy(&self) -> Result<ModuleDefinition, OutOfMemory> {
-        match self {
-            ModuleDefinition::Import(import) => Ok(ModuleDefinition::Import(import.clone()?)),
-            ModuleDefinition::Func(func) => Ok(ModuleDefinition::Func(func.clone()?)),
-        }
+        copied_variant!(self => ModuleDefinition { Import.clone, Func.clone })
     }
 }
 
@@ -167,10 +125,7 @@ impl Clone for ModuleEntry {
     ghost is_clone = { HoldSameItemEntry };
 
     fn clone(&self) -> Result<ModuleEntry, AllocError> {
-        match self {
-            ModuleEntry::Import(import) => Ok(ModuleEntry::Import(import.clone()?)),
-            ModuleEntry::Func(func) => Ok(ModuleEntry::Func(func.clone()?)),
-        }
+        copied_variant!(self => ModuleEntry { Import.clone, Func.clone })
     }
 }
 
@@ -186,11 +141,30 @@ impl Duplicate for Constant {
     ghost is_copy = { λ k c. c ≡ k };
 
     fn copy(&self) -> Result<Constant, OutOfMemory> {
-        Ok(Constant {
-            ty: self.ty.copy()?,
-            name: self.name.copy()?,
-            value: self.value,
-            docs: self.docs.copy()?,
-        })
+        copied!(self => Constant { ty, name, docs; value })
+    }
+}
+
+impl Duplicate for Definition {
+    ghost is_copy = { HoldSame };
+
+    fn copy(&self) -> Result<Definition, OutOfMemory> {
+        copied_variant!(self => Definition { Typename.clone, Module.clone, Constant.copy })
+    }
+}
+
+impl Clone for Entry {
+    ghost is_clone = { HoldSameEntry };
+
+    fn clone(&self) -> Result<Entry, AllocError> {
+        copied_variant!(self => Entry { Typename.clone, Module.clone })
+    }
+}
+
+impl Duplicate for Entry {
+    ghost is_copy = { HoldSameEntry };
+
+    fn copy(&self) -> Result<Entry, OutOfMemory> {
+        Ok(self.clone()?)
     }
 }

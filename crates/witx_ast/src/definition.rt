@@ -2,9 +2,10 @@
 
 ghost use Rattle.std.specs.Prelude.{◌≡◌, ◌∷◌, ◌++◌, [], length, is_ok, if◌then◌else◌, option_map, slice_get, take};
 ghost use Rattle.std.specs.Slice.Iter.{iter_rest};
-ghost use Rattle.witx_ast.specs.Kinds.{typename_kind, module_kind, constant_kind};
-ghost use Rattle.witx_ast.specs.EntryWords.{entry_word};
+ghost use Rattle.witx_ast.specs.{Kinds.{typename_kind, module_kind, constant_kind}, EntryWords.{entry_word}};
 
+use crate::copying::copied;
+use crate::holding::held_by;
 use crate::kinds::{Kind, OfKind};
 use crate::module::Module;
 use crate::types::NamedType;
@@ -58,10 +59,7 @@ impl Kind<Definition> for Rc<NamedType> {
     ghost of_kind = { typename_kind };
 
     fn of(definition: &Definition) -> Option<&Rc<NamedType>> {
-        match definition {
-            Definition::Typename(named) => Some(named),
-            Definition::Module(_) | Definition::Constant(_) => None,
-        }
+        held_by!(definition, Definition::Typename(named) => named)
     }
 }
 
@@ -69,10 +67,7 @@ impl Kind<Definition> for Rc<Module> {
     ghost of_kind = { module_kind };
 
     fn of(definition: &Definition) -> Option<&Rc<Module>> {
-        match definition {
-            Definition::Module(module) => Some(module),
-            Definition::Typename(_) | Definition::Constant(_) => None,
-        }
+        held_by!(definition, Definition::Module(module) => module)
     }
 }
 
@@ -80,10 +75,7 @@ impl Kind<Definition> for Constant {
     ghost of_kind = { constant_kind };
 
     fn of(definition: &Definition) -> Option<&Constant> {
-        match definition {
-            Definition::Constant(constant) => Some(constant),
-            Definition::Typename(_) | Definition::Module(_) => None,
-        }
+        held_by!(definition, Definition::Constant(constant) => constant)
     }
 }
 
@@ -106,8 +98,7 @@ pub struct Definitions {
 }
 
 impl Model for Definitions {
-    ghost use Rattle.std.specs.Prelude.{List};
-    ghost use Rattle.std.specs.Coded.{codes};
+    ghost use Rattle.std.specs.{Prelude.{List}, Coded.{codes}};
     ghost use Rattle.witx_ast.specs.declared.definition.Definition.{Definition};
     ghost use Rattle.witx_ast.specs.contracts.definition.Definition as d;
 
@@ -202,9 +193,7 @@ impl Duplicate for Definitions {
     ghost is_copy = { AllZip HoldSame };
 
     fn copy(&self) -> Result<Definitions, OutOfMemory> {
-        Ok(Definitions {
-            items: self.items.copy()?,
-        })
+        copied!(self => Definitions { items })
     }
 }
 

@@ -1,16 +1,15 @@
 //! The document: its definitions, and look-ups among them.
 
-ghost use Rattle.std.specs.Prelude.{◌≡◌, map, option_map};
-ghost use Rattle.std.specs.List.{filter_map, IsDistinct};
-ghost use Rattle.std.specs.Map.{keys_of};
+ghost use Rattle.std.specs.{Prelude.{◌≡◌, map, option_map}, List.{filter_map, IsDistinct}, Map.{keys_of}};
 ghost use Rattle.witx_base.specs.Texts.{same_text};
-ghost use Rattle.witx_ast.specs.Entries.{by_name};
-ghost use Rattle.witx_ast.specs.Views.{named_tree};
+ghost use Rattle.witx_ast.specs.{Entries.{by_name}, Views.{named_tree}};
 ghost use Rattle.witx_ast.specs.Kinds.{typename_kind, module_kind, constant_kind};
 ghost use Rattle.witx_ast.specs.Definitions.{definition_tree, module_tree, introduced, typename_called, module_called, DefinitionsFit};
 
+use crate::copying::copied;
 use crate::definition::{Constants, Definitions, Entries, Entry, Modules, Typenames};
 use crate::held::Held;
+use crate::holding::held_by;
 use crate::kinds::OfKind;
 use crate::module::Module;
 use crate::types::NamedType;
@@ -27,8 +26,7 @@ pub struct Document {
 
 impl Model for Document {
     ghost use Rattle.std.specs.Coded.{codes};
-    ghost use Rattle.witx_ast.specs.Entries.{Held};
-    ghost use Rattle.witx_ast.specs.Definitions.{DefinitionsFit};
+    ghost use Rattle.witx_ast.specs.{Entries.{Held}, Definitions.{DefinitionsFit}};
     ghost use Rattle.witx_ast.specs.declared.definition.Definition.{Definition};
     ghost use Rattle.witx_ast.specs.declared.definition.Entry.{Entry};
     ghost use Rattle.witx_ast.specs.contracts.definition.Definition as d;
@@ -70,10 +68,7 @@ impl Document {
         ensures { option_map (λ n. named_tree n.now.value) result
             ≡ typename_called (map definition_tree self.now.definitions) name.now }
     {
-        match self.contents.entry(name) {
-            Some(Entry::Typename(named)) => Some(named),
-            _ => None,
-        }
+        held_by!(self.contents.entry(name), Some(Entry::Typename(named)) => named)
     }
 
     /// The module of that name; none exactly where the document has none.
@@ -81,10 +76,7 @@ impl Document {
         ensures { option_map (λ m. module_tree m.now.value) result
             ≡ module_called (map definition_tree self.now.definitions) name.now }
     {
-        match self.contents.entry(name) {
-            Some(Entry::Module(module)) => Some(module),
-            _ => None,
-        }
+        held_by!(self.contents.entry(name), Some(Entry::Module(module)) => module)
     }
 
     /// The typenames, in order.
@@ -122,8 +114,6 @@ impl Duplicate for Document {
     ghost is_copy = { IsCopyOf HoldSame HoldSameEntry };
 
     fn copy(&self) -> Result<Document, OutOfMemory> {
-        Ok(Document {
-            contents: self.contents.copy()?,
-        })
+        copied!(self => Document { contents })
     }
 }

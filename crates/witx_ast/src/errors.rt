@@ -1,12 +1,8 @@
 //! The error types of a document's functions.
 #![tactic(auto, using(crate::proofs::ErrorLaws::error_rules))]
 
-ghost use Rattle.std.specs.Prelude.{◌≡◌, map, option_map, OnOk, IfOk};
-ghost use Rattle.std.specs.Option.{option_copied};
-ghost use Rattle.witx_ast.specs.Tree.{behind};
-ghost use Rattle.witx_ast.specs.Views.{tree_of};
-ghost use Rattle.witx_ast.specs.Functions.{func_tree};
-ghost use Rattle.witx_ast.specs.Items.{item_tree};
+ghost use Rattle.std.specs.{Prelude.{◌≡◌, map, option_map, OnOk, IfOk}, Option.{option_copied}};
+ghost use Rattle.witx_ast.specs.{Tree.{behind}, Views.{tree_of}, Functions.{func_tree}, Items.{item_tree}};
 ghost use Rattle.witx_ast.specs.Definitions.{definition_tree};
 ghost use Rattle.witx_ast.specs.ErrorTypes.{type_error, function_error, item_errors, definition_errors, all_errors, error_types_of};
 ghost use Rattle.witx_ast.specs.Seen.{TellsTypes, and_type, and_types};

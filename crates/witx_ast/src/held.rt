@@ -3,6 +3,7 @@
 ghost use Rattle.std.specs.Prelude.{◌≡◌, option_map};
 ghost use Rattle.witx_base.specs.Found.{found};
 
+use crate::copying::copied;
 use std::hash::Hash;
 use witx_base::{Duplicate, Id, NameMap, OutOfMemory};
 
@@ -59,9 +60,6 @@ impl<D: Duplicate + Drop, E: Duplicate + Drop> Duplicate for Held<D, E> {
     ghost is_copy = { λ held copy. D.is_copy held.definitions copy.definitions × IsCopyOfEntries E.is_copy held.entries copy.entries };
 
     fn copy(&self) -> Result<Held<D, E>, OutOfMemory> {
-        Ok(Held {
-            entries: self.entries.copy()?,
-            definitions: self.definitions.copy()?,
-        })
+        copied!(self => Held { entries, definitions })
     }
 }

@@ -1,8 +1,6 @@
 //! The definitions, or the items, of one kind, as an iterator.
 
-ghost use Rattle.std.specs.Prelude.{◌≡◌, Option};
-ghost use Rattle.std.specs.Option.{option_copied};
-ghost use Rattle.std.specs.List.{filter_map};
+ghost use Rattle.std.specs.{Prelude.{◌≡◌, Option}, Option.{option_copied}, List.{filter_map}};
 ghost use Rattle.std.specs.Iterator.{YieldsFirstRef, item_count};
 
 use std::marker::PhantomData;

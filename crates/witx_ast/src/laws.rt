@@ -1,25 +1,19 @@
 //! Laws of the definitions, each the contract of a function; three of these compare their arguments, the others do nothing.
 
-ghost use Rattle.std.specs.Prelude.{◌≡◌, ◌↔◌, ◌&&◌, ◌++◌, [], List, None, map, IsTrue};
-ghost use Rattle.std.specs.Bool.{Decides};
+ghost use Rattle.std.specs.{Prelude.{◌≡◌, ◌↔◌, ◌&&◌, ◌++◌, [], List, None, IsTrue}, Bool.{Decides}};
 ghost use Rattle.std.specs.Hash as fed;
-ghost use Rattle.witx_ast.specs.Tree.{Tree};
-ghost use Rattle.witx_ast.specs.Plain.{Plain, plain};
-ghost use Rattle.witx_ast.specs.Views.{tree_of};
-ghost use Rattle.witx_ast.specs.Alike.{same_plain};
-ghost use Rattle.witx_ast.specs.Values.{Value, IsValue};
-ghost use Rattle.witx_ast.specs.ValueTests.{is_value};
-ghost use Rattle.witx_ast.specs.Functions.{FunctionTree};
+ghost use Rattle.witx_ast.specs.{Tree.{Tree}, Plain.{Plain, plain}, Views.{tree_of}, Alike.{same_plain}};
+ghost use Rattle.witx_ast.specs.{Values.{Value, IsValue}, ValueTests.{is_value}, Functions.{FunctionTree}};
 ghost use Rattle.witx_ast.specs.Tags.{FunctionFits, function_fits};
-ghost use Rattle.witx_ast.specs.Definitions.{DefinitionTree, definition_tree, entry_tree, module_tree};
+ghost use Rattle.witx_ast.specs.Definitions.{DefinitionTree};
 ghost use Rattle.witx_ast.specs.Misfits.{NodesFit, AllNodesFit, misfits, first_misfit};
 
-use crate::definition::{Definition, Definitions, Entries, Entry};
+use crate::definition::Entries;
 use crate::document::Document;
 use crate::module::{Module, ModuleEntries};
 use crate::types::TypeRef;
 use std::hash::Hash;
-use witx_base::{Duplicate, Id, Text};
+use witx_base::{Id, Text};
 
 /// Types are equal exactly where their trees are: names and documentation count.
 pub fn equal_by_tree(a: &TypeRef, b: &TypeRef) -> bool
@@ -71,47 +65,6 @@ pub fn documents_are_hashed_by_names(document: &Document)
 pub fn modules_are_hashed_by_names(hashed: &Module)
     ensures { ⟦<Module as Hash>⟧.hash_input hashed.now
         ≡ fed.str hashed.now.name ++ fed.slice (λ entry. fed.str entry.0) hashed.now.contents.entries ++ fed.str hashed.now.docs }
-{}
-
-/// A copied document equals its original, and reads as the same definitions.
-pub fn copied_documents_are_equal(document: &Document, copy: &Document)
-    requires { ⟦<Document as Duplicate>⟧.is_copy document.now copy.now }
-    ensures equal { IsTrue (⟦<Document as PartialEq>⟧.eq copy.now document.now) }
-    ensures trees { map definition_tree copy.now.definitions ≡ map definition_tree document.now.definitions }
-{}
-
-/// A copied module equals its original, and reads as the same items.
-pub fn copied_modules_are_equal(original: &Module, copy: &Module)
-    requires { ⟦<Module as Duplicate>⟧.is_copy original.now copy.now }
-    ensures equal { IsTrue (⟦<Module as PartialEq>⟧.eq copy.now original.now) }
-    ensures tree { module_tree copy.now ≡ module_tree original.now }
-{}
-
-/// Copied definitions equal the original ones, and read as the same trees.
-pub fn copied_definitions_are_equal(definitions: &Definitions, copy: &Definitions)
-    requires { ⟦<Definitions as Duplicate>⟧.is_copy definitions.now copy.now }
-    ensures equal { IsTrue (⟦<Definitions as PartialEq>⟧.eq copy.now definitions.now) }
-    ensures trees { map definition_tree copy.now ≡ map definition_tree definitions.now }
-{}
-
-/// A copied definition equals its original, and reads as the same tree.
-pub fn copied_definition_is_equal(definition: &Definition, copy: &Definition)
-    requires { ⟦<Definition as Duplicate>⟧.is_copy definition.now copy.now }
-    ensures equal { IsTrue (⟦<Definition as PartialEq>⟧.eq copy.now definition.now) }
-    ensures tree { definition_tree copy.now ≡ definition_tree definition.now }
-{}
-
-/// Copied entries equal the original ones.
-pub fn copied_entries_are_equal(entries: &Entries, copy: &Entries)
-    requires { ⟦<Entries as Duplicate>⟧.is_copy entries.now copy.now }
-    ensures { IsTrue (⟦<Entries as PartialEq>⟧.eq copy.now entries.now) }
-{}
-
-/// A cloned entry equals its original, and reads as the same tree.
-pub fn cloned_entry_is_equal(entry: &Entry, copy: &Entry)
-    requires { ⟦<Entry as Clone>⟧.is_clone entry.now copy.now }
-    ensures equal { IsTrue (⟦<Entry as PartialEq>⟧.eq copy.now entry.now) }
-    ensures tree { entry_tree copy.now ≡ entry_tree entry.now }
 {}
 
 /// The computed test of values holds exactly of the values of a type.

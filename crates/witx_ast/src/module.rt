@@ -1,13 +1,14 @@
 //! Modules: imports and functions, in order and by name.
 
-ghost use Rattle.std.specs.Prelude.{◌≡◌, map, option_map};
-ghost use Rattle.std.specs.List.{filter_map};
+ghost use Rattle.std.specs.{Prelude.{◌≡◌, map, option_map}, List.{filter_map}};
 ghost use Rattle.witx_ast.specs.ItemKinds.{import_kind, func_kind};
 ghost use Rattle.witx_ast.specs.Items.{item_tree, import_called, func_called, ItemsFit};
 ghost use Rattle.witx_ast.specs.Functions.{func_tree};
 
+use crate::copying::copied;
 use crate::function::InterfaceFunc;
 use crate::held::Held;
+use crate::holding::held_by;
 use crate::kinds::{Kind, OfKind};
 use std::marker::Model;
 use std::rc::Rc;
@@ -51,10 +52,7 @@ impl Kind<ModuleDefinition> for Rc<ModuleImport> {
     ghost of_kind = { import_kind };
 
     fn of(definition: &ModuleDefinition) -> Option<&Rc<ModuleImport>> {
-        match definition {
-            ModuleDefinition::Import(import) => Some(import),
-            ModuleDefinition::Func(_) => None,
-        }
+        held_by!(definition, ModuleDefinition::Import(import) => import)
     }
 }
 
@@ -62,10 +60,7 @@ impl Kind<ModuleDefinition> for Rc<InterfaceFunc> {
     ghost of_kind = { func_kind };
 
     fn of(definition: &ModuleDefinition) -> Option<&Rc<InterfaceFunc>> {
-        match definition {
-            ModuleDefinition::Func(func) => Some(func),
-            ModuleDefinition::Import(_) => None,
-        }
+        held_by!(definition, ModuleDefinition::Func(func) => func)
     }
 }
 
@@ -82,8 +77,7 @@ pub(crate) struct Contents {
 }
 
 impl Model for Contents {
-    ghost use Rattle.witx_ast.specs.Entries.{Held};
-    ghost use Rattle.witx_ast.specs.Items.{ItemsFit};
+    ghost use Rattle.witx_ast.specs.{Entries.{Held}, Items.{ItemsFit}};
     ghost use Rattle.witx_ast.specs.declared.module.ModuleDefinition.{ModuleDefinition};
     ghost use Rattle.witx_ast.specs.declared.module.ModuleEntry.{ModuleEntry};
     ghost use Rattle.witx_ast.specs.contracts.module.ModuleDefinition as d;
@@ -107,9 +101,7 @@ impl Duplicate for Contents {
     ghost is_copy = { IsCopyOf HoldSameItem HoldSameItemEntry };
 
     fn copy(&self) -> Result<Contents, OutOfMemory> {
-        Ok(Contents {
-            held: self.held.copy()?,
-        })
+        copied!(self => Contents { held })
     }
 }
 
@@ -133,19 +125,13 @@ impl Contents {
     fn import(&self, name: &Id) -> Option<&Rc<ModuleImport>>
         ensures { option_map (λ i. i.now.value) result ≡ import_called (map item_tree self.now.definitions) name.now }
     {
-        match self.held.entry(name) {
-            Some(ModuleEntry::Import(import)) => Some(import),
-            _ => None,
-        }
+        held_by!(self.held.entry(name), Some(ModuleEntry::Import(import)) => import)
     }
 
     fn func(&self, name: &Id) -> Option<&Rc<InterfaceFunc>>
         ensures { option_map (λ f. func_tree f.now.value) result ≡ func_called (map item_tree self.now.definitions) name.now }
     {
-        match self.held.entry(name) {
-            Some(ModuleEntry::Func(func)) => Some(func),
-            _ => None,
-        }
+        held_by!(self.held.entry(name), Some(ModuleEntry::Func(func)) => func)
     }
 }
 
@@ -222,10 +208,6 @@ impl Duplicate for Module {
     ghost is_copy = { λ m c. (c.name ≡ m.name) × (c.docs ≡ m.docs) × IsCopyOf HoldSameItem HoldSameItemEntry m.contents c.contents };
 
     fn copy(&self) -> Result<Module, OutOfMemory> {
-        Ok(Module {
-            name: self.name.copy()?,
-            contents: self.contents.copy()?,
-            docs: self.docs.copy()?,
-        })
+        copied!(self => Module { name, contents, docs })
     }
 }

@@ -1,10 +1,8 @@
 //! What is read off a type: the type behind its names, its kind, flags, cases.
 #![tactic(auto, using(crate::proofs::TreeKinds::kind_rules))]
 
-ghost use Rattle.std.specs.Prelude.{◌≡◌, true, false, map, option_map};
-ghost use Rattle.std.specs.Option.{option_copied};
-ghost use Rattle.witx_ast.specs.Tree.{behind};
-ghost use Rattle.witx_ast.specs.Views.{tree_of, datatype_tree, named_tree, case_arm};
+ghost use Rattle.std.specs.{Prelude.{◌≡◌, true, false, map, option_map}, Option.{option_copied}};
+ghost use Rattle.witx_ast.specs.{Tree.{behind}, Views.{tree_of, datatype_tree, named_tree, case_arm}};
 ghost use Rattle.witx_ast.specs.Words.{is_named, kind_word, is_tuple_kind, flags_repr, all_arms_bare, expected_payloads, is_bool_arms};
 ghost use Rattle.witx_ast.specs.declared.types.RecordDatatype.{out-RecordDatatype};
 ghost use Rattle.witx_ast.specs.declared.types.Variant.{out-Variant};

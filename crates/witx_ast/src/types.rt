@@ -57,9 +57,7 @@ pub enum TypeRef {
 // By their trees, so that the derived comparisons of the types below say the same.
 impl PartialEq for TypeRef {
     ghost use Rattle.std.specs.Cmp.{on_per, partial_equiv_from_equiv};
-    ghost use Rattle.witx_ast.specs.Views.{tree_of};
-    ghost use Rattle.witx_ast.specs.Same.{same_tree};
-    ghost use Rattle.witx_ast.specs.SameLaws.{tree_equivalence};
+    ghost use Rattle.witx_ast.specs.{Views.{tree_of}, Same.{same_tree}, SameLaws.{tree_equivalence}};
 
     ghost eq = { λ a b. same_tree (tree_of a) (tree_of b) };
 
@@ -89,16 +87,14 @@ impl PartialEq for TypeRef {
 
 impl Eq for TypeRef {
     ghost use Rattle.std.specs.Cmp.{on_equiv};
-    ghost use Rattle.witx_ast.specs.Views.{tree_of};
-    ghost use Rattle.witx_ast.specs.SameLaws.{tree_equivalence};
+    ghost use Rattle.witx_ast.specs.{Views.{tree_of}, SameLaws.{tree_equivalence}};
 
     ghost laws = { on_equiv tree_of tree_equivalence };
 }
 
 // As it is written: equal types hash alike.
 impl Hash for TypeRef {
-    ghost use Rattle.witx_ast.specs.Views.{tree_of};
-    ghost use Rattle.witx_ast.specs.Written.{type_writes, written-alike};
+    ghost use Rattle.witx_ast.specs.{Views.{tree_of}, Written.{type_writes, written-alike}};
 
     ghost hash_input = { λ t. type_writes (tree_of t) };
 

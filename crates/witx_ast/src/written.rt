@@ -2,8 +2,7 @@
 //! types apart without comparing each with each, and what a name stands for isn't gone through.
 #![tactic(auto, using(crate::proofs::Feeding::feed_rules))]
 
-ghost use Rattle.std.specs.Prelude.{◌≡◌, map, option_map};
-ghost use Rattle.std.specs.List.{fold};
+ghost use Rattle.std.specs.{Prelude.{◌≡◌, map, option_map}, List.{fold}};
 ghost use Rattle.witx_ast.specs.Tree.{fields_of, arms_of};
 ghost use Rattle.witx_ast.specs.Views.{tree_of, datatype_tree, member_field, case_arm};
 ghost use Rattle.witx_ast.specs.Written.{type_writes, member_writes, members_writes, payload_writes, case_writes, cases_writes};

@@ -23,9 +23,13 @@ abbrev pub unknown_source : Part → Field → Unknown
 unknown_source Part.Params = of_old
 unknown_source Part.Results = of_new
 
+-- the part whose values go the other way: its sources are the targets here
+abbrev pub opposite : Part → Part
+opposite Part.Params = Part.Results
+opposite Part.Results = Part.Params
+
 abbrev pub unknown_target : Part → Field → Unknown
-unknown_target Part.Params = of_new
-unknown_target Part.Results = of_old
+unknown_target part = unknown_source (opposite part)
 
 -- what a table holds at a name
 abbrev pub named : List (List ℕ × Bor InterfaceFuncParam) → List ℕ → Option Field

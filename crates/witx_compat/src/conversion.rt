@@ -2,8 +2,7 @@
 #![tactic(auto, using(crate::proofs::Mapping::convert_rules))]
 
 ghost use Rattle.std.specs.Prelude.{◌≡◌, IfOk, option_map};
-ghost use Rattle.witx_ast.specs.Views.{tree_of, datatype_tree};
-ghost use Rattle.witx_ast.specs.Functions.{param_field};
+ghost use Rattle.witx_ast.specs.{Views.{tree_of, datatype_tree}, Functions.{param_field}};
 ghost use Rattle.witx_compat.specs.Conversions.{targets, converted, conversion_answer, param_mapped, result_mapped, is_compatible, unknown_word};
 ghost use Rattle.witx_compat.specs.Views.{conversion_view, mapped_view, unknown_view, unknown_param};
 

@@ -1,8 +1,7 @@
 //! Copies of mappings and of what they are made of.
 #![tactic(auto, using(crate::proofs::Copied::copy_rules))]
 
-ghost use Rattle.std.specs.Prelude.{◌≡◌};
-ghost use Rattle.std.specs.List.{AllZip};
+ghost use Rattle.std.specs.{Prelude.{◌≡◌}, List.{AllZip}};
 ghost use Rattle.witx_compat.specs.Views.{conversion_view, mapped_view, unknown_view, function_view, IsModuleCopy};
 
 use crate::conversion::{ParamPolyfill, ParamUnknown, TypePolyfill};

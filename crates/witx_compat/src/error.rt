@@ -1,10 +1,10 @@
 //! Why modules can't be mapped to each other.
 
 ghost use Rattle.std.specs.Prelude.{◌≡◌};
+ghost use Rattle.witx_compat.specs.declared.error.PolyfillError.{PolyfillError};
 
-use std::alloc::AllocError;
 use thiserror::Error;
-use witx_base::{Id, OutOfMemory};
+use witx_base::{Id, MemoryRefused};
 
 /// Why modules can't be mapped to each other.
 #[derive(PartialEq, Eq, Debug, Drop, Error)]
@@ -20,22 +20,10 @@ pub enum PolyfillError {
     OutOfMemory,
 }
 
-impl From<OutOfMemory> for PolyfillError {
-    ghost use Rattle.witx_compat.specs.declared.error.PolyfillError.TheVariants as error;
+impl<E: MemoryRefused> From<E> for PolyfillError {
+    ghost from_gives = { λ _ e. e ≡ PolyfillError.OutOfMemory };
 
-    ghost from_gives = { λ _ e. e ≡ error.OutOfMemory };
-
-    fn from(_refused: OutOfMemory) -> PolyfillError {
-        PolyfillError::OutOfMemory
-    }
-}
-
-impl From<AllocError> for PolyfillError {
-    ghost use Rattle.witx_compat.specs.declared.error.PolyfillError.TheVariants as error;
-
-    ghost from_gives = { λ _ e. e ≡ error.OutOfMemory };
-
-    fn from(_refused: AllocError) -> PolyfillError {
+    fn from(_refused: E) -> PolyfillError {
         PolyfillError::OutOfMemory
     }
 }

@@ -1,8 +1,7 @@
 //! An old function by the new one of its name.
 #![tactic(auto, using(crate::proofs::Mapping::mapping_rules))]
 
-ghost use Rattle.std.specs.Prelude.{◌≡◌, IfOk, map};
-ghost use Rattle.std.specs.List.{list_all};
+ghost use Rattle.std.specs.{Prelude.{◌≡◌, IfOk, map}, List.{list_all}};
 ghost use Rattle.witx_ast.specs.Functions.{func_tree};
 ghost use Rattle.witx_compat.specs.Conversions.{is_compatible};
 ghost use Rattle.witx_compat.specs.Polyfills.{function_mapped, is_fully_compatible};

@@ -3,8 +3,7 @@
 
 ghost use Rattle.std.specs.Prelude.{◌≡◌, List, IfOk, OnOk, map, option_map, ◌++◌, ◌∷◌, []};
 ghost use Rattle.std.specs.Option.{option_to_list};
-ghost use Rattle.witx_ast.specs.Functions.{param_field};
-ghost use Rattle.witx_ast.specs.Tree.{Field};
+ghost use Rattle.witx_ast.specs.{Functions.{param_field}, Tree.{Field}};
 ghost use Rattle.witx_compat.specs.Polyfills.{paired, without, when_none};
 ghost use Rattle.witx_compat.specs.Halves.{pair_of, target_of, unknown_source, unknown_target, named, IsTable};
 ghost use Rattle.witx_compat.specs.Views.{mapped_view, unknown_view};
@@ -98,40 +97,24 @@ fn all_unknown(
         ++ without (unknown_target part) (map (target_of part) (map mapped_view mapped.now)) (map param_field targets.now)) }
 {
     let taken = table_of_targets(alloc, part, mapped)?;
-    let mut made = unknown_sources(alloc, part, by_name, sources)?;
-    put_targets(&mut made, part, &taken, targets)?;
+    let mut made = Items::new(alloc);
+    put_unknown(&mut made, part, by_name, sources)?;
+    put_unknown(&mut made, part.opposite(), &taken, targets)?;
     Ok(made)
 }
 
-/// The sources whose name a table lacks.
-fn unknown_sources(
-    alloc: Global,
+/// Appends the sources whose name a table lacks.
+fn put_unknown(
+    made: &mut ParamUnknowns,
     part: Part,
     by_name: &Table<'_>,
     sources: &[InterfaceFuncParam],
-) -> Result<ParamUnknowns, OutOfMemory>
-    ensures { (targets : List Field) → IsTable by_name.now targets
-        → IfOk result (λ made. map unknown_view made ≡ without (unknown_source part) targets (map param_field sources.now)) }
-{
-    let mut made = Items::new(alloc);
-    for source in sources {
-        put_source(&mut made, part, by_name, source)?;
-    }
-    Ok(made)
-}
-
-/// Appends the targets whose name a table lacks.
-fn put_targets(
-    made: &mut ParamUnknowns,
-    part: Part,
-    taken: &Table<'_>,
-    targets: &[InterfaceFuncParam],
 ) -> Result<(), OutOfMemory>
-    ensures { (fields : List Field) → IsTable taken.now fields
-        → OnOk result (map unknown_view made.new ≡ map unknown_view made.old ++ without (unknown_target part) fields (map param_field targets.now)) }
+    ensures { (targets : List Field) → IsTable by_name.now targets → OnOk result (map unknown_view made.new
+        ≡ map unknown_view made.old ++ without (unknown_source part) targets (map param_field sources.now)) }
 {
-    for target in targets {
-        put_target(made, part, taken, target)?;
+    for source in sources {
+        put_source(made, part, by_name, source)?;
     }
     Ok(())
 }
@@ -150,22 +133,5 @@ fn put_source(
         return Ok(());
     }
     made.push(part.without_target(source)?)?;
-    Ok(())
-}
-
-/// Appends a target, unless its name is mapped.
-fn put_target(
-    made: &mut ParamUnknowns,
-    part: Part,
-    taken: &Table<'_>,
-    target: &InterfaceFuncParam,
-) -> Result<(), OutOfMemory>
-    ensures { OnOk result (map unknown_view made.new ≡ map unknown_view made.old
-        ++ when_none (named taken.now target.now.name) (unknown_target part (param_field target.now))) }
-{
-    if is_named(taken, &target.name) {
-        return Ok(());
-    }
-    made.push(part.without_source(target)?)?;
     Ok(())
 }

@@ -2,8 +2,7 @@
 #![tactic(auto, using(crate::proofs::Gathering::module_rules))]
 
 ghost use Rattle.std.specs.Prelude.{◌≡◌, IfOk, MatchResult, map, Ok};
-ghost use Rattle.witx_ast.specs.Items.{item_tree, funcs_of};
-ghost use Rattle.witx_ast.specs.Functions.{func_tree};
+ghost use Rattle.witx_ast.specs.{Items.{item_tree, funcs_of}, Functions.{func_tree}};
 ghost use Rattle.witx_ast.specs.Definitions.{definition_tree, module_tree};
 ghost use Rattle.witx_compat.specs.Polyfills.{all_or_refusal, function_answer, module_answer, pair_answer, polyfill_answer};
 ghost use Rattle.witx_compat.specs.Gathered.{put_before};

@@ -1,8 +1,7 @@
 //! The conversions of mapped functions, each once.
 #![tactic(auto, using(crate::proofs::OnceLaws::once_rules))]
 
-ghost use Rattle.std.specs.Prelude.{◌≡◌, IfOk, OnOk, map, []};
-ghost use Rattle.std.specs.List.{flat_map};
+ghost use Rattle.std.specs.{Prelude.{◌≡◌, IfOk, OnOk, map, []}, List.{flat_map}};
 ghost use Rattle.witx_compat.specs.Once.{each_once, function_conversions, module_conversions};
 ghost use Rattle.witx_compat.specs.Seen.{TellsPairs, with_conversion, with_conversions};
 ghost use Rattle.witx_compat.specs.Views.{conversion_view, mapped_view, function_view, module_view};

@@ -3,7 +3,7 @@
 
 ghost use Rattle.std.specs.Prelude.{◌≡◌, IfOk};
 ghost use Rattle.witx_ast.specs.Functions.{param_field};
-ghost use Rattle.witx_compat.specs.Halves.{pair_of, target_of, unknown_source, unknown_target};
+ghost use Rattle.witx_compat.specs.Halves.{pair_of, target_of, unknown_source, opposite};
 ghost use Rattle.witx_compat.specs.Views.{mapped_view, unknown_view};
 
 use crate::conversion::{ParamPolyfill, ParamUnknown};
@@ -54,13 +54,13 @@ impl Part {
         }
     }
 
-    /// A target that has no source.
-    pub fn without_source(self, target: &InterfaceFuncParam) -> Result<ParamUnknown, OutOfMemory>
-        ensures { IfOk result (λ made. unknown_view made ≡ unknown_target self (param_field target.now)) }
+    /// The part whose values go the other way: its sources are the targets here.
+    pub fn opposite(self) -> Part
+        ensures { result ≡ opposite self }
     {
         match self {
-            Part::Params => Ok(ParamUnknown::New(target.copy()?)),
-            Part::Results => Ok(ParamUnknown::Old(target.copy()?)),
+            Part::Params => Part::Results,
+            Part::Results => Part::Params,
         }
     }
 }

@@ -3,11 +3,11 @@
 
 ghost use Rattle.std.specs.Prelude.{◌≡◌, ◌&&◌, false, length, true};
 ghost use Rattle.witx_ast.specs.Plain.{plain};
-ghost use Rattle.witx_base.specs.SameBytes.{same_bytes};
 ghost use Rattle.witx_ast.specs.Views.{tree_of, cases_plain, datatype_tree, named_tree, record_tree, variant_tree, members_plain};
-ghost use Rattle.witx_ast.specs.contracts.types.RecordKindPartialEq.TheImpl as kinds;
 ghost use Rattle.witx_ast.specs.declared.types.RecordDatatype.{out-RecordDatatype};
 ghost use Rattle.witx_ast.specs.declared.types.Variant.{out-Variant};
+ghost use Rattle.witx_base.specs.SameBytes.{same_bytes};
+ghost use Rattle.witx_ast.specs.contracts.types.RecordKindPartialEq.TheImpl as kinds;
 ghost use Rattle.witx_compat.specs.declared.answer.RepEquality.{RepEquality};
 ghost use Rattle.witx_compat.specs.Answers.{builtin_by, repr_by, worse};
 ghost use Rattle.witx_compat.specs.Heads.{all_placed, has_misplaced, same_names};

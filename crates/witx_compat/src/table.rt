@@ -4,8 +4,7 @@
 ghost use Rattle.std.specs.Prelude.{◌≡◌, ℕ, List, IfOk, OnOk, map, is_some, None};
 ghost use Rattle.witx_ast.specs.Functions.{param_field};
 ghost use Rattle.witx_base.specs.SameBytes.{same_bytes};
-ghost use Rattle.witx_compat.specs.Polyfills.{prefer};
-ghost use Rattle.witx_compat.specs.Halves.{named, IsTable, earlier_field, target_of};
+ghost use Rattle.witx_compat.specs.{Polyfills.{prefer}, Halves.{named, IsTable, earlier_field, target_of}};
 ghost use Rattle.witx_compat.specs.Views.{mapped_view};
 
 use crate::conversion::ParamPolyfill;

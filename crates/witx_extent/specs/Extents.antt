@@ -1,8 +1,9 @@
 -- How much there is to a type where each of its names is looked through wherever it is mentioned.
-use Rattle.std.specs.Prelude.{ℕ, ◌+◌, List, [], ◌∷◌}
+use Rattle.std.specs.Prelude.{◌≡◌, ℕ, ◌+◌, List, [], ◌∷◌, Result, OnOk}
 use Rattle.witx_ast.specs.Tree.{Tree, Fields, Arms}
 use Rattle.witx_ast.specs.Views.{tree_of}
 use Rattle.witx_ast.specs.declared.function.InterfaceFuncParam.{InterfaceFuncParam}
+use Rattle.witx_extent.specs.declared.allowance.Allowance.{Allowance}
 
 abbrev mutual
   -- one for each name and for each type that is written out, at each of its mentions, and one for each case
@@ -31,3 +32,7 @@ abbrev mutual
 abbrev pub params_extent : List InterfaceFuncParam → ℕ
 params_extent [] = 0
 params_extent (p ∷ ps) = extent (tree_of p.tref) + params_extent ps
+
+-- what is done takes so much off what was left
+abbrev pub TakesOff : {R E : Type 0} → Result R E → (before now : Allowance) → ℕ → Type 0
+TakesOff r before now number = OnOk r (now.left + number ≡ before.left)

@@ -1,12 +1,11 @@
 //! What may still be gone through.
 #![tactic(auto, using(crate::proofs::Counting::extent_rules))]
 
-ghost use Rattle.std.specs.Prelude.{◌≡◌, ◌+◌, OnOk};
+ghost use Rattle.std.specs.Prelude.{◌≡◌};
 ghost use Rattle.witx_ast.specs.Views.{tree_of};
-ghost use Rattle.witx_extent.specs.Extents.{extent, params_extent};
-ghost use Rattle.witx_extent.specs.Waiting.{own_extent};
+ghost use Rattle.witx_extent.specs.{Extents.{TakesOff, extent, params_extent}, Waiting.{own_extent}};
 
-use crate::parts::{Waiting, own_extent, put_parts};
+use crate::parts::{Waiting, first_waiting, own_extent, put_parts};
 use std::alloc::Global;
 use witx_ast::{InterfaceFuncParam, TypeRef};
 use witx_base::OutOfMemory;
@@ -43,14 +42,9 @@ impl Allowance {
 
     /// Takes what there is to a type. Want of memory where that is more than is left, or where it is deeper.
     pub fn take(&mut self, alloc: Global, tref: &TypeRef) -> Result<(), OutOfMemory>
-        ensures { OnOk result (self.new.left + extent (tree_of tref.now) ≡ self.old.left) }
+        ensures { TakesOff result self.old self.new (extent (tree_of tref.now)) }
     {
-        let mut waiting = Vec::new(alloc);
-        waiting.push(Waiting {
-            tref,
-            names: 0,
-            types: 0,
-        })?;
+        let mut waiting = first_waiting(alloc, tref)?;
         while let Some(next) = waiting.pop() {
             self.take_one(next)?;
             put_parts(&mut waiting, next)?;
@@ -64,7 +58,7 @@ impl Allowance {
         alloc: Global,
         params: &[InterfaceFuncParam],
     ) -> Result<(), OutOfMemory>
-        ensures { OnOk result (self.new.left + params_extent params.now ≡ self.old.left) }
+        ensures { TakesOff result self.old self.new (params_extent params.now) }
     {
         for param in params {
             self.take(alloc, &param.tref)?;
@@ -81,7 +75,7 @@ impl Allowance {
 
     /// Takes so much. Want of memory where that is more than is left.
     pub fn take_number(&mut self, number: usize) -> Result<(), OutOfMemory>
-        ensures { OnOk result (self.new.left + number ≡ self.old.left) }
+        ensures { TakesOff result self.old self.new number }
     {
         if number > self.left {
             return Err(OutOfMemory);
@@ -92,7 +86,7 @@ impl Allowance {
 
     /// Takes what there is to a type beside its parts.
     pub(crate) fn take_one(&mut self, one: Waiting<'_>) -> Result<(), OutOfMemory>
-        ensures { OnOk result (self.new.left + own_extent (tree_of one.entry.tref.now) ≡ self.old.left) }
+        ensures { TakesOff result self.old self.new (own_extent (tree_of one.entry.tref.now)) }
     {
         let own = own_extent(one.tref);
         if one.names > self.names || one.types > self.types || own > self.left {

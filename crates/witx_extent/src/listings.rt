@@ -3,8 +3,8 @@
 use crate::allowance::Allowance;
 use std::alloc::Global;
 use witx_ast::{
-    Case, Datatype, Definition, Document, InterfaceFunc, InterfaceFuncParam, Module,
-    ModuleDefinition, RecordMember, TypeRef, Variant,
+    Case, Datatype, Definition, Document, InterfaceFunc, InterfaceFuncParam, Module, RecordMember,
+    TypeRef, Variant,
 };
 use witx_base::OutOfMemory;
 
@@ -34,14 +34,8 @@ fn take_functions(
     owner: &Module,
 ) -> Result<(), OutOfMemory> {
     let name = owner.name.len();
-    for definition in owner.definitions().as_slice() {
-        match definition {
-            ModuleDefinition::Func(func) => {
-                take_function(allowance, alloc, name, func)?;
-                continue;
-            }
-            ModuleDefinition::Import(_) => continue,
-        }
+    for func in owner.funcs() {
+        take_function(allowance, alloc, name, func)?;
     }
     Ok(())
 }

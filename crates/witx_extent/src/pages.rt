@@ -3,8 +3,8 @@
 use crate::allowance::Allowance;
 use std::alloc::Global;
 use witx_ast::{
-    Datatype, Definition, Document, InterfaceFunc, InterfaceFuncParam, Module, ModuleDefinition,
-    NamedType, RecordMember, TypeRef,
+    Datatype, Definition, Document, InterfaceFunc, InterfaceFuncParam, Module, NamedType,
+    RecordMember, TypeRef,
 };
 use witx_base::{Duplicate, NameMap, OutOfMemory};
 
@@ -40,14 +40,8 @@ fn take_functions(
     alloc: Global,
     owner: &Module,
 ) -> Result<(), OutOfMemory> {
-    for definition in owner.definitions().as_slice() {
-        match definition {
-            ModuleDefinition::Func(func) => {
-                take_function(allowance, alloc, func)?;
-                continue;
-            }
-            ModuleDefinition::Import(_) => continue,
-        }
+    for func in owner.funcs() {
+        take_function(allowance, alloc, func)?;
     }
     Ok(())
 }

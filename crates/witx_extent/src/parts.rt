@@ -1,11 +1,12 @@
 //! The parts of a type, one below the other.
 #![tactic(auto, using(crate::proofs::Counting::extent_rules))]
 
-ghost use Rattle.std.specs.Prelude.{◌≡◌, ◌+◌, OnOk};
+ghost use Rattle.std.specs.Prelude.{◌≡◌, ◌+◌, IfOk, OnOk};
 ghost use Rattle.witx_ast.specs.Views.{tree_of, datatype_tree};
 ghost use Rattle.witx_extent.specs.Extents.{extent};
 ghost use Rattle.witx_extent.specs.Waiting.{waiting_extent, own_extent, members_extent, payloads_extent, case_extent};
 
+use std::alloc::Global;
 use witx_ast::{Case, Datatype, RecordMember, TypeRef};
 use witx_base::OutOfMemory;
 
@@ -15,6 +16,15 @@ pub struct Waiting<'a> {
     pub tref: &'a TypeRef,
     pub names: usize,
     pub types: usize,
+}
+
+/// A type alone, with nothing around it.
+pub fn first_waiting<'a>(alloc: Global, tref: &'a TypeRef) -> Result<Vec<Waiting<'a>>, OutOfMemory>
+    ensures { IfOk result (λ waiting. waiting_extent waiting.items ≡ extent (tree_of tref.now)) }
+{
+    let mut waiting = Vec::new(alloc);
+    put_one(&mut waiting, tref, 0, 0)?;
+    Ok(waiting)
 }
 
 /// What there is to a type beside its parts: the type itself, and one for each case.

@@ -4,7 +4,7 @@ ghost use Rattle.std.specs.Prelude.{◌≤◌, OnOk};
 
 use crate::allowance::Allowance;
 use std::alloc::Global;
-use witx_ast::{Case, Datatype, RecordMember, TypeRef, Variant};
+use witx_ast::{Datatype, RecordMember, TypeRef, Variant};
 use witx_base::OutOfMemory;
 
 /// What a line takes beside the names in it, in bytes.
@@ -165,18 +165,9 @@ fn put_variant<'a>(
         return Ok(());
     }
     for case in variant.cases.as_slice() {
-        put_case(waiting, whole, case)?;
+        if let Some(tref) = &case.tref {
+            put_part(waiting, whole, case.name.as_str(), tref)?;
+        }
     }
     Ok(())
-}
-
-fn put_case<'a>(
-    waiting: &mut Vec<Shown<'a>>,
-    whole: Shown<'a>,
-    case: &'a Case,
-) -> Result<(), OutOfMemory> {
-    match &case.tref {
-        Some(tref) => put_part(waiting, whole, case.name.as_str(), tref),
-        None => Ok(()),
-    }
 }

@@ -1,12 +1,11 @@
 //! What a type says beside its structure.
 #![tactic(auto, using(crate::proofs::Counting::extent_rules))]
 
-ghost use Rattle.std.specs.Prelude.{◌≡◌, ◌+◌, OnOk};
 ghost use Rattle.witx_ast.specs.Views.{tree_of};
-ghost use Rattle.witx_extent.specs.Extents.{extent};
+ghost use Rattle.witx_extent.specs.Extents.{TakesOff, extent};
 
 use crate::allowance::Allowance;
-use crate::parts::{Waiting, put_parts};
+use crate::parts::{first_waiting, put_parts};
 use std::alloc::Global;
 use witx_ast::{Case, Datatype, RecordMember, TypeRef};
 use witx_base::OutOfMemory;
@@ -21,14 +20,9 @@ impl Allowance {
         alloc: Global,
         tref: &TypeRef,
     ) -> Result<(), OutOfMemory>
-        ensures { OnOk result (self.new.left + extent (tree_of tref.now) ≡ self.old.left) }
+        ensures { TakesOff result self.old self.new (extent (tree_of tref.now)) }
     {
-        let mut waiting = Vec::new(alloc);
-        waiting.push(Waiting {
-            tref,
-            names: 0,
-            types: 0,
-        })?;
+        let mut waiting = first_waiting(alloc, tref)?;
         while let Some(next) = waiting.pop() {
             self.take_one(next)?;
             texts.take_number(said_bytes(next.tref))?;

@@ -24,13 +24,7 @@ use Rattle.witx_layout.proofs.Onward.{layout_rules}
 -- a type is a node at least
 pub some-nodes : (t : Tree) → 1 ≤ type_nodes t
 some-nodes (Tree.named name t docs) = omega arith
-some-nodes (Tree.builtin b) = omega arith
-some-nodes Tree.handle = omega arith
-some-nodes (Tree.list_of t) = omega arith
-some-nodes (Tree.pointer_to t) = omega arith
-some-nodes (Tree.const_pointer_to t) = omega arith
-some-nodes (Tree.record_of kind ms) = omega arith
-some-nodes (Tree.variant_of repr cs) = omega arith
+some-nodes _ = omega arith
 
 pub record-known : (table : List (List ℕ × SizeAlign)) (r : RecordDatatype) → Knows table (record_tree r) → KnowsFields table (fields_of (map member_field (out-RecordDatatype r).members))
 record-known table r h = rw (tree-RecordDatatype r) at h

@@ -57,7 +57,7 @@ pub nothing-lined : Lined [] []
 nothing-lined = nothing-kept TellsLines
 
 -- types that are equal behind their names have one plain tree
-pub behind-same : (u t : Tree) → behind u ≡ behind t → plain u ≡ plain t
+behind-same : (u t : Tree) → behind u ≡ behind t → plain u ≡ plain t
 behind-same u t b = sym (plain-behind u) ∙ ap plain b ∙ plain-behind t
 
 -- what is kept of a name that stands before
@@ -68,24 +68,27 @@ name-kept Has entry o u t h e b = subst (Has entry) (behind-same u t b) (subst (
 lined-name : (lines : List (List ℕ × List ℕ)) (before : List DefinitionTree) → Lined lines before → (t : Tree) → NamesStand before t → HasLines lines t
 unfolding KeptBy
 lined-name lines before h (Tree.named n t d) s = name-kept TellsLines (found lines n) (typename_called before n) s.0 t (h n) s.1 s.2
-lined-name lines before h (Tree.builtin b) s = tt
-lined-name lines before h Tree.handle s = tt
-lined-name lines before h (Tree.list_of t) s = tt
-lined-name lines before h (Tree.pointer_to t) s = tt
-lined-name lines before h (Tree.const_pointer_to t) s = tt
-lined-name lines before h (Tree.record_of k ms) s = tt
-lined-name lines before h (Tree.variant_of r cs) s = tt
+lined-name lines before h _ s = tt
 
 definition-lined : (lines : List (List ℕ × List ℕ)) (before : List DefinitionTree) → Lined lines before → (d : DefinitionTree) → DefinitionStands before d → DefinitionHasLines lines d
 definition-lined lines before h (typename_of n t docs) s = lined-name lines before h t s
 definition-lined lines before h (module_of m) s = tt
 definition-lined lines before h (constant_of c) s = tt
 
-mutual
-  unfolding KeptBy
+-- the table tells the layout of each typename that stands before
+abbrev pub HasAll : List (List ℕ × SizeAlign) → List DefinitionTree → Type 0
+HasAll table before = (name : List ℕ) → (u : Tree) → typename_called before name ≡ Some u → Tells (found table name) (plain u)
 
-  type-known : (table : List (List ℕ × SizeAlign)) (before : List DefinitionTree) → Tabled table before → (t : Tree) → NamesStand before t → Knows table t
-  type-known table before h (Tree.named n t d) s = name-kept Tells (found table n) (typename_called before n) s.0 t (h n) s.1 s.2
+behind-told : (entry : Option SizeAlign) (u t : Tree) → behind u ≡ behind t → Tells entry (plain u) → Tells entry (plain t)
+behind-told entry u t b h = subst (Tells entry) (behind-same u t b) h
+
+pub has-all : (table : List (List ℕ × SizeAlign)) (ds : List DefinitionTree) → Tabled table ds → HasAll table ds
+unfolding KeptBy
+has-all table ds h n u c = subst (HasOf Tells (found table n)) c (h n)
+
+mutual
+  pub type-known : (table : List (List ℕ × SizeAlign)) (before : List DefinitionTree) → HasAll table before → (t : Tree) → NamesStand before t → Knows table t
+  type-known table before h (Tree.named n t d) s = behind-told (found table n) s.0 t s.2 (h n s.0 s.1)
   type-known table before h (Tree.builtin b) s = tt
   type-known table before h Tree.handle s = tt
   type-known table before h (Tree.list_of t) s = tt
@@ -94,17 +97,17 @@ mutual
   type-known table before h (Tree.record_of k ms) s = fields-known table before h ms s
   type-known table before h (Tree.variant_of r cs) s = arms-known table before h cs s
 
-  fields-known : (table : List (List ℕ × SizeAlign)) (before : List DefinitionTree) → Tabled table before → (ms : Fields) → FieldNamesStand before ms → KnowsFields table ms
+  fields-known : (table : List (List ℕ × SizeAlign)) (before : List DefinitionTree) → HasAll table before → (ms : Fields) → FieldNamesStand before ms → KnowsFields table ms
   fields-known table before h Fields.no_fields s = tt
   fields-known table before h (Fields.field n t d ms) s = (type-known table before h t s.0, fields-known table before h ms s.1)
 
-  arms-known : (table : List (List ℕ × SizeAlign)) (before : List DefinitionTree) → Tabled table before → (cs : Arms) → ArmNamesStand before cs → KnowsArms table cs
+  arms-known : (table : List (List ℕ × SizeAlign)) (before : List DefinitionTree) → HasAll table before → (cs : Arms) → ArmNamesStand before cs → KnowsArms table cs
   arms-known table before h Arms.no_arms s = tt
   arms-known table before h (Arms.bare n d cs) s = arms-known table before h cs s
   arms-known table before h (Arms.carries n t d cs) s = (type-known table before h t s.0, arms-known table before h cs s.1)
 
 definition-known : (table : List (List ℕ × SizeAlign)) (before : List DefinitionTree) → Tabled table before → (d : DefinitionTree) → DefinitionStands before d → KnowsDefinition table d
-definition-known table before h (typename_of n t docs) s = type-known table before h t s
+definition-known table before h (typename_of n t docs) s = type-known table before (has-all table before h) t s
 definition-known table before h (module_of m) s = tt
 definition-known table before h (constant_of c) s = tt
 
@@ -124,7 +127,7 @@ new-name (e ∷ es) fs n t h =
     rw (unlike-key e.0 n (all-at (λ y. same_text e.0 y ≡ false) es fs n t h.0)) (new-name es fs n t h.1)
 
 -- by the definitions
-names-append : (before rest : List DefinitionTree) → by_name introduced (before ++ rest) ≡ by_name introduced before ++ by_name introduced rest
+pub names-append : (before rest : List DefinitionTree) → by_name introduced (before ++ rest) ≡ by_name introduced before ++ by_name introduced rest
 names-append before rest = filter_map-append {Y = List ℕ × DefinitionTree} (λ (u : DefinitionTree). option_map (λ (m : List ℕ). (m, u)) (introduced u)) before rest
 
 new-typename : (before rest : List DefinitionTree) (n : List ℕ) (t : Tree) (docs : List ℕ)

@@ -1,12 +1,17 @@
 -- A table of layouts by name knows a type: it tells the layout of each name that is a part of it. The targets of lists
 -- and pointers don't count. A type that is flat needs no entry.
-use Rattle.std.specs.Prelude.{◌≡◌, ◌⊎◌, ℕ, List, Bool, true, false, Option, Some, None, cond}
+use Rattle.std.specs.Prelude.{◌≡◌, ◌⊎◌, ℕ, List, map, Bool, true, false, Option, Some, None, cond}
+use Rattle.std.specs.List.{IsDistinct}
+use Rattle.std.specs.Map.{keys_of}
+use Rattle.witx_base.specs.Texts.{same_text}
 use Rattle.witx_base.specs.Found.{found}
 use Rattle.std.specs.Ordering.{is_eq, nat_cmp}
 use Rattle.std.specs.Cmp.Lexicographic.{slice_cmp}
 use Rattle.witx_ast.specs.Tree.{Tree, Fields, Arms}
 use Rattle.witx_ast.specs.Plain.{Plain, plain}
-use Rattle.witx_ast.specs.Definitions.{DefinitionTree, typename_of, module_of, constant_of}
+use Rattle.witx_ast.specs.Entries.{by_name}
+use Rattle.witx_ast.specs.declared.definition.Definition.{Definition}
+use Rattle.witx_ast.specs.Definitions.{DefinitionTree, definition_tree, introduced, typename_of, module_of, constant_of}
 use Rattle.witx_ast.specs.declared.types.RecordKind.{RecordKind}
 use Rattle.witx_layout.specs.declared.layout.SizeAlign.{SizeAlign}
 use Rattle.witx_layout.specs.Layouts.{plain_layout}
@@ -71,6 +76,14 @@ IsEntered table (typename_of name t docs) new =
     IsKept plain_layout table (typename_of name t docs) new ⊎ ((is_flat (plain t) ≡ true) × (new ≡ table))
 IsEntered table (module_of m) new = new ≡ table
 IsEntered table (constant_of c) new = new ≡ table
+
+-- a definition is entered, and the table goes from `old` to `new`
+abbrev pub Enters : Definition → (old new : List (List ℕ × SizeAlign)) → Type 0
+Enters definition old new = IsEntered old (definition_tree definition) new
+
+-- no two of these definitions introduce the same name
+abbrev pub HaveDistinctNames : List Definition → Type 0
+HaveDistinctNames definitions = IsDistinct same_text (keys_of (by_name introduced (map definition_tree definitions)))
 
 -- A table of lines by name has the lines of the parts of a type that is a name.
 abbrev pub HasLines : List (List ℕ × List ℕ) → Tree → Type 0

@@ -1,7 +1,11 @@
 -- What the layout numbers promise to whoever places values by them.
-use Rattle.std.specs.Prelude.{◌≡◌, ℕ, ◌+◌, ◌%◌, ◌^◌, ◌≤◌, ◌<◌, List, [], ◌∷◌}
+use Rattle.std.specs.Prelude.{◌≡◌, ℕ, ◌+◌, ◌%◌, ◌^◌, ◌≤◌, ◌<◌, List, [], ◌∷◌, map}
 use Rattle.witx_ast.specs.declared.types.RecordKind.{RecordKind}
+use Rattle.witx_ast.specs.declared.types.RecordMember.{RecordMember}
+use Rattle.witx_ast.specs.declared.types.RecordDatatype.{RecordDatatype, out-RecordDatatype}
 use Rattle.witx_ast.specs.Plain.{Fields, Arms}
+use Rattle.witx_ast.specs.Views.{members_plain}
+use Rattle.witx_layout.specs.declared.members.RecordMemberLayout.{RecordMemberLayout}
 use Rattle.witx_layout.specs.Numbers.{align_of, size_of}
 
 abbrev pub IsPowerOfTwo : ℕ → Type 0
@@ -16,6 +20,14 @@ abbrev pub IsUnflagged : RecordKind → Type 0
 IsUnflagged (RecordKind.Bitflags repr) = ⊥
 IsUnflagged RecordKind.Tuple = Unit {0}
 IsUnflagged RecordKind.Other = Unit {0}
+
+-- the members of a record, their names looked through
+abbrev pub members_of : RecordDatatype → Fields
+members_of record_type = members_plain (out-RecordDatatype record_type).members
+
+-- what is placed are these members, in order
+abbrev pub ArePlaced : List RecordMember → List RecordMemberLayout → Type 0
+ArePlaced members layouts = map (λ m. m.member.now) layouts ≡ members
 
 -- Each member begins at a multiple of its alignment, and not before the end of the one before it;
 -- the first begins at `from` or behind, and the last ends within the limit.

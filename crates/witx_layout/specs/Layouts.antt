@@ -1,14 +1,19 @@
 -- The layouts of a document's typenames, in order, and the first typename that is too large.
-use Rattle.std.specs.Prelude.{◌≡◌, ℕ, ◌+◌, ◌^◌, List, [], ◌∷◌, Option, Some, None, nat_le, if◌then◌else◌}
+use Rattle.std.specs.Prelude.{◌≡◌, ◌≤◌, ℕ, ◌+◌, ◌^◌, List, [], ◌∷◌, map, Option, Some, None, Result, MatchResult, nat_le, if◌then◌else◌}
 use Rattle.std.specs.List.{flat_map}
 use Rattle.std.specs.Option.{option_or}
 use Rattle.witx_ast.specs.Tree.{Tree}
 use Rattle.witx_ast.specs.Plain.{Plain, plain}
-use Rattle.witx_ast.specs.Definitions.{DefinitionTree, typename_of, module_of, constant_of}
+use Rattle.witx_ast.specs.declared.types.RecordMember.{RecordMember}
+use Rattle.witx_ast.specs.declared.types.Case.{Case}
+use Rattle.witx_ast.specs.Views.{members_plain, cases_plain}
+use Rattle.witx_ast.specs.declared.definition.Definition.{Definition}
+use Rattle.witx_ast.specs.Definitions.{DefinitionTree, definition_tree, typename_of, module_of, constant_of}
 use Rattle.witx_layout.specs.declared.layout.SizeAlign.{SizeAlign}
+use Rattle.witx_layout.specs.declared.layout.TooLarge.{TooLarge}
 use Rattle.witx_layout.specs.declared.table.LayoutsError.{LayoutsError}
 use Rattle.witx_layout.specs.declared.table.LayoutsError.TheVariants as layouts_error
-use Rattle.witx_layout.specs.Numbers.{size_of, align_of}
+use Rattle.witx_layout.specs.Numbers.{size_of, align_of, members_end, members_align, payloads_size, payloads_align}
 
 -- the numbers of a type
 abbrev pub plain_layout : Plain → SizeAlign
@@ -16,6 +21,22 @@ plain_layout t = record { size = size_of t; align = align_of t }
 
 abbrev pub layout_of : Tree → SizeAlign
 layout_of t = plain_layout (plain t)
+
+-- an answer has this size and this alignment, or is too large, as the size is from 2^64 on
+abbrev pub Measures : (size align : ℕ) → Result SizeAlign TooLarge → Type 0
+Measures size align result = MatchResult result (λ v. (v.size ≡ size) × (v.align ≡ align)) (λ _. 2 ^ 64 ≤ size)
+
+-- the same of a type
+abbrev pub MeasuresType : Tree → Result SizeAlign TooLarge → Type 0
+MeasuresType t = Measures (size_of (plain t)) (align_of (plain t))
+
+-- of members: where the last one ends, and their greatest alignment
+abbrev pub MeasuresMembers : List RecordMember → Result SizeAlign TooLarge → Type 0
+MeasuresMembers members = Measures (members_end 0 (members_plain members)) (members_align (members_plain members))
+
+-- of the payloads of cases: the greatest size and the greatest alignment
+abbrev pub MeasuresPayloads : List Case → Result SizeAlign TooLarge → Type 0
+MeasuresPayloads cases = Measures (payloads_size (cases_plain cases)) (payloads_align (cases_plain cases))
 
 -- the numbers of a typename
 abbrev pub layouts_in : DefinitionTree → List SizeAlign
@@ -44,3 +65,15 @@ first_large = first_large_from 0
 abbrev pub TooLargeAt : Option ℕ → LayoutsError → Type 0
 TooLargeAt large (layouts_error.TooLarge definition) = large ≡ Some definition
 TooLargeAt large layouts_error.OutOfMemory = Unit {0}
+
+-- these are the layouts of the typenames among definitions
+abbrev pub AreLayouts : List Definition → List SizeAlign → Type 0
+AreLayouts definitions layouts = layouts ≡ all_layouts (map definition_tree definitions)
+
+-- no typename among definitions is too large
+abbrev pub NoneTooLarge : List Definition → Type 0
+NoneTooLarge definitions = first_large (map definition_tree definitions) ≡ None
+
+-- a refusal tells the first typename among definitions that is too large
+abbrev pub TellsFirstLarge : List Definition → LayoutsError → Type 0
+TellsFirstLarge definitions = TooLargeAt (first_large (map definition_tree definitions))

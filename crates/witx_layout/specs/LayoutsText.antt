@@ -1,6 +1,6 @@
 -- The text of a document's layouts: per typename a line with its size and alignment, and below it its parts.
 -- Names are looked through, so a typename that stands for a record has that record's lines.
-use Rattle.std.specs.Prelude.{ℕ, List, [], ◌∷◌, ◌++◌, codes}
+use Rattle.std.specs.Prelude.{◌≡◌, ◌<◌, ◌^◌, ℕ, List, [], ◌∷◌, ◌++◌, map, All, codes}
 use Rattle.std.specs.List.{flat_map}
 use Rattle.std.specs.Fmt.{decimal}
 use Rattle.witx_ast.specs.declared.types.IntRepr.{IntRepr}
@@ -8,7 +8,8 @@ use Rattle.witx_ast.specs.declared.types.RecordKind.{RecordKind}
 use Rattle.witx_ast.specs.Plain.{Plain, plain, Fields, Arms}
 use Rattle.witx_ast.specs.Words.{repr_builtin}
 use Rattle.witx_ast.specs.TypeNames.{builtin_text}
-use Rattle.witx_ast.specs.Definitions.{DefinitionTree, typename_of, module_of, constant_of}
+use Rattle.witx_ast.specs.declared.definition.Definition.{Definition}
+use Rattle.witx_ast.specs.Definitions.{DefinitionTree, definition_tree, typename_of, module_of, constant_of}
 use Rattle.witx_layout.specs.Numbers.{size_of, align_of, offsets, payload_offset, repr_size}
 
 abbrev pub line_end : List ℕ
@@ -68,3 +69,15 @@ definition_sizes (constant_of c) = []
 -- the sizes of all typenames, in order
 abbrev pub typename_sizes : List DefinitionTree → List ℕ
 typename_sizes definitions = flat_map definition_sizes definitions
+
+-- a text shows the layouts of these definitions, and nothing else
+abbrev pub ShowsLayouts : List Definition → List ℕ → Type 0
+ShowsLayouts definitions text = text ≡ layouts_text (map definition_tree definitions)
+
+-- the size of each typename fits a `usize`
+abbrev pub TypenamesFit : List Definition → Type 0
+TypenamesFit definitions = All (λ size. size < 2 ^ 64) (typename_sizes (map definition_tree definitions))
+
+-- the same of one definition
+abbrev pub TypenameFits : Definition → Type 0
+TypenameFits definition = All (λ size. size < 2 ^ 64) (definition_sizes (definition_tree definition))

@@ -2,10 +2,8 @@
 #![tactic(auto, using(crate::proofs::FlatLayouts::flat_rules))]
 
 ghost use Rattle.std.specs.Prelude.{◌≡◌, true, Some, None, IfSome, if◌then◌else◌};
-ghost use Rattle.witx_ast.specs.Plain.{plain};
-ghost use Rattle.witx_ast.specs.Views.{tree_of, datatype_tree, record_tree};
-ghost use Rattle.witx_layout.specs.Known.{is_flat};
-ghost use Rattle.witx_layout.specs.Layouts.{layout_of};
+ghost use Rattle.witx_ast.specs.{Plain.{plain}, Views.{tree_of, datatype_tree, record_tree}};
+ghost use Rattle.witx_layout.specs.{Known.{is_flat}, Layouts.{layout_of}};
 
 use crate::layout::{Layout, SizeAlign};
 use witx_ast::{Datatype, RecordDatatype, RecordKind, TypeRef};

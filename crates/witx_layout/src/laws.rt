@@ -3,9 +3,8 @@
 
 ghost use Rattle.std.specs.Prelude.{◌≡◌, ◌≤◌, ◌<◌, ◌%◌};
 ghost use Rattle.witx_layout.specs.Numbers.{align_to, size_of, align_of, repr_size, offsets, part_offsets, payload_offset};
-ghost use Rattle.witx_layout.specs.Laws.{IsPowerOfTwo, IsRoundedUp, IsUnflagged, LieApart, AreMultiples, LieInside};
-ghost use Rattle.witx_ast.specs.Plain.{plain};
-ghost use Rattle.witx_ast.specs.Views.{record_tree, variant_tree, members_plain, cases_plain};
+ghost use Rattle.witx_layout.specs.Laws.{IsPowerOfTwo, IsRoundedUp, IsUnflagged, LieApart, AreMultiples, LieInside, members_of};
+ghost use Rattle.witx_ast.specs.{Plain.{plain}, Views.{record_tree, variant_tree, cases_plain}};
 ghost use Rattle.witx_ast.specs.declared.types.RecordDatatype.{out-RecordDatatype};
 ghost use Rattle.witx_ast.specs.declared.types.Variant.{out-Variant};
 
@@ -34,14 +33,14 @@ pub fn size_is_multiple<L: Layout>(part: &L)
 /// its alignment, and the last ends within the record.
 pub fn members_lie_apart(record_type: &RecordDatatype)
     requires { IsUnflagged (out-RecordDatatype record_type.now).kind }
-    ensures { let members = members_plain (out-RecordDatatype record_type.now).members in
+    ensures { let members = members_of record_type.now in
         LieApart (size_of (plain (record_tree record_type.now))) 0 (offsets 0 members) members }
 {}
 
 /// Each offset of a member is a multiple of the member's alignment, also for flags, which are placed as
 /// if they were a plain record.
 pub fn offsets_are_multiples(record_type: &RecordDatatype)
-    ensures { let members = members_plain (out-RecordDatatype record_type.now).members in
+    ensures { let members = members_of record_type.now in
         AreMultiples (offsets 0 members) members }
 {}
 

@@ -1,12 +1,12 @@
 //! Sizes and alignments of types, whose names are looked through, and where a payload begins.
 #![tactic(auto, using(crate::proofs::Onward::layout_rules))]
 
-ghost use Rattle.std.specs.Prelude.{◌≡◌, ◌≤◌, ◌<◌, ◌^◌, MatchResult, IfOk, IsErr, ◌↔◌};
-ghost use Rattle.witx_layout.specs.Numbers.{size_of, align_of, members_end, members_align, payloads_size, payloads_align, payload_offset as begin_of_payload};
+ghost use Rattle.std.specs.Prelude.{◌≡◌, ◌≤◌, ◌<◌, ◌^◌, IfOk, IsErr, ◌↔◌};
+ghost use Rattle.witx_layout.specs.Layouts.{MeasuresMembers, MeasuresPayloads};
+ghost use Rattle.witx_layout.specs.Numbers.{size_of, align_of, members_align, payloads_align, payload_offset as begin_of_payload};
 ghost use Rattle.witx_ast.specs.Plain.{Plain, Arms, plain, builtin, handle};
 ghost use Rattle.witx_ast.specs.Views.{tree_of, datatype_tree, named_tree, record_tree, variant_tree};
-ghost use Rattle.witx_ast.specs.Words.{repr_builtin};
-ghost use Rattle.witx_ast.specs.Views.{members_plain, cases_plain};
+ghost use Rattle.witx_ast.specs.{Words.{repr_builtin}, Views.{members_plain, cases_plain}};
 ghost use Rattle.witx_ast.specs.declared.types.IntRepr.{IntRepr};
 
 use crate::rounding::{followed_by, greater, padded, tagged};
@@ -223,9 +223,7 @@ impl Layout for Variant {
 /// Where the members end, one after the other from 0 on, and their greatest alignment.
 #[cycle(layout)]
 fn members_layout(members: &[RecordMember]) -> Result<SizeAlign, TooLarge>
-    ensures { MatchResult result
-        (λ v. (v.size ≡ members_end 0 (members_plain members.now)) × (v.align ≡ members_align (members_plain members.now)))
-        (λ _. 2 ^ 64 ≤ members_end 0 (members_plain members.now)) }
+    ensures { MeasuresMembers members.now result }
 {
     let mut reached = SizeAlign { size: 0, align: 1 };
     for member in members {
@@ -238,9 +236,7 @@ fn members_layout(members: &[RecordMember]) -> Result<SizeAlign, TooLarge>
 /// The greatest size and the greatest alignment of a payload.
 #[cycle(layout)]
 fn greatest_payload(cases: &[Case]) -> Result<SizeAlign, TooLarge>
-    ensures { MatchResult result
-        (λ v. (v.size ≡ payloads_size (cases_plain cases.now)) × (v.align ≡ payloads_align (cases_plain cases.now)))
-        (λ _. 2 ^ 64 ≤ payloads_size (cases_plain cases.now)) }
+    ensures { MeasuresPayloads cases.now result }
 {
     let mut greatest = SizeAlign { size: 0, align: 1 };
     for case in cases {
@@ -293,8 +289,7 @@ pub trait VariantOffset {
 }
 
 impl VariantOffset for Variant {
-    ghost use Rattle.witx_ast.specs.declared.types.Variant.{out-Variant};
-    ghost use Rattle.witx_ast.specs.Views.{cases_plain};
+    ghost use Rattle.witx_ast.specs.{declared.types.Variant.{out-Variant}, Views.{cases_plain}};
 
     ghost tag = { λ v. (out-Variant v).tag_repr };
 

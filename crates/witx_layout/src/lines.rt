@@ -1,14 +1,14 @@
 //! The layouts of a document's typenames as text.
 #![tactic(auto, using(crate::proofs::Written::line_rules))]
 
-ghost use Rattle.std.specs.Prelude.{◌≡◌, ◌≤◌, ◌<◌, ◌++◌, ◌^◌, map, All, Any, IfOk, OnOk, string_bytes};
+ghost use Rattle.std.specs.Prelude.{◌≡◌, ◌≤◌, ◌<◌, ◌++◌, ◌^◌, map, IfOk, OnOk, string_bytes};
 ghost use Rattle.witx_layout.specs.Numbers.{size_of, members_end, offsets};
-ghost use Rattle.witx_layout.specs.LayoutsText.{layouts_text as text_of_layouts, typename_sizes, definition_lines, definition_sizes, typename_line, typename_lines, field_line, field_lines, flags_line, tag_line, tag_numbers_line, part_lines};
+ghost use Rattle.witx_layout.specs.LayoutsText.{layouts_text as text_of_layouts, ShowsLayouts, TypenamesFit, TypenameFits, definition_lines, typename_line, typename_lines, field_line, field_lines, flags_line, tag_line, tag_numbers_line, part_lines};
+ghost use Rattle.witx_layout.specs.Laws.{members_of};
+ghost use Rattle.witx_layout.specs.Refusals.{TooLargeBySize, TooLargeByTypename, TooLargeByTypenames};
 ghost use Rattle.witx_ast.specs.Plain.{plain};
 ghost use Rattle.witx_ast.specs.Views.{named_tree, datatype_tree, members_plain, cases_plain};
-ghost use Rattle.witx_ast.specs.Definitions.{definition_tree};
-ghost use Rattle.witx_ast.specs.declared.types.RecordDatatype.{out-RecordDatatype};
-ghost use Rattle.witx_ast.specs.declared.types.Variant.{out-Variant};
+ghost use Rattle.witx_ast.specs.{Definitions.{definition_tree}, declared.types.Variant.{out-Variant}};
 
 use crate::layout::{Layout, SizeAlign, VariantOffset};
 use crate::members::{LayoutError, RecordMemberLayout, RecordMembers};
@@ -24,11 +24,9 @@ use witx_base::{OutOfMemory, Text};
 /// `  field NAME offset O` per member, for flags `  flags REPR`, for a variant `  tag S payload O`,
 /// where names are looked through. It is too large exactly where the size of a typename is.
 pub fn layouts_text(alloc: Global, document: &Document) -> Result<Text, LayoutError>
-    ensures text { IfOk result (λ text. text ≡ text_of_layouts (map definition_tree document.now.definitions)) }
-    ensures fits { OnOk result
-        (All (λ size. size < 2 ^ 64) (typename_sizes (map definition_tree document.now.definitions))) }
-    ensures too_large { result ≡ Err LayoutError.TooLarge
-        → Any (λ size. 2 ^ 64 ≤ size) (typename_sizes (map definition_tree document.now.definitions)) }
+    ensures text { IfOk result (ShowsLayouts document.now.definitions) }
+    ensures fits { OnOk result (TypenamesFit document.now.definitions) }
+    ensures too_large { TooLargeByTypenames document.now.definitions result }
 {
     let mut out = String::new(alloc);
     put_typenames(alloc, &mut out, document.definitions().as_slice())?;
@@ -44,9 +42,8 @@ fn put_typenames(
 ) -> Result<(), LayoutError>
     ensures text { OnOk result (string_bytes out.new
         ≡ string_bytes out.old ++ text_of_layouts (map definition_tree definitions.now)) }
-    ensures fits { OnOk result (All (λ size. size < 2 ^ 64) (typename_sizes (map definition_tree definitions.now))) }
-    ensures too_large { result ≡ Err LayoutError.TooLarge
-        → Any (λ size. 2 ^ 64 ≤ size) (typename_sizes (map definition_tree definitions.now)) }
+    ensures fits { OnOk result (TypenamesFit definitions.now) }
+    ensures too_large { TooLargeByTypenames definitions.now result }
 {
     for definition in definitions {
         put_definition(alloc, out, definition)?;
@@ -62,9 +59,8 @@ fn put_definition(
 ) -> Result<(), LayoutError>
     ensures lines { OnOk result (string_bytes out.new
         ≡ string_bytes out.old ++ definition_lines (definition_tree definition.now)) }
-    ensures fits { OnOk result (All (λ size. size < 2 ^ 64) (definition_sizes (definition_tree definition.now))) }
-    ensures too_large { result ≡ Err LayoutError.TooLarge
-        → Any (λ size. 2 ^ 64 ≤ size) (definition_sizes (definition_tree definition.now)) }
+    ensures fits { OnOk result (TypenameFits definition.now) }
+    ensures too_large { TooLargeByTypename definition.now result }
 {
     match definition {
         Definition::Typename(named) => put_typename(alloc, out, named),
@@ -77,7 +73,7 @@ fn put_typename(alloc: Global, out: &mut String, named: &NamedType) -> Result<()
     ensures lines { OnOk result (string_bytes out.new
         ≡ string_bytes out.old ++ typename_lines named.now.name (plain (named_tree named.now))) }
     ensures fits { OnOk result (size_of (plain (named_tree named.now)) < 2 ^ 64) }
-    ensures too_large { result ≡ Err LayoutError.TooLarge → 2 ^ 64 ≤ size_of (plain (named_tree named.now)) }
+    ensures too_large { TooLargeBySize (named_tree named.now) result }
 {
     let numbers = named.mem_size_align()?;
     put_numbers(out, named.name.as_str(), numbers)?;
@@ -88,7 +84,7 @@ fn put_typename(alloc: Global, out: &mut String, named: &NamedType) -> Result<()
 fn put_parts(alloc: Global, out: &mut String, datatype: &Datatype) -> Result<(), LayoutError>
     ensures lines { OnOk result (string_bytes out.new
         ≡ string_bytes out.old ++ part_lines (plain (datatype_tree datatype.now))) }
-    ensures too_large { result ≡ Err LayoutError.TooLarge → 2 ^ 64 ≤ size_of (plain (datatype_tree datatype.now)) }
+    ensures too_large { TooLargeBySize (datatype_tree datatype.now) result }
 {
     match datatype {
         Datatype::Record(record) => match record.kind {
@@ -111,9 +107,9 @@ fn put_members(
     record_type: &RecordDatatype,
 ) -> Result<(), LayoutError>
     ensures lines { OnOk result (string_bytes out.new ≡ string_bytes out.old
-        ++ field_lines (members_plain (out-RecordDatatype record_type.now).members) (offsets 0 (members_plain (out-RecordDatatype record_type.now).members))) }
+        ++ field_lines (members_of record_type.now) (offsets 0 (members_of record_type.now))) }
     ensures too_large { result ≡ Err LayoutError.TooLarge
-        → 2 ^ 64 ≤ members_end 0 (members_plain (out-RecordDatatype record_type.now).members) }
+        → 2 ^ 64 ≤ members_end 0 (members_of record_type.now) }
 {
     let layouts = record_type.member_layout(alloc)?;
     put_fields(out, layouts.as_slice())?;

@@ -2,8 +2,8 @@
 
 ghost use Rattle.std.specs.Prelude.{◌≡◌, ◌≤◌, ◌<◌, ◌+◌, ◌^◌, ℕ, List, map, All, Any, IfOk, OnOk, MatchOption};
 ghost use Rattle.witx_layout.specs.Numbers.{align_to as rounded, offsets as offsets_from, size_of};
-ghost use Rattle.witx_ast.specs.Plain.{plain};
-ghost use Rattle.witx_ast.specs.Views.{tree_of, members_plain};
+ghost use Rattle.witx_layout.specs.{Laws.{ArePlaced}, declared.members.LayoutError.{LayoutError}};
+ghost use Rattle.witx_ast.specs.{Plain.{plain}, Views.{tree_of, members_plain}};
 ghost use Rattle.witx_ast.specs.declared.types.RecordMember.{RecordMember};
 
 use crate::layout::{Layout, TooLarge};
@@ -21,8 +21,6 @@ pub enum LayoutError {
 }
 
 impl From<TooLarge> for LayoutError {
-    ghost use Rattle.witx_layout.specs.declared.members.LayoutError.{LayoutError};
-
     ghost from_gives = { λ _ error. error ≡ LayoutError.TooLarge };
 
     fn from(_error: TooLarge) -> LayoutError {
@@ -31,8 +29,6 @@ impl From<TooLarge> for LayoutError {
 }
 
 impl From<OutOfMemory> for LayoutError {
-    ghost use Rattle.witx_layout.specs.declared.members.LayoutError.{LayoutError};
-
     ghost from_gives = { λ _ error. error ≡ LayoutError.OutOfMemory };
 
     fn from(_error: OutOfMemory) -> LayoutError {
@@ -59,7 +55,7 @@ pub trait RecordMembers {
     ///
     /// It is too large exactly where an offset is; the end of the last member doesn't count.
     fn member_layout(&self, alloc: Global) -> Result<MemberLayouts<'_>, LayoutError>
-        ensures members { IfOk result (λ layouts. map (λ m. m.member.now) layouts ≡ members self.now) }
+        ensures members { IfOk result (ArePlaced (members self.now)) }
         ensures begins { IfOk result (λ layouts. map (λ m. m.offset) layouts
             ≡ offsets_from 0 (members_plain (members self.now))) }
         ensures fits { OnOk result (All (λ offset. offset < 2 ^ 64) (offsets_from 0 (members_plain (members self.now)))) }
@@ -80,7 +76,7 @@ impl RecordMembers for RecordDatatype {
 /// The members, each at the next multiple of its alignment behind the one before it.
 #[tactic(auto, using(crate::proofs::Begins::begin_rules))]
 fn placed<'a>(alloc: Global, members: &'a [RecordMember]) -> Result<MemberLayouts<'a>, LayoutError>
-    ensures members { IfOk result (λ layouts. map (λ m. m.member.now) layouts ≡ members.now) }
+    ensures members { IfOk result (ArePlaced members.now) }
     ensures begins { IfOk result (λ layouts. map (λ m. m.offset) layouts ≡ offsets_from 0 (members_plain members.now)) }
     ensures fits { OnOk result (All (λ offset. offset < 2 ^ 64) (offsets_from 0 (members_plain members.now))) }
     ensures too_large { result ≡ Err LayoutError.TooLarge

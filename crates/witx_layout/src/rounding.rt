@@ -1,7 +1,7 @@
 //! Offsets that are rounded up, and parts that are placed one behind the other.
 
 ghost use Rattle.std.specs.Prelude.{◌≡◌, ◌≤◌, ◌<◌, ◌+◌, ◌^◌, max, MatchOption, MatchResult};
-ghost use Rattle.witx_layout.specs.Numbers.{align_to as rounded};
+ghost use Rattle.witx_layout.specs.{Numbers.{align_to as rounded}, Layouts.{Measures}};
 
 use crate::layout::{SizeAlign, TooLarge};
 
@@ -46,9 +46,7 @@ pub fn behind(reached: SizeAlign, part: SizeAlign) -> Result<Placed, TooLarge>
 /// What is reached once a part is placed behind what is reached.
 pub fn followed_by(reached: SizeAlign, part: SizeAlign) -> Result<SizeAlign, TooLarge>
     requires { 0 < part.align }
-    ensures { MatchResult result
-        (λ v. (v.size ≡ rounded reached.size part.align + part.size) × (v.align ≡ max reached.align part.align))
-        (λ _. 2 ^ 64 ≤ rounded reached.size part.align + part.size) }
+    ensures { Measures (rounded reached.size part.align + part.size) (max reached.align part.align) result }
 {
     Ok(behind(reached, part)?.reached)
 }
@@ -56,9 +54,7 @@ pub fn followed_by(reached: SizeAlign, part: SizeAlign) -> Result<SizeAlign, Too
 /// The whole, with its size rounded up to its alignment.
 pub fn padded(whole: SizeAlign) -> Result<SizeAlign, TooLarge>
     requires { 0 < whole.align }
-    ensures { MatchResult result
-        (λ v. (v.size ≡ rounded whole.size whole.align) × (v.align ≡ whole.align))
-        (λ _. 2 ^ 64 ≤ rounded whole.size whole.align) }
+    ensures { Measures (rounded whole.size whole.align) whole.align result }
 {
     match align_to(whole.size, whole.align) {
         Some(size) => Ok(SizeAlign {
@@ -73,9 +69,7 @@ pub fn padded(whole: SizeAlign) -> Result<SizeAlign, TooLarge>
 pub fn tagged(tag: SizeAlign, payload: SizeAlign) -> Result<SizeAlign, TooLarge>
     requires tag { 0 < tag.align }
     requires payload { 0 < payload.align }
-    ensures { MatchResult result
-        (λ v. (v.size ≡ rounded (rounded tag.size payload.align + payload.size) (max tag.align payload.align)) × (v.align ≡ max tag.align payload.align))
-        (λ _. 2 ^ 64 ≤ rounded (rounded tag.size payload.align + payload.size) (max tag.align payload.align)) }
+    ensures { Measures (rounded (rounded tag.size payload.align + payload.size) (max tag.align payload.align)) (max tag.align payload.align) result }
 {
     padded(followed_by(tag, payload)?)
 }

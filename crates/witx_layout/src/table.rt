@@ -1,21 +1,15 @@
 //! The layouts of an ordered document's typenames in one pass: a name is looked up and not looked through.
 #![tactic(auto, using(crate::proofs::Nodes::node_rules))]
 
-ghost use Rattle.std.specs.Prelude.{◌≡◌, ◌≤◌, ◌<◌, ◌+◌, ◌++◌, ◌^◌, true, None, Some, MatchResult, IfErr, IfOk, OnErr, OnOk, map};
-ghost use Rattle.std.specs.List.{IsDistinct};
-ghost use Rattle.std.specs.Map.{keys_of};
-ghost use Rattle.witx_base.specs.Texts.{same_text};
-ghost use Rattle.witx_base.specs.Found.{found};
-ghost use Rattle.witx_ast.specs.Tree.{fields_of, arms_of};
-ghost use Rattle.witx_ast.specs.Plain.{plain};
-ghost use Rattle.witx_ast.specs.Views.{tree_of, datatype_tree, named_tree, record_tree, variant_tree, member_field, case_arm, members_plain, cases_plain};
-ghost use Rattle.witx_ast.specs.Entries.{by_name};
-ghost use Rattle.witx_ast.specs.Definitions.{definition_tree, introduced, typename_of};
-ghost use Rattle.witx_ast.specs.Ordered.{IsOrdered};
-ghost use Rattle.witx_layout.specs.Numbers.{size_of, align_of, members_end, members_align, payloads_size, payloads_align};
+ghost use Rattle.std.specs.Prelude.{◌≡◌, ◌≤◌, ◌<◌, ◌+◌, ◌++◌, true, None, IfErr, IfOk, OnErr, OnOk, map};
+ghost use Rattle.witx_ast.specs.{Tree.{fields_of, arms_of}, Plain.{plain}};
+ghost use Rattle.witx_ast.specs.Views.{tree_of, datatype_tree, named_tree, record_tree, variant_tree, member_field, case_arm};
+ghost use Rattle.witx_ast.specs.{Definitions.{definition_tree, typename_of}, Ordered.{IsOrdered}};
+ghost use Rattle.witx_layout.specs.Numbers.{size_of, align_of};
 ghost use Rattle.witx_layout.specs.Nodes.{type_nodes, field_nodes, arm_nodes, definition_nodes, one_typename, typename_node_count, typename_count};
-ghost use Rattle.witx_layout.specs.Known.{is_flat, Knows, KnowsFields, KnowsArms, KnowsDefinition, IsEntered};
-ghost use Rattle.witx_layout.specs.Layouts.{TooLargeAt, all_layouts, first_large, large_at, layout_of, layouts_in};
+ghost use Rattle.witx_layout.specs.Known.{is_flat, Knows, KnowsFields, KnowsArms, KnowsDefinition, HaveDistinctNames, Enters, IsEntered};
+ghost use Rattle.witx_layout.specs.Layouts.{MeasuresType, MeasuresMembers, MeasuresPayloads, AreLayouts, NoneTooLarge, TellsFirstLarge, TooLargeAt, large_at, layout_of, layouts_in};
+ghost use Rattle.witx_layout.specs.declared.table.LayoutsError.{LayoutsError};
 
 use crate::flat::{flat_layout, written_flat};
 use crate::layout::{Layout, SizeAlign, TooLarge};
@@ -46,8 +40,6 @@ pub enum LayoutsError {
 }
 
 impl From<OutOfMemory> for LayoutsError {
-    ghost use Rattle.witx_layout.specs.declared.table.LayoutsError.{LayoutsError};
-
     ghost from_gives = { λ _ error. error ≡ LayoutsError.OutOfMemory };
 
     fn from(_error: OutOfMemory) -> LayoutsError {
@@ -66,9 +58,9 @@ pub fn layouts<L: Ledger>(
     steps: &mut Steps<L>,
 ) -> Result<SizeAligns, LayoutsError>
     requires ordered { IsOrdered (map definition_tree document.now.definitions) }
-    ensures layouts { IfOk result (λ layouts. layouts ≡ all_layouts (map definition_tree document.now.definitions)) }
-    ensures sizes { OnOk result (first_large (map definition_tree document.now.definitions) ≡ None) }
-    ensures too_large { IfErr result (TooLargeAt (first_large (map definition_tree document.now.definitions))) }
+    ensures layouts { IfOk result (AreLayouts document.now.definitions) }
+    ensures sizes { OnOk result (NoneTooLarge document.now.definitions) }
+    ensures too_large { IfErr result (TellsFirstLarge document.now.definitions) }
     ensures most { steps.new ≤ steps.old + typename_node_count (map definition_tree document.now.definitions) }
     ensures least { OnOk result (steps.old + typename_count (map definition_tree document.now.definitions) ≤ steps.new) }
 {
@@ -79,9 +71,9 @@ pub fn layouts<L: Ledger>(
 /// The same for a caller that doesn't count.
 pub fn uncounted_layouts(alloc: Global, document: &Document) -> Result<SizeAligns, LayoutsError>
     requires ordered { IsOrdered (map definition_tree document.now.definitions) }
-    ensures layouts { IfOk result (λ layouts. layouts ≡ all_layouts (map definition_tree document.now.definitions)) }
-    ensures sizes { OnOk result (first_large (map definition_tree document.now.definitions) ≡ None) }
-    ensures too_large { IfErr result (TooLargeAt (first_large (map definition_tree document.now.definitions))) }
+    ensures layouts { IfOk result (AreLayouts document.now.definitions) }
+    ensures sizes { OnOk result (NoneTooLarge document.now.definitions) }
+    ensures too_large { IfErr result (TellsFirstLarge document.now.definitions) }
 {
     layouts_from::<Brand>(alloc, document, Blank::new(1))
 }
@@ -96,9 +88,9 @@ fn layouts_from<L: Ledger>(
     requires name { blank.name ≡ L.name }
     requires parts { blank.parts ≡ L.parts }
     requires some { 0 < blank.parts }
-    ensures layouts { IfOk result (λ layouts. layouts ≡ all_layouts (map definition_tree document.now.definitions)) }
-    ensures sizes { OnOk result (first_large (map definition_tree document.now.definitions) ≡ None) }
-    ensures too_large { IfErr result (TooLargeAt (first_large (map definition_tree document.now.definitions))) }
+    ensures layouts { IfOk result (AreLayouts document.now.definitions) }
+    ensures sizes { OnOk result (NoneTooLarge document.now.definitions) }
+    ensures too_large { IfErr result (TellsFirstLarge document.now.definitions) }
 {
     let mut steps = Steps::<L>::new(blank);
     layouts(alloc, document, &mut steps)
@@ -112,10 +104,10 @@ fn typename_layouts<L: Ledger>(
     steps: &mut Steps<L>,
 ) -> Result<SizeAligns, LayoutsError>
     requires ordered { IsOrdered (map definition_tree definitions.now) }
-    requires distinct { IsDistinct same_text (keys_of (by_name introduced (map definition_tree definitions.now))) }
-    ensures layouts { IfOk result (λ layouts. layouts ≡ all_layouts (map definition_tree definitions.now)) }
-    ensures sizes { OnOk result (first_large (map definition_tree definitions.now) ≡ None) }
-    ensures too_large { IfErr result (TooLargeAt (first_large (map definition_tree definitions.now))) }
+    requires distinct { HaveDistinctNames definitions.now }
+    ensures layouts { IfOk result (AreLayouts definitions.now) }
+    ensures sizes { OnOk result (NoneTooLarge definitions.now) }
+    ensures too_large { IfErr result (TellsFirstLarge definitions.now) }
     ensures most { steps.new ≤ steps.old + typename_node_count (map definition_tree definitions.now) }
     ensures least { OnOk result (steps.old + typename_count (map definition_tree definitions.now) ≤ steps.new) }
 {
@@ -136,7 +128,7 @@ fn push_layout<L: Ledger>(
     steps: &mut Steps<L>,
 ) -> Result<(), LayoutsError>
     requires known { KnowsDefinition table.old (definition_tree definition.now) }
-    ensures table { OnOk result (IsEntered table.old (definition_tree definition.now) table.new) }
+    ensures table { OnOk result (Enters definition.now table.old table.new) }
     ensures layouts { OnOk result (layouts.new ≡ layouts.old ++ layouts_in (definition_tree definition.now)) }
     ensures sizes { OnOk result (large_at number (definition_tree definition.now) ≡ None) }
     ensures too_large { IfErr result (TooLargeAt (large_at number (definition_tree definition.now))) }
@@ -180,9 +172,7 @@ pub fn type_layout<L: Ledger>(
     steps: &mut Steps<L>,
 ) -> Result<SizeAlign, TooLarge>
     requires { Knows table.now (tree_of tref.now) }
-    ensures layout { MatchResult result
-        (λ v. (v.size ≡ size_of (plain (tree_of tref.now))) × (v.align ≡ align_of (plain (tree_of tref.now))))
-        (λ _. 2 ^ 64 ≤ size_of (plain (tree_of tref.now))) }
+    ensures layout { MeasuresType (tree_of tref.now) result }
     ensures most { steps.new ≤ steps.old + type_nodes (tree_of tref.now) }
     ensures least { steps.old + 1 ≤ steps.new }
 {
@@ -230,9 +220,7 @@ fn datatype_layout<L: Ledger>(
     steps: &mut Steps<L>,
 ) -> Result<SizeAlign, TooLarge>
     requires { Knows table.now (datatype_tree datatype.now) }
-    ensures layout { MatchResult result
-        (λ v. (v.size ≡ size_of (plain (datatype_tree datatype.now))) × (v.align ≡ align_of (plain (datatype_tree datatype.now))))
-        (λ _. 2 ^ 64 ≤ size_of (plain (datatype_tree datatype.now))) }
+    ensures layout { MeasuresType (datatype_tree datatype.now) result }
     ensures most { steps.new + 1 ≤ steps.old + type_nodes (datatype_tree datatype.now) }
     ensures least { steps.old ≤ steps.new }
 {
@@ -255,9 +243,7 @@ fn record_layout<L: Ledger>(
     steps: &mut Steps<L>,
 ) -> Result<SizeAlign, TooLarge>
     requires { Knows table.now (record_tree record_type.now) }
-    ensures layout { MatchResult result
-        (λ v. (v.size ≡ size_of (plain (record_tree record_type.now))) × (v.align ≡ align_of (plain (record_tree record_type.now))))
-        (λ _. 2 ^ 64 ≤ size_of (plain (record_tree record_type.now))) }
+    ensures layout { MeasuresType (record_tree record_type.now) result }
     ensures most { steps.new + 1 ≤ steps.old + type_nodes (record_tree record_type.now) }
     ensures least { steps.old ≤ steps.new }
 {
@@ -276,9 +262,7 @@ fn variant_layout<L: Ledger>(
     steps: &mut Steps<L>,
 ) -> Result<SizeAlign, TooLarge>
     requires { Knows table.now (variant_tree variant.now) }
-    ensures layout { MatchResult result
-        (λ v. (v.size ≡ size_of (plain (variant_tree variant.now))) × (v.align ≡ align_of (plain (variant_tree variant.now))))
-        (λ _. 2 ^ 64 ≤ size_of (plain (variant_tree variant.now))) }
+    ensures layout { MeasuresType (variant_tree variant.now) result }
     ensures most { steps.new + 1 ≤ steps.old + type_nodes (variant_tree variant.now) }
     ensures least { steps.old ≤ steps.new }
 {
@@ -299,9 +283,7 @@ fn members_layout<L: Ledger>(
     steps: &mut Steps<L>,
 ) -> Result<SizeAlign, TooLarge>
     requires { KnowsFields table.now (fields_of (map member_field members.now)) }
-    ensures layout { MatchResult result
-        (λ v. (v.size ≡ members_end 0 (members_plain members.now)) × (v.align ≡ members_align (members_plain members.now)))
-        (λ _. 2 ^ 64 ≤ members_end 0 (members_plain members.now)) }
+    ensures layout { MeasuresMembers members.now result }
     ensures most { steps.new ≤ steps.old + field_nodes (fields_of (map member_field members.now)) }
     ensures least { steps.old ≤ steps.new }
 {
@@ -321,9 +303,7 @@ pub fn greatest_payload<L: Ledger>(
     steps: &mut Steps<L>,
 ) -> Result<SizeAlign, TooLarge>
     requires { KnowsArms table.now (arms_of (map case_arm cases.now)) }
-    ensures layout { MatchResult result
-        (λ v. (v.size ≡ payloads_size (cases_plain cases.now)) × (v.align ≡ payloads_align (cases_plain cases.now)))
-        (λ _. 2 ^ 64 ≤ payloads_size (cases_plain cases.now)) }
+    ensures layout { MeasuresPayloads cases.now result }
     ensures most { steps.new ≤ steps.old + arm_nodes (arms_of (map case_arm cases.now)) }
     ensures least { steps.old ≤ steps.new }
 {

@@ -1,22 +1,17 @@
 //! The text of the layouts in one pass over an ordered document.
 #![tactic(auto, using(crate::proofs::TableLines::line_rules))]
 
-ghost use Rattle.std.specs.Prelude.{◌≡◌, ◌≤◌, ◌<◌, ◌+◌, ◌++◌, ◌^◌, Some, map, All, Any, IfOk, OnOk, string_bytes};
-ghost use Rattle.std.specs.List.{IsDistinct};
-ghost use Rattle.std.specs.Map.{keys_of};
-ghost use Rattle.witx_base.specs.Texts.{same_text};
-ghost use Rattle.witx_ast.specs.Tree.{fields_of};
-ghost use Rattle.witx_ast.specs.Plain.{plain};
+ghost use Rattle.std.specs.Prelude.{◌≡◌, ◌≤◌, ◌<◌, ◌+◌, ◌++◌, ◌^◌, map, IfOk, OnOk, string_bytes};
+ghost use Rattle.witx_ast.specs.{Tree.{fields_of}, Plain.{plain}};
 ghost use Rattle.witx_ast.specs.Views.{tree_of, datatype_tree, named_tree, variant_tree, member_field, members_plain, cases_plain};
-ghost use Rattle.witx_ast.specs.Entries.{by_name};
-ghost use Rattle.witx_ast.specs.Definitions.{definition_tree, introduced};
-ghost use Rattle.witx_ast.specs.Ordered.{IsOrdered};
+ghost use Rattle.witx_ast.specs.{Definitions.{definition_tree}, Ordered.{IsOrdered}};
 ghost use Rattle.witx_ast.specs.declared.types.Variant.{out-Variant};
 ghost use Rattle.witx_layout.specs.Numbers.{align_to as rounded, size_of, align_of, members_end, offsets};
-ghost use Rattle.witx_layout.specs.LayoutsText.{layouts_text as text_of_layouts, typename_sizes, definition_lines, definition_sizes, field_line, field_lines, tag_line, part_lines};
-ghost use Rattle.witx_layout.specs.Known.{Knows, KnowsFields, KnowsDefinition, HasLines, DefinitionHasLines, IsEntered, IsLined};
+ghost use Rattle.witx_layout.specs.LayoutsText.{layouts_text as text_of_layouts, ShowsLayouts, TypenamesFit, TypenameFits, definition_lines, typename_line, field_line, field_lines, tag_line, part_lines};
+ghost use Rattle.witx_layout.specs.Known.{Knows, KnowsFields, KnowsDefinition, HasLines, DefinitionHasLines, HaveDistinctNames, Enters, IsLined};
+ghost use Rattle.witx_layout.specs.Refusals.{TooLargeBySize, TooLargeByTypename, TooLargeByTypenames};
 
-use crate::layout::Layout;
+use crate::layout::{Layout, SizeAlign};
 use crate::lines::{put_field, put_flags, put_numbers, put_tag_numbers};
 use crate::members::LayoutError;
 use crate::rounding::align_to;
@@ -40,11 +35,9 @@ type Lines = NameMap<Text>;
 /// and not looked through.
 pub fn ordered_layouts_text(alloc: Global, document: &Document) -> Result<Text, LayoutError>
     requires ordered { IsOrdered (map definition_tree document.now.definitions) }
-    ensures text { IfOk result (λ text. text ≡ text_of_layouts (map definition_tree document.now.definitions)) }
-    ensures fits { OnOk result
-        (All (λ size. size < 2 ^ 64) (typename_sizes (map definition_tree document.now.definitions))) }
-    ensures too_large { result ≡ Err LayoutError.TooLarge
-        → Any (λ size. 2 ^ 64 ≤ size) (typename_sizes (map definition_tree document.now.definitions)) }
+    ensures text { IfOk result (ShowsLayouts document.now.definitions) }
+    ensures fits { OnOk result (TypenamesFit document.now.definitions) }
+    ensures too_large { TooLargeByTypenames document.now.definitions result }
 {
     text_from::<Brand>(alloc, document, Blank::new(1))
 }
@@ -59,11 +52,9 @@ fn text_from<L: Ledger>(
     requires name { blank.name ≡ L.name }
     requires parts { blank.parts ≡ L.parts }
     requires some { 0 < blank.parts }
-    ensures text { IfOk result (λ text. text ≡ text_of_layouts (map definition_tree document.now.definitions)) }
-    ensures fits { OnOk result
-        (All (λ size. size < 2 ^ 64) (typename_sizes (map definition_tree document.now.definitions))) }
-    ensures too_large { result ≡ Err LayoutError.TooLarge
-        → Any (λ size. 2 ^ 64 ≤ size) (typename_sizes (map definition_tree document.now.definitions)) }
+    ensures text { IfOk result (ShowsLayouts document.now.definitions) }
+    ensures fits { OnOk result (TypenamesFit document.now.definitions) }
+    ensures too_large { TooLargeByTypenames document.now.definitions result }
 {
     names_are_distinct(document);
     let mut steps = Steps::<L>::new(blank);
@@ -86,12 +77,11 @@ fn put_all<L: Ledger>(
     steps: &mut Steps<L>,
 ) -> Result<(), LayoutError>
     requires ordered { IsOrdered (map definition_tree definitions.now) }
-    requires distinct { IsDistinct same_text (keys_of (by_name introduced (map definition_tree definitions.now))) }
+    requires distinct { HaveDistinctNames definitions.now }
     ensures text { OnOk result (string_bytes out.new
         ≡ string_bytes out.old ++ text_of_layouts (map definition_tree definitions.now)) }
-    ensures fits { OnOk result (All (λ size. size < 2 ^ 64) (typename_sizes (map definition_tree definitions.now))) }
-    ensures too_large { result ≡ Err LayoutError.TooLarge
-        → Any (λ size. 2 ^ 64 ≤ size) (typename_sizes (map definition_tree definitions.now)) }
+    ensures fits { OnOk result (TypenamesFit definitions.now) }
+    ensures too_large { TooLargeByTypenames definitions.now result }
 {
     let mut table = NameMap::new(alloc);
     let mut lines = NameMap::new(alloc);
@@ -114,30 +104,36 @@ fn put_known<L: Ledger>(
 ) -> Result<(), LayoutError>
     requires known { KnowsDefinition table.old (definition_tree definition.now) }
     requires lined { DefinitionHasLines lines.old (definition_tree definition.now) }
-    ensures table { OnOk result (IsEntered table.old (definition_tree definition.now) table.new) }
+    ensures table { OnOk result (Enters definition.now table.old table.new) }
     ensures kept { OnOk result (IsLined lines.old (definition_tree definition.now) lines.new) }
     ensures lines { OnOk result (string_bytes out.new
         ≡ string_bytes out.old ++ definition_lines (definition_tree definition.now)) }
-    ensures fits { OnOk result (All (λ size. size < 2 ^ 64) (definition_sizes (definition_tree definition.now))) }
-    ensures too_large { result ≡ Err LayoutError.TooLarge
-        → Any (λ size. 2 ^ 64 ≤ size) (definition_sizes (definition_tree definition.now)) }
+    ensures fits { OnOk result (TypenameFits definition.now) }
+    ensures too_large { TooLargeByTypename definition.now result }
 {
     let Definition::Typename(named) = definition else {
         return Ok(());
     };
     let numbers = type_layout(table, &named.tref, steps)?;
     let parts = lines_of(alloc, table, lines, &named.tref, steps)?;
-    put_numbers(out, named.name.as_str(), numbers)?;
-    put_text(out, &parts)?;
+    put_lines(out, named.name.as_str(), numbers, &parts)?;
     enter_layout(table, named, numbers)?;
     lines.insert(named.name.copy()?, parts)?;
     Ok(())
 }
 
-fn put_text(out: &mut String, text: &Text) -> Result<(), OutOfMemory>
-    ensures { OnOk result (string_bytes out.new ≡ string_bytes out.old ++ text.now) }
+/// The line of a typename, and below it those of its parts.
+fn put_lines(
+    out: &mut String,
+    name: &str,
+    numbers: SizeAlign,
+    parts: &Text,
+) -> Result<(), OutOfMemory>
+    ensures { OnOk result (string_bytes out.new
+        ≡ string_bytes out.old ++ (typename_line name.now numbers.size numbers.align ++ parts.now)) }
 {
-    out.push_str(text.as_str())?;
+    put_numbers(out, name, numbers)?;
+    out.push_str(parts.as_str())?;
     Ok(())
 }
 
@@ -153,7 +149,7 @@ fn lines_of<L: Ledger>(
     requires known { Knows table.now (tree_of tref.now) }
     requires lined { HasLines lines.now (tree_of tref.now) }
     ensures lines { IfOk result (λ text. text ≡ part_lines (plain (tree_of tref.now))) }
-    ensures too_large { result ≡ Err LayoutError.TooLarge → 2 ^ 64 ≤ size_of (plain (tree_of tref.now)) }
+    ensures too_large { TooLargeBySize (tree_of tref.now) result }
 {
     match tref {
         TypeRef::Name(named) => Ok(known_lines(lines, named).copy()?),
@@ -186,7 +182,7 @@ fn put_known_parts<L: Ledger>(
     requires { Knows table.now (datatype_tree datatype.now) }
     ensures lines { OnOk result (string_bytes out.new
         ≡ string_bytes out.old ++ part_lines (plain (datatype_tree datatype.now))) }
-    ensures too_large { result ≡ Err LayoutError.TooLarge → 2 ^ 64 ≤ size_of (plain (datatype_tree datatype.now)) }
+    ensures too_large { TooLargeBySize (datatype_tree datatype.now) result }
 {
     match datatype {
         Datatype::Record(record) => match record.kind {
@@ -263,7 +259,7 @@ fn put_known_tag<L: Ledger>(
     requires { Knows table.now (variant_tree variant.now) }
     ensures lines { OnOk result (string_bytes out.new ≡ string_bytes out.old
         ++ tag_line (out-Variant variant.now).tag_repr (cases_plain (out-Variant variant.now).cases)) }
-    ensures too_large { result ≡ Err LayoutError.TooLarge → 2 ^ 64 ≤ size_of (plain (variant_tree variant.now)) }
+    ensures too_large { TooLargeBySize (variant_tree variant.now) result }
 {
     let tag = variant.tag_repr.mem_align();
     let payload = greatest_payload(table, variant.cases.as_slice(), steps)?;

@@ -4,9 +4,7 @@
 ghost use Rattle.std.specs.Prelude.{◌≡◌, ◌∷◌, [], map};
 ghost use Rattle.witx_ast.specs.Tree.{fields_of, arms_of};
 ghost use Rattle.witx_ast.specs.Views.{tree_of, datatype_tree, record_tree, variant_tree, member_field, case_arm};
-ghost use Rattle.witx_ast.specs.Functions.{param_field};
-ghost use Rattle.witx_ast.specs.Items.{item_tree};
-ghost use Rattle.witx_ast.specs.Definitions.{definition_tree};
+ghost use Rattle.witx_ast.specs.{Functions.{param_field}, Items.{item_tree}, Definitions.{definition_tree}};
 ghost use Rattle.witx_ast.specs.Tags.{repr_bits};
 ghost use Rattle.witx_ast.specs.Misfits.{beyond, most_cases as cases_at_most, misfits, field_misfits, arm_misfits, params_misfits, item_misfits, definition_misfits, first_misfit};
 ghost use Rattle.witx_layout.specs.Refusals.{type_refusal, tag_refusal};

@@ -1,8 +1,7 @@
 //! S-expressions and their texts.
 #![tactic(auto, unfolding(crate::specs::ExpressionViews::expr_view))]
 
-ghost use Rattle.std.specs.Prelude.{◌≡◌, IfOk, Some, map};
-ghost use Rattle.std.specs.Fmt.{WritesOnOk};
+ghost use Rattle.std.specs.{Prelude.{◌≡◌, IfOk, Some, map}, Fmt.{WritesOnOk}};
 ghost use Rattle.witx_render.specs.Expressions.{word, ident, quote, annot, text_of, text_behind, with_docs};
 ghost use Rattle.witx_render.specs.ExpressionViews.{expr_view, exprs_view};
 

@@ -3,8 +3,7 @@
 
 ghost use Rattle.std.specs.Prelude.{◌≡◌, ◌++◌, IfOk, OnOk, codes, map};
 ghost use Rattle.witx_ast.specs.Functions.{func_tree, param_field};
-ghost use Rattle.witx_render.specs.Expressions.{vec, word, quote, nil, ◌▹◌};
-ghost use Rattle.witx_render.specs.ExpressionViews.{expr_view};
+ghost use Rattle.witx_render.specs.{Expressions.{vec, word, quote, nil, ◌▹◌}, ExpressionViews.{expr_view}};
 ghost use Rattle.witx_render.specs.ModuleExpressions.{import_expr, func_expr, func_parts, param_expr, noreturn_mark, stored_expressions, export_expr};
 ghost use Rattle.witx_render.specs.Lists.{func_words};
 

@@ -2,11 +2,8 @@
 #![tactic(auto, using(crate::proofs::ModulesShown::shown_rules))]
 
 ghost use Rattle.std.specs.Prelude.{◌≡◌, ◌++◌, IfOk, OnOk, filter, map};
-ghost use Rattle.witx_ast.specs.Views.{tree_of};
-ghost use Rattle.witx_ast.specs.Items.{item_tree};
-ghost use Rattle.witx_ast.specs.Definitions.{module_tree};
-ghost use Rattle.witx_render.specs.Expressions.{vec};
-ghost use Rattle.witx_render.specs.ExpressionViews.{expr_view};
+ghost use Rattle.witx_ast.specs.{Views.{tree_of}, Items.{item_tree}, Definitions.{module_tree}};
+ghost use Rattle.witx_render.specs.{Expressions.{vec}, ExpressionViews.{expr_view}};
 ghost use Rattle.witx_render.specs.ModuleExpressions.{item_expr, is_import, is_func, module_expr, module_expressions};
 ghost use Rattle.witx_render.specs.DocumentTexts.{typename_expr};
 

@@ -1,7 +1,7 @@
 //! Small expressions that others are made of.
 
-ghost use Rattle.std.specs.Prelude.{◌≡◌, ◌∷◌, [], IfOk, codes, map};
-ghost use Rattle.witx_render.specs.Expressions.{vec, nil, ◌▹◌, word, ident, quote};
+ghost use Rattle.std.specs.Prelude.{◌≡◌, ◌∷◌, [], IfOk, map};
+ghost use Rattle.witx_render.specs.Expressions.{vec, nil, ◌▹◌, word, ident};
 ghost use Rattle.witx_render.specs.ExpressionViews.{expr_view, exprs_view};
 ghost use Rattle.witx_render.specs.TypeExpressions.{named_expr, repr_expr, width_expr, witx_expr};
 

@@ -3,8 +3,7 @@
 
 ghost use Rattle.std.specs.Prelude.{◌≡◌, IfOk, false, map, option_map};
 ghost use Rattle.witx_ast.specs.Views.{tree_of, datatype_tree, record_tree, variant_tree, member_field, case_arm};
-ghost use Rattle.witx_render.specs.Expressions.{ident, nil, exprs_of};
-ghost use Rattle.witx_render.specs.ExpressionViews.{expr_view};
+ghost use Rattle.witx_render.specs.{Expressions.{ident, nil, exprs_of}, ExpressionViews.{expr_view}};
 ghost use Rattle.witx_render.specs.TypeExpressions.{builtin_expr, handle_expr, pointer_expr, type_expr, record_expr, member_expr, variant_expr, case_expr};
 ghost use Rattle.witx_render.specs.Lists.{record_words, member_item, variant_words, case_item, payload_exprs};
 

@@ -9,5 +9,5 @@ pub returns : goal.returns
 returns c =
     let taken = map (target_of c.args.part) (map mapped_view c.args.mapped.now) in
     let targets = map param_field c.args.targets.now in
-    c.in_ok-put_targets.ensures taken c.in_ok-taken.ensures
-    ∙ ap (λ us. us ++ without (unknown_target c.args.part) taken targets) (c.in_ok-made.ensures targets c.requires)
+    (rw c.opposite.ensures at (c.in_ok-put_unknown-2.ensures taken c.in_ok-taken.ensures))
+    ∙ ap (λ us. us ++ without (unknown_target c.args.part) taken targets) (rw c.new-made.ensures at (c.in_ok-put_unknown.ensures targets c.requires))

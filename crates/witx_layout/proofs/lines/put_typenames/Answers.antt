@@ -1,5 +1,4 @@
-use Rattle.std.proofs.Common.{arith}
-use Rattle.witx_layout.proofs.Typenames.{typename_rules, next-text, next-fits, next-large}
+use Rattle.witx_layout.proofs.Typenames.{next-text, next-fits, next-large}
 use Rattle.witx_layout.proofs.lines.put_typenames.Goals as goal
 
 pub loop-definition-preserved : goal.loop-definition-preserved
@@ -13,9 +12,3 @@ loop-definition-preserved c =
       fits = λ fit. invariant.fits (next-fits ds i d c.loop-definition-test.true c.definition-item.is c.in_ok-put_definition.ensures.fits fit);
       large = λ large. invariant.large (next-large ds i d c.loop-definition-test.true c.definition-item.is large);
     }
-
-pub returns-in_err-put_definition-clause-too_large : goal.returns-in_err-put_definition-clause-too_large
-returns-in_err-put_definition-clause-too_large c = grind (arith, typename_rules)
-
-pub returns-clause-fits : goal.returns-clause-fits
-returns-clause-fits c = grind (arith, typename_rules)

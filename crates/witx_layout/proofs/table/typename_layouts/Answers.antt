@@ -1,5 +1,5 @@
 use Rattle.std.proofs.Common.{arith, refl, sym, ap, subst, [], ◌++◌}
-use Rattle.witx_layout.proofs.Tabled.{table_rules, Tabled, left_layouts, ahead-start, nothing-tabled, next-ahead, next-tabled, layouts-more, sizes-more, next-most, next-least}
+use Rattle.witx_layout.proofs.Tabled.{Tabled, left_layouts, ahead-start, nothing-tabled, next-ahead, next-tabled, layouts-more, sizes-more, next-most, next-least}
 use Rattle.witx_layout.proofs.table.typename_layouts.Goals as goal
 
 pub loop-number-init : goal.loop-number-init
@@ -29,15 +29,3 @@ loop-number-preserved g c =
       most = next-most xs i d c.loop-number.steps c.push_layout.new.steps _ here is before.most made.most;
       least = next-least xs i d c.loop-number.steps c.push_layout.new.steps _ here is before.least made.least;
     }
-
-pub push_layout-requires : goal.push_layout-requires
-push_layout-requires g c = grind (arith, table_rules)
-
-pub returns-in_err-push_layout-clause-too_large : goal.returns-in_err-push_layout-clause-too_large
-returns-in_err-push_layout-clause-too_large g c = grind (arith, table_rules)
-
-pub returns-clause-sizes : goal.returns-clause-sizes
-returns-clause-sizes g c = grind (arith, table_rules)
-
-pub returns-clause-most : goal.returns-clause-most
-returns-clause-most g c = grind (arith, table_rules)

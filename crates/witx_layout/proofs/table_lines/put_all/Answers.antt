@@ -1,6 +1,6 @@
-use Rattle.std.proofs.Common.{arith, [], refl, sym, subst}
-use Rattle.witx_layout.proofs.Typenames.{typename_rules, next-text, next-fits, next-large}
-use Rattle.witx_layout.proofs.Tabled.{table_rules, Tabled, Lined, ahead-start, nothing-tabled, nothing-lined, next-ahead, next-tabled, next-lined}
+use Rattle.std.proofs.Common.{[], refl, sym, subst}
+use Rattle.witx_layout.proofs.Typenames.{next-text, next-fits, next-large}
+use Rattle.witx_layout.proofs.Tabled.{Tabled, Lined, ahead-start, nothing-tabled, nothing-lined, next-ahead, next-tabled, next-lined}
 use Rattle.witx_layout.proofs.table_lines.put_all.Goals as goal
 
 pub loop-definition-init : goal.loop-definition-init
@@ -30,15 +30,3 @@ loop-definition-preserved g c =
       fits = λ fit. before.fits (next-fits xs i d here is made.fits fit);
       large = λ large. before.large (next-large xs i d here is large);
     }
-
-pub put_known-requires-clause-known : goal.put_known-requires-clause-known
-put_known-requires-clause-known g c = grind (arith, table_rules)
-
-pub put_known-requires-clause-lined : goal.put_known-requires-clause-lined
-put_known-requires-clause-lined g c = grind (arith, table_rules)
-
-pub returns-in_err-put_known-clause-too_large : goal.returns-in_err-put_known-clause-too_large
-returns-in_err-put_known-clause-too_large g c = grind (arith, typename_rules)
-
-pub returns-clause-fits : goal.returns-clause-fits
-returns-clause-fits g c = grind (arith, typename_rules)

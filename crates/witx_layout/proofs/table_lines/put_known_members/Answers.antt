@@ -1,7 +1,6 @@
-use Rattle.std.proofs.Common.{arith}
 use Rattle.witx_layout.proofs.Onward.{next-end}
 use Rattle.witx_layout.proofs.Nodes.{members-known}
-use Rattle.witx_layout.proofs.TableLines.{line_rules, next-field}
+use Rattle.witx_layout.proofs.TableLines.{next-field}
 use Rattle.witx_layout.proofs.table_lines.put_known_members.Goals as goal
 
 pub loop-member-preserved : goal.loop-member-preserved
@@ -18,9 +17,3 @@ loop-member-preserved g c =
       ends = rw made.end (next-end xs i m c.loop-member.end _ here is before.ends);
       text = rw (made.line, made.end) (next-field xs i m c.loop-member.end _ _ here is before.text);
     }
-
-pub put_known_member-requires : goal.put_known_member-requires
-put_known_member-requires g c = grind (arith, line_rules)
-
-pub returns-in_err-end-clause-too_large : goal.returns-in_err-end-clause-too_large
-returns-in_err-end-clause-too_large g c = grind (arith, line_rules)

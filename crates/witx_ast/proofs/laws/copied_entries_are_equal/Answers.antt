@@ -1,5 +1,0 @@
-use Rattle.witx_ast.proofs.HeldCopies.{entries-equal}
-use Rattle.witx_ast.proofs.laws.copied_entries_are_equal.Goals as goal
-
-pub returns : goal.returns
-returns c = entries-equal c.args.entries.now c.args.copy.now c.requires
