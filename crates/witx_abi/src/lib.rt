@@ -3,6 +3,7 @@
 #![tactic(auto)]
 
 mod abi;
+mod plans;
 mod recorded;
 mod signature;
 

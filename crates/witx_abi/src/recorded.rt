@@ -7,11 +7,11 @@ ghost use Rattle.witx_machine.specs.Signature.{signature_params, signature_resul
 ghost use Rattle.witx_machine.specs.Traces.{caller_events, callee_events};
 ghost use Rattle.witx_instructions.specs.Views.{called, event_of};
 
+use crate::plans::{callee_plan, caller_plan};
 use std::alloc::Global;
 use witx_ast::InterfaceFunc;
 use witx_base::{Id, OutOfMemory};
-use witx_instructions::{Trace, WasmTypes, new_plan, return_pointers};
-use witx_lowering::{plan_callee, plan_caller};
+use witx_instructions::{Trace, WasmTypes};
 
 /// The trace of the side that calls a function that can be lowered, with the words of its signature.
 ///
@@ -28,9 +28,7 @@ pub fn caller_trace<'a>(
     requires results { results.now ≡ signature_results (called func.now) }
     ensures { IfOk result (λ trace. map event_of trace.events ≡ caller_events owner.now (called func.now)) }
 {
-    let pointers = return_pointers(alloc, func.abi, &func.results)?;
-    let mut plan = new_plan(alloc)?;
-    plan_caller(&mut plan, owner, func, &pointers, params, results)?;
+    let plan = caller_plan(alloc, owner, func, params, results)?;
     Trace::of(alloc, &plan)
 }
 
@@ -45,8 +43,6 @@ pub fn callee_trace<'a>(
     requires { unlowerable (called func.now) ≡ None }
     ensures { IfOk result (λ trace. map event_of trace.events ≡ callee_events owner.now (called func.now)) }
 {
-    let pointers = return_pointers(alloc, func.abi, &func.results)?;
-    let mut plan = new_plan(alloc)?;
-    plan_callee(&mut plan, owner, func, &pointers)?;
+    let plan = callee_plan(alloc, owner, func)?;
     Trace::of(alloc, &plan)
 }

@@ -2,11 +2,9 @@
 #![tactic(auto, using(witx_instructions::proofs::Signatures::signature_rules))]
 
 ghost use Rattle.std.specs.Prelude.{◌≡◌, IfOk, is_none, position};
-ghost use Rattle.witx_ast.specs.Plain.{plain};
-ghost use Rattle.witx_ast.specs.Views.{tree_of};
+ghost use Rattle.witx_ast.specs.{Plain.{plain}, Views.{tree_of}};
 ghost use Rattle.witx_machine.specs.Signature.{first_wordless, result_word, signature_params, signature_results, without_signature};
-ghost use Rattle.witx_instructions.specs.Views.{called, param_types};
-ghost use Rattle.witx_instructions.specs.Told.{signature_place};
+ghost use Rattle.witx_instructions.specs.{Views.{called, param_types}, Told.{signature_place}};
 
 use std::alloc::Global;
 use witx_ast::{Abi, InterfaceFunc, Params};

@@ -10,24 +10,22 @@ use Rattle.std.specs.Cmp.Lexicographic.{slice_cmp}
 use Rattle.witx_base.specs.Found.{found}
 use Rattle.witx_ast.specs.declared.types.IntRepr.{IntRepr}
 use Rattle.witx_ast.specs.declared.types.RecordKind.{RecordKind}
-use Rattle.witx_ast.specs.declared.function.InterfaceFuncParam.{InterfaceFuncParam}
-use Rattle.witx_ast.specs.declared.function.InterfaceFunc.{InterfaceFunc}
 use Rattle.witx_ast.specs.Tree.{Tree, Fields, Arms, Field, behind}
 use Rattle.witx_ast.specs.Plain.{plain, plain_fields, plain_arms, field_count, arm_count}
-use Rattle.witx_ast.specs.Views.{tree_of}
 use Rattle.witx_ast.specs.Tags.{repr_bits, flags_fit, fits, fields_fit, arms_fit, types_fit, function_fits}
 use Rattle.witx_ast.specs.Misfits.{Excess, Misfit, beyond, most_cases, flags_beyond, misfits, field_misfits, arm_misfits, params_misfits, item_misfits, definition_misfits, first_here, first_misfit_from, first_misfit}
-use Rattle.witx_ast.specs.Functions.{func_tree, param_field}
 use Rattle.witx_ast.specs.Items.{ItemTree, import_of, func_of}
 use Rattle.witx_ast.specs.Entries.{by_name}
 use Rattle.witx_ast.specs.Definitions.{DefinitionTree, typename_of, module_of, constant_of, ModuleTree, introduced, as_typename, typename_called}
 use Rattle.witx_ast.proofs.EntryLaws.{names-more, names-same}
+use Rattle.witx_ast.proofs.TreeKinds.{plain-behind}
 use Rattle.witx_ast.specs.Ordered.{NamesStand, FieldNamesStand, ArmNamesStand}
-use Rattle.witx_machine.specs.Functions.{Function, function_of}
+use Rattle.witx_machine.specs.Functions.{function_of}
 use Rattle.witx_machine.specs.Lowerable.{unlowerable}
 use Rattle.witx_machine.specs.Faithful.{Faithful}
 use Rattle.witx_machine.proofs.CellLaws.{traces_are_faithful}
-use Rattle.witx_instructions.specs.Views.{called, event_of, param_types}
+pub use Rattle.witx_instructions.proofs.Called.{called-same}
+use Rattle.witx_instructions.specs.Views.{event_of}
 use Rattle.witx_adapt.specs.declared.adapted.AdaptedFunc.{AdaptedFunc}
 use Rattle.witx_ast.specs.Closed.{ParamNamesStand, ItemNamesStand, AllNamesStand, ClosedAfter, IsClosed}
 use Rattle.witx_adapt.specs.Entries.{Entry, Owned, owned_item, owned_functions, all_functions, entry_of, entry_for, IsFaithful}
@@ -61,24 +59,13 @@ flags-node RecordKind.Other n h = refl
 cases-node : (r : IntRepr) (n : ℕ) → beyond (most_cases r) n ≡ [] → (nat_le n (2 ^ repr_bits r) && nat_le n (2 ^ 32)) ≡ true
 cases-node r n h = le-min n (2 ^ repr_bits r) (2 ^ 32) (within (nat_le n (most_cases r)) (record { count = n; most = most_cases r }) h)
 
--- a name looked through
-plain-behind : (t : Tree) → plain t ≡ plain (behind t)
-plain-behind (Tree.named n t d) = plain-behind t
-plain-behind (Tree.builtin b) = refl
-plain-behind Tree.handle = refl
-plain-behind (Tree.list_of t) = refl
-plain-behind (Tree.pointer_to t) = refl
-plain-behind (Tree.const_pointer_to t) = refl
-plain-behind (Tree.record_of k ms) = refl
-plain-behind (Tree.variant_of r cs) = refl
-
 -- all typenames among the definitions fit
 TypenamesFit : List DefinitionTree → Type 0
 TypenamesFit before = (n : List ℕ) (u : Tree) → typename_called before n ≡ Some u → fits (plain u) ≡ true
 
 named-fits : (before : List DefinitionTree) → TypenamesFit before → (n : List ℕ) (t u : Tree) → typename_called before n ≡ Some u → behind u ≡ behind t → fits (plain t) ≡ true
 unfolding TypenamesFit
-named-fits before h n t u e s = ap fits (plain-behind t ∙ ap plain (sym s) ∙ sym (plain-behind u)) ∙ h n u e
+named-fits before h n t u e s = ap fits (sym (plain-behind t) ∙ ap plain (sym s) ∙ plain-behind u) ∙ h n u e
 
 mutual
   tree-fits : (before : List DefinitionTree) → TypenamesFit before → (t : Tree) → NamesStand before t → misfits t ≡ [] → fits (plain t) ≡ true
@@ -199,18 +186,6 @@ no-typenames n u e = cc
 
 pub functions-fit : (ds : List DefinitionTree) → IsClosed ds → first_misfit ds ≡ None → FunctionsFit (all_functions ds)
 functions-fit ds c e = fits-after 0 [] ds no-typenames c e
-
--- a function as the machine has it
-params-called : (ps : List InterfaceFuncParam) → map (λ (p : Field). p.tree) (map param_field ps) ≡ param_types ps
-params-called [] = refl
-params-called (p ∷ ps) = ap (λ ts. tree_of p.tref ∷ ts) (params-called ps)
-
-function-same : (f : InterfaceFunc) (ps qs rs ss : List Tree) → ps ≡ qs → rs ≡ ss
-    → ◌≡◌ {A = Function} (record { abi = f.abi; name = f.name; params = ps; results = rs }) (record { abi = f.abi; name = f.name; params = qs; results = ss })
-function-same f ps qs rs ss e k = cc
-
-pub called-same : (f : InterfaceFunc) → function_of (func_tree f) ≡ called f
-called-same f = function-same f _ _ _ _ (params-called f.params) (params-called f.results)
 
 -- each entry
 pub none-here : (o : Option Unlowered) (rest : Option Unlowered) → option_or o rest ≡ None → o ≡ None

@@ -1,6 +1,6 @@
 -- What an adapted document has for each function of each module, in document order: its signature, and the events of its
 -- caller and its callee.
-use Rattle.std.specs.Prelude.{List, [], ◌∷◌, map}
+use Rattle.std.specs.Prelude.{◌≡◌, List, [], ◌∷◌, ◌++◌, map, Result, OnOk}
 use Rattle.std.specs.List.{flat_map}
 use Rattle.witx_ast.specs.Functions.{FunctionTree, func_tree}
 use Rattle.witx_ast.specs.Items.{ItemTree, import_of, func_of}
@@ -64,6 +64,10 @@ owned_functions (constant_of c) = []
 
 abbrev pub all_functions : List DefinitionTree → List Owned
 all_functions = flat_map owned_functions
+
+-- what is done puts the entries of these functions behind the earlier ones
+abbrev pub AdaptsMore : {R E : Type 0} → Result R E → (before now : List AdaptedFunc) → List Owned → Type 0
+AdaptsMore r before now fs = OnOk r (map entry_of now ≡ map entry_of before ++ map entry_for fs)
 
 -- the two traces of an entry are faithful to its function
 abbrev pub IsFaithful : AdaptedFunc → Type 0

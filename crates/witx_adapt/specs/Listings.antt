@@ -2,7 +2,8 @@
 -- A typename has its size and alignment, a constant its value, a module its imports and its functions, and a function
 -- its signature, with a mark where it stores its whole result, and the events of both sides. Layouts and functions are
 -- taken from their lists in order.
-use Rattle.std.specs.Prelude.{ℕ, ◌+◌, List, [], ◌∷◌, ◌++◌, map, drop, codes}
+use Rattle.std.specs.Prelude.{◌≡◌, ℕ, ◌+◌, List, [], ◌∷◌, ◌++◌, map, drop, Result, IfOk, codes}
+use Rattle.std.specs.Borrow.{Bor}
 use Rattle.std.specs.Fmt.{decimal}
 use Rattle.witx_ast.specs.declared.definition.Constant.{Constant}
 use Rattle.witx_ast.specs.declared.function.Abi.{Abi}
@@ -13,6 +14,7 @@ use Rattle.witx_machine.specs.declared.surface.WasmType.{WasmType}
 use Rattle.witx_layout.specs.declared.layout.SizeAlign.{SizeAlign}
 use Rattle.witx_layout.specs.LayoutsText.{typename_line}
 use Rattle.witx_adapt.specs.declared.adapted.Adapted.{Adapted}
+use Rattle.witx_adapt.specs.declared.adapted.AdaptedFunc.{AdaptedFunc}
 use Rattle.witx_adapt.specs.Entries.{Lowered, lowered}
 use Rattle.witx_adapt.specs.Names.{in_quotes, signature}
 use Rattle.witx_adapt.specs.Lines.{event_lines}
@@ -62,6 +64,10 @@ abbrev pub func_count : List ItemTree → ℕ
 func_count [] = 0
 func_count (import_of i ∷ items) = func_count items
 func_count (func_of f ∷ items) = 1 + func_count items
+
+-- what is answered are the functions behind those of these items
+abbrev pub FunctionsBehind : {E : Type 0} → Result (Bor (List AdaptedFunc)) E → List AdaptedFunc → List ItemTree → Type 0
+FunctionsBehind r functions items = IfOk r (λ rest. rest.now ≡ drop (func_count items) functions)
 
 abbrev pub listed_definition_lines : List DefinitionTree → List Lowered → List SizeAlign → List ℕ
 listed_definition_lines [] fs ls = []

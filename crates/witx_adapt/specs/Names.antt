@@ -1,10 +1,16 @@
 -- Names and signatures as the listing shows them. A name stands in double quotes, its own quotes and backslashes behind
 -- a backslash, and its control characters as a backslash and two hexadecimal digits; a signature is its words' types.
-use Rattle.std.specs.Prelude.{ℕ, ◌+◌, ◌/◌, ◌%◌, List, [], ◌∷◌, ◌++◌, ◌||◌, ◌==◌, nat_lt, if◌then◌else◌, codes}
+use Rattle.std.specs.Prelude.{◌≡◌, ℕ, ◌+◌, ◌/◌, ◌%◌, List, [], ◌∷◌, ◌++◌, ◌||◌, ◌==◌, nat_lt, if◌then◌else◌, Result, OnOk, codes, string_bytes}
+use Rattle.std.specs.declared.alloc.Global.{Global}
+use Rattle.std.specs.declared.string.String.{String}
 use Rattle.std.specs.List.{flat_map}
 use Rattle.std.specs.Str.{chars}
 use Rattle.std.specs.Prelude.{encode_utf8}
 use Rattle.witx_machine.specs.declared.surface.WasmType.{WasmType}
+
+-- what is done puts these bytes behind those of the text
+abbrev pub PutsText : {R E : Type 0} → Result R E → (before now : String Global) → List ℕ → Type 0
+PutsText r before now bytes = OnOk r (string_bytes now ≡ string_bytes before ++ bytes)
 
 -- a hexadecimal digit in lower case
 abbrev pub digit : ℕ → ℕ

@@ -1,15 +1,13 @@
 //! A document adapted: checks, layouts, signatures and traces.
 
-ghost use Rattle.std.specs.Prelude.{◌≡◌, ◌++◌, All, None, Some, IfErr, IfOk, OnOk, map};
-ghost use Rattle.witx_ast.specs.Functions.{func_tree};
-ghost use Rattle.witx_ast.specs.Items.{item_tree};
-ghost use Rattle.witx_ast.specs.Definitions.{definition_tree, module_tree};
+ghost use Rattle.std.specs.Prelude.{◌≡◌, All, None, Some, IfErr, IfOk, OnOk, map};
+ghost use Rattle.witx_ast.specs.{Functions.{func_tree}, Items.{item_tree}};
+ghost use Rattle.witx_ast.specs.{Definitions.{definition_tree, module_tree}, Closed.{IsClosed}};
+ghost use Rattle.witx_ast.specs.Ordered.{IsOrdered};
 ghost use Rattle.witx_machine.specs.Lowerable.{unlowerable};
 ghost use Rattle.witx_instructions.specs.Views.{called};
-ghost use Rattle.witx_ast.specs.Closed.{IsClosed};
-ghost use Rattle.witx_ast.specs.Ordered.{IsOrdered};
 ghost use Rattle.witx_layout.specs.Layouts.{all_layouts};
-ghost use Rattle.witx_adapt.specs.Entries.{IsFaithful, all_functions, entry_for, entry_of, module_functions, owned_functions, owned_item};
+ghost use Rattle.witx_adapt.specs.Entries.{AdaptsMore, IsFaithful, all_functions, entry_for, entry_of, module_functions, owned_functions, owned_item};
 ghost use Rattle.witx_adapt.specs.Adaptable.{IsAdaptable, RefusesDocument, UnlowerableAt, first_unlowered, unlowered};
 
 use crate::adapted::{Adapted, AdaptedFunc, AdaptedFuncs};
@@ -104,8 +102,8 @@ fn push_functions(
     functions: &mut AdaptedFuncs,
     definition: &Definition,
 ) -> Result<(), DocumentError>
-    ensures functions { OnOk result (map entry_of functions.new ≡ map entry_of functions.old
-        ++ map entry_for (owned_functions (definition_tree definition.now))) }
+    ensures functions { AdaptsMore result functions.old functions.new
+        (owned_functions (definition_tree definition.now)) }
     ensures lowerable { OnOk result (first_unlowered (owned_functions (definition_tree definition.now)) ≡ None) }
     ensures unlowerable { IfErr result
         (UnlowerableAt (first_unlowered (owned_functions (definition_tree definition.now)))) }
@@ -122,8 +120,8 @@ fn push_module(
     functions: &mut AdaptedFuncs,
     owner: &Rc<Module>,
 ) -> Result<(), DocumentError>
-    ensures functions { OnOk result (map entry_of functions.new ≡ map entry_of functions.old
-        ++ map entry_for (module_functions (module_tree owner.now.value))) }
+    ensures functions { AdaptsMore result functions.old functions.new
+        (module_functions (module_tree owner.now.value)) }
     ensures lowerable { OnOk result (first_unlowered (module_functions (module_tree owner.now.value)) ≡ None) }
     ensures unlowerable { IfErr result (UnlowerableAt (first_unlowered (module_functions (module_tree owner.now.value)))) }
 {
@@ -141,8 +139,8 @@ fn push_item(
     owner: &Rc<Module>,
     item: &ModuleDefinition,
 ) -> Result<(), DocumentError>
-    ensures functions { OnOk result (map entry_of functions.new ≡ map entry_of functions.old
-        ++ map entry_for (owned_item (module_tree owner.now.value) (item_tree item.now))) }
+    ensures functions { AdaptsMore result functions.old functions.new
+        (owned_item (module_tree owner.now.value) (item_tree item.now)) }
     ensures lowerable { OnOk result
         (first_unlowered (owned_item (module_tree owner.now.value) (item_tree item.now)) ≡ None) }
     ensures unlowerable { IfErr result

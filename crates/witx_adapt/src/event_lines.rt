@@ -1,9 +1,10 @@
 //! The line of each event of a listing.
 #![tactic(auto, using(witx_ast::proofs::Trees::tree_rules))]
 
-ghost use Rattle.std.specs.Prelude.{◌≡◌, ◌++◌, OnOk, IfSome, string_bytes, map, codes, option_map};
+ghost use Rattle.std.specs.Prelude.{◌≡◌, ◌++◌, IfSome, map, codes, option_map};
 ghost use Rattle.witx_ast.specs.Views.{tree_of, datatype_tree, named_tree};
 ghost use Rattle.witx_instructions.specs.Views.{event_of, kept_step};
+ghost use Rattle.witx_adapt.specs.Names.{PutsText};
 ghost use Rattle.witx_adapt.specs.Lines.{event_line, event_lines, event_text, number_field, payload_field, step_fields, step_name, two_names, type_field, finish_text};
 
 use crate::names::{put_quoted, put_signature};
@@ -16,7 +17,7 @@ use witx_base::OutOfMemory;
 /// Appends a line for each event.
 #[tactic(auto, using(crate::proofs::Appending::appending_rules))]
 pub fn put_events(alloc: Global, text: &mut String, events: &[Event]) -> Result<(), OutOfMemory>
-    ensures { OnOk result (string_bytes text.new ≡ string_bytes text.old ++ event_lines (map event_of events.now)) }
+    ensures { PutsText result text.old text.new (event_lines (map event_of events.now)) }
 {
     for event in events {
         put_event_line(alloc, text, event)?;
@@ -25,7 +26,7 @@ pub fn put_events(alloc: Global, text: &mut String, events: &[Event]) -> Result<
 }
 
 fn put_event_line(alloc: Global, text: &mut String, event: &Event) -> Result<(), OutOfMemory>
-    ensures { OnOk result (string_bytes text.new ≡ string_bytes text.old ++ event_line (event_of event.now)) }
+    ensures { PutsText result text.old text.new (event_line (event_of event.now)) }
 {
     text.push_str("  ")?;
     put_event(alloc, text, event)?;
@@ -36,7 +37,7 @@ fn put_event_line(alloc: Global, text: &mut String, event: &Event) -> Result<(),
 /// Appends an event as a listing has it: the name of its instruction and its fields, without the blanks before and the line
 /// feed behind it.
 pub fn put_event(alloc: Global, text: &mut String, event: &Event) -> Result<(), OutOfMemory>
-    ensures { OnOk result (string_bytes text.new ≡ string_bytes text.old ++ event_text (event_of event.now)) }
+    ensures { PutsText result text.old text.new (event_text (event_of event.now)) }
 {
     match event {
         Event::Emit(step) => put_step(alloc, text, step),
@@ -57,14 +58,13 @@ fn finish_text(value: bool) -> &'static str
 }
 
 fn put_finish(text: &mut String, value: bool) -> Result<(), AllocError>
-    ensures { OnOk result (string_bytes text.new ≡ string_bytes text.old ++ finish_text value) }
+    ensures { PutsText result text.old text.new (finish_text value) }
 {
     text.push_str(finish_text(value))
 }
 
 fn put_space(text: &mut String, slot: usize, ty: &NamedType) -> Result<(), OutOfMemory>
-    ensures { OnOk result (string_bytes text.new
-        ≡ string_bytes text.old ++ (codes "space" ++ number_field slot ++ type_field (named_tree ty.now))) }
+    ensures { PutsText result text.old text.new (codes "space" ++ number_field slot ++ type_field (named_tree ty.now)) }
 {
     text.push_str("space")?;
     put_number(text, slot)?;
@@ -72,15 +72,14 @@ fn put_space(text: &mut String, slot: usize, ty: &NamedType) -> Result<(), OutOf
 }
 
 fn put_step(alloc: Global, text: &mut String, step: &Step) -> Result<(), OutOfMemory>
-    ensures { OnOk result (string_bytes text.new
-        ≡ string_bytes text.old ++ (step_name (kept_step step.now) ++ step_fields (kept_step step.now))) }
+    ensures { PutsText result text.old text.new (step_name (kept_step step.now) ++ step_fields (kept_step step.now)) }
 {
     text.push_str(step_name(step))?;
     put_fields(alloc, text, step)
 }
 
 fn put_fields(alloc: Global, text: &mut String, step: &Step) -> Result<(), OutOfMemory>
-    ensures { OnOk result (string_bytes text.new ≡ string_bytes text.old ++ step_fields (kept_step step.now)) }
+    ensures { PutsText result text.old text.new (step_fields (kept_step step.now)) }
 {
     match step {
         Step::GetArg { nth: n }
@@ -116,7 +115,7 @@ fn put_fields(alloc: Global, text: &mut String, step: &Step) -> Result<(), OutOf
 }
 
 fn put_number(text: &mut String, n: usize) -> Result<(), OutOfMemory>
-    ensures { OnOk result (string_bytes text.new ≡ string_bytes text.old ++ number_field n) }
+    ensures { PutsText result text.old text.new (number_field n) }
 {
     match short_field(n) {
         Some(field) => Ok(text.push_str(field)?),
@@ -149,20 +148,20 @@ fn short_field(n: usize) -> Option<&'static str>
 
 /// A word behind a space.
 fn put_word(text: &mut String, word: &str) -> Result<(), AllocError>
-    ensures { OnOk result (string_bytes text.new ≡ string_bytes text.old ++ (codes " " ++ word.now)) }
+    ensures { PutsText result text.old text.new (codes " " ++ word.now) }
 {
     text.push_str(" ")?;
     text.push_str(word)
 }
 
 fn put_name(text: &mut String, ty: &NamedType) -> Result<(), OutOfMemory>
-    ensures { OnOk result (string_bytes text.new ≡ string_bytes text.old ++ type_field (named_tree ty.now)) }
+    ensures { PutsText result text.old text.new (type_field (named_tree ty.now)) }
 {
     Ok(put_word(text, ty.name.as_str())?)
 }
 
 fn put_type(alloc: Global, text: &mut String, ty: &TypeRef) -> Result<(), OutOfMemory>
-    ensures { OnOk result (string_bytes text.new ≡ string_bytes text.old ++ type_field (tree_of ty.now)) }
+    ensures { PutsText result text.old text.new (type_field (tree_of ty.now)) }
 {
     match ty {
         TypeRef::Name(named) => put_name(text, named),
@@ -178,7 +177,7 @@ fn put_unnamed(
     datatype: &Datatype,
 ) -> Result<(), OutOfMemory>
     requires { tree_of ty.now ≡ datatype_tree datatype.now }
-    ensures { OnOk result (string_bytes text.new ≡ string_bytes text.old ++ type_field (tree_of ty.now)) }
+    ensures { PutsText result text.old text.new (type_field (tree_of ty.now)) }
 {
     match datatype {
         Datatype::Builtin(builtin) => Ok(put_word(text, builtin.type_name())?),
@@ -188,7 +187,7 @@ fn put_unnamed(
 
 /// A type as it is shown, which takes memory for its text.
 fn put_shown(alloc: Global, text: &mut String, ty: &TypeRef) -> Result<(), OutOfMemory>
-    ensures { OnOk result (string_bytes text.new ≡ string_bytes text.old ++ type_field (tree_of ty.now)) }
+    ensures { PutsText result text.old text.new (type_field (tree_of ty.now)) }
 {
     let name = ty.type_name(alloc)?;
     Ok(put_word(text, name.as_str())?)
@@ -196,7 +195,7 @@ fn put_shown(alloc: Global, text: &mut String, ty: &TypeRef) -> Result<(), OutOf
 
 /// Two quoted names, each behind a space.
 fn put_names(text: &mut String, module: &str, name: &str) -> Result<(), OutOfMemory>
-    ensures { OnOk result (string_bytes text.new ≡ string_bytes text.old ++ two_names «module».now name.now) }
+    ensures { PutsText result text.old text.new (two_names «module».now name.now) }
 {
     text.push_str(" ")?;
     put_quoted(text, module)?;
@@ -210,8 +209,7 @@ fn put_payload(
     word: &str,
     ty: &Option<TypeRef>,
 ) -> Result<(), OutOfMemory>
-    ensures { OnOk result (string_bytes text.new
-        ≡ string_bytes text.old ++ payload_field word.now (option_map tree_of ty.now)) }
+    ensures { PutsText result text.old text.new (payload_field word.now (option_map tree_of ty.now)) }
 {
     match ty {
         Some(ty) => {

@@ -1,12 +1,11 @@
 //! The listing of an adapted document.
 
-ghost use Rattle.std.specs.Prelude.{◌≡◌, ◌++◌, IfOk, OnOk, drop, map, string_bytes};
-ghost use Rattle.witx_ast.specs.Items.{item_tree};
-ghost use Rattle.witx_ast.specs.Definitions.{definition_tree, module_tree};
+ghost use Rattle.std.specs.Prelude.{◌≡◌, ◌++◌, IfOk, drop, map};
+ghost use Rattle.witx_ast.specs.{Items.{item_tree}, Definitions.{definition_tree, module_tree}};
 ghost use Rattle.witx_instructions.specs.Views.{event_of};
 ghost use Rattle.witx_layout.specs.LayoutsText.{typename_line};
-ghost use Rattle.witx_adapt.specs.Entries.{lowered};
-ghost use Rattle.witx_adapt.specs.Listings.{constant_line, listed_definition_lines, func_count, listed_func_line, func_lines, import_line, item_lines, listing_text, module_line, next_func_lines, side_lines, stored_mark, listed_typename_lines};
+ghost use Rattle.witx_adapt.specs.{Entries.{lowered}, Names.{PutsText}};
+ghost use Rattle.witx_adapt.specs.Listings.{FunctionsBehind, constant_line, listed_definition_lines, listed_func_line, func_lines, import_line, item_lines, listing_text, module_line, next_func_lines, side_lines, stored_mark, listed_typename_lines};
 
 use crate::adapted::{Adapted, AdaptedFunc};
 use crate::event_lines::put_events;
@@ -60,8 +59,8 @@ fn put_definitions(
     functions: &[AdaptedFunc],
     layouts: &[SizeAlign],
 ) -> Result<(), OutOfMemory>
-    ensures { OnOk result (string_bytes text.new ≡ string_bytes text.old
-        ++ listed_definition_lines (map definition_tree definitions.now) (map lowered functions.now) layouts.now) }
+    ensures { PutsText result text.old text.new
+        (listed_definition_lines (map definition_tree definitions.now) (map lowered functions.now) layouts.now) }
 {
     let mut functions = functions;
     let mut layouts = layouts;
@@ -90,8 +89,8 @@ pub fn put_typename<'a>(
     name: &str,
     layouts: &'a [SizeAlign],
 ) -> Result<&'a [SizeAlign], AllocError>
-    ensures lines { IfOk result (λ rest. string_bytes text.new
-        ≡ string_bytes text.old ++ listed_typename_lines name.now layouts.now) }
+    ensures lines { PutsText result text.old text.new
+        (listed_typename_lines name.now layouts.now) }
     ensures rest { IfOk result (λ rest. rest.now ≡ drop 1 layouts.now) }
 {
     if layouts.is_empty() {
@@ -102,8 +101,7 @@ pub fn put_typename<'a>(
 }
 
 fn put_typename_line(text: &mut String, name: &str, layout: SizeAlign) -> Result<(), AllocError>
-    ensures { OnOk result (string_bytes text.new
-        ≡ string_bytes text.old ++ typename_line name.now layout.size layout.align) }
+    ensures { PutsText result text.old text.new (typename_line name.now layout.size layout.align) }
 {
     text.push_str("typename ")?;
     text.push_str(name)?;
@@ -116,7 +114,7 @@ fn put_typename_line(text: &mut String, name: &str, layout: SizeAlign) -> Result
 
 /// Appends the line of a constant.
 pub fn put_constant(text: &mut String, constant: &Constant) -> Result<(), AllocError>
-    ensures { OnOk result (string_bytes text.new ≡ string_bytes text.old ++ constant_line constant.now) }
+    ensures { PutsText result text.old text.new (constant_line constant.now) }
 {
     let ty = constant.ty.as_str();
     let name = constant.name.as_str();
@@ -131,9 +129,9 @@ fn put_module<'a>(
     module: &Module,
     functions: &'a [AdaptedFunc],
 ) -> Result<&'a [AdaptedFunc], OutOfMemory>
-    ensures lines { IfOk result (λ rest. string_bytes text.new ≡ string_bytes text.old
-        ++ (module_line «module».now.name ++ item_lines (module_tree «module».now).items (map lowered functions.now))) }
-    ensures rest { IfOk result (λ rest. rest.now ≡ drop (func_count (module_tree «module».now).items) functions.now) }
+    ensures lines { PutsText result text.old text.new
+        (module_line «module».now.name ++ item_lines (module_tree «module».now).items (map lowered functions.now)) }
+    ensures rest { FunctionsBehind result functions.now (module_tree «module».now).items }
 {
     put_module_line(text, module.name.as_str())?;
     put_items(alloc, text, module.definitions().as_slice(), functions)
@@ -141,7 +139,7 @@ fn put_module<'a>(
 
 /// Appends the line of a module, which stands before those of its items.
 pub fn put_module_line(text: &mut String, name: &str) -> Result<(), AllocError>
-    ensures { OnOk result (string_bytes text.new ≡ string_bytes text.old ++ module_line name.now) }
+    ensures { PutsText result text.old text.new (module_line name.now) }
 {
     text.push_str("module ")?;
     text.push_str(name)?;
@@ -155,9 +153,9 @@ fn put_items<'a>(
     items: &[ModuleDefinition],
     functions: &'a [AdaptedFunc],
 ) -> Result<&'a [AdaptedFunc], OutOfMemory>
-    ensures lines { IfOk result (λ rest. string_bytes text.new ≡ string_bytes text.old
-        ++ item_lines (map item_tree items.now) (map lowered functions.now)) }
-    ensures rest { IfOk result (λ rest. rest.now ≡ drop (func_count (map item_tree items.now)) functions.now) }
+    ensures lines { PutsText result text.old text.new
+        (item_lines (map item_tree items.now) (map lowered functions.now)) }
+    ensures rest { FunctionsBehind result functions.now (map item_tree items.now) }
 {
     let mut rest = functions;
     for item in items {
@@ -177,7 +175,7 @@ fn put_items<'a>(
 
 /// Appends the line of a module's import of a memory.
 pub fn put_import(text: &mut String, name: &str) -> Result<(), AllocError>
-    ensures { OnOk result (string_bytes text.new ≡ string_bytes text.old ++ import_line name.now) }
+    ensures { PutsText result text.old text.new (import_line name.now) }
 {
     text.push_str("import ")?;
     put_quoted(text, name)?;
@@ -191,8 +189,8 @@ fn put_next_func<'a>(
     func: &InterfaceFunc,
     functions: &'a [AdaptedFunc],
 ) -> Result<&'a [AdaptedFunc], OutOfMemory>
-    ensures lines { IfOk result (λ rest. string_bytes text.new ≡ string_bytes text.old
-        ++ next_func_lines func.now.name func.now.abi (map lowered functions.now)) }
+    ensures lines { PutsText result text.old text.new
+        (next_func_lines func.now.name func.now.abi (map lowered functions.now)) }
     ensures rest { IfOk result (λ rest. rest.now ≡ drop 1 functions.now) }
 {
     if functions.is_empty() {
@@ -208,8 +206,7 @@ fn put_func(
     func: &InterfaceFunc,
     adapted: &AdaptedFunc,
 ) -> Result<(), OutOfMemory>
-    ensures { OnOk result (string_bytes text.new
-        ≡ string_bytes text.old ++ func_lines func.now.name func.now.abi (lowered adapted.now)) }
+    ensures { PutsText result text.old text.new (func_lines func.now.name func.now.abi (lowered adapted.now)) }
 {
     put_func_line(
         text,
@@ -228,8 +225,7 @@ pub fn put_func_line(
     params: &[WasmType],
     results: &[WasmType],
 ) -> Result<(), AllocError>
-    ensures { OnOk result (string_bytes text.new
-        ≡ string_bytes text.old ++ listed_func_line func.now.name func.now.abi params.now results.now) }
+    ensures { PutsText result text.old text.new (listed_func_line func.now.name func.now.abi params.now results.now) }
 {
     text.push_str("func ")?;
     put_quoted(text, func.name.as_str())?;
@@ -255,7 +251,7 @@ fn put_side(
     side: &str,
     events: &[Event],
 ) -> Result<(), OutOfMemory>
-    ensures { OnOk result (string_bytes text.new ≡ string_bytes text.old ++ side_lines side.now (map event_of events.now)) }
+    ensures { PutsText result text.old text.new (side_lines side.now (map event_of events.now)) }
 {
     text.push_str(side)?;
     text.push('\n')?;

@@ -1,10 +1,8 @@
 //! Names in quotes, and signatures, as a listing has them.
 
-ghost use Rattle.std.specs.Prelude.{◌≡◌, ◌++◌, ◌<◌, ◌/◌, ◌%◌, ◌∷◌, [], OnOk, string_bytes, codes};
-ghost use Rattle.std.specs.Bool.{OnTrue};
-ghost use Rattle.std.specs.List.{flat_map};
-ghost use Rattle.std.specs.Str.{chars};
-ghost use Rattle.witx_adapt.specs.Names.{digit, escaped, in_quotes, signature, spaced, wasm_word, wasm_words};
+ghost use Rattle.std.specs.{Prelude.{◌≡◌, ◌++◌, ◌<◌, ◌/◌, ◌%◌, ◌∷◌, [], codes}, Bool.{OnTrue}};
+ghost use Rattle.std.specs.{List.{flat_map}, Str.{chars}};
+ghost use Rattle.witx_adapt.specs.Names.{PutsText, digit, escaped, in_quotes, signature, spaced, wasm_word, wasm_words};
 
 use std::alloc::AllocError;
 use witx_abi::WasmType;
@@ -12,7 +10,7 @@ use witx_abi::WasmType;
 /// Appends a name in double quotes: its own quotes and backslashes behind a backslash, its control
 /// characters as a backslash and two hexadecimal digits.
 pub fn put_quoted(text: &mut String, name: &str) -> Result<(), AllocError>
-    ensures { OnOk result (string_bytes text.new ≡ string_bytes text.old ++ in_quotes name.now) }
+    ensures { PutsText result text.old text.new (in_quotes name.now) }
 {
     text.push_str("\"")?;
     put_escaped(text, name)?;
@@ -20,7 +18,7 @@ pub fn put_quoted(text: &mut String, name: &str) -> Result<(), AllocError>
 }
 
 fn put_escaped(text: &mut String, name: &str) -> Result<(), AllocError>
-    ensures { OnOk result (string_bytes text.new ≡ string_bytes text.old ++ flat_map escaped (chars name.now)) }
+    ensures { PutsText result text.old text.new (flat_map escaped (chars name.now)) }
 {
     if is_plain(name) {
         return text.push_str(name);
@@ -48,7 +46,7 @@ fn is_plain_byte(byte: u8) -> bool
 }
 
 fn put_character(text: &mut String, c: char) -> Result<(), AllocError>
-    ensures { OnOk result (string_bytes text.new ≡ string_bytes text.old ++ escaped c) }
+    ensures { PutsText result text.old text.new (escaped c) }
 {
     if c == '"' || c == '\\' {
         text.push('\\')?;
@@ -61,8 +59,7 @@ fn put_character(text: &mut String, c: char) -> Result<(), AllocError>
 }
 
 fn put_control(text: &mut String, byte: u8) -> Result<(), AllocError>
-    ensures { OnOk result (string_bytes text.new
-        ≡ string_bytes text.old ++ 92 ∷ digit (byte / 16) ∷ digit (byte % 16) ∷ []) }
+    ensures { PutsText result text.old text.new (92 ∷ digit (byte / 16) ∷ digit (byte % 16) ∷ []) }
 {
     text.push('\\')?;
     text.push(hex_digit(byte / 16))?;
@@ -87,7 +84,7 @@ pub fn put_signature(
     params: &[WasmType],
     results: &[WasmType],
 ) -> Result<(), AllocError>
-    ensures { OnOk result (string_bytes text.new ≡ string_bytes text.old ++ signature params.now results.now) }
+    ensures { PutsText result text.old text.new (signature params.now results.now) }
 {
     put_group(text, params)?;
     text.push_str(" -> ")?;
@@ -95,8 +92,7 @@ pub fn put_signature(
 }
 
 fn put_group(text: &mut String, types: &[WasmType]) -> Result<(), AllocError>
-    ensures { OnOk result (string_bytes text.new
-        ≡ string_bytes text.old ++ (codes "(" ++ wasm_words types.now ++ codes ")")) }
+    ensures { PutsText result text.old text.new (codes "(" ++ wasm_words types.now ++ codes ")") }
 {
     text.push_str("(")?;
     put_words(text, types)?;
@@ -104,7 +100,7 @@ fn put_group(text: &mut String, types: &[WasmType]) -> Result<(), AllocError>
 }
 
 fn put_words(text: &mut String, types: &[WasmType]) -> Result<(), AllocError>
-    ensures { OnOk result (string_bytes text.new ≡ string_bytes text.old ++ wasm_words types.now) }
+    ensures { PutsText result text.old text.new (wasm_words types.now) }
 {
     if types.is_empty() {
         return Ok(());
@@ -116,7 +112,7 @@ fn put_words(text: &mut String, types: &[WasmType]) -> Result<(), AllocError>
 /// Appends the types of words, each behind a blank.
 #[tactic(auto, using(crate::proofs::Appending::appending_rules))]
 pub fn put_more_words(text: &mut String, types: &[WasmType]) -> Result<(), AllocError>
-    ensures { OnOk result (string_bytes text.new ≡ string_bytes text.old ++ flat_map spaced types.now) }
+    ensures { PutsText result text.old text.new (flat_map spaced types.now) }
 {
     for ty in types {
         put_spaced(text, *ty)?;
@@ -124,21 +120,15 @@ pub fn put_more_words(text: &mut String, types: &[WasmType]) -> Result<(), Alloc
     Ok(())
 }
 
+/// Appends the word of a type of WebAssembly behind a blank.
 fn put_spaced(text: &mut String, ty: WasmType) -> Result<(), AllocError>
-    ensures { OnOk result (string_bytes text.new ≡ string_bytes text.old ++ spaced ty) }
-{
-    text.push_str(spaced_word(ty))
-}
-
-/// The word of a type of WebAssembly behind a blank.
-fn spaced_word(ty: WasmType) -> &'static str
-    ensures { result.now ≡ spaced ty }
+    ensures { PutsText result text.old text.new (spaced ty) }
 {
     match ty {
-        WasmType::I32 => " i32",
-        WasmType::I64 => " i64",
-        WasmType::F32 => " f32",
-        WasmType::F64 => " f64",
+        WasmType::I32 => text.push_str(" i32"),
+        WasmType::I64 => text.push_str(" i64"),
+        WasmType::F32 => text.push_str(" f32"),
+        WasmType::F64 => text.push_str(" f64"),
     }
 }
 

@@ -1,14 +1,14 @@
 //! Numbers of a listing.
 
-ghost use Rattle.std.specs.Prelude.{◌≡◌, ◌++◌, ◌<◌, ◌∷◌, [], OnOk, string_bytes};
-ghost use Rattle.std.specs.Fmt.{decimal};
+ghost use Rattle.std.specs.{Prelude.{◌≡◌, ◌<◌, ◌∷◌, []}, Fmt.{decimal}};
+ghost use Rattle.witx_adapt.specs.Names.{PutsText};
 
 use std::alloc::AllocError;
 use std::fmt::Write;
 
 /// Appends a number in decimal digits. Most numbers of a listing have one digit, which needs no formatter.
 pub fn put_decimal(text: &mut String, n: usize) -> Result<(), AllocError>
-    ensures { OnOk result (string_bytes text.new ≡ string_bytes text.old ++ decimal n) }
+    ensures { PutsText result text.old text.new (decimal n) }
 {
     if n < 10 {
         return text.push(only_digit(n));

@@ -128,7 +128,7 @@ pub free-from : (at n : ℕ) (m : Bytes) → ((x : ℕ) → at ≤ x → x < at 
 free-from at zero m h = refl
 free-from at (suc n) m h = both-then _ _ (ap is_none (h at (omega arith) (omega arith))) (free-from (suc at) n m (λ x l u. h x (omega (arith, l)) (omega (arith, u))))
 
-none-is : (o : Option ℕ) → is_none o ≡ true → o ≡ None
+pub none-is : (o : Option ℕ) → is_none o ≡ true → o ≡ None
 none-is None h = refl
 none-is (Some b) h = absurd (false-true h)
 

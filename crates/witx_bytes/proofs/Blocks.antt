@@ -1,12 +1,12 @@
 -- A memory and the blocks that it is in.
-use Rattle.std.proofs.Common.{◌≡◌, ◌≢◌, ℕ, zero, suc, ◌+◌, ◌-◌, ◌*◌, ◌/◌, ◌%◌, ◌^◌, ◌<◌, ◌≤◌, Bool, true, false, cond, ◌&&◌, refl, sym, ap, ◌∙◌, subst, arith, Option, Some, None, is_some, is_none, List, [], ◌∷◌, length, take, drop, nat_eq, nat_lt, ◌⊎◌, inl, inr}
+use Rattle.std.proofs.Common.{◌≡◌, ◌≢◌, ℕ, zero, suc, ◌+◌, ◌-◌, ◌*◌, ◌/◌, ◌%◌, ◌^◌, ◌<◌, ◌≤◌, Bool, true, false, cond, ◌&&◌, refl, sym, ap, ◌∙◌, subst, arith, Option, Some, None, is_some, is_none, List, [], ◌∷◌, length, take, drop, not, nat_eq, nat_lt, ◌⊎◌, inl, inr}
 use Rattle.std.specs.Ordering.{nat_cmp, is_eq}
 use Rattle.std.specs.declared.cmp.Ordering.TheVariants.{Less, Equal, Greater}
 use Rattle.std.specs.BTreeMap.{is_at}
 use Rattle.std.proofs.lemmas.List.{get_or-drop, get_or-take, length-take-le}
 use Rattle.witx_ast.proofs.Decided.{decides-eq, decides-lt}
 use Rattle.witx_base.specs.SameBytes.{false-true}
-use Rattle.witx_bytes.specs.Bytes.{Bytes, Image, Blocks, block_of, HasBlock, HasBlocks, in_block, block_bytes, held, image_written, all_held, none_held, RunAt, Filled, IsByteMemory}
+use Rattle.witx_bytes.specs.Bytes.{Bytes, Image, Blocks, block_of, HasBlock, HasBlocks, in_block, block_bytes, held, image_written, all_held, none_held, all_stand, RunAt, Filled, IsByteMemory}
 use Rattle.witx_bytes.specs.Images.{little}
 use Rattle.witx_bytes.specs.Writes.{HasRange, Writes}
 use Rattle.witx_bytes.proofs.Agreement.{written-outside}
@@ -67,30 +67,29 @@ none-same a b (suc n) m k h =
     let more = none-same (suc a) (suc b) n m k (λ i l. ap m (omega arith) ∙ h (suc i) (omega (arith, l)) ∙ ap k (omega arith)) in
     ap (λ o. is_none o && none_held (suc a) n m) first ∙ ap (λ r. is_none (k b) && r) more
 
+alike : (w : Bool) (a b n : ℕ) (m k : Bytes) → ((i : ℕ) → i < n → m (a + i) ≡ k (b + i)) → all_stand w a n m ≡ all_stand w b n k
+alike true = all-same
+alike false = none-same
+
 front : (at n : ℕ) (run : List (Option ℕ)) (m : Bytes) → RunAt at run m → n ≤ length run → (i : ℕ) → i < n → block_bytes (take n run) (0 + i) ≡ m (at + i)
 front at n run m h long i l = let e : 0 + i ≡ i = omega arith in ap (block_bytes (take n run)) e ∙ get_or-take n run i None l ∙ sym (h.stands i (omega (arith, l, long)))
 
-pub part_held : (at n : ℕ) (run : List (Option ℕ)) (m : Bytes) → RunAt at run m → 0 < length run → at % 256 + n ≤ 256 → all_held 0 (length (take n run)) (block_bytes (take n run)) ≡ all_held at n m
-part_held at n run m h some inside =
+pub part_stands : (w : Bool) (at n : ℕ) (run : List (Option ℕ)) (m : Bytes) → RunAt at run m → 0 < length run → at % 256 + n ≤ 256 → all_stand w 0 (length (take n run)) (block_bytes (take n run)) ≡ all_stand w at n m
+part_stands w at n run m h some inside =
     let long : n ≤ length run = omega (arith, h.long some, inside) in
-    ap (λ k. all_held 0 k (block_bytes (take n run))) (length-take-le n run long) ∙ all-same 0 at n (block_bytes (take n run)) m (front at n run m h long)
-
-pub part_free : (at n : ℕ) (run : List (Option ℕ)) (m : Bytes) → RunAt at run m → 0 < length run → at % 256 + n ≤ 256 → none_held 0 (length (take n run)) (block_bytes (take n run)) ≡ none_held at n m
-part_free at n run m h some inside =
-    let long : n ≤ length run = omega (arith, h.long some, inside) in
-    ap (λ k. none_held 0 k (block_bytes (take n run))) (length-take-le n run long) ∙ none-same 0 at n (block_bytes (take n run)) m (front at n run m h long)
+    ap (λ k. all_stand w 0 k (block_bytes (take n run))) (length-take-le n run long) ∙ alike w 0 at n (block_bytes (take n run)) m (front at n run m h long)
 
 pub part_long : (at n : ℕ) (run : List (Option ℕ)) (m : Bytes) → RunAt at run m → 0 < length run → at % 256 + n ≤ 256 → n ≤ length run
 part_long at n run m h some inside = omega (arith, h.long some, inside)
 
 -- where there is no block nothing is held
-pub no_part_held : (at n : ℕ) (m : Bytes) (run : List (Option ℕ)) → RunAt at run m → length run ≡ 0 → 0 < n → at % 256 + n ≤ 256 → false ≡ all_held at n m
-no_part_held at zero m run h e some inside = absurd (omega (arith, some))
-no_part_held at (suc n) m run h e some inside =
+no-part-held : (at n : ℕ) (m : Bytes) (run : List (Option ℕ)) → RunAt at run m → length run ≡ 0 → 0 < n → at % 256 + n ≤ 256 → false ≡ all_held at n m
+no-part-held at zero m run h e some inside = absurd (omega (arith, some))
+no-part-held at (suc n) m run h e some inside =
     let none : m at ≡ None = ap m (omega arith) ∙ h.free e 0 (omega arith) in sym (ap (λ o. is_some o && all_held (suc at) n m) none)
 
-pub no_part_free : (at n : ℕ) (m : Bytes) (run : List (Option ℕ)) → RunAt at run m → length run ≡ 0 → at % 256 + n ≤ 256 → true ≡ none_held at n m
-no_part_free at n m run h e inside = sym (go at n (λ i l. h.free e i (omega (arith, l, inside))))
+no-part-free : (at n : ℕ) (m : Bytes) (run : List (Option ℕ)) → RunAt at run m → length run ≡ 0 → at % 256 + n ≤ 256 → true ≡ none_held at n m
+no-part-free at n m run h e inside = sym (go at n (λ i l. h.free e i (omega (arith, l, inside))))
   where
     go : (at n : ℕ) → ((i : ℕ) → i < n → m (at + i) ≡ None) → none_held at n m ≡ true
     go at zero h = refl
@@ -98,7 +97,11 @@ no_part_free at n m run h e inside = sym (go at n (λ i l. h.free e i (omega (ar
         ap (λ o. is_none o && none_held (suc at) n m) (ap m (omega arith) ∙ h 0 (omega arith))
         ∙ go (suc at) n (λ i l. ap m (omega arith) ∙ h (suc i) (omega (arith, l)))
 
-pub ruleset part_rules = (part_held, part_free, part_long, no_part_held, no_part_free)
+pub no_part : (w : Bool) (at n : ℕ) (m : Bytes) (run : List (Option ℕ)) → RunAt at run m → length run ≡ 0 → 0 < n → at % 256 + n ≤ 256 → not w ≡ all_stand w at n m
+no_part true at n m run h e some inside = no-part-held at n m run h e some inside
+no_part false at n m run h e some inside = no-part-free at n m run h e inside
+
+pub ruleset part_rules = (part_stands, part_long, no_part)
 
 -- exactly one block differs
 pub record OneBlock (q : ℕ) (old new : List (Option ℕ)) (m n : Blocks) : Type 0 where

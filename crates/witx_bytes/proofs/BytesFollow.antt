@@ -95,19 +95,12 @@ free_still : (a : ℕ) (t : Plain) (v : Value) (ys : Taken) (m : Bytes) → is_v
 free_still a t v [] m is h f = tt
 free_still a t v (y ∷ ys) m is h f = (free-written a (range_size t) y.0 (range_size (plain y.1)) (image t v) m (image-fits t v is) f.0 h, free_still a t v ys m is h f.1)
 
-some_cell : {c d : Cell} → Some c ≡ Some d → c ≡ d
-some_cell {c} e = ap (of c) e
+some_same : {A : Type 0} {x y : A} → Some x ≡ Some y → x ≡ y
+some_same {A} {x} e = ap of e
   where
-    of : Cell → Option Cell → Cell
-    of d (Some c) = c
-    of d None = d
-
-some_value : {v u : Value} → Some v ≡ Some u → v ≡ u
-some_value {v} e = ap (of v) e
-  where
-    of : Value → Option Value → Value
-    of d (Some c) = c
-    of d None = d
+    of : Option A → A
+    of (Some z) = z
+    of None = x
 
 -- whole: what the whole run takes; before: the bytes as they were given
 module _ (whole : Taken) (before : Bytes) (fit : AreRangesApart whole) (unused : AreUnused before whole) (writable : AreWritable whole) where
@@ -198,7 +191,7 @@ module _ (whole : Taken) (before : Bytes) (fit : AreRangesApart whole) (unused :
       stood : (c : ℕ) (d : Cell) → AreRangesApart (taken ++ (a, t) ∷ front.0) → is_free a (range_size (plain t)) m ≡ true → AllFit (plain t) → (x : Bool) → nat_eq c a ≡ x → cond x (Some (record { made_for = t; content = None })) (get cs c) ≡ Some d → StandsAt (taken ++ (a, t) ∷ []) (with_zeros a (range_size (plain t)) m) c d
       stood c d f free fits true x e =
           let here : c ≡ a = (decides-eq c a).0 x in
-          let new : record { made_for = t; content = None } ≡ d = some_cell e in
+          let new : record { made_for = t; content = None } ≡ d = some_same e in
           subst (λ d. StandsAt (taken ++ (a, t) ∷ []) (with_zeros a (range_size (plain t)) m) c d) new
           (subst (λ c. StandsAt (taken ++ (a, t) ∷ []) (with_zeros a (range_size (plain t)) m) c (record { made_for = t; content = None })) (sym here)
           (among_last (a, t) taken, fits, held-own a (range_size (plain t)) m free, λ v e. absurd (none v e)))
@@ -220,11 +213,11 @@ module _ (whole : Taken) (before : Bytes) (fit : AreRangesApart whole) (unused :
           let s = stands a c found in
           let here : x ≡ a = (decides-eq x a).0 y in
           subst (λ x. StandsAt taken (image_written a (image (plain t) v) m) x d) (sym here)
-          (subst (StandsAt taken (image_written a (image (plain t) v) m) a) (some_cell e) (
+          (subst (StandsAt taken (image_written a (image (plain t) v) m) a) (some_same e) (
             s.0,
             s.1,
             held-written a (image (plain t) v) a (range_size (plain c.made_for)) m s.2,
-            λ u q. subst (λ u. (is_value (plain c.made_for) u ≡ true) × Agrees (image_written a (image (plain t) v) m) a (image (plain c.made_for) u)) (some_value q)
+            λ u q. subst (λ u. (is_value (plain c.made_for) u ≡ true) × Agrees (image_written a (image (plain t) v) m) a (image (plain c.made_for) u)) (some_same q)
                 (subst (λ p. (is_value p v ≡ true) × Agrees (image_written a (image (plain t) v) m) a (image p v)) (sym alike_t) (is, written-own a (image (plain t) v) m)),
           ))
       go false y e =

@@ -25,30 +25,14 @@ either_row true x y h k = h
 either_row false x y h k = k
 
 lower_builtin_good : (b : BuiltinType) → GoodRow (row (lower_builtin b))
-lower_builtin_good BuiltinType.Char = tt
 lower_builtin_good (BuiltinType.U8 c) = either_row c Step.I32FromChar8 Step.I32FromU8 tt tt
-lower_builtin_good BuiltinType.U16 = tt
 lower_builtin_good (BuiltinType.U32 p) = either_row p Step.I32FromUsize Step.I32FromU32 tt tt
-lower_builtin_good BuiltinType.U64 = tt
-lower_builtin_good BuiltinType.S8 = tt
-lower_builtin_good BuiltinType.S16 = tt
-lower_builtin_good BuiltinType.S32 = tt
-lower_builtin_good BuiltinType.S64 = tt
-lower_builtin_good BuiltinType.F32 = tt
-lower_builtin_good BuiltinType.F64 = tt
+lower_builtin_good b = tt
 
 lift_builtin_good : (b : BuiltinType) → GoodRow (row (lift_builtin b))
-lift_builtin_good BuiltinType.Char = tt
 lift_builtin_good (BuiltinType.U8 c) = either_row c Step.Char8FromI32 Step.U8FromI32 tt tt
-lift_builtin_good BuiltinType.U16 = tt
 lift_builtin_good (BuiltinType.U32 p) = either_row p Step.UsizeFromI32 Step.U32FromI32 tt tt
-lift_builtin_good BuiltinType.U64 = tt
-lift_builtin_good BuiltinType.S8 = tt
-lift_builtin_good BuiltinType.S16 = tt
-lift_builtin_good BuiltinType.S32 = tt
-lift_builtin_good BuiltinType.S64 = tt
-lift_builtin_good BuiltinType.F32 = tt
-lift_builtin_good BuiltinType.F64 = tt
+lift_builtin_good b = tt
 
 lower_flags_good : (r : IntRepr) (t : Tree) → GoodRow (row (lower_flags r t))
 lower_flags_good IntRepr.U8 t = tt

@@ -2,33 +2,28 @@
 use Rattle.std.proofs.Common.{◌≡◌, ◌≢◌, ℕ, ◌+◌, ◌<◌, ◌≤◌, Bool, true, false, refl, sym, ap, ◌∙◌, arith, Option, Some, None, is_some, is_none, ◌⊎◌, inl, inr, subst, nat_eq, nat_lt, nat_le}
 use Rattle.witx_ast.proofs.Decided.{decides-eq, decides-lt, decides-le}
 use Rattle.witx_base.specs.SameBytes.{false-true}
-use Rattle.witx_bytes.specs.Bytes.{Bytes, all_held, none_held, with_zeros, Filled}
-use Rattle.witx_bytes.proofs.Agreement.{held-from, held-at, free-from, free-at, placed-outside, placed-own}
+use Rattle.witx_bytes.specs.Bytes.{Bytes, all_stand, stands_as, with_zeros, Filled}
+use Rattle.witx_bytes.proofs.Agreement.{held-from, held-at, free-from, free-at, none-is, placed-outside, placed-own}
 
--- all bytes up to x are held, or none is
-abbrev pub HeldTo : ℕ → ℕ → Bytes → Type 0
-HeldTo at x m = (y : ℕ) → at ≤ y → y < x → is_some (m y) ≡ true
+-- bytes that stand as is wanted, one by one
+stand-from : (w : Bool) (at n : ℕ) (m : Bytes) → ((x : ℕ) → at ≤ x → x < at + n → stands_as w (m x) ≡ true) → all_stand w at n m ≡ true
+stand-from true at n m h = held-from at n m h
+stand-from false at n m h = free-from at n m (λ x l u. none-is (m x) (h x l u))
 
-abbrev pub FreeTo : ℕ → ℕ → Bytes → Type 0
-FreeTo at x m = (y : ℕ) → at ≤ y → y < x → m y ≡ None
+stand-at : (w : Bool) (at n : ℕ) (m : Bytes) → all_stand w at n m ≡ true → (x : ℕ) → at ≤ x → x < at + n → stands_as w (m x) ≡ true
+stand-at true at n m e = held-at at n m e
+stand-at false at n m e = λ x l u. ap is_none (free-at at n m e x l u)
 
-some-none : (o : Option ℕ) → is_none o ≡ true → is_some o ≡ true → ⊥
-some-none None h k = false-true k
-some-none (Some b) h k = false-true h
+-- up to x all do
+abbrev pub StandTo : Bool → ℕ → ℕ → Bytes → Type 0
+StandTo w at x m = (y : ℕ) → at ≤ y → y < x → stands_as w (m y) ≡ true
 
-pub not_held : (at n x : ℕ) (m : Bytes) → at ≤ x → x < at + n → is_none (m x) ≡ true → all_held at n m ≡ false
-not_held at n x m l u h = go (all_held at n m) refl
+pub not_standing : (w : Bool) (at n x : ℕ) (m : Bytes) → at ≤ x → x < at + n → stands_as w (m x) ≡ false → all_stand w at n m ≡ false
+not_standing w at n x m l u h = go (all_stand w at n m) refl
   where
-    go : (b : Bool) → all_held at n m ≡ b → all_held at n m ≡ false
+    go : (b : Bool) → all_stand w at n m ≡ b → all_stand w at n m ≡ false
     go false e = e
-    go true e = absurd (some-none (m x) h (held-at at n m e x l u))
-
-pub not_free : (at n x : ℕ) (m : Bytes) → at ≤ x → x < at + n → is_some (m x) ≡ true → none_held at n m ≡ false
-not_free at n x m l u h = go (none_held at n m) refl
-  where
-    go : (b : Bool) → none_held at n m ≡ b → none_held at n m ≡ false
-    go false e = e
-    go true e = absurd (false-true (sym (ap is_some (free-at at n m e x l u)) ∙ h))
+    go true e = absurd (false-true (sym h ∙ stand-at w at n m e x l u))
 
 not-lt : (y x : ℕ) → nat_lt y x ≡ false → x ≤ y
 not-lt y x h = go (nat_le x y) refl
@@ -74,49 +69,29 @@ filled_then from x z o m k n f g l u = record {
     go y lo hi true e = let t = (decides-lt y x).0 e in g.outside y (inl t) ∙ f.inside y lo t
     go y lo hi false e = g.inside y (not-lt y x e) hi
 
--- a range held or free, part by part
-pub held_first : (at x : ℕ) (m : Bytes) → x ≡ at → HeldTo at x m
-held_first at x m e y lo hi = absurd (omega (arith, lo, hi, e))
+-- a range, part by part
+pub stand_first : (w : Bool) (at x : ℕ) (m : Bytes) → x ≡ at → StandTo w at x m
+stand_first w at x m e y lo hi = absurd (omega (arith, lo, hi, e))
 
-pub held_then : (at x z n : ℕ) (m : Bytes) → HeldTo at x m → all_held x n m ≡ true → z ≡ x + n → HeldTo at z m
-held_then at x z n m h p e y lo hi = go (nat_lt y x) refl
+pub stand_then : (w : Bool) (at x z n : ℕ) (m : Bytes) → StandTo w at x m → all_stand w x n m ≡ true → z ≡ x + n → StandTo w at z m
+stand_then w at x z n m h p e y lo hi = go (nat_lt y x) refl
   where
-    go : (b : Bool) → nat_lt y x ≡ b → is_some (m y) ≡ true
+    go : (b : Bool) → nat_lt y x ≡ b → stands_as w (m y) ≡ true
     go true k = h y lo ((decides-lt y x).0 k)
-    go false k = held-at x n m p y (not-lt y x k) (omega (arith, hi, e))
+    go false k = stand-at w x n m p y (not-lt y x k) (omega (arith, hi, e))
 
-pub held_not : (at len x n : ℕ) (m : Bytes) → at ≤ x → x + n ≤ at + len → all_held x n m ≡ false → all_held at len m ≡ false
-held_not at len x n m l u p = go (all_held at len m) refl
+pub stand_not : (w : Bool) (at len x n : ℕ) (m : Bytes) → at ≤ x → x + n ≤ at + len → all_stand w x n m ≡ false → all_stand w at len m ≡ false
+stand_not w at len x n m l u p = go (all_stand w at len m) refl
   where
-    go : (b : Bool) → all_held at len m ≡ b → all_held at len m ≡ false
+    go : (b : Bool) → all_stand w at len m ≡ b → all_stand w at len m ≡ false
     go false e = e
-    go true e = absurd (false-true (sym p ∙ held-from x n m (λ y lo hi. held-at at len m e y (omega (arith, l, lo)) (omega (arith, hi, u)))))
+    go true e = absurd (false-true (sym p ∙ stand-from w x n m (λ y lo hi. stand-at w at len m e y (omega (arith, l, lo)) (omega (arith, hi, u)))))
 
-pub held_last : (at len x : ℕ) (m : Bytes) → HeldTo at x m → at + len ≤ x → all_held at len m ≡ true
-held_last at len x m h u = held-from at len m (λ y lo hi. h y lo (omega (arith, hi, u)))
+pub stand_last : (w : Bool) (at len x : ℕ) (m : Bytes) → StandTo w at x m → at + len ≤ x → all_stand w at len m ≡ true
+stand_last w at len x m h u = stand-from w at len m (λ y lo hi. h y lo (omega (arith, hi, u)))
 
-pub free_first : (at x : ℕ) (m : Bytes) → x ≡ at → FreeTo at x m
-free_first at x m e y lo hi = absurd (omega (arith, lo, hi, e))
+pub ruleset range_rules = (not_standing, stand_last, held-from, free-from, free-at, placed-outside, placed-own)
 
-pub free_then : (at x z n : ℕ) (m : Bytes) → FreeTo at x m → none_held x n m ≡ true → z ≡ x + n → FreeTo at z m
-free_then at x z n m h p e y lo hi = go (nat_lt y x) refl
-  where
-    go : (b : Bool) → nat_lt y x ≡ b → m y ≡ None
-    go true k = h y lo ((decides-lt y x).0 k)
-    go false k = free-at x n m p y (not-lt y x k) (omega (arith, hi, e))
-
-pub free_not : (at len x n : ℕ) (m : Bytes) → at ≤ x → x + n ≤ at + len → none_held x n m ≡ false → none_held at len m ≡ false
-free_not at len x n m l u p = go (none_held at len m) refl
-  where
-    go : (b : Bool) → none_held at len m ≡ b → none_held at len m ≡ false
-    go false e = e
-    go true e = absurd (false-true (sym p ∙ free-from x n m (λ y lo hi. free-at at len m e y (omega (arith, l, lo)) (omega (arith, hi, u)))))
-
-pub free_last : (at len x : ℕ) (m : Bytes) → FreeTo at x m → at + len ≤ x → none_held at len m ≡ true
-free_last at len x m h u = free-from at len m (λ y lo hi. h y lo (omega (arith, hi, u)))
-
-pub ruleset range_rules = (not_held, not_free, held-from, free-from, free-at, placed-outside, placed-own)
-
-pub ruleset span_rules = (held_first, held_then, held_not, held_last, free_first, free_then, free_not, free_last)
+pub ruleset span_rules = (stand_first, stand_then, stand_not, stand_last)
 
 pub ruleset fill_rules = (filled_first, filled_more, filled_then, filled_placed)

@@ -1,5 +1,5 @@
 -- Numbers and scalars that are read.
-use Rattle.std.proofs.Common.{◌≡◌, ℕ, zero, suc, ◌+◌, ◌*◌, ◌-◌, ◌^◌, ◌<◌, ◌≤◌, refl, sym, ap, ◌∙◌, arith, ℤ, true, Option, Some, None, option_map, option_and_then, pow-suc, List, [], ◌∷◌, length}
+use Rattle.std.proofs.Common.{◌≡◌, ℕ, zero, suc, ◌+◌, ◌*◌, ◌-◌, ◌^◌, ◌<◌, ◌≤◌, refl, sym, ap, ◌∙◌, arith, ℤ, true, Option, Some, None, option_map, option_and_then, Result, Err, pow-suc, List, [], ◌∷◌, length}
 use Rattle.witx_ast.specs.declared.types.BuiltinType.{BuiltinType}
 use Rattle.witx_ast.specs.Plain.{Plain}
 use Rattle.witx_ast.specs.Values as plain
@@ -10,7 +10,9 @@ use Rattle.witx_layout.specs.Numbers.{builtin_size}
 use Rattle.witx_machine.specs.Words.{cut, checked_value}
 use Rattle.witx_bytes.specs.Bytes.{Bytes, IsByteMemory, HoldsAt, RunAt}
 use Rattle.witx_bytes.specs.Reading.{number_at, value_at, list_read_at}
+use Rattle.witx_bytes.specs.Readings.{ReadAs}
 use Rattle.witx_bytes.specs.Seen.{seen}
+use Rattle.witx_bytes.specs.declared.read_error.ReadError.{ReadError}
 use Rattle.witx_bytes.specs.declared.value.Value.TheVariants as value
 use Rattle.witx_bytes.proofs.Seen.{seen-Num, seen-Handle, seen-Pointer, seen-ConstPointer, seen-List}
 use Rattle.witx_bytes.proofs.ReadBack.{when-true}
@@ -80,6 +82,14 @@ number_fits width n l h =
 
 pub ruleset number_rules = (number_step, number_low, number_high, number_bound, number_fits, run_first, run_rest)
 
+-- a part that isn't read makes a whole that isn't
+pub goes_on : {A B C D : Type 0} (f : A → B) (g : C → D) (o : Option B) (p : Option D) (e : ReadError) → (o ≡ None → p ≡ None) → ReadAs f o (Err e) → ReadAs g p (Err e)
+goes_on f g o p ReadError.NoValue h k = h k
+goes_on f g o p ReadError.OutOfMemory h k = tt
+
+pub handle_refused : (m : Bytes) (at : ℕ) (e : ReadError) → ReadAs (λ n. n) (number_at 4 m at) (Err e) → ReadAs seen (value_at Plain.handle m at) (Err e)
+handle_refused m at e h = goes_on (λ n. n) seen (number_at 4 m at) (value_at Plain.handle m at) e (λ n. ap (option_map plain.handle_number) n) h
+
 pub handle_read : (m : Bytes) (at n : ℕ) → number_at 4 m at ≡ Some n → value_at Plain.handle m at ≡ Some (seen (value.Handle n))
 handle_read m at n h = ap (option_map plain.handle_number) h ∙ ap Some (sym (seen-Handle n))
 
@@ -92,8 +102,23 @@ builtin_read b m at width bits n w h c r =
 pub pointer_read : (t : Plain) (m : Bytes) (at n : ℕ) → number_at 4 m at ≡ Some n → value_at (Plain.pointer_to t) m at ≡ Some (seen (value.Pointer n))
 pointer_read t m at n h = ap (option_map plain.address) h ∙ ap Some (sym (seen-Pointer n))
 
+pub pointer_refused : (t : Plain) (m : Bytes) (at : ℕ) (e : ReadError) → ReadAs (λ n. n) (number_at 4 m at) (Err e) → ReadAs seen (value_at (Plain.pointer_to t) m at) (Err e)
+pointer_refused t m at e h = goes_on (λ n. n) seen (number_at 4 m at) (value_at (Plain.pointer_to t) m at) e (λ n. ap (option_map plain.address) n) h
+
 pub const_read : (t : Plain) (m : Bytes) (at n : ℕ) → number_at 4 m at ≡ Some n → value_at (Plain.const_pointer_to t) m at ≡ Some (seen (value.ConstPointer n))
 const_read t m at n h = ap (option_map plain.const_address) h ∙ ap Some (sym (seen-ConstPointer n))
 
+pub const_refused : (t : Plain) (m : Bytes) (at : ℕ) (e : ReadError) → ReadAs (λ n. n) (number_at 4 m at) (Err e) → ReadAs seen (value_at (Plain.const_pointer_to t) m at) (Err e)
+const_refused t m at e h = goes_on (λ n. n) seen (number_at 4 m at) (value_at (Plain.const_pointer_to t) m at) e (λ n. ap (option_map plain.const_address) n) h
+
 pub list_read : (t : Plain) (m : Bytes) (at a l : ℕ) → number_at 4 m at ≡ Some a → number_at 4 m (at + 4) ≡ Some l → value_at (Plain.list_of t) m at ≡ Some (seen (value.List a l))
 list_read t m at a l h k = ap (λ x. list_read_at x (number_at 4 m (at + 4))) h ∙ ap (λ y. list_read_at (Some a) y) k ∙ ap Some (sym (seen-List a l))
+
+pub address_refused : (t : Plain) (m : Bytes) (at : ℕ) (e : ReadError) → ReadAs (λ n. n) (number_at 4 m at) (Err e) → ReadAs seen (value_at (Plain.list_of t) m at) (Err e)
+address_refused t m at e h = goes_on (λ n. n) seen (number_at 4 m at) (value_at (Plain.list_of t) m at) e (λ n. ap (λ x. list_read_at x (number_at 4 m (at + 4))) n) h
+
+pub length_refused : (t : Plain) (m : Bytes) (at a : ℕ) (e : ReadError) → number_at 4 m at ≡ Some a → ReadAs (λ n. n) (number_at 4 m (at + 4)) (Err e) → ReadAs seen (value_at (Plain.list_of t) m at) (Err e)
+length_refused t m at a e k h =
+    goes_on (λ n. n) seen (number_at 4 m (at + 4)) (value_at (Plain.list_of t) m at) e (λ n. ap (λ x. list_read_at x (number_at 4 m (at + 4))) k ∙ ap (λ y. list_read_at (Some a) y) n) h
+
+pub ruleset scalar_rules = (handle_refused, pointer_refused, const_refused, address_refused, length_refused)

@@ -29,25 +29,27 @@ use Rattle.witx_bytes.proofs.Members.{ms_from}
 use Rattle.witx_bytes.proofs.NumberLaws.{when_is}
 use Rattle.witx_bytes.proofs.Payloads.{CaseIs, case_found}
 use Rattle.witx_bytes.proofs.ReadBack.{variant-read, when-true}
+use Rattle.witx_bytes.proofs.ReadNumbers.{goes_on}
 use Rattle.witx_bytes.proofs.Seen.{seen-Tuple, seen-Rec, seen-Enum, seen-Bare, seen-With}
 
--- a part that isn't read makes a whole that isn't
-pub goes_on : {A B C D : Type 0} (f : A → B) (g : C → D) (o : Option B) (p : Option D) (e : ReadError) → (o ≡ None → p ≡ None) → ReadAs f o (Err e) → ReadAs g p (Err e)
-goes_on f g o p ReadError.NoValue h k = h k
-goes_on f g o p ReadError.OutOfMemory h k = tt
-
--- tuples and other records, by their members
+-- a record that isn't flags, by its members
 pub tuple_read : (ms : Fields) (m : Bytes) (at : ℕ) (vs : List Value) → members_at 0 ms m at ≡ Some (values_seen vs) → value_at (Plain.record_of RecordKind.Tuple ms) m at ≡ Some (seen (value.Tuple vs))
 tuple_read ms m at vs h = ap (option_map plain.tuple_values) h ∙ ap Some (sym (seen-Tuple vs))
 
-pub tuple_refused : (ms : Fields) (m : Bytes) (at : ℕ) (e : ReadError) → ReadAs values_seen (members_at 0 ms m at) (Err e) → ReadAs seen (value_at (Plain.record_of RecordKind.Tuple ms) m at) (Err e)
-tuple_refused ms m at e h = goes_on values_seen seen (members_at 0 ms m at) (value_at (Plain.record_of RecordKind.Tuple ms) m at) e (λ n. ap (option_map plain.tuple_values) n) h
+pub other_read : (k : RecordKind) (ms : Fields) (m : Bytes) (at : ℕ) (vs : List Value) → ((r : IntRepr) → k ≡ RecordKind.Bitflags r → ⊥) → (k ≡ RecordKind.Tuple → ⊥) → members_at 0 ms m at ≡ Some (values_seen vs) → value_at (Plain.record_of k ms) m at ≡ Some (seen (value.Rec vs))
+other_read (RecordKind.Bitflags r) ms m at vs n o h = absurd (n r refl)
+other_read RecordKind.Tuple ms m at vs n o h = absurd (o refl)
+other_read RecordKind.Other ms m at vs n o h = ap (option_map plain.record_values) h ∙ ap Some (sym (seen-Rec vs))
 
-pub record_read : (ms : Fields) (m : Bytes) (at : ℕ) (vs : List Value) → members_at 0 ms m at ≡ Some (values_seen vs) → value_at (Plain.record_of RecordKind.Other ms) m at ≡ Some (seen (value.Rec vs))
-record_read ms m at vs h = ap (option_map plain.record_values) h ∙ ap Some (sym (seen-Rec vs))
+pub members_refused : (k : RecordKind) (ms : Fields) (m : Bytes) (at : ℕ) (e : ReadError) → ((r : IntRepr) → k ≡ RecordKind.Bitflags r → ⊥) → ReadAs values_seen (members_at 0 ms m at) (Err e) → ReadAs seen (value_at (Plain.record_of k ms) m at) (Err e)
+members_refused (RecordKind.Bitflags r) ms m at e n h = absurd (n r refl)
+members_refused RecordKind.Tuple ms m at e n h = goes_on values_seen seen (members_at 0 ms m at) (value_at (Plain.record_of RecordKind.Tuple ms) m at) e (λ n. ap (option_map plain.tuple_values) n) h
+members_refused RecordKind.Other ms m at e n h = goes_on values_seen seen (members_at 0 ms m at) (value_at (Plain.record_of RecordKind.Other ms) m at) e (λ n. ap (option_map plain.record_values) n) h
 
-pub record_refused : (ms : Fields) (m : Bytes) (at : ℕ) (e : ReadError) → ReadAs values_seen (members_at 0 ms m at) (Err e) → ReadAs seen (value_at (Plain.record_of RecordKind.Other ms) m at) (Err e)
-record_refused ms m at e h = goes_on values_seen seen (members_at 0 ms m at) (value_at (Plain.record_of RecordKind.Other ms) m at) e (λ n. ap (option_map plain.record_values) n) h
+pub members_can_read : (k : RecordKind) (ms : Fields) (at : ℕ) → ((r : IntRepr) → k ≡ RecordKind.Bitflags r → ⊥) → CanRead at (Plain.record_of k ms) → CanReadAll at ms
+members_can_read (RecordKind.Bitflags r) ms at n c = absurd (n r refl)
+members_can_read RecordKind.Tuple ms at n c = record { fit = c.fit; size = omega (arith, c.size, above (members_end 0 ms) (members_align ms)); end = omega (arith, c.end, above (members_end 0 ms) (members_align ms)) }
+members_can_read RecordKind.Other ms at n c = record { fit = c.fit; size = omega (arith, c.size, above (members_end 0 ms) (members_align ms)); end = omega (arith, c.end, above (members_end 0 ms) (members_align ms)) }
 
 -- values that are read, and then those that follow
 abbrev pub followed_by : List Value → plain.Values → plain.Values
@@ -224,13 +226,6 @@ cases_few r cs at c =
     let below : arm_count (cases_plain cs) ≤ 2 ^ 32 = (decides-le (arm_count (cases_plain cs)) (2 ^ 32)).0 (both (nat_le (arm_count (cases_plain cs)) (2 ^ repr_bits r)) (nat_le (arm_count (cases_plain cs)) (2 ^ 32)) counts).1 in
     omega (arith, below, count-cases cs)
 
--- the members of a tuple, and of another record
-pub tuple_can_read : (ms : Fields) (at : ℕ) → CanRead at (Plain.record_of RecordKind.Tuple ms) → CanReadAll at ms
-tuple_can_read ms at c = record { fit = c.fit; size = omega (arith, c.size, above (members_end 0 ms) (members_align ms)); end = omega (arith, c.end, above (members_end 0 ms) (members_align ms)) }
-
-pub record_can_read : (ms : Fields) (at : ℕ) → CanRead at (Plain.record_of RecordKind.Other ms) → CanReadAll at ms
-record_can_read ms at c = record { fit = c.fit; size = omega (arith, c.size, above (members_end 0 ms) (members_align ms)); end = omega (arith, c.end, above (members_end 0 ms) (members_align ms)) }
-
 -- along an equation of types
 pub can_read_by : (at : ℕ) (t q : Plain) → t ≡ q → CanRead at t → CanRead at q
 can_read_by at t q e h = subst (λ t. CanRead at t) e h
@@ -251,4 +246,4 @@ boxed_read t m at v u h e = ap (option_map Some) h ∙ ap (λ v. Some (Some (see
 pub boxed_refused : (t : Plain) (m : Bytes) (at : ℕ) (e : ReadError) → ReadAs seen (value_at t m at) (Err e) → ReadAs (option_map seen_in) (option_map Some (value_at t m at)) (Err e)
 boxed_refused t m at e h = goes_on seen (option_map seen_in) (value_at t m at) (option_map Some (value_at t m at)) e (λ n. ap (option_map Some) n) h
 
-pub ruleset read_rules = (tuple_read, tuple_refused, record_read, record_refused, read_first, read_done, number_below, number_above, number_none, no_case_read, case_below, bare_read, flags_read, flags_none, boxed_read, boxed_refused)
+pub ruleset read_rules = (read_first, read_done, number_below, number_above, number_none, no_case_read, case_below, bare_read, flags_read, flags_none, boxed_read, boxed_refused)

@@ -1,6 +1,6 @@
 -- A memory of bytes: which byte stands at an address, if one does.
 -- A range of it is held where each of its bytes stands, and free where none does; ranges begin above 0 and end within 2^32.
-use Rattle.std.specs.Prelude.{◌≡◌, ℕ, zero, suc, ◌+◌, ◌/◌, ◌%◌, ◌^◌, ◌<◌, ◌≤◌, List, [], ◌∷◌, Bool, true, ◌&&◌, cond, ◌⊎◌, length, Option, Some, None, is_some, is_none, slice_index_or, nat_eq, nat_lt, nat_le}
+use Rattle.std.specs.Prelude.{◌≡◌, ℕ, zero, suc, ◌+◌, ◌/◌, ◌%◌, ◌^◌, ◌<◌, ◌≤◌, List, [], ◌∷◌, Bool, true, false, ◌&&◌, cond, ◌⊎◌, length, Option, Some, None, is_some, is_none, slice_index_or, nat_eq, nat_lt, nat_le}
 use Rattle.std.specs.Ordering.{nat_cmp}
 use Rattle.std.specs.Map.{lookup}
 use Rattle.std.specs.BTreeMap.{is_at}
@@ -42,6 +42,15 @@ all_held at (suc len) m = is_some (m at) && all_held (suc at) len m
 abbrev pub none_held : ℕ → ℕ → Bytes → Bool
 none_held at zero m = true
 none_held at (suc len) m = is_none (m at) && none_held (suc at) len m
+
+-- the byte is there, or none is, as is asked; and the same of each place of a range
+abbrev pub stands_as : (wanted : Bool) → Option ℕ → Bool
+stands_as true = is_some
+stands_as false = is_none
+
+abbrev pub all_stand : (wanted : Bool) → ℕ → ℕ → Bytes → Bool
+all_stand true = all_held
+all_stand false = none_held
 
 -- the range is within bounds, and all of its bytes are held
 abbrev pub holds : ℕ → ℕ → Bytes → Bool

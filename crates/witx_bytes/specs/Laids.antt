@@ -1,10 +1,15 @@
 -- The layout of a type with those of its parts: what is true of it, and what an answer says that gives one.
-use Rattle.std.specs.Prelude.{◌≡◌, ℕ, ◌+◌, ◌^◌, ◌≤◌, ◌&&◌, ◌++◌, max, Bool, true, List, [], ◌∷◌, Option, Some, None, Result, Ok, Err}
+use Rattle.std.specs.Prelude.{◌≡◌, ℕ, ◌+◌, ◌^◌, ◌≤◌, ◌&&◌, ◌++◌, max, Bool, true, List, [], ◌∷◌, Option, Some, None, option_and_then, slice_get, Result, Ok, Err}
 use Rattle.witx_ast.specs.Plain.{Plain, plain, Fields, Arms}
 use Rattle.witx_ast.specs.Tags.{fits, fields_fit, arms_fit}
-use Rattle.witx_ast.specs.Views.{tree_of}
+use Rattle.witx_ast.specs.Views.{tree_of, datatype_tree, record_tree, variant_tree, members_plain, cases_plain}
+use Rattle.witx_ast.specs.declared.types.Case.{Case}
+use Rattle.witx_ast.specs.declared.types.Datatype.{Datatype}
+use Rattle.witx_ast.specs.declared.types.RecordDatatype.{RecordDatatype}
 use Rattle.witx_ast.specs.declared.types.RecordKind.{RecordKind}
+use Rattle.witx_ast.specs.declared.types.RecordMember.{RecordMember}
 use Rattle.witx_ast.specs.declared.types.TypeRef.{TypeRef}
+use Rattle.witx_ast.specs.declared.types.Variant.{Variant}
 use Rattle.witx_layout.specs.Numbers.{size_of, align_of, align_to, members_end, members_align, payloads_size, payloads_align}
 use Rattle.witx_layout.specs.declared.members.LayoutError.{LayoutError}
 use Rattle.witx_bytes.specs.Payloads.{case_size}
@@ -72,7 +77,7 @@ LaysCases cs (Ok l) = Numbers l (payloads_size cs) (payloads_align cs) (arms_fit
 LaysCases cs (Err LayoutError.TooLarge) = 2 ^ 64 ≤ payloads_size cs
 LaysCases cs (Err LayoutError.OutOfMemory) = Unit {0}
 
--- what is known of a type, of members or of cases, if anything is
+-- what is known of a type, of a payload, of members or of cases, if anything is
 abbrev pub KnownOf : Plain → Option Laid → Type 0
 KnownOf t None = Unit {0}
 KnownOf t (Some l) = IsLaid t l
@@ -81,13 +86,36 @@ abbrev pub KnownPayload : Option TypeRef → Option Laid → Type 0
 KnownPayload None l = Unit {0}
 KnownPayload (Some t) l = KnownOf (plain (tree_of t)) l
 
-abbrev pub KnownMembers : Fields → Option Laid → Type 0
-KnownMembers ms None = Unit {0}
-KnownMembers ms (Some l) = MembersLaid ms (out-Laid l).parts
+abbrev pub KnownFields : Fields → Option Laid → Type 0
+KnownFields ms None = Unit {0}
+KnownFields ms (Some l) = MembersLaid ms (out-Laid l).parts
 
-abbrev pub KnownCases : Arms → Option Laid → Type 0
-KnownCases cs None = Unit {0}
-KnownCases cs (Some l) = CasesLaid cs (out-Laid l).parts
+abbrev pub KnownArms : Arms → Option Laid → Type 0
+KnownArms cs None = Unit {0}
+KnownArms cs (Some l) = CasesLaid cs (out-Laid l).parts
+
+-- the same of what the program has
+abbrev pub KnownType : TypeRef → Option Laid → Type 0
+KnownType t = KnownOf (plain (tree_of t))
+
+abbrev pub KnownDatatype : Datatype → Option Laid → Type 0
+KnownDatatype d = KnownOf (plain (datatype_tree d))
+
+abbrev pub KnownRecord : RecordDatatype → Option Laid → Type 0
+KnownRecord r = KnownOf (plain (record_tree r))
+
+abbrev pub KnownVariant : Variant → Option Laid → Type 0
+KnownVariant v = KnownOf (plain (variant_tree v))
+
+abbrev pub KnownMembers : List RecordMember → Option Laid → Type 0
+KnownMembers ms = KnownFields (members_plain ms)
+
+abbrev pub KnownCases : List Case → Option Laid → Type 0
+KnownCases cs = KnownArms (cases_plain cs)
+
+-- what is known of a part, if anything is known of the whole
+abbrev pub part_known : Option Laid → ℕ → Option Laid
+part_known whole i = option_and_then (λ l. slice_get (out-Laid l).parts i) whole
 
 -- members with one more behind them
 abbrev pub MemberAdded : (whole part : Laid) → Result Laid LayoutError → Type 0

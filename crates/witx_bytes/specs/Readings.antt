@@ -6,7 +6,11 @@ use Rattle.witx_ast.specs.Views.{tree_of}
 use Rattle.witx_ast.specs.declared.types.TypeRef.{TypeRef}
 use Rattle.witx_layout.specs.Numbers.{size_of, members_end}
 use Rattle.witx_machine.specs.Words.{when}
+use Rattle.witx_bytes.specs.Bytes.{Blocks, held}
+use Rattle.witx_bytes.specs.Reading.{value_at}
+use Rattle.witx_bytes.specs.Seen.{seen}
 use Rattle.witx_bytes.specs.declared.read_error.ReadError.{ReadError}
+use Rattle.witx_bytes.specs.declared.value.Value.{Value}
 
 -- the type fits its tags, its size is a machine's number, and so is each place in it
 pub record CanRead (at : ℕ) (t : Plain) : Type 0 where
@@ -30,6 +34,10 @@ abbrev pub ReadAs : {A B : Type 0} → (A → B) → Option B → Result A ReadE
 ReadAs f o (Ok x) = o ≡ Some (f x)
 ReadAs f o (Err ReadError.NoValue) = o ≡ None
 ReadAs f o (Err ReadError.OutOfMemory) = Unit {0}
+
+-- the value of a type that stands at an address of a memory of these blocks, if one does; want of memory is free
+abbrev pub ReadsValue : Plain → Blocks → ℕ → Result Value ReadError → Type 0
+ReadsValue t blocks at result = ReadAs seen (value_at t (held blocks) at) result
 
 -- a tag, if it is below the number of cases
 abbrev pub case_number : ℕ → Option ℕ → Option ℕ

@@ -2,8 +2,7 @@
 #![tactic(auto, using(crate::proofs::Ranges::range_rules))]
 
 ghost use Rattle.std.specs.Prelude.{◌≡◌, ◌≢◌, ◌<◌, ◌≤◌, ◌+◌, ◌-◌, ℕ, None, Some, IfOk, length, drop};
-ghost use Rattle.witx_bytes.specs.Bytes.{block_bytes, all_held, none_held, Filled};
-ghost use Rattle.witx_bytes.specs.Images.{little};
+ghost use Rattle.witx_bytes.specs.{Bytes.{block_bytes, all_stand, stands_as, Filled}, Images.{little}};
 ghost use Rattle.witx_bytes.specs.Writes.{Writes};
 
 use std::alloc::Global;
@@ -89,26 +88,24 @@ impl Block {
     }
 }
 
-/// Whether a byte is held at each place.
-pub(crate) fn are_held(run: &[Option<u8>]) -> bool
-    ensures { result ≡ all_held 0 (length run.now) (block_bytes run.now) }
+/// Whether a byte is held at each place, where that is wanted, or else whether none is.
+pub(crate) fn all_stand(run: &[Option<u8>], wanted: bool) -> bool
+    ensures { result ≡ all_stand wanted 0 (length run.now) (block_bytes run.now) }
 {
     for byte in run {
-        if byte.is_none() {
+        if !stands(byte, wanted) {
             return false;
         }
     }
     true
 }
 
-/// Whether no byte is held at any place.
-pub(crate) fn are_free(run: &[Option<u8>]) -> bool
-    ensures { result ≡ none_held 0 (length run.now) (block_bytes run.now) }
+fn stands(byte: &Option<u8>, wanted: bool) -> bool
+    ensures { result ≡ stands_as wanted byte.now }
 {
-    for byte in run {
-        if byte.is_some() {
-            return false;
-        }
+    if wanted {
+        byte.is_some()
+    } else {
+        byte.is_none()
     }
-    true
 }

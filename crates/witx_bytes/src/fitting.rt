@@ -1,11 +1,11 @@
 //! Whether each part of a type fits its tag, targets of lists and pointers aside.
 #![tactic(auto, using(crate::proofs::Fits::fit_rules))]
 
-ghost use Rattle.std.specs.Prelude.{◌≡◌, ◌≤◌, nat_le, ◌^◌, ◌&&◌};
-ghost use Rattle.witx_ast.specs.Plain.{plain, arm_count, field_count};
+ghost use Rattle.std.specs.Prelude.{◌≡◌, nat_le, ◌^◌, ◌&&◌};
+ghost use Rattle.witx_ast.specs.Plain.{plain};
 ghost use Rattle.witx_ast.specs.Views.{tree_of, datatype_tree, record_tree, variant_tree, members_plain, cases_plain};
-ghost use Rattle.witx_bytes.specs.Payloads.{payload_fits};
 ghost use Rattle.witx_ast.specs.Tags.{fits, flags_fit, fields_fit, arms_fit, repr_bits};
+ghost use Rattle.witx_bytes.specs.Payloads.{payload_fits};
 
 use witx_ast::{
     Case, Datatype, IntRepr, RecordDatatype, RecordKind, RecordMember, TypeRef, Variant,

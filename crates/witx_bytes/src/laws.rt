@@ -1,13 +1,9 @@
 //! The laws of images, of reading and writing, and of runs over bytes.
 
 ghost use Rattle.std.specs.Prelude.{◌≡◌, ◌+◌, ◌<◌, ◌≤◌, ◌⊎◌, ℕ, length, Some, ◌↔◌};
-ghost use Rattle.witx_ast.specs.Plain.{Plain};
-ghost use Rattle.witx_ast.specs.Values.{Value, IsValue};
-ghost use Rattle.witx_ast.specs.Tags.{AllFit};
+ghost use Rattle.witx_ast.specs.{Plain.{Plain}, Values.{Value, IsValue}, Tags.{AllFit}};
 ghost use Rattle.witx_layout.specs.Numbers.{size_of};
-ghost use Rattle.witx_bytes.specs.Bytes.{Bytes, AreBytes};
-ghost use Rattle.witx_bytes.specs.Images.{image, Spells};
-ghost use Rattle.witx_bytes.specs.Reading.{value_at};
+ghost use Rattle.witx_bytes.specs.{Bytes.{Bytes, AreBytes}, Images.{image, Spells}, Reading.{value_at}};
 ghost use Rattle.witx_bytes.specs.Follow.{BytesFollowCells, TakesAreWritable, TracesOverBytes};
 ghost use Rattle.witx_bytes.specs.Writes.{Writes};
 

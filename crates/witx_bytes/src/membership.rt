@@ -2,13 +2,11 @@
 #![tactic(auto, using(crate::proofs::Belonging::value_rules))]
 
 ghost use Rattle.std.specs.Prelude.{◌≡◌, ◌^◌, Some, nat_lt, option_map};
-ghost use Rattle.witx_ast.specs.Plain.{Plain, plain, builtin, handle, list_of, pointer_to, const_pointer_to, record_of, variant_of, all_bare};
+ghost use Rattle.witx_ast.specs.Plain.{plain, builtin, handle, list_of, pointer_to, const_pointer_to, record_of, variant_of, all_bare};
 ghost use Rattle.witx_ast.specs.Views.{tree_of, datatype_tree, record_tree, variant_tree, members_plain, cases_plain};
 ghost use Rattle.witx_ast.specs.ValueTests.{is_value as is_of, are_values as are_of};
-ghost use Rattle.witx_ast.specs.declared.types.IntRepr.{IntRepr};
-ghost use Rattle.witx_ast.specs.declared.types.RecordKind.{RecordKind};
-ghost use Rattle.witx_bytes.specs.Payloads.{is_case, is_payload_of};
-ghost use Rattle.witx_bytes.specs.Seen.{seen, seen_in, values_seen};
+ghost use Rattle.witx_ast.specs.{declared.types.IntRepr.{IntRepr}, declared.types.RecordKind.{RecordKind}};
+ghost use Rattle.witx_bytes.specs.{Payloads.{is_case, is_payload_of}, Seen.{seen, seen_in, values_seen}};
 
 use crate::numbers::in_range;
 use crate::value::Value;

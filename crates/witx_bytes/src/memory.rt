@@ -1,12 +1,11 @@
 //! A memory of bytes: a finite map from address to byte.
 #![tactic(auto, using(crate::proofs::Ranges::span_rules))]
 
-ghost use Rattle.std.specs.Prelude.{◌≡◌, ◌≢◌, ◌+◌, ◌-◌, ◌/◌, ◌%◌, ◌^◌, ◌<◌, ◌≤◌, ℕ, [], Some, None, Ok, Err, OnOk, OnErr, IfOk, ◌↔◌, ◌⊎◌, true, false, is_some};
-ghost use Rattle.witx_bytes.specs.Bytes.{IsByteMemory, held, with_zeros, all_held as are_held_at, none_held as none_are_held, holds as holds_range, HasBlock, HasBlocks, block_of, Filled, RunAt};
-ghost use Rattle.witx_bytes.specs.Images.{little};
-ghost use Rattle.witx_bytes.specs.Writes.{Writes};
+ghost use Rattle.std.specs.Prelude.{◌≡◌, ◌+◌, ◌-◌, ◌/◌, ◌%◌, ◌^◌, ◌<◌, ◌≤◌, ℕ, [], Some, None, Ok, Err, OnOk, OnErr, IfOk, ◌↔◌, true, false, is_some};
+ghost use Rattle.witx_bytes.specs.Bytes.{IsByteMemory, held, with_zeros, all_stand, none_held as none_are_held, holds as holds_range, HasBlock, HasBlocks, block_of, Filled, RunAt};
+ghost use Rattle.witx_bytes.specs.{Images.{little}, Writes.{Writes}};
 
-use crate::block::{Block, SIZE, are_free, are_held};
+use crate::block::{Block, SIZE, all_stand};
 use std::alloc::Global;
 use std::collections::BTreeMap;
 use std::marker::Model;
@@ -99,45 +98,32 @@ impl ByteMemory {
         at > 0 && len <= END - at as u64 && self.all_held(at, len)
     }
 
+    /// Whether each byte of the range is held.
     fn all_held(&self, at: u32, len: u64) -> bool
         requires { at + len ≤ 2 ^ 32 }
-        ensures { result ≡ are_held_at at len (held self.now) }
+        ensures { result ≡ all_stand true at len (held self.now) }
     {
-        let end = at as u64 + len;
-        let mut x = at as u64;
-        while x < end {
-            let stop = part_end(x, end);
-            if !self.part_is_held(x as u32, (stop - x) as usize) {
-                return false;
-            }
-            x = stop;
-        }
-        true
+        self.all_stand(at, len, true)
     }
 
-    /// The same of a range in one block.
-    #[tactic(auto, using(crate::proofs::Blocks::part_rules))]
-    fn part_is_held(&self, at: u32, len: usize) -> bool
-        requires some { 0 < len }
-        requires inside { at % 256 + len ≤ 256 }
-        ensures { result ≡ are_held_at at len (held self.now) }
-    {
-        let run = self.run(at);
-        if run.is_empty() {
-            return false;
-        }
-        are_held(&run[..len])
-    }
-
+    /// Whether no byte of the range is held.
     fn none_held(&self, at: u32, len: u64) -> bool
         requires { at + len ≤ 2 ^ 32 }
-        ensures { result ≡ none_are_held at len (held self.now) }
+        ensures { result ≡ all_stand false at len (held self.now) }
+    {
+        self.all_stand(at, len, false)
+    }
+
+    /// Whether each byte of the range is held, where that is wanted, or else whether none is.
+    fn all_stand(&self, at: u32, len: u64, wanted: bool) -> bool
+        requires { at + len ≤ 2 ^ 32 }
+        ensures { result ≡ all_stand wanted at len (held self.now) }
     {
         let end = at as u64 + len;
         let mut x = at as u64;
         while x < end {
             let stop = part_end(x, end);
-            if !self.part_is_free(x as u32, (stop - x) as usize) {
+            if !self.part_stands(x as u32, (stop - x) as usize, wanted) {
                 return false;
             }
             x = stop;
@@ -147,15 +133,16 @@ impl ByteMemory {
 
     /// The same of a range in one block.
     #[tactic(auto, using(crate::proofs::Blocks::part_rules))]
-    fn part_is_free(&self, at: u32, len: usize) -> bool
-        requires { at % 256 + len ≤ 256 }
-        ensures { result ≡ none_are_held at len (held self.now) }
+    fn part_stands(&self, at: u32, len: usize, wanted: bool) -> bool
+        requires some { 0 < len }
+        requires inside { at % 256 + len ≤ 256 }
+        ensures { result ≡ all_stand wanted at len (held self.now) }
     {
         let run = self.run(at);
         if run.is_empty() {
-            return true;
+            return !wanted;
         }
-        are_free(&run[..len])
+        all_stand(&run[..len], wanted)
     }
 
     /// Holds zeros in the range, besides all that it held; a refusal changes nothing.

@@ -1,12 +1,10 @@
 //! Numbers as bytes and back, and the bits of flags.
 
-ghost use Rattle.std.specs.Prelude.{◌≡◌, ◌+◌, ◌^◌, ◌<◌, ◌≤◌, ℕ, true, is_some, pos, length};
+ghost use Rattle.std.specs.Prelude.{◌≡◌, ◌+◌, ◌^◌, ◌<◌, ◌≤◌, true, pos, length};
 ghost use Rattle.witx_ast.specs.ValueTests.{in_range as is_in_range, is_below as below, is_within as within};
 ghost use Rattle.witx_layout.specs.Numbers.{builtin_size};
 ghost use Rattle.witx_machine.specs.Words.{wrapped, cut, with_sign, bits_of_flags};
-ghost use Rattle.witx_bytes.specs.Bytes.{held};
-ghost use Rattle.witx_bytes.specs.Images.{little};
-ghost use Rattle.witx_bytes.specs.Writes.{HasRange, Writes};
+ghost use Rattle.witx_bytes.specs.{Bytes.{held}, Images.{little}, Writes.{HasRange, Writes}};
 
 use crate::memory::ByteMemory;
 use witx_ast::BuiltinType;

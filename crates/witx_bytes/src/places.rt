@@ -1,17 +1,14 @@
 //! Where a value's parts stand in its layout.
 #![tactic(auto, using(crate::proofs::KnownParts::known_rules))]
 
-ghost use Rattle.std.specs.Prelude.{◌≡◌, ◌^◌, ◌<◌, ◌≤◌, get_or, length, option_copied};
-ghost use Rattle.witx_ast.specs.Plain.{plain};
-ghost use Rattle.witx_ast.specs.Views.{tree_of, variant_tree, members_plain, cases_plain};
-ghost use Rattle.witx_ast.specs.declared.types.Case.{Case};
-ghost use Rattle.witx_ast.specs.declared.types.RecordMember.{RecordMember};
+ghost use Rattle.std.specs.Prelude.{◌≡◌, ◌^◌, ◌<◌, ◌≤◌, option_copied};
+ghost use Rattle.witx_ast.specs.{Plain.{plain}, Views.{tree_of, cases_plain}};
 ghost use Rattle.witx_ast.specs.declared.types.Variant.{out-Variant};
 ghost use Rattle.witx_layout.specs.Numbers.{size_of, align_of, align_to as rounded, payload_offset as begin_of_payload};
-ghost use Rattle.witx_bytes.specs.Laids.{KnownOf, KnownMembers, KnownCases, KnownPayload};
+ghost use Rattle.witx_bytes.specs.Laids.{KnownType, KnownVariant, part_known};
 
 use crate::laid::Laid;
-use witx_ast::{Case, RecordMember, TypeRef, Variant};
+use witx_ast::{TypeRef, Variant};
 use witx_layout::{Layout, SizeAlign, TooLarge, VariantOffset};
 
 /// The offset, rounded up to a multiple of the alignment.
@@ -27,7 +24,7 @@ pub(crate) fn rounded_up(offset: u64, alignment: u64) -> u64
 /// The layout of a type that isn't too large, as it is known or else asked.
 pub(crate) fn layout_of(known: Option<&Laid>, ty: &TypeRef) -> SizeAlign
     requires size { size_of (plain (tree_of ty.now)) < 2 ^ 64 }
-    requires known { KnownOf (plain (tree_of ty.now)) (option_copied known) }
+    requires known { KnownType ty.now (option_copied known) }
     ensures size { result.size ≡ size_of (plain (tree_of ty.now)) }
     ensures align { result.align ≡ align_of (plain (tree_of ty.now)) }
 {
@@ -48,35 +45,16 @@ fn asked_layout(ty: &TypeRef) -> SizeAlign
     }
 }
 
-/// What is known of a member, if its record is known.
-pub(crate) fn known_member<'a>(
-    known: Option<&'a Laid>,
-    members: &[RecordMember],
-    i: usize,
-) -> Option<&'a Laid>
-    requires known { KnownMembers (members_plain members.now) (option_copied known) }
-    requires some { i < length members.now }
-    ensures { (d : RecordMember) → d ≡ get_or members.now i d → KnownOf (plain (tree_of d.tref)) (option_copied result) }
-{
-    known?.parts.get(i)
-}
-
-/// What is known of the payload of a case, if its variant is known.
-pub(crate) fn known_payload<'a>(
-    known: Option<&'a Laid>,
-    cases: &[Case],
-    i: usize,
-) -> Option<&'a Laid>
-    requires known { KnownCases (cases_plain cases.now) (option_copied known) }
-    requires some { i < length cases.now }
-    ensures { (c : Case) → c ≡ get_or cases.now i c → KnownPayload c.tref (option_copied result) }
+/// What is known of a part, if the whole is known: of a member, or of the payload of a case.
+pub(crate) fn known_part<'a>(known: Option<&'a Laid>, i: usize) -> Option<&'a Laid>
+    ensures { option_copied result ≡ part_known (option_copied known.entry) i }
 {
     known?.parts.get(i)
 }
 
 /// Where the payload of a variant begins, behind its tag: at the variant's own alignment, where that is known.
 pub(crate) fn payload_begin(known: Option<&Laid>, variant: &Variant) -> u64
-    requires { KnownOf (plain (variant_tree variant.now)) (option_copied known) }
+    requires { KnownVariant variant.now (option_copied known) }
     ensures { result ≡ begin_of_payload (out-Variant variant.now).tag_repr (cases_plain (out-Variant variant.now).cases) }
 {
     match known {

@@ -1,25 +1,22 @@
 //! The value that bytes spell.
 #![tactic(auto, using(crate::proofs::ReadParts::read_rules))]
 
-ghost use Rattle.std.specs.Prelude.{◌≡◌, ◌+◌, ◌^◌, ◌<◌, ◌≤◌, ℕ, true, Err, IfOk, Some, length, option_copied, option_map};
-ghost use Rattle.witx_ast.specs.Plain.{plain, record_of};
-ghost use Rattle.witx_ast.specs.Tags.{fits};
-ghost use Rattle.witx_ast.specs.Values.{Value as PlainValue};
+ghost use Rattle.std.specs.Prelude.{◌≡◌, ◌+◌, ◌^◌, ◌<◌, ◌≤◌, true, Err, IfOk, Some, option_copied, option_map};
+ghost use Rattle.witx_ast.specs.{Plain.{plain, record_of}, Tags.{fits}, Values.{Value as PlainValue}};
 ghost use Rattle.witx_ast.specs.Views.{tree_of, datatype_tree, record_tree, variant_tree, members_plain};
 ghost use Rattle.witx_ast.specs.declared.types.RecordKind.{RecordKind};
 ghost use Rattle.witx_layout.specs.Numbers.{size_of, repr_size};
-ghost use Rattle.witx_bytes.specs.Bytes.{held};
-ghost use Rattle.witx_bytes.specs.Images.{Spells};
-ghost use Rattle.witx_bytes.specs.Laids.{IsLaid, KnownOf, KnownMembers, KnownPayload};
+ghost use Rattle.witx_bytes.specs.{Bytes.{held}, Images.{Spells}};
+ghost use Rattle.witx_bytes.specs.Laids.{IsLaid, KnownType, KnownDatatype, KnownRecord, KnownVariant, KnownMembers, KnownPayload};
 ghost use Rattle.witx_bytes.specs.Payloads.{payload_at};
 ghost use Rattle.witx_bytes.specs.Reading.{number_at, flags_at, value_at, members_at};
-ghost use Rattle.witx_bytes.specs.Readings.{CanRead, CanReadAll, CanReadCase, ReadAs, case_number};
+ghost use Rattle.witx_bytes.specs.Readings.{CanRead, CanReadAll, CanReadCase, ReadAs, ReadsValue, case_number};
 ghost use Rattle.witx_bytes.specs.Seen.{seen, seen_in, values_seen};
 
 use crate::laid::{Laid, lay_out};
 use crate::membership::are_bare;
 use crate::memory::ByteMemory;
-use crate::places::{known_member, known_payload, layout_of, payload_begin, rounded_up};
+use crate::places::{known_part, layout_of, payload_begin, rounded_up};
 use crate::read_error::ReadError;
 use crate::scalars::{
     read_builtin, read_const_pointer, read_handle, read_list, read_number, read_pointer,
@@ -44,7 +41,7 @@ pub fn read_value(
     requires writable { fits (plain (tree_of ty.now)) ≡ true }
     requires sized { size_of (plain (tree_of ty.now)) < 2 ^ 64 }
     ensures value { IfOk result (λ value. Spells (held memory.now) at (plain (tree_of ty.now)) (seen value)) }
-    ensures reads { ReadAs seen (value_at (plain (tree_of ty.now)) (held memory.now) at) result }
+    ensures reads { ReadsValue (plain (tree_of ty.now)) memory.now at result }
     ensures no_value { result ≡ Err ReadError.NoValue → (value : PlainValue)
         → ¬ (Spells (held memory.now) at (plain (tree_of ty.now)) value) }
 {
@@ -71,7 +68,7 @@ pub fn read_laid(
     requires writable { fits (plain (tree_of ty.now)) ≡ true }
     requires sized { size_of (plain (tree_of ty.now)) < 2 ^ 64 }
     requires laid { IsLaid (plain (tree_of ty.now)) laid.now }
-    ensures { ReadAs seen (value_at (plain (tree_of ty.now)) (held memory.now) at) result }
+    ensures { ReadsValue (plain (tree_of ty.now)) memory.now at result }
 {
     read_type(alloc, memory, at as u128, ty, Some(laid))
 }
@@ -86,8 +83,8 @@ fn read_type(
     known: Option<&Laid>,
 ) -> Result<Value, ReadError>
     requires can { CanRead at (plain (tree_of ty.now)) }
-    requires known { KnownOf (plain (tree_of ty.now)) (option_copied known) }
-    ensures { ReadAs seen (value_at (plain (tree_of ty.now)) (held memory.now) at) result }
+    requires known { KnownType ty.now (option_copied known) }
+    ensures { ReadsValue (plain (tree_of ty.now)) memory.now at result }
 {
     read_datatype(alloc, memory, at, ty.type_(), known)
 }
@@ -102,8 +99,8 @@ fn read_datatype(
     known: Option<&Laid>,
 ) -> Result<Value, ReadError>
     requires can { CanRead at (plain (datatype_tree datatype.now)) }
-    requires known { KnownOf (plain (datatype_tree datatype.now)) (option_copied known) }
-    ensures { ReadAs seen (value_at (plain (datatype_tree datatype.now)) (held memory.now) at) result }
+    requires known { KnownDatatype datatype.now (option_copied known) }
+    ensures { ReadsValue (plain (datatype_tree datatype.now)) memory.now at result }
 {
     match datatype {
         Datatype::Record(record) => read_record(alloc, memory, at, record, known),
@@ -126,47 +123,18 @@ fn read_record(
     known: Option<&Laid>,
 ) -> Result<Value, ReadError>
     requires can { CanRead at (plain (record_tree record_type.now)) }
-    requires known { KnownOf (plain (record_tree record_type.now)) (option_copied known) }
-    ensures { ReadAs seen (value_at (plain (record_tree record_type.now)) (held memory.now) at) result }
+    requires known { KnownRecord record_type.now (option_copied known) }
+    ensures { ReadsValue (plain (record_tree record_type.now)) memory.now at result }
 {
     let members = record_type.members.as_slice();
-    match record_type.kind {
-        RecordKind::Bitflags(repr) => read_flags(alloc, memory, at, repr, members),
-        RecordKind::Tuple => read_tuple(alloc, memory, at, members, known),
-        RecordKind::Other => read_other(alloc, memory, at, members, known),
+    if let RecordKind::Bitflags(repr) = record_type.kind {
+        return read_flags(alloc, memory, at, repr, members);
     }
-}
-
-#[cycle(reading)]
-fn read_tuple(
-    alloc: Global,
-    memory: &ByteMemory,
-    at: u128,
-    members: &[RecordMember],
-    known: Option<&Laid>,
-) -> Result<Value, ReadError>
-    requires can { CanReadAll at (members_plain members.now) }
-    requires known { KnownMembers (members_plain members.now) (option_copied known) }
-    ensures { ReadAs seen (value_at (record_of RecordKind.Tuple (members_plain members.now)) (held memory.now) at) result }
-{
     let values = read_members(alloc, memory, at, members, known)?;
-    Ok(Value::Tuple(values))
-}
-
-#[cycle(reading)]
-fn read_other(
-    alloc: Global,
-    memory: &ByteMemory,
-    at: u128,
-    members: &[RecordMember],
-    known: Option<&Laid>,
-) -> Result<Value, ReadError>
-    requires can { CanReadAll at (members_plain members.now) }
-    requires known { KnownMembers (members_plain members.now) (option_copied known) }
-    ensures { ReadAs seen (value_at (record_of RecordKind.Other (members_plain members.now)) (held memory.now) at) result }
-{
-    let values = read_members(alloc, memory, at, members, known)?;
-    Ok(Value::Rec(values))
+    match record_type.kind {
+        RecordKind::Tuple => Ok(Value::Tuple(values)),
+        _ => Ok(Value::Rec(values)),
+    }
 }
 
 /// Members, each at the next multiple of its alignment behind the one before it.
@@ -179,14 +147,14 @@ fn read_members(
     known: Option<&Laid>,
 ) -> Result<Values, ReadError>
     requires can { CanReadAll at (members_plain members.now) }
-    requires known { KnownMembers (members_plain members.now) (option_copied known) }
+    requires known { KnownMembers members.now (option_copied known) }
     ensures { ReadAs values_seen (members_at 0 (members_plain members.now) (held memory.now) at) result }
 {
     let mut values = Values::new(alloc);
     let mut end = 0;
     for i in 0..members.len() {
         let member = &members[i];
-        let part = known_member(known, members, i);
+        let part = known_part(known, i);
         let layout = layout_of(part, &member.tref);
         let start = rounded_up(end, layout.align as u64);
         let value = read_type(alloc, memory, at + start as u128, &member.tref, part)?;
@@ -206,8 +174,8 @@ fn read_variant(
     known: Option<&Laid>,
 ) -> Result<Value, ReadError>
     requires can { CanRead at (plain (variant_tree variant.now)) }
-    requires known { KnownOf (plain (variant_tree variant.now)) (option_copied known) }
-    ensures { ReadAs seen (value_at (plain (variant_tree variant.now)) (held memory.now) at) result }
+    requires known { KnownVariant variant.now (option_copied known) }
+    ensures { ReadsValue (plain (variant_tree variant.now)) memory.now at result }
 {
     let cases = variant.cases.as_slice();
     let Some(i) = case_at(memory, at, variant.tag_repr, cases.len()) else {
@@ -217,7 +185,7 @@ fn read_variant(
         return Ok(Value::Enum(i));
     }
     let behind = at + payload_begin(known, variant) as u128;
-    let part = known_payload(known, cases, i as usize);
+    let part = known_part(known, i as usize);
     let payload = read_payload(alloc, memory, behind, &cases[i as usize], part)?;
     Ok(Value::Case(i, payload))
 }
@@ -252,7 +220,7 @@ fn read_boxed(
     known: Option<&Laid>,
 ) -> Result<Option<Box<Value>>, ReadError>
     requires can { CanRead at (plain (tree_of ty.now)) }
-    requires known { KnownOf (plain (tree_of ty.now)) (option_copied known) }
+    requires known { KnownType ty.now (option_copied known) }
     ensures { ReadAs (option_map seen_in)
         (option_map Some (value_at (plain (tree_of ty.now)) (held memory.now) at)) result }
 {
@@ -283,8 +251,7 @@ fn read_flags(
     members: &[RecordMember],
 ) -> Result<Value, ReadError>
     requires { at < 2 ^ 66 }
-    ensures { ReadAs seen (value_at (record_of (RecordKind.Bitflags repr) (members_plain members.now))
-        (held memory.now) at) result }
+    ensures { ReadsValue (record_of (RecordKind.Bitflags repr) (members_plain members.now)) memory.now at result }
 {
     match read_number(memory, at, repr.mem_align() as u64) {
         Some(bits) => flags_of(alloc, bits, members.len()),

@@ -1,12 +1,10 @@
 //! The value that the bytes of a scalar spell.
+#![tactic(auto, using(crate::proofs::ReadNumbers::scalar_rules))]
 
-ghost use Rattle.std.specs.Prelude.{◌≡◌, ◌+◌, ◌^◌, ◌<◌, ◌≤◌, ℕ, None, IfSome, length};
+ghost use Rattle.std.specs.Prelude.{◌≡◌, ◌+◌, ◌^◌, ◌<◌, ◌≤◌, None, IfSome, length};
 ghost use Rattle.witx_ast.specs.Plain.{builtin, handle, pointer_to, const_pointer_to, list_of, plain};
 ghost use Rattle.witx_ast.specs.Views.{tree_of};
-ghost use Rattle.witx_bytes.specs.Bytes.{held, HoldsAt};
-ghost use Rattle.witx_bytes.specs.Reading.{number_at, value_at};
-ghost use Rattle.witx_bytes.specs.Readings.{ReadAs};
-ghost use Rattle.witx_bytes.specs.Seen.{seen};
+ghost use Rattle.witx_bytes.specs.{Bytes.{held, HoldsAt}, Reading.{number_at}, Readings.{ReadAs, ReadsValue}};
 
 use crate::memory::ByteMemory;
 use crate::numbers::{in_range, number_of};
@@ -63,14 +61,23 @@ fn run_from<'a>(memory: &'a ByteMemory, at: u128, left: &'a [Option<u8>]) -> &'a
     }
 }
 
-pub(crate) fn read_handle(memory: &ByteMemory, at: u128) -> Result<Value, ReadError>
-    requires { at < 2 ^ 66 }
-    ensures { ReadAs seen (value_at handle (held memory.now) at) result }
+/// The word in four bytes.
+fn read_word(memory: &ByteMemory, at: u128) -> Result<u32, ReadError>
+    requires { at + 4 < 2 ^ 67 }
+    ensures { ReadAs (λ word. word) (number_at 4 (held memory.now) at) result }
 {
     match read_number(memory, at, 4) {
-        Some(number) => Ok(Value::Handle(number as u32)),
+        Some(number) => Ok(number as u32),
         None => Err(ReadError::NoValue),
     }
+}
+
+pub(crate) fn read_handle(memory: &ByteMemory, at: u128) -> Result<Value, ReadError>
+    requires { at < 2 ^ 66 }
+    ensures { ReadsValue handle memory.now at result }
+{
+    let number = read_word(memory, at)?;
+    Ok(Value::Handle(number))
 }
 
 /// A builtin's number, in its range.
@@ -80,7 +87,7 @@ pub(crate) fn read_builtin(
     ty: BuiltinType,
 ) -> Result<Value, ReadError>
     requires { at < 2 ^ 66 }
-    ensures { ReadAs seen (value_at (builtin ty) (held memory.now) at) result }
+    ensures { ReadsValue (builtin ty) memory.now at result }
 {
     let Some(bits) = read_number(memory, at, ty.mem_align() as u64) else {
         return Err(ReadError::NoValue);
@@ -99,12 +106,10 @@ pub(crate) fn read_pointer(
     target: &TypeRef,
 ) -> Result<Value, ReadError>
     requires { at < 2 ^ 66 }
-    ensures { ReadAs seen (value_at (pointer_to (plain (tree_of target.now))) (held memory.now) at) result }
+    ensures { ReadsValue (pointer_to (plain (tree_of target.now))) memory.now at result }
 {
-    match read_number(memory, at, 4) {
-        Some(number) => Ok(Value::Pointer(number as u32)),
-        None => Err(ReadError::NoValue),
-    }
+    let address = read_word(memory, at)?;
+    Ok(Value::Pointer(address))
 }
 
 pub(crate) fn read_const_pointer(
@@ -113,27 +118,18 @@ pub(crate) fn read_const_pointer(
     target: &TypeRef,
 ) -> Result<Value, ReadError>
     requires { at < 2 ^ 66 }
-    ensures { ReadAs seen (value_at (const_pointer_to (plain (tree_of target.now))) (held memory.now) at) result }
+    ensures { ReadsValue (const_pointer_to (plain (tree_of target.now))) memory.now at result }
 {
-    match read_number(memory, at, 4) {
-        Some(number) => Ok(Value::ConstPointer(number as u32)),
-        None => Err(ReadError::NoValue),
-    }
+    let address = read_word(memory, at)?;
+    Ok(Value::ConstPointer(address))
 }
 
 /// A list's address, and its length behind it.
 pub(crate) fn read_list(memory: &ByteMemory, at: u128, target: &TypeRef) -> Result<Value, ReadError>
     requires { at < 2 ^ 66 }
-    ensures { ReadAs seen (value_at (list_of (plain (tree_of target.now))) (held memory.now) at) result }
+    ensures { ReadsValue (list_of (plain (tree_of target.now))) memory.now at result }
 {
-    let Some(address) = read_number(memory, at, 4) else {
-        return Err(ReadError::NoValue);
-    };
-    let Some(length) = read_number(memory, at + 4, 4) else {
-        return Err(ReadError::NoValue);
-    };
-    Ok(Value::List {
-        address: address as u32,
-        length: length as u32,
-    })
+    let address = read_word(memory, at)?;
+    let length = read_word(memory, at + 4)?;
+    Ok(Value::List { address, length })
 }

@@ -4,23 +4,20 @@
 ghost use Rattle.std.specs.Prelude.{◌≡◌, ℕ, true, map, option_copied, option_map};
 ghost use Rattle.witx_ast.specs.Plain.{plain, record_of};
 ghost use Rattle.witx_ast.specs.Views.{tree_of, datatype_tree, record_tree, variant_tree, members_plain, cases_plain};
-ghost use Rattle.witx_ast.specs.ValueTests.{is_value as is_of};
-ghost use Rattle.witx_ast.specs.Tags.{fits};
+ghost use Rattle.witx_ast.specs.{ValueTests.{is_value as is_of}, Tags.{fits}};
 ghost use Rattle.witx_ast.specs.declared.types.RecordKind.{RecordKind};
-ghost use Rattle.witx_layout.specs.Numbers.{size_of, members_end, payloads_size, repr_size};
+ghost use Rattle.witx_layout.specs.Numbers.{members_end, payloads_size, repr_size};
 ghost use Rattle.witx_machine.specs.Cells.{values_of};
-ghost use Rattle.witx_bytes.specs.Bytes.{held, image_written};
-ghost use Rattle.witx_bytes.specs.Images.{image, members_image};
+ghost use Rattle.witx_bytes.specs.{Bytes.{held, image_written}, Images.{image, members_image}};
 ghost use Rattle.witx_bytes.specs.ByteMachine.{has_room};
-ghost use Rattle.witx_bytes.specs.Laids.{IsLaid, KnownOf, KnownMembers, KnownCases};
-ghost use Rattle.witx_bytes.specs.Payloads.{case_image};
-ghost use Rattle.witx_bytes.specs.Seen.{seen, seen_in};
-ghost use Rattle.witx_bytes.specs.Writes.{CanWrite, CanWriteAll, CanWritePayload, HasRange, HasNoParts, Writes};
+ghost use Rattle.witx_bytes.specs.Laids.{IsLaid, KnownType, KnownDatatype, KnownRecord, KnownVariant, KnownMembers, KnownCases};
+ghost use Rattle.witx_bytes.specs.{Payloads.{case_image}, Seen.{seen, seen_in}};
+ghost use Rattle.witx_bytes.specs.Writes.{CanWriteValue, CanWriteAll, CanWritePayload, HasRange, HasRoom, HasNoParts, Writes, WritesDatatype, WritesValue};
 
 use crate::laid::Laid;
 use crate::memory::ByteMemory;
 use crate::numbers::{flag_bits, number_bits, write_number};
-use crate::places::{known_member, known_payload, layout_of, payload_begin, rounded_up};
+use crate::places::{known_part, layout_of, payload_begin, rounded_up};
 use crate::value::Value;
 use std::boxed::Box;
 use witx_ast::{
@@ -54,10 +51,10 @@ pub fn write_laid(memory: &mut ByteMemory, at: u32, ty: &TypeRef, laid: &Laid, v
 #[cycle(writing)]
 #[tactic(auto, using(crate::proofs::Members::write_rules))]
 fn write_type(memory: &mut ByteMemory, at: u64, ty: &TypeRef, known: Option<&Laid>, value: &Value)
-    requires value { CanWrite (plain (tree_of ty.now)) (seen value.now) }
-    requires room { HasRange at (size_of (plain (tree_of ty.now))) (held memory.old) }
-    requires known { KnownOf (plain (tree_of ty.now)) (option_copied known) }
-    ensures { Writes at (image (plain (tree_of ty.now)) (seen value.now)) (held memory.old) (held memory.new) }
+    requires value { CanWriteValue (plain (tree_of ty.now)) value.now }
+    requires room { HasRoom at (plain (tree_of ty.now)) memory.old }
+    requires known { KnownType ty.now (option_copied known) }
+    ensures { WritesValue at (plain (tree_of ty.now)) value.now memory.old memory.new }
 {
     write_datatype(memory, at, ty.type_(), known, value);
 }
@@ -71,10 +68,10 @@ fn write_datatype(
     known: Option<&Laid>,
     value: &Value,
 )
-    requires value { CanWrite (plain (datatype_tree datatype.now)) (seen value.now) }
-    requires room { HasRange at (size_of (plain (datatype_tree datatype.now))) (held memory.old) }
-    requires known { KnownOf (plain (datatype_tree datatype.now)) (option_copied known) }
-    ensures { Writes at (image (plain (datatype_tree datatype.now)) (seen value.now)) (held memory.old) (held memory.new) }
+    requires value { CanWriteValue (plain (datatype_tree datatype.now)) value.now }
+    requires room { HasRoom at (plain (datatype_tree datatype.now)) memory.old }
+    requires known { KnownDatatype datatype.now (option_copied known) }
+    ensures { WritesDatatype at datatype.now value.now memory.old memory.new }
 {
     match datatype {
         Datatype::Record(record) => write_record(memory, at, record, known, value),
@@ -96,10 +93,10 @@ fn write_record(
     known: Option<&Laid>,
     value: &Value,
 )
-    requires value { CanWrite (plain (record_tree record_type.now)) (seen value.now) }
-    requires room { HasRange at (size_of (plain (record_tree record_type.now))) (held memory.old) }
-    requires known { KnownOf (plain (record_tree record_type.now)) (option_copied known) }
-    ensures { Writes at (image (plain (record_tree record_type.now)) (seen value.now)) (held memory.old) (held memory.new) }
+    requires value { CanWriteValue (plain (record_tree record_type.now)) value.now }
+    requires room { HasRoom at (plain (record_tree record_type.now)) memory.old }
+    requires known { KnownRecord record_type.now (option_copied known) }
+    ensures { WritesValue at (plain (record_tree record_type.now)) value.now memory.old memory.new }
 {
     let members = record_type.members.as_slice();
     if let RecordKind::Bitflags(repr) = record_type.kind {
@@ -124,7 +121,7 @@ fn write_members(
 )
     requires values { CanWriteAll (members_plain members.now) (values_of (map seen values.now)) }
     requires room { HasRange at (members_end 0 (members_plain members.now)) (held memory.old) }
-    requires known { KnownMembers (members_plain members.now) (option_copied known) }
+    requires known { KnownMembers members.now (option_copied known) }
     ensures { Writes at (members_image 0 (members_plain members.now) (values_of (map seen values.now)))
         (held memory.old) (held memory.new) }
 {
@@ -132,7 +129,7 @@ fn write_members(
     for i in 0..members.len() {
         let member = &members[i];
         let value = &values[i];
-        let part = known_member(known, members, i);
+        let part = known_part(known, i);
         let layout = layout_of(part, &member.tref);
         let start = rounded_up(end, layout.align as u64);
         write_type(memory, at + start, &member.tref, part, value);
@@ -151,10 +148,10 @@ fn write_variant(
     known: Option<&Laid>,
     value: &Value,
 )
-    requires value { CanWrite (plain (variant_tree variant.now)) (seen value.now) }
-    requires room { HasRange at (size_of (plain (variant_tree variant.now))) (held memory.old) }
-    requires known { KnownOf (plain (variant_tree variant.now)) (option_copied known) }
-    ensures { Writes at (image (plain (variant_tree variant.now)) (seen value.now)) (held memory.old) (held memory.new) }
+    requires value { CanWriteValue (plain (variant_tree variant.now)) value.now }
+    requires room { HasRoom at (plain (variant_tree variant.now)) memory.old }
+    requires known { KnownVariant variant.now (option_copied known) }
+    ensures { WritesValue at (plain (variant_tree variant.now)) value.now memory.old memory.new }
 {
     let width = variant.tag_repr.mem_align() as u64;
     match value {
@@ -180,12 +177,12 @@ fn write_payload(
 )
     requires value { CanWritePayload (cases_plain cases.now) i (option_map seen_in payload.now) }
     requires room { HasRange at (payloads_size (cases_plain cases.now)) (held memory.old) }
-    requires known { KnownCases (cases_plain cases.now) (option_copied known) }
+    requires known { KnownCases cases.now (option_copied known) }
     ensures { Writes at (case_image (cases_plain cases.now) i (option_map seen_in payload.now))
         (held memory.old) (held memory.new) }
 {
     if let Some(value) = payload {
-        let part = known_payload(known, cases, i as usize);
+        let part = known_part(known, i as usize);
         if let Some(tref) = &cases[i as usize].tref {
             write_type(memory, at, tref, part, value);
         }
@@ -201,10 +198,10 @@ fn write_flags(
     members: &[RecordMember],
     value: &Value,
 )
-    requires value { CanWrite (record_of (RecordKind.Bitflags repr) (members_plain members.now)) (seen value.now) }
+    requires value { CanWriteValue (record_of (RecordKind.Bitflags repr) (members_plain members.now)) value.now }
     requires room { HasRange at (repr_size repr) (held memory.old) }
-    ensures { Writes at (image (record_of (RecordKind.Bitflags repr) (members_plain members.now))
-        (seen value.now)) (held memory.old) (held memory.new) }
+    ensures { WritesValue at (record_of (RecordKind.Bitflags repr) (members_plain members.now))
+        value.now memory.old memory.new }
 {
     match value {
         Value::Flags(flags) => write_number(
@@ -220,11 +217,10 @@ fn write_flags(
 /// What has no parts: a number, a handle, an address, or a list's address with its length behind it.
 #[inline(never)]
 fn write_scalar(memory: &mut ByteMemory, at: u64, datatype: &Datatype, value: &Value)
-    requires value { CanWrite (plain (datatype_tree datatype.now)) (seen value.now) }
+    requires value { CanWriteValue (plain (datatype_tree datatype.now)) value.now }
     requires scalar { HasNoParts (plain (datatype_tree datatype.now)) }
-    requires room { HasRange at (size_of (plain (datatype_tree datatype.now))) (held memory.old) }
-    ensures { Writes at (image (plain (datatype_tree datatype.now)) (seen value.now))
-        (held memory.old) (held memory.new) }
+    requires room { HasRoom at (plain (datatype_tree datatype.now)) memory.old }
+    ensures { WritesDatatype at datatype.now value.now memory.old memory.new }
 {
     match value {
         Value::Num(ty, number) => write_number(

@@ -2,11 +2,8 @@
 //! the status is 0 where each time the same record comes back.
 #![tactic(auto)]
 
-ghost use Rattle.std.specs.Prelude.{◌≡◌, ◌^◌, ◌<◌, true};
-ghost use Rattle.witx_ast.specs.Plain.{plain};
-ghost use Rattle.witx_ast.specs.Tags.{fits};
-ghost use Rattle.witx_ast.specs.ValueTests.{is_value as is_of};
-ghost use Rattle.witx_ast.specs.Views.{tree_of};
+ghost use Rattle.std.specs.Prelude.{◌≡◌, ◌<◌, true};
+ghost use Rattle.witx_ast.specs.{Plain.{plain}, Tags.{fits}, ValueTests.{is_value as is_of}, Views.{tree_of}};
 ghost use Rattle.witx_bytes.specs.Seen.{seen};
 ghost use Rattle.witx_layout.specs.Numbers.{size_of};
 

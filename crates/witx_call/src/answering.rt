@@ -5,12 +5,9 @@ ghost use Rattle.std.specs.Prelude.{◌≡◌, IfOk, Option, Some, map, option_m
 ghost use Rattle.witx_ast.specs.Values as plain_values;
 ghost use Rattle.witx_machine.specs.Run.{values_in};
 ghost use Rattle.witx_bytes.specs.Seen.{seen};
-ghost use Rattle.witx_run.specs.Views.{items_of};
-ghost use Rattle.witx_run.specs.OutcomeViews.{outcome_of};
-ghost use Rattle.witx_call.specs.CallSeen.{IsSeen, placed_of, seen_of};
-ghost use Rattle.witx_call.specs.PlacementViews.{room_of};
-ghost use Rattle.witx_call.specs.RangeViews.{taken_of};
-ghost use Rattle.witx_call.specs.Ranges.{ranges as ranges_alone};
+ghost use Rattle.witx_run.specs.{Views.{items_of}, OutcomeViews.{outcome_of}};
+ghost use Rattle.witx_call.specs.{CallSeen.{IsSeen, placed_of, seen_of}, PlacementViews.{room_of}};
+ghost use Rattle.witx_call.specs.{RangeViews.{taken_of}, Ranges.{ranges as ranges_alone}};
 ghost use Rattle.witx_call.specs.WordViews.{word_view};
 
 use crate::call_seen::{Invoked, Placed, PlacedRanges};

@@ -2,15 +2,11 @@
 #![tactic(auto, using(crate::proofs::PlacementLemmas::placement_rules))]
 
 ghost use Rattle.std.specs.Prelude.{◌≡◌, ◌+◌, ◌^◌, ◌<◌, ◌≤◌, [], MatchOption, IfOk, option_map};
-ghost use Rattle.witx_ast.specs.Plain.{plain};
-ghost use Rattle.witx_ast.specs.Views.{named_tree};
+ghost use Rattle.witx_ast.specs.{Plain.{plain}, Views.{named_tree}};
 ghost use Rattle.witx_machine.specs.Words.{i32 as word_i32};
-ghost use Rattle.witx_bytes.specs.ByteMachine.{range_size};
-ghost use Rattle.witx_bytes.specs.Bytes.{held};
-ghost use Rattle.witx_call.specs.PlacementViews.{room_of};
-ghost use Rattle.witx_call.specs.RangeViews.{range_of, taken_of};
-ghost use Rattle.witx_call.specs.Room.{room_given, no_bytes};
-ghost use Rattle.witx_call.specs.Zeroing.{Zeroed};
+ghost use Rattle.witx_bytes.specs.{ByteMachine.{range_size}, Bytes.{held}};
+ghost use Rattle.witx_call.specs.{PlacementViews.{room_of}, RangeViews.{range_of, taken_of}};
+ghost use Rattle.witx_call.specs.{Room.{room_given, no_bytes}, Zeroing.{Zeroed}};
 
 use crate::placement::Placement;
 use crate::range::Range;

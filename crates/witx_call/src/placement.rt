@@ -1,8 +1,7 @@
 //! The memory of a call: bytes, and the ranges that were given.
 
 ghost use Rattle.std.specs.Prelude.{◌≡◌, ◌^◌, ◌≤◌};
-ghost use Rattle.witx_call.specs.Room.{next_address};
-ghost use Rattle.witx_call.specs.RangeViews.{taken_of};
+ghost use Rattle.witx_call.specs.{Room.{next_address}, RangeViews.{taken_of}};
 
 use crate::range::Range;
 use witx_bytes::ByteMemory;

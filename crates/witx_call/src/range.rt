@@ -1,8 +1,7 @@
 //! A range of bytes that was given for a type.
 
 ghost use Rattle.std.specs.Prelude.{◌≡◌};
-ghost use Rattle.witx_ast.specs.Plain.{plain};
-ghost use Rattle.witx_ast.specs.Views.{named_tree};
+ghost use Rattle.witx_ast.specs.{Plain.{plain}, Views.{named_tree}};
 ghost use Rattle.witx_bytes.specs.ByteMachine.{range_size};
 
 use std::rc::Rc;

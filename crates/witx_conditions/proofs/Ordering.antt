@@ -12,7 +12,7 @@ use Rattle.witx_ast.specs.SameLaws.{same-to, same-from}
 use Rattle.witx_ast.specs.Tree.{Tree, Fields, Arms, Field, behind}
 use Rattle.witx_ast.specs.declared.definition.Definition.{Definition}
 use Rattle.witx_ast.proofs.Decided.{always, decides-and}
-use Rattle.witx_conditions.specs.NameTests.{all_stand, arms_stand, each_after, fields_stand, is_type_behind, items_stand, names_stand, params_stand, type_stands}
+use Rattle.witx_conditions.specs.NameTests.{arms_stand, definition_stands, each_after, fields_stand, is_type_behind, items_stand, names_stand, params_stand}
 
 -- ---- the tests decide
 
@@ -61,21 +61,21 @@ items-decide before (import_of i ∷ items) = items-decide before items
 items-decide before (func_of f ∷ items) =
     nested _ (decides-and _ _ (decides-and _ _ (params-decide before f.params) (params-decide before f.results)) (items-decide before items))
 
-type-decides : (before : List DefinitionTree) (d : DefinitionTree) → Decides (type_stands before d) (DefinitionStands before d)
+type-decides : (before : List DefinitionTree) (d : DefinitionTree) → Decides (definition_stands false before d) (DefinitionStands before d)
 type-decides before (typename_of name t docs) = names-decide before t
 type-decides before (module_of m) = always
 type-decides before (constant_of c) = always
 
-all-decide : (before : List DefinitionTree) (d : DefinitionTree) → Decides (all_stand before d) (AllNamesStand before d)
+all-decide : (before : List DefinitionTree) (d : DefinitionTree) → Decides (definition_stands true before d) (AllNamesStand before d)
 all-decide before (typename_of name t docs) = names-decide before t
 all-decide before (module_of m) = items-decide before m.items
 all-decide before (constant_of c) = always
 
-ordered-decides : (before ds : List DefinitionTree) → Decides (each_after type_stands before ds) (OrderedAfter before ds)
+ordered-decides : (before ds : List DefinitionTree) → Decides (each_after (definition_stands false) before ds) (OrderedAfter before ds)
 ordered-decides before [] = always
 ordered-decides before (d ∷ ds) = decides-and _ _ (type-decides before d) (ordered-decides (before ++ d ∷ []) ds)
 
-closed-decides : (before ds : List DefinitionTree) → Decides (each_after all_stand before ds) (ClosedAfter before ds)
+closed-decides : (before ds : List DefinitionTree) → Decides (each_after (definition_stands true) before ds) (ClosedAfter before ds)
 closed-decides before [] = always
 closed-decides before (d ∷ ds) = decides-and _ _ (all-decide before d) (closed-decides (before ++ d ∷ []) ds)
 
@@ -89,19 +89,19 @@ ordered-after : (before rest : List DefinitionTree) → ClosedAfter before rest 
 ordered-after before [] s = tt
 ordered-after before (d ∷ ds) s = (definition-ordered before d s.0, ordered-after (before ++ d ∷ []) ds s.1)
 
-pub yes-ordered : (ds : List DefinitionTree) (b : Bool) → b ≡ each_after type_stands [] ds → b ≡ true → IsOrdered ds
+pub yes-ordered : (ds : List DefinitionTree) (b : Bool) → b ≡ each_after (definition_stands false) [] ds → b ≡ true → IsOrdered ds
 yes-ordered ds b e h = (ordered-decides [] ds).0 (sym e ∙ h)
 
-pub ordered-yes : (ds : List DefinitionTree) (b : Bool) → b ≡ each_after type_stands [] ds → IsOrdered ds → b ≡ true
+pub ordered-yes : (ds : List DefinitionTree) (b : Bool) → b ≡ each_after (definition_stands false) [] ds → IsOrdered ds → b ≡ true
 ordered-yes ds b e s = e ∙ (ordered-decides [] ds).1 s
 
-pub yes-closed : (ds : List DefinitionTree) (b : Bool) → b ≡ each_after all_stand [] ds → b ≡ true → IsClosed ds
+pub yes-closed : (ds : List DefinitionTree) (b : Bool) → b ≡ each_after (definition_stands true) [] ds → b ≡ true → IsClosed ds
 yes-closed ds b e h = (closed-decides [] ds).0 (sym e ∙ h)
 
-pub closed-yes : (ds : List DefinitionTree) (b : Bool) → b ≡ each_after all_stand [] ds → IsClosed ds → b ≡ true
+pub closed-yes : (ds : List DefinitionTree) (b : Bool) → b ≡ each_after (definition_stands true) [] ds → IsClosed ds → b ≡ true
 closed-yes ds b e s = e ∙ (closed-decides [] ds).1 s
 
-pub closed-is-ordered : (ds : List DefinitionTree) (b : Bool) → b ≡ each_after all_stand [] ds → b ≡ true → IsOrdered ds
+pub closed-is-ordered : (ds : List DefinitionTree) (b : Bool) → b ≡ each_after (definition_stands true) [] ds → b ≡ true → IsOrdered ds
 closed-is-ordered ds b e h = ordered-after [] ds (yes-closed ds b e h)
 
 pub ruleset order_rules = (yes-ordered, ordered-yes, yes-closed, closed-yes, closed-is-ordered)

@@ -1,3 +1,4 @@
+pub mod Documents
 pub mod FittingEvents
 pub mod Making
 pub mod NameTests

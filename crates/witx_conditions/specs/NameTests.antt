@@ -1,5 +1,5 @@
 -- The conditions on the names in a document's types, as tests that compute.
-use Rattle.std.specs.Prelude.{ℕ, List, [], ◌∷◌, ◌++◌, Bool, true, false, ◌&&◌, Option, Some, None}
+use Rattle.std.specs.Prelude.{ℕ, List, [], ◌∷◌, ◌++◌, Bool, true, false, not, ◌&&◌, ◌||◌, Option, Some, None}
 use Rattle.witx_base.specs.Texts.{same_text}
 use Rattle.witx_ast.specs.Tree.{Tree, Fields, Arms, Field, behind}
 use Rattle.witx_ast.specs.Same.{same_tree}
@@ -57,16 +57,11 @@ abbrev pub items_stand : List DefinitionTree → List ItemTree → Bool
 items_stand before [] = true
 items_stand before (item ∷ items) = item_stands before item && items_stand before items
 
--- so in a typename's type, and in all that a definition has
-abbrev pub type_stands : List DefinitionTree → DefinitionTree → Bool
-type_stands before (typename_of name t docs) = names_stand before t
-type_stands before (module_of m) = true
-type_stands before (constant_of c) = true
-
-abbrev pub all_stand : List DefinitionTree → DefinitionTree → Bool
-all_stand before (typename_of name t docs) = names_stand before t
-all_stand before (module_of m) = items_stand before m.items
-all_stand before (constant_of c) = true
+-- so in a typename's type, and where functions count too, in all that a module has
+abbrev pub definition_stands : Bool → List DefinitionTree → DefinitionTree → Bool
+definition_stands functions before (typename_of name t docs) = names_stand before t
+definition_stands functions before (module_of m) = not functions || items_stand before m.items
+definition_stands functions before (constant_of c) = true
 
 -- of each definition among those that follow, with all that stand before it
 abbrev pub each_after : (List DefinitionTree → DefinitionTree → Bool) → List DefinitionTree → List DefinitionTree → Bool

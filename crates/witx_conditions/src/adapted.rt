@@ -1,8 +1,7 @@
 //! Adapted documents made by hand: whether they have an entry for each function.
 
 ghost use Rattle.std.specs.Prelude.{◌≡◌, ◌+◌, ◌<◌, ◌∷◌, [], None, IfSome, map, true};
-ghost use Rattle.witx_ast.specs.Definitions.{definition_tree};
-ghost use Rattle.witx_ast.specs.Items.{item_tree};
+ghost use Rattle.witx_ast.specs.{Definitions.{definition_tree}, Items.{item_tree}};
 ghost use Rattle.witx_adapt.specs.Listings.{func_count};
 ghost use Rattle.witx_traces.specs.Traces.{HasEachEntry, function_number, listed};
 

@@ -1,12 +1,10 @@
 //! Entries by name: of a document's definitions, and of a module's items, in the same way.
 
 ghost use Rattle.std.specs.Prelude.{◌≡◌, ℕ, None, Some, IfOk, IfSome, List, Option, cond, false, is_none, map, true};
-ghost use Rattle.std.specs.Ordering.{is_eq, nat_cmp};
-ghost use Rattle.std.specs.Cmp.Lexicographic.{slice_cmp};
+ghost use Rattle.std.specs.{Ordering.{is_eq, nat_cmp}, Cmp.Lexicographic.{slice_cmp}};
 ghost use Rattle.witx_base.specs.Found.{found};
 ghost use Rattle.witx_ast.specs.Entries.{Fits};
-ghost use Rattle.witx_conditions.specs.Making.{IsEntry, PutsOne, StandsTwice};
-ghost use Rattle.witx_conditions.specs.OwnNames.{HaveOwnNames};
+ghost use Rattle.witx_conditions.specs.{Making.{IsEntry, PutsOne, StandsTwice}, OwnNames.{HaveOwnNames}};
 
 use std::alloc::Global;
 use witx_base::{Id, NameMap, OutOfMemory};

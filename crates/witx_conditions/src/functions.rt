@@ -2,8 +2,7 @@
 
 ghost use Rattle.std.specs.Prelude.{◌≡◌, IfOk, true};
 ghost use Rattle.witx_ast.specs.Functions.{func_tree};
-ghost use Rattle.witx_compat.specs.Polyfills.{function_mapped};
-ghost use Rattle.witx_compat.specs.Views.{function_view};
+ghost use Rattle.witx_compat.specs.{Polyfills.{function_mapped}, Views.{function_view}};
 
 use std::alloc::Global;
 use std::rc::Rc;

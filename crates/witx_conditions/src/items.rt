@@ -2,9 +2,7 @@
 #![tactic(auto, using(crate::proofs::Naming::item_rules))]
 
 ghost use Rattle.std.specs.Prelude.{◌≡◌, map};
-ghost use Rattle.witx_ast.specs.Definitions.{definition_tree};
-ghost use Rattle.witx_ast.specs.Functions.{param_field};
-ghost use Rattle.witx_ast.specs.Items.{item_tree};
+ghost use Rattle.witx_ast.specs.{Definitions.{definition_tree}, Functions.{param_field}, Items.{item_tree}};
 ghost use Rattle.witx_conditions.specs.NameTests.{item_stands, items_stand, params_stand};
 
 use crate::names::names_stand;

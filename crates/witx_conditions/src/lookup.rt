@@ -2,9 +2,7 @@
 
 ghost use Rattle.std.specs.Prelude.{◌≡◌, map, option_map};
 ghost use Rattle.witx_ast.specs.Definitions.{as_typename, definition_tree, introduced, typename_called};
-ghost use Rattle.witx_ast.specs.Same.{same_tree};
-ghost use Rattle.witx_ast.specs.Tree.{behind};
-ghost use Rattle.witx_ast.specs.Views.{named_tree, tree_of};
+ghost use Rattle.witx_ast.specs.{Same.{same_tree}, Tree.{behind}, Views.{named_tree, tree_of}};
 ghost use Rattle.witx_conditions.specs.NameTests.{is_text_of, is_type_behind};
 
 use std::rc::Rc;

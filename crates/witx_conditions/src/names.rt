@@ -2,8 +2,7 @@
 #![tactic(auto, using(crate::proofs::Naming::name_rules))]
 
 ghost use Rattle.std.specs.Prelude.{◌≡◌, map};
-ghost use Rattle.witx_ast.specs.Definitions.{definition_tree};
-ghost use Rattle.witx_ast.specs.Tree.{arms_of, fields_of};
+ghost use Rattle.witx_ast.specs.{Definitions.{definition_tree}, Tree.{arms_of, fields_of}};
 ghost use Rattle.witx_ast.specs.Views.{case_arm, datatype_tree, member_field, tree_of};
 ghost use Rattle.witx_conditions.specs.NameTests.{arms_stand, fields_stand, names_stand, payload_stands};
 

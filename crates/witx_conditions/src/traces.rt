@@ -4,8 +4,7 @@
 ghost use Rattle.std.specs.Prelude.{◌≡◌, map, true};
 ghost use Rattle.witx_instructions.specs.Views.{called, event_of, kept_step};
 ghost use Rattle.witx_machine.specs.Rows.{row};
-ghost use Rattle.witx_run.specs.RowViews.{row_view};
-ghost use Rattle.witx_run.specs.Views.{type_tree};
+ghost use Rattle.witx_run.specs.{RowViews.{row_view}, Views.{type_tree}};
 ghost use Rattle.witx_conditions.specs.FittingEvents.{TakeWritable, event_fits, events_fit, payload_tree_fits, row_fits};
 
 use crate::values::fits;

@@ -2,8 +2,7 @@
 #![tactic(auto, using(crate::proofs::Fitting::reply_rules))]
 
 ghost use Rattle.std.specs.Prelude.{◌≡◌, ◌≤◌, IsTrue, Some, length, map, option_map, true};
-ghost use Rattle.witx_ast.specs.Functions.{func_tree, param_field};
-ghost use Rattle.witx_ast.specs.Tags.{function_fits, types_fit};
+ghost use Rattle.witx_ast.specs.{Functions.{func_tree, param_field}, Tags.{function_fits, types_fit}};
 ghost use Rattle.witx_bytes.specs.Seen.{seen};
 ghost use Rattle.witx_instructions.specs.Views.{called, param_types};
 ghost use Rattle.witx_machine.specs.Faithful.{are_arguments, is_reply};

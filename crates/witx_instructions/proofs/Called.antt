@@ -16,5 +16,5 @@ function-same : (f : InterfaceFunc) (ps qs rs ss : List Tree) → ps ≡ qs → 
     → ◌≡◌ {A = Function} (record { abi = f.abi; name = f.name; params = ps; results = rs }) (record { abi = f.abi; name = f.name; params = qs; results = ss })
 function-same f ps qs rs ss e k = cc
 
-pub read-as-tree : (f : InterfaceFunc) → function_of (func_tree f) ≡ called f
-read-as-tree f = function-same f _ _ _ _ (types-read f.params) (types-read f.results)
+pub called-same : (f : InterfaceFunc) → function_of (func_tree f) ≡ called f
+called-same f = function-same f _ _ _ _ (types-read f.params) (types-read f.results)

@@ -12,27 +12,13 @@ use Rattle.witx_machine.specs.Events.{Step}
 use Rattle.witx_machine.specs.Functions.{has_payload}
 use Rattle.witx_machine.specs.Traces.{lower_at, lower_step, lift_at, lift_step}
 use Rattle.witx_instructions.specs.Views.{variant_arms}
-use Rattle.witx_instructions.proofs.Types.{bare-arms}
+use Rattle.witx_instructions.proofs.Types.{bare-arms, seen-behind}
 
 lower-behind : (whole t : Tree) → lower_at whole t ≡ lower_at whole (behind t)
-lower-behind whole (Tree.named n t d) = lower-behind whole t
-lower-behind whole (Tree.builtin b) = refl
-lower-behind whole Tree.handle = refl
-lower-behind whole (Tree.list_of t) = refl
-lower-behind whole (Tree.pointer_to t) = refl
-lower-behind whole (Tree.const_pointer_to t) = refl
-lower-behind whole (Tree.record_of k ms) = refl
-lower-behind whole (Tree.variant_of r cs) = refl
+lower-behind whole t = seen-behind (lower_at whole) (λ n t d. refl) t
 
 lift-behind : (whole t : Tree) → lift_at whole t ≡ lift_at whole (behind t)
-lift-behind whole (Tree.named n t d) = lift-behind whole t
-lift-behind whole (Tree.builtin b) = refl
-lift-behind whole Tree.handle = refl
-lift-behind whole (Tree.list_of t) = refl
-lift-behind whole (Tree.pointer_to t) = refl
-lift-behind whole (Tree.const_pointer_to t) = refl
-lift-behind whole (Tree.record_of k ms) = refl
-lift-behind whole (Tree.variant_of r cs) = refl
+lift-behind whole t = seen-behind (lift_at whole) (λ n t d. refl) t
 
 -- a named type, by the datatype behind its names
 pub lower-named : (n : NamedType) (d : Datatype) → datatype_tree d ≡ behind (tree_of n.tref) → lower_step (named_tree n) ≡ lower_at (named_tree n) (datatype_tree d)

@@ -23,6 +23,7 @@ use Rattle.witx_machine.specs.Signature.{param_words, words_of_params, words_of_
 use Rattle.witx_machine.specs.Lowerable.{can_be_param, can_be_result, can_return, can_be_ok, can_be_err, is_narrow, unlowerable_result, earlier_place, unlowerable}
 use Rattle.witx_machine.specs.Traces.{lower_step, lift_step, lower_params, get_args, lift_params, make_spaces, load_all, store_all, lift_cases, lift_by, lift_of, lower_cases, lower_by, lower_of, block_events}
 use Rattle.witx_machine.proofs.HeightLaws.{words-count}
+use Rattle.witx_machine.proofs.Orders.{some_same}
 use Rattle.witx_instructions.specs.Views.{called, param_types, pointer_types, is_list_type}
 use Rattle.witx_instructions.proofs.Signatures.{types-drop, types-end}
 
@@ -309,95 +310,30 @@ word-param (Tree.variant_of r cs) h e = go (has_payload (plain_arms cs)) (and-le
     go true h e = absurd (some e)
     go false h e = h
 
-return-err : (named : Bool) (t : Tree) (cs : Arms) → can_return named t ≡ true → result_cases t ≡ Some cs → can_be_err (err_of cs) ≡ true
-return-err named (Tree.named n t d) cs h e = return-err true t cs h e
-return-err named (Tree.variant_of r ds) cs h e = go (has_payload (plain_arms ds)) e (and-right (can_be_ok (ok_of ds)) _ (and-right (has_payload (plain_arms ds) || named) _ (and-right (is_expected (arm_list ds)) _ (and-right (is_narrow r) _ h))))
-  where
-    none : None ≡ Some cs → ⊥
-    none e = cc
+no-cases : (cs : Arms) → None ≡ Some cs → ⊥
+no-cases cs e = cc
 
-    some_of : Arms → Option Arms → Arms
-    some_of d (Some x) = x
-    some_of d None = d
-
-    same : Some ds ≡ Some cs → ds ≡ cs
-    same e = ap (some_of ds) e
-
-    go : (b : Bool) → cond b (Some ds) None ≡ Some cs → can_be_err (err_of ds) ≡ true → can_be_err (err_of cs) ≡ true
-    go true e h = ap (λ ds. can_be_err (err_of ds)) (sym (same e)) ∙ h
-    go false e h = absurd (none e)
-return-err named (Tree.builtin b) cs h e = absurd (none e)
+-- the cases of a type that can be given back
+return-cases : (named : Bool) (t : Tree) (cs : Arms) → can_return named t ≡ true → result_cases t ≡ Some cs → can_be_ok (ok_of cs) && can_be_err (err_of cs) ≡ true
+return-cases named (Tree.named n t d) cs h e = return-cases true t cs h e
+return-cases named (Tree.variant_of r ds) cs h e =
+    go (has_payload (plain_arms ds)) e (and-right (has_payload (plain_arms ds) || named) _ (and-right (is_expected (arm_list ds)) _ (and-right (is_narrow r) _ h)))
   where
-    none : None ≡ Some cs → ⊥
-    none e = cc
-return-err named Tree.handle cs h e = absurd (none e)
-  where
-    none : None ≡ Some cs → ⊥
-    none e = cc
-return-err named (Tree.pointer_to t) cs h e = absurd (none e)
-  where
-    none : None ≡ Some cs → ⊥
-    none e = cc
-return-err named (Tree.const_pointer_to t) cs h e = absurd (none e)
-  where
-    none : None ≡ Some cs → ⊥
-    none e = cc
-return-err named (Tree.list_of t) cs h e = absurd (none e)
-  where
-    none : None ≡ Some cs → ⊥
-    none e = cc
-return-err named (Tree.record_of k ms) cs h e = absurd (none e)
-  where
-    none : None ≡ Some cs → ⊥
-    none e = cc
+    go : (b : Bool) → cond b (Some ds) None ≡ Some cs → can_be_ok (ok_of ds) && can_be_err (err_of ds) ≡ true → can_be_ok (ok_of cs) && can_be_err (err_of cs) ≡ true
+    go true e h = ap (λ ds. can_be_ok (ok_of ds) && can_be_err (err_of ds)) (sym (some_same {x = ds} {y = cs} e)) ∙ h
+    go false e h = absurd (no-cases cs e)
+return-cases named (Tree.builtin b) cs h e = absurd (no-cases cs e)
+return-cases named Tree.handle cs h e = absurd (no-cases cs e)
+return-cases named (Tree.pointer_to t) cs h e = absurd (no-cases cs e)
+return-cases named (Tree.const_pointer_to t) cs h e = absurd (no-cases cs e)
+return-cases named (Tree.list_of t) cs h e = absurd (no-cases cs e)
+return-cases named (Tree.record_of k ms) cs h e = absurd (no-cases cs e)
 
 pub result-err : (t : Tree) (cs : Arms) → can_be_result Abi.Preview1 t ≡ true → result_cases t ≡ Some cs → can_be_err (err_of cs) ≡ true
-result-err t cs h e = return-err false t cs h e
-
-return-ok : (named : Bool) (t : Tree) (cs : Arms) → can_return named t ≡ true → result_cases t ≡ Some cs → can_be_ok (ok_of cs) ≡ true
-return-ok named (Tree.named n t d) cs h e = return-ok true t cs h e
-return-ok named (Tree.variant_of r ds) cs h e = go (has_payload (plain_arms ds)) e (and-left (can_be_ok (ok_of ds)) _ (and-right (has_payload (plain_arms ds) || named) _ (and-right (is_expected (arm_list ds)) _ (and-right (is_narrow r) _ h))))
-  where
-    none : None ≡ Some cs → ⊥
-    none e = cc
-
-    some_of : Arms → Option Arms → Arms
-    some_of d (Some x) = x
-    some_of d None = d
-
-    same : Some ds ≡ Some cs → ds ≡ cs
-    same e = ap (some_of ds) e
-
-    go : (b : Bool) → cond b (Some ds) None ≡ Some cs → can_be_ok (ok_of ds) ≡ true → can_be_ok (ok_of cs) ≡ true
-    go true e h = ap (λ ds. can_be_ok (ok_of ds)) (sym (same e)) ∙ h
-    go false e h = absurd (none e)
-return-ok named (Tree.builtin b) cs h e = absurd (none e)
-  where
-    none : None ≡ Some cs → ⊥
-    none e = cc
-return-ok named Tree.handle cs h e = absurd (none e)
-  where
-    none : None ≡ Some cs → ⊥
-    none e = cc
-return-ok named (Tree.pointer_to t) cs h e = absurd (none e)
-  where
-    none : None ≡ Some cs → ⊥
-    none e = cc
-return-ok named (Tree.const_pointer_to t) cs h e = absurd (none e)
-  where
-    none : None ≡ Some cs → ⊥
-    none e = cc
-return-ok named (Tree.list_of t) cs h e = absurd (none e)
-  where
-    none : None ≡ Some cs → ⊥
-    none e = cc
-return-ok named (Tree.record_of k ms) cs h e = absurd (none e)
-  where
-    none : None ≡ Some cs → ⊥
-    none e = cc
+result-err t cs h e = and-right (can_be_ok (ok_of cs)) _ (return-cases false t cs h e)
 
 pub result-ok : (t : Tree) (cs : Arms) → can_be_result Abi.Preview1 t ≡ true → result_cases t ≡ Some cs → can_be_ok (ok_of cs) ≡ true
-result-ok t cs h e = return-ok false t cs h e
+result-ok t cs h e = and-left (can_be_ok (ok_of cs)) _ (return-cases false t cs h e)
 
 pub no-pointers : (t : Tree) → result_cases t ≡ None → pointers_by (result_cases t) ≡ []
 no-pointers t e = ap pointers_by e

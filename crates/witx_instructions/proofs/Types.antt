@@ -16,15 +16,19 @@ use Rattle.witx_instructions.specs.Views.{variant_arms}
 pub plain-at : (t : Tree) (d : Datatype) → datatype_tree d ≡ behind t → plain t ≡ plain (datatype_tree d)
 plain-at t d e = sym (plain-behind t) ∙ ap plain (sym e)
 
+-- what looks through names is of a type what it is of the type behind them
+pub seen-behind : {A : Type 0} (f : Tree → A) → ((n : List ℕ) (t : Tree) (d : List ℕ) → f (Tree.named n t d) ≡ f t) → (t : Tree) → f t ≡ f (behind t)
+seen-behind f h (Tree.named n t d) = h n t d ∙ seen-behind f h t
+seen-behind f h (Tree.builtin b) = refl
+seen-behind f h Tree.handle = refl
+seen-behind f h (Tree.list_of t) = refl
+seen-behind f h (Tree.pointer_to t) = refl
+seen-behind f h (Tree.const_pointer_to t) = refl
+seen-behind f h (Tree.record_of k ms) = refl
+seen-behind f h (Tree.variant_of r cs) = refl
+
 cases-behind : (t : Tree) → result_cases t ≡ result_cases (behind t)
-cases-behind (Tree.named n t d) = cases-behind t
-cases-behind (Tree.builtin b) = refl
-cases-behind Tree.handle = refl
-cases-behind (Tree.list_of t) = refl
-cases-behind (Tree.pointer_to t) = refl
-cases-behind (Tree.const_pointer_to t) = refl
-cases-behind (Tree.record_of k ms) = refl
-cases-behind (Tree.variant_of r cs) = refl
+cases-behind t = seen-behind result_cases (λ n t d. refl) t
 
 pub cases-at : (t : Tree) (d : Datatype) → datatype_tree d ≡ behind t → result_cases t ≡ result_cases (datatype_tree d)
 cases-at t d e = cases-behind t ∙ ap result_cases (sym e)
@@ -83,14 +87,7 @@ err-none [] e = refl
 err-none (x ∷ xs) e = err-arm (case_arm x).called (case_arm x).comment (case_arm x).payload (arms_of (map case_arm xs)) ∙ ok-none xs e
 
 pub tuples-behind : (t : Tree) → tuple_types t ≡ tuple_types (behind t)
-tuples-behind (Tree.named n t d) = tuples-behind t
-tuples-behind (Tree.builtin b) = refl
-tuples-behind Tree.handle = refl
-tuples-behind (Tree.list_of t) = refl
-tuples-behind (Tree.pointer_to t) = refl
-tuples-behind (Tree.const_pointer_to t) = refl
-tuples-behind (Tree.record_of k ms) = refl
-tuples-behind (Tree.variant_of r cs) = refl
+tuples-behind t = seen-behind tuple_types (λ n t d. refl) t
 
 pub tuples-at : (t : Tree) (d : Datatype) → datatype_tree d ≡ behind t → tuple_types t ≡ tuple_types (datatype_tree d)
 tuples-at t d e = tuples-behind t ∙ ap tuple_types (sym e)

@@ -1,10 +1,15 @@
 -- Which operands a generator is handed, call by call, and that they are those which earlier calls left, in order.
 -- Operands lie on one stack. An instruction takes its operands off the top, and its results take their place, in order;
 -- the end of a block takes the operand on top, where it takes one; no other call moves an operand.
-use Rattle.std.specs.Prelude.{◌≡◌, ℕ, List, [], ◌∷◌, ◌++◌, map, take, Option, Some, None, is_some}
+use Rattle.std.specs.Prelude.{◌≡◌, ℕ, List, [], ◌∷◌, ◌++◌, map, take, Option, Some, None, is_some, Result, OnOk, vec_len}
+use Rattle.std.specs.declared.alloc.Global.{Global}
+use Rattle.std.specs.declared.vec.Vec.{Vec}
 use Rattle.witx_ast.specs.Tree.{Tree}
 use Rattle.witx_machine.specs.Events.{Event, Step, emit, space, push, finish}
+use Rattle.witx_machine.specs.Rows.{results_count}
+use Rattle.witx_instructions.specs.declared.instruction.Instruction.{Instruction}
 use Rattle.witx_instructions.specs.Told.{told_further}
+use Rattle.witx_instructions.specs.Views.{step_of}
 
 -- one call of a generator: an instruction with the operands that it was handed and the results that it left, both the
 -- topmost last; room for a result; the begin of a block; its end, with the operand that was handed, if one was
@@ -28,6 +33,10 @@ Hands (made_room k t) stack behind = behind ≡ stack
 Hands began stack behind = behind ≡ stack
 Hands (ended None) stack behind = behind ≡ stack
 Hands (ended (Some operand)) stack behind = stack ≡ behind ++ operand ∷ []
+
+-- an instruction that was taken has left as many results as it has
+abbrev pub LeavesResults : {R E O : Type 0} → Result R E → Instruction → Vec O Global → Type 0
+LeavesResults r i results = OnOk r (vec_len results ≡ results_count (step_of i))
 
 -- calls one behind the other: each is handed what the ones before it have left
 abbrev pub HandOn : {O : Type 0} → List (GeneratorCall O) → (stack behind : List O) → Type 0

@@ -35,6 +35,14 @@ abbrev pub Counts : Bool → ℕ → ℕ → Type 0
 Counts true before now = (before ≤ now) × Rose before now
 Counts false before now = now ≡ before
 
+-- a generator's count of faults after one of its calls
+abbrev pub CountsFault : {B R : Type 0} → (faults : B → ℕ) → Result R BindgenError → (before now : B) → Type 0
+CountsFault faults r before now = Counts (is_fault r) (faults before) (faults now)
+
+-- and after the calls for a whole plan
+abbrev pub CountsPlanFault : {B R : Type 0} → (faults : B → ℕ) → Result R AbiError → (before now : B) → Type 0
+CountsPlanFault faults r before now = Counts (is_bindgen_fault r) (faults before) (faults now)
+
 -- the place of a refusal
 abbrev pub refused_place : {R : Type 0} → Result R Place → Option Place
 refused_place (Ok r) = None

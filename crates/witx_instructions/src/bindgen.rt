@@ -1,12 +1,10 @@
 //! What a generator of code is: a trait with four calls, one for each kind of event.
 
-ghost use Rattle.std.specs.Prelude.{◌≡◌, ℕ, List, Option, [], is_some, vec_len, OnOk};
-ghost use Rattle.witx_machine.specs.Rows.{operands_count, results_count};
-ghost use Rattle.witx_machine.specs.Events.{Event, emit, space, push, finish};
+ghost use Rattle.std.specs.Prelude.{◌≡◌, ℕ, List, Option, [], is_some, vec_len};
+ghost use Rattle.witx_machine.specs.{Rows.{operands_count}, Events.{Event, emit, space, push, finish}};
 ghost use Rattle.witx_ast.specs.Views.{named_tree};
-ghost use Rattle.witx_instructions.specs.Views.{step_of};
-ghost use Rattle.witx_instructions.specs.Told.{told_after, is_fault, Counts};
-ghost use Rattle.witx_instructions.specs.Handed.{GeneratorCall, emitted, made_room, began, ended};
+ghost use Rattle.witx_instructions.specs.{Views.{step_of}, Told.{CountsFault, told_after}};
+ghost use Rattle.witx_instructions.specs.Handed.{GeneratorCall, LeavesResults, emitted, made_room, began, ended};
 
 use crate::instruction::Instruction;
 use std::alloc::{AllocError, AllocFailed};
@@ -89,27 +87,27 @@ pub trait Bindgen {
     ) -> Result<(), BindgenError>
         requires operands { vec_len operands.old ≡ operands_count (step_of inst.now) }
         requires results { results.old.items ≡ [] }
-        ensures filled { OnOk result (vec_len results.new ≡ results_count (step_of inst.now)) }
+        ensures filled { LeavesResults result inst.now results.new }
         ensures event { told self.new ≡ told_after result (emit (step_of inst.now)) (told self.old) }
         ensures call { calls self.new ≡ told_after result
             (emitted (step_of inst.now) operands.old.items results.new.items) (calls self.old) }
-        ensures cause { Counts (is_fault result) (faults self.old) (faults self.new) };
+        ensures cause { CountsFault faults result self.old self.new };
 
     /// Makes room for a result of this type, under the number of a slot.
     fn allocate_space(&mut self, slot: usize, ty: &Rc<NamedType>) -> Result<(), BindgenError>
         ensures event { told self.new ≡ told_after result (space slot (named_tree ty.now.value)) (told self.old) }
         ensures call { calls self.new ≡ told_after result (made_room slot (named_tree ty.now.value)) (calls self.old) }
-        ensures cause { Counts (is_fault result) (faults self.old) (faults self.new) };
+        ensures cause { CountsFault faults result self.old self.new };
 
     /// Begins a block.
     fn push_block(&mut self) -> Result<(), BindgenError>
         ensures event { told self.new ≡ told_after result push (told self.old) }
         ensures call { calls self.new ≡ told_after result began (calls self.old) }
-        ensures cause { Counts (is_fault result) (faults self.old) (faults self.new) };
+        ensures cause { CountsFault faults result self.old self.new };
 
     /// Ends the innermost block, with the operand that it leaves, if it leaves one.
     fn finish_block(&mut self, operand: Option<Self::Operand>) -> Result<(), BindgenError>
         ensures event { told self.new ≡ told_after result (finish (is_some operand)) (told self.old) }
         ensures call { calls self.new ≡ told_after result (ended operand) (calls self.old) }
-        ensures cause { Counts (is_fault result) (faults self.old) (faults self.new) };
+        ensures cause { CountsFault faults result self.old self.new };
 }

@@ -45,8 +45,7 @@ impl From<OutOfMemory> for AbiError {
 }
 
 impl From<BindgenError> for AbiError {
-    ghost use Rattle.witx_instructions.specs.declared.error.AbiError.{AbiError};
-    ghost use Rattle.witx_instructions.specs.Told.{abi_error};
+    ghost use Rattle.witx_instructions.specs.{declared.error.AbiError.{AbiError}, Told.{abi_error}};
 
     ghost from_gives = { λ refused error. error ≡ abi_error refused };
 

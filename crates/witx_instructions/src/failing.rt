@@ -3,11 +3,10 @@
 ghost use Rattle.std.specs.Prelude.{◌≡◌, ℕ, [], map, All, None, Some, is_some, vec_len, OnOk};
 ghost use Rattle.witx_base.specs.Calls.{counted, fails_next, no_calls};
 ghost use Rattle.witx_ast.specs.Views.{named_tree};
-ghost use Rattle.witx_machine.specs.Events.{emit, space, push, finish};
-ghost use Rattle.witx_machine.specs.Rows.{operands_count, results_count};
+ghost use Rattle.witx_machine.specs.{Events.{emit, space, push, finish}, Rows.{operands_count}};
 ghost use Rattle.witx_instructions.specs.Views.{event_of, step_of};
-ghost use Rattle.witx_instructions.specs.Told.{told_after, is_fault, Counts};
-ghost use Rattle.witx_instructions.specs.Handed.{GeneratorCall, emitted, made_room, began, ended};
+ghost use Rattle.witx_instructions.specs.{Told.{CountsFault, told_after, is_fault}, Failing.{failed_count}};
+ghost use Rattle.witx_instructions.specs.Handed.{GeneratorCall, LeavesResults, emitted, made_room, began, ended};
 
 use crate::bindgen::{Bindgen, BindgenError};
 use crate::event::Events;
@@ -46,7 +45,7 @@ impl FailingBindgen {
 
     /// How many calls have failed.
     pub fn faults(&self) -> u64
-        ensures { result ≡ self.now.calls.faults }
+        ensures { result ≡ failed_count self.now }
     {
         self.calls.faults()
     }
@@ -59,7 +58,7 @@ impl Bindgen for FailingBindgen {
 
     ghost calls = { λ _. None };
 
-    ghost faults = { λ bindgen. bindgen.calls.faults };
+    ghost faults = { failed_count };
 
     fn emit(
         &mut self,
@@ -69,12 +68,12 @@ impl Bindgen for FailingBindgen {
     ) -> Result<(), BindgenError>
         requires operands { vec_len operands.old ≡ operands_count (step_of inst.now) }
         requires results { results.old.items ≡ [] }
-        ensures filled { OnOk result (vec_len results.new ≡ results_count (step_of inst.now)) }
+        ensures filled { LeavesResults result inst.now results.new }
         ensures zeros { OnOk result (All (λ operand. operand ≡ 0) results.new.items) }
         ensures event { Some (map event_of self.new.trace.events)
             ≡ told_after result (emit (step_of inst.now)) (Some (map event_of self.old.trace.events)) }
         ensures call { None ≡ told_after result (emitted (step_of inst.now) operands.old.items results.new.items) None }
-        ensures cause { Counts (is_fault result) self.old.calls.faults self.new.calls.faults }
+        ensures cause { CountsFault failed_count result self.old self.new }
         ensures fails { is_fault result ≡ fails_next self.old.calls }
         ensures counted { self.new.calls ≡ counted (is_fault result) self.old.calls }
     {
@@ -86,7 +85,7 @@ impl Bindgen for FailingBindgen {
         ensures event { Some (map event_of self.new.trace.events)
             ≡ told_after result (space slot (named_tree ty.now.value)) (Some (map event_of self.old.trace.events)) }
         ensures call { None ≡ told_after {A = GeneratorCall ℕ} result (made_room slot (named_tree ty.now.value)) None }
-        ensures cause { Counts (is_fault result) self.old.calls.faults self.new.calls.faults }
+        ensures cause { CountsFault failed_count result self.old self.new }
         ensures fails { is_fault result ≡ fails_next self.old.calls }
         ensures counted { self.new.calls ≡ counted (is_fault result) self.old.calls }
     {
@@ -98,7 +97,7 @@ impl Bindgen for FailingBindgen {
         ensures event { Some (map event_of self.new.trace.events)
             ≡ told_after result push (Some (map event_of self.old.trace.events)) }
         ensures call { None ≡ told_after {A = GeneratorCall ℕ} result began None }
-        ensures cause { Counts (is_fault result) self.old.calls.faults self.new.calls.faults }
+        ensures cause { CountsFault failed_count result self.old self.new }
         ensures fails { is_fault result ≡ fails_next self.old.calls }
         ensures counted { self.new.calls ≡ counted (is_fault result) self.old.calls }
     {
@@ -110,7 +109,7 @@ impl Bindgen for FailingBindgen {
         ensures event { Some (map event_of self.new.trace.events)
             ≡ told_after result (finish (is_some operand)) (Some (map event_of self.old.trace.events)) }
         ensures call { None ≡ told_after result (ended operand) None }
-        ensures cause { Counts (is_fault result) self.old.calls.faults self.new.calls.faults }
+        ensures cause { CountsFault failed_count result self.old self.new }
         ensures fails { is_fault result ≡ fails_next self.old.calls }
         ensures counted { self.new.calls ≡ counted (is_fault result) self.old.calls }
     {

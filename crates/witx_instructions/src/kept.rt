@@ -3,6 +3,7 @@
 ghost use Rattle.std.specs.Prelude.{◌≡◌, IfOk, map, option_map};
 ghost use Rattle.witx_ast.specs.Views.{tree_of};
 ghost use Rattle.witx_machine.specs.Events as machine;
+ghost use Rattle.witx_instructions.specs.Calling.{call_of_interface};
 ghost use Rattle.witx_instructions.specs.Views.{event_of, kept_step, param_types, planned_event, step_of, payload_tree};
 
 use crate::event::{Event, InterfaceCall, Payloads, Step, WasmCall};
@@ -57,8 +58,7 @@ fn kept_wasm(
 }
 
 fn kept_interface(alloc: Global, module: &Id, func: &InterfaceFunc) -> Result<Event, OutOfMemory>
-    ensures { IfOk result (λ event. event_of event ≡ machine.emit (machine.Step.CallInterface
-        «module».now func.now.name (param_types func.now.params) (param_types func.now.results))) }
+    ensures { IfOk result (λ event. event_of event ≡ machine.emit (call_of_interface «module».now func.now)) }
 {
     let module = module.copy()?;
     Ok(Event::Emit(interface_step(alloc, module, func)?))
@@ -178,16 +178,14 @@ fn kept_call_interface(
     module: &str,
     func: &InterfaceFunc,
 ) -> Result<Step, OutOfMemory>
-    ensures { IfOk result (λ step. kept_step step
-        ≡ machine.Step.CallInterface «module».now func.now.name (param_types func.now.params) (param_types func.now.results)) }
+    ensures { IfOk result (λ step. kept_step step ≡ call_of_interface «module».now func.now) }
 {
     let module = Id::new(alloc, module)?;
     interface_step(alloc, module, func)
 }
 
 fn interface_step(alloc: Global, module: Id, func: &InterfaceFunc) -> Result<Step, OutOfMemory>
-    ensures { IfOk result (λ step. kept_step step
-        ≡ machine.Step.CallInterface «module» func.now.name (param_types func.now.params) (param_types func.now.results)) }
+    ensures { IfOk result (λ step. kept_step step ≡ call_of_interface «module» func.now) }
 {
     let name = func.name.copy()?;
     let params = types_of(alloc, &func.params)?;

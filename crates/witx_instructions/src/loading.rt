@@ -4,8 +4,7 @@
 ghost use Rattle.std.specs.Prelude.{◌≡◌, ◌++◌, ◌∷◌, [], IfOk, cond, is_some};
 ghost use Rattle.witx_ast.specs.Views.{tree_of};
 ghost use Rattle.witx_machine.specs.Events as machine;
-ghost use Rattle.witx_machine.specs.Functions.{is_tuple};
-ghost use Rattle.witx_machine.specs.Signature.{ok_pointers};
+ghost use Rattle.witx_machine.specs.{Functions.{is_tuple}, Signature.{ok_pointers}};
 ghost use Rattle.witx_machine.specs.Traces as traces;
 ghost use Rattle.witx_instructions.specs.Views.{planned_events, pointer_types, payload_tree};
 

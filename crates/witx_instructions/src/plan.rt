@@ -3,10 +3,10 @@
 
 ghost use Rattle.std.specs.Prelude.{◌≡◌, ◌<◌, ◌≤◌, ◌∷◌, ◌++◌, [], None, Some, true, IfOk, OnOk, OnErr, IsSome, vec_len};
 ghost use Rattle.witx_machine.specs.Events as machine;
-ghost use Rattle.witx_machine.specs.Rows.{operands_count, results_count};
-ghost use Rattle.witx_instructions.specs.Views.{param_types, planned_event, planned_events, step_of};
-ghost use Rattle.witx_machine.specs.Heights.{height_after, heights};
-ghost use Rattle.witx_instructions.specs.Told.{told_further, TellsFront, is_fault, is_bindgen_fault, unlowerable_place, Counts};
+ghost use Rattle.witx_machine.specs.{Rows.{operands_count}, Heights.{height_after, heights}};
+ghost use Rattle.witx_instructions.specs.Views.{planned_event, planned_events, step_of};
+ghost use Rattle.witx_instructions.specs.Calling.{call_of_interface};
+ghost use Rattle.witx_instructions.specs.Told.{told_further, TellsFront, CountsFault, CountsPlanFault, unlowerable_place};
 ghost use Rattle.witx_instructions.specs.Handed.{InOrder, OperandsInOrder, FrontInOrder};
 
 use crate::bindgen::{Bindgen, BindgenError};
@@ -82,7 +82,7 @@ pub fn play<B: Bindgen>(alloc: Global, plan: &Plan<'_>, bindgen: &mut B) -> Resu
     ensures front_operands { OnErr result
         (FrontInOrder (planned_events plan.now) (B.calls bindgen.old) (B.calls bindgen.new) []) }
     ensures place { unlowerable_place result ≡ None }
-    ensures cause { Counts (is_bindgen_fault result) (B.faults bindgen.old) (B.faults bindgen.new) }
+    ensures cause { CountsPlanFault B.faults result bindgen.old bindgen.new }
 {
     let mut stack = Vec::new(alloc);
     for planned in plan.as_slice() {
@@ -106,7 +106,7 @@ fn play_one<B: Bindgen>(
         ∷ []) (B.calls bindgen.old) (B.calls bindgen.new) stack.old.items stack.new.items) }
     ensures front_operands { OnErr result (FrontInOrder (planned_event planned.now
         ∷ []) (B.calls bindgen.old) (B.calls bindgen.new) stack.old.items) }
-    ensures cause { Counts (is_fault result) (B.faults bindgen.old) (B.faults bindgen.new) }
+    ensures cause { CountsFault B.faults result bindgen.old bindgen.new }
 {
     match planned {
         Planned::Emit(instruction) => emit(alloc, instruction, stack, bindgen),
@@ -147,8 +147,7 @@ fn wasm_call<'a>(
 }
 
 fn interface_call<'a>(module: &'a Id, func: &'a InterfaceFunc) -> Instruction<'a>
-    ensures { step_of result ≡ machine.Step.CallInterface
-        «module».now func.now.name (param_types func.now.params) (param_types func.now.results) }
+    ensures { step_of result ≡ call_of_interface «module».now func.now }
 {
     Instruction::CallInterface {
         module: module.as_str(),
@@ -166,7 +165,7 @@ fn finish<B: Bindgen>(stack: &mut Vec<B::Operand>, bindgen: &mut B) -> Result<()
         ∷ []) (B.calls bindgen.old) (B.calls bindgen.new) stack.old.items stack.new.items) }
     ensures front_operands { OnErr result (FrontInOrder (machine.finish true
         ∷ []) (B.calls bindgen.old) (B.calls bindgen.new) stack.old.items) }
-    ensures cause { Counts (is_fault result) (B.faults bindgen.old) (B.faults bindgen.new) }
+    ensures cause { CountsFault B.faults result bindgen.old bindgen.new }
 {
     let operand = stack.pop();
     bindgen.finish_block(operand)
@@ -190,7 +189,7 @@ fn emit<B: Bindgen>(
         (InOrder (machine.emit (step_of instruction.now) ∷ []) (B.calls bindgen.old) (B.calls bindgen.new) stack.old.items stack.new.items) }
     ensures front_operands { OnErr result (FrontInOrder (machine.emit (step_of instruction.now)
         ∷ []) (B.calls bindgen.old) (B.calls bindgen.new) stack.old.items) }
-    ensures cause { Counts (is_fault result) (B.faults bindgen.old) (B.faults bindgen.new) }
+    ensures cause { CountsFault B.faults result bindgen.old bindgen.new }
 {
     let rest = stack.len() - instruction.operands_len();
     let mut operands = stack.split_off(rest)?;

@@ -2,8 +2,7 @@
 #![tactic(auto, using(crate::proofs::Sides::side_rules))]
 
 ghost use Rattle.std.specs.Prelude.{◌≡◌, ◌++◌, ◌∷◌, [], None, Some, IfOk, map, take, true};
-ghost use Rattle.witx_ast.specs.declared.function.Abi.TheVariants.{Preview1, Stored};
-ghost use Rattle.witx_ast.specs.Views.{tree_of};
+ghost use Rattle.witx_ast.specs.{declared.function.Abi.TheVariants.{Preview1, Stored}, Views.{tree_of}};
 ghost use Rattle.witx_ast.specs.Words.{is_named};
 ghost use Rattle.witx_machine.specs.Lowerable.{can_be_ok, can_be_result, all_names, unlowerable_result};
 ghost use Rattle.witx_machine.specs.Functions.{result_cases};

@@ -1,8 +1,7 @@
 //! The law on how a function is read.
 
 ghost use Rattle.std.specs.Prelude.{◌≡◌};
-ghost use Rattle.witx_ast.specs.declared.function.InterfaceFunc.{InterfaceFunc};
-ghost use Rattle.witx_ast.specs.Functions.{func_tree};
+ghost use Rattle.witx_ast.specs.{declared.function.InterfaceFunc.{InterfaceFunc}, Functions.{func_tree}};
 ghost use Rattle.witx_machine.specs.Functions.{function_of};
 ghost use Rattle.witx_instructions.specs.Views.{called};
 

@@ -2,12 +2,10 @@
 #![tactic(auto, using(witx_ast::proofs::TreeKinds::kind_rules, crate::proofs::Types::type_rules))]
 
 ghost use Rattle.std.specs.Prelude.{◌≡◌, ◌++◌, ◌∷◌, [], IfOk, map, option_map};
-ghost use Rattle.witx_ast.specs.Plain.{plain};
-ghost use Rattle.witx_ast.specs.Views.{tree_of, datatype_tree, record_tree, case_arm};
+ghost use Rattle.witx_ast.specs.{Plain.{plain}, Views.{tree_of, datatype_tree, record_tree, case_arm}};
 ghost use Rattle.witx_machine.specs.Functions.{ok_of, err_of, tuple_types, is_tuple, result_cases};
 ghost use Rattle.witx_machine.specs.Signature.{param_words, result_word};
-ghost use Rattle.witx_machine.specs.Words.{builtin_word_type, same_types};
-ghost use Rattle.witx_machine.specs.Lowerable.{can_be_param};
+ghost use Rattle.witx_machine.specs.{Words.{builtin_word_type, same_types}, Lowerable.{can_be_param}};
 ghost use Rattle.witx_instructions.specs.Views.{variant_arms, is_list_type, payload_tree};
 
 use crate::instruction::WasmTypes;

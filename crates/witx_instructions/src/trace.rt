@@ -1,11 +1,10 @@
 //! A generator that records its events.
 
 ghost use Rattle.std.specs.Prelude.{◌≡◌, [], map, All, IfOk, None, OnOk, Some, is_some, vec_len};
-ghost use Rattle.witx_machine.specs.Events.{emit, finish};
-ghost use Rattle.witx_machine.specs.Rows.{operands_count, results_count};
+ghost use Rattle.witx_machine.specs.{Events.{emit, finish}, Rows.{operands_count}};
 ghost use Rattle.witx_instructions.specs.Views.{event_of, planned_events, step_of};
 ghost use Rattle.witx_instructions.specs.Told.{told_after, is_fault, Counts};
-ghost use Rattle.witx_instructions.specs.Handed.{emitted, ended};
+ghost use Rattle.witx_instructions.specs.Handed.{LeavesResults, emitted, ended};
 
 use crate::bindgen::{Bindgen, BindgenError};
 use crate::event::{Event, Events, Step};
@@ -70,7 +69,7 @@ impl Bindgen for Trace {
     ) -> Result<(), BindgenError>
         requires operands { vec_len _operands.old ≡ operands_count (step_of inst.now) }
         requires results { results.old.items ≡ [] }
-        ensures filled { OnOk result (vec_len results.new ≡ results_count (step_of inst.now)) }
+        ensures filled { LeavesResults result inst.now results.new }
         ensures zeros { OnOk result (All (λ operand. operand ≡ 0) results.new.items) }
         ensures event { Some (map event_of self.new.events)
             ≡ told_after result (emit (step_of inst.now)) (Some (map event_of self.old.events)) }

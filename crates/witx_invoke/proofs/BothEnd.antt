@@ -9,6 +9,7 @@ use Rattle.witx_machine.specs.Functions.{Function}
 use Rattle.witx_machine.specs.Rows.{Row, row, get_arg, addr_of, lowering, lifting, list_pointer_length, list_from_pointer_length, return_pointer_get, load, store, tuple_lift, tuple_lower, variant_payload, reuse_return, result_lower, result_lift, call_wasm, call_interface, returns}
 use Rattle.witx_machine.specs.Machine.{Domain, Tried, went, no_rule, stuck_at, if_found, goes_on, only, Item, word_item, value_item, plain_item, Block, State, Inside, outside, in_lower, in_lift, Side, is_nil, slot_word, values_off, items_off, words_off, pushed, top_word, top_value, two_blocks, payload_item, payload_in, with_stack, left_over, return_items, run_block, block_word, lifted_payload, act, give_slot, Flow, flowing, gathering, after, set_aside, flows, gathers, play, runs_within, ended, run_trace}
 use Rattle.witx_machine.specs.Signature.{signature_results}
+use Rattle.witx_machine.proofs.Simulation.{Both}
 use Rattle.witx_machine.specs.Run.{words_in, typed, reply_items, Call, Outcome, start, Receiver, picked_in_order, callee_side, answered, handed_on, caller_side, run_to}
 
 -- where both have an answer, the answers are related
@@ -16,13 +17,6 @@ abbrev pub Meets : {A B : Type 0} → (A → B → Type 0) → Option A → Opti
 Meets R None p = Unit {0}
 Meets R (Some x) None = Unit {0}
 Meets R (Some x) (Some y) = R x y
-
--- both have none, or related ones
-abbrev pub Paired : {A B : Type 0} → (A → B → Type 0) → Option A → Option B → Type 0
-Paired R None None = Unit {0}
-Paired R None (Some y) = ⊥
-Paired R (Some x) None = ⊥
-Paired R (Some x) (Some y) = R x y
 
 -- where both went on, they went on to what is related
 abbrev pub Joins : {P P' A B : Type 0} → (A → B → Type 0) → Tried P A → Tried P' B → Type 0
@@ -152,13 +146,13 @@ module _ {V W M M' : Type 0} (D : Domain V W M) (D' : Domain V W M') (RM : M →
           pub called : Option C'
           pub is : s' ≡ moved s memory called
           pub remembers : RM s.memory memory
-          pub calls : Paired RC s.called called
+          pub calls : Both RC s.called called
 
         stacked : (xs : List (Item V W)) (s : State E V W M C) (s' : State E V W M' C') → Beside s s' → Beside (with_stack xs s) (with_stack xs s')
         stacked xs s s' r = record { memory = r.memory; called = r.called; is = ap (with_stack xs) r.is; remembers = r.remembers; calls = r.calls }
 
         -- what is to be shown of s' is shown of the moved state
-        of_moved : {A B : Type 0} (S : A → B → Type 0) (t : Tried P A) (g : State E V W M' C' → Tried P' B) (s : State E V W M C) (s' : State E V W M' C') → Beside s s' → ((m : M') (c : Option C') → RM s.memory m → Paired RC s.called c → Joins S t (g (moved s m c))) → Joins S t (g s')
+        of_moved : {A B : Type 0} (S : A → B → Type 0) (t : Tried P A) (g : State E V W M' C' → Tried P' B) (s : State E V W M C) (s' : State E V W M' C') → Beside s s' → ((m : M') (c : Option C') → RM s.memory m → Both RC s.called c → Joins S t (g (moved s m c))) → Joins S t (g s')
         of_moved S t g s s' r k = subst (λ s'. Joins S t (g s')) (sym r.is) (k r.memory r.called r.remembers r.calls)
 
         abbrev pub Left : Option (Item V W) × State E V W M C → Option (Item V W) × State E V W M' C' → Type 0
@@ -187,7 +181,7 @@ module _ {V W M M' : Type 0} (D : Domain V W M) (D' : Domain V W M') (RM : M →
                 (join i b.events (with_stack [] s) (with_stack [] s') (stacked [] s s' r))
                 (λ x y q. subst (λ xs. Joins Left (left_over (place b.end) b.has_value x.stack x) (left_over (place' b.end) b.has_value xs y)) (sym (ap (λ s. s.stack) q.is)) (left_joins (place b.end) (place' b.end) b.has_value x.stack x y q))
 
-            module _ (s : State E V W M C) (m : M') (c : Option C') (r : RM s.memory m) (q : Paired RC s.called c) where
+            module _ (s : State E V W M C) (m : M') (c : Option C') (r : RM s.memory m) (q : Both RC s.called c) where
               abbrev new : State E V W M' C'
               new = moved s m c
 
@@ -277,7 +271,7 @@ module _ {V W M M' : Type 0} (D : Domain V W M) (D' : Domain V W M') (RM : M →
           runs_join zero inside es s s' b = tt
           runs_join (suc n) inside es s s' b = play_joins (runs_within event place D side n) (runs_within event place' D' side' n) (runs_join n) inside es flowing s s' b
 
-          ended_joins : (p : P) (p' : P') (c : Option C) (c' : Option C') (xs : Option (List (Item V W))) (s : State E V W M C) (s' : State E V W M' C') → Paired RC c c' → Beside s s' → Joins Ends (ended p c xs s) (ended p' c' xs s')
+          ended_joins : (p : P) (p' : P') (c : Option C) (c' : Option C') (xs : Option (List (Item V W))) (s : State E V W M C) (s' : State E V W M' C') → Both RC c c' → Beside s s' → Joins Ends (ended p c xs s) (ended p' c' xs s')
           ended_joins p p' None c' None s s' h b = tt
           ended_joins p p' (Some c) c' None s s' h b = tt
           ended_joins p p' None c' (Some xs) s s' h b = tt
@@ -288,7 +282,7 @@ module _ {V W M M' : Type 0} (D : Domain V W M) (D' : Domain V W M') (RM : M →
           trace_joins p p' es s s' b =
               next_joins Ends Beside (λ s. ended p s.called s.answer s) (λ s. ended p' s.called s.answer s) (runs_within event place D side (suc (length es)) outside es s) (runs_within event place' D' side' (suc (length es)) outside es s')
               (runs_join (suc (length es)) outside es s s' b)
-              (λ x y q. subst (λ o. Joins Ends (ended p x.called x.answer x) (ended p' y.called o y)) (sym (ap (λ s. s.answer) q.is)) (ended_joins p p' x.called y.called x.answer x y (subst (Paired RC x.called) (sym (ap (λ s. s.called) q.is)) q.calls) q))
+              (λ x y q. subst (λ o. Joins Ends (ended p x.called x.answer x) (ended p' y.called o y)) (sym (ap (λ s. s.answer) q.is)) (ended_joins p p' x.called y.called x.answer x y (subst (Both RC x.called) (sym (ap (λ s. s.called) q.is)) q.calls) q))
 
         started : (a : M) (b : M') → RM a b → Beside (start a) (start b)
         started a b h = record { memory = b; called = None; is = refl; remembers = h; calls = tt }
@@ -307,7 +301,7 @@ module _ {V W M M' : Type 0} (D : Domain V W M) (D' : Domain V W M') (RM : M →
 
       -- the caller, a function f of the module m, and who gets its words
       module _ (m : List ℕ) (f : Function) (to : Receiver) (last : P) (last' : P') (callee : List E) (arguments : List V) (reply : Option V) where
-        handed_joins : (words own : List W) (s : State E V W M (Call V W M)) (a : M') (c : Option (Call V W M')) → RM s.memory a → Paired Calls s.called c → Joins (Beside Calls) (handed_on event place D m f to last callee reply words s own) (handed_on event place' D' m f to last' callee reply words (moved Calls s a c) own)
+        handed_joins : (words own : List W) (s : State E V W M (Call V W M)) (a : M') (c : Option (Call V W M')) → RM s.memory a → Both Calls s.called c → Joins (Beside Calls) (handed_on event place D m f to last callee reply words s own) (handed_on event place' D' m f to last' callee reply words (moved Calls s a c) own)
         handed_joins words own s a c r q =
             next_joins (Beside Calls) (Ends ◌≡◌) _ _ _ _ (callee_joins to.module_name to.function reply own last last' callee s.memory a r) (λ x y e.
             same_joins (Beside Calls) _ _ (words_in x.1) (words_in y.1) (meets_same _ _ (ap words_in (sym e.1))) (λ ws.

@@ -25,6 +25,7 @@ use Rattle.witx_invoke.specs.Placing.{is_writable, is_readable, is_address, valu
 use Rattle.witx_machine.proofs.Simulation.{Follows, Makes, Simulates, Backwards}
 use Rattle.witx_bytes.proofs.BytesFollow.{Related, Same, Front, bytes_simulate_cells, fronts_go_back}
 use Rattle.witx_invoke.proofs.StatedRanges.{stand-at, below-at, stated-apart, stated-unused, free-place}
+use Rattle.witx_invoke.proofs.NewMemories.{follows_anew}
 use Rattle.witx_invoke.proofs.Answers.{some-none, some-same, makes-from, made-of, follows-from, followed-of, when-some, when-true, map-some}
 
 -- a range that the machine over bytes gives
@@ -215,25 +216,12 @@ module _ (whole : Taken) (stated : AreStated whole) (writable : AreWritable whol
       ))
 
   pub placing_follows_cells : Simulates cells placing ◌≡◌ Typed ◌≡◌ Placed Known
-  placing_follows_cells = record {
-    plain = base.plain;
-    forget = base.forget;
-    lower = base.lower;
-    lift = base.lift;
-    list_words = base.list_words;
-    list_value = base.list_value;
-    tuple = base.tuple;
-    parts = base.parts;
-    give = give_placed;
-    put = λ t v v' m r e p. subst (λ v'. Makes KnownGiven Gives (cells.put t v m) (placing.put t v' r)) e.0 (put_placed t v m r e.1 p);
-    get = λ t w w' m r e p. subst (λ w'. Follows (Typed (Some t)) (cells.get t w m) (placing.get t w' r)) e (get_placed t w m r p);
-    set = λ t w w' v v' m r e f p. subst (λ w'. Makes Known Placed (cells.set t w v m) (placing.set t w' v' r)) e (subst (λ v'. Makes Known Placed (cells.set t w v m) (placing.set t w v' r)) f (set_placed t w v m r p));
-    picks = base.picks;
-    case_word = base.case_word;
-    chooses = base.chooses;
-    result = base.result;
-    has_type = base.has_type;
-  }
+  placing_follows_cells =
+      follows_anew cells bytes ◌≡◌ Typed ◌≡◌ Over Known Placed Known placing.give placing.put placing.get placing.set base
+      give_placed
+      (λ t v v' m r e p. subst (λ v'. Makes KnownGiven Gives (cells.put t v m) (placing.put t v' r)) e.0 (put_placed t v m r e.1 p))
+      (λ t w w' m r e p. subst (λ w'. Follows (Typed (Some t)) (cells.get t w m) (placing.get t w' r)) e (get_placed t w m r p))
+      (λ t w w' v v' m r e f p. subst (λ w'. Makes Known Placed (cells.set t w v m) (placing.set t w' v' r)) e (subst (λ v'. Makes Known Placed (cells.set t w v m) (placing.set t w v' r)) f (set_placed t w v m r p)))
 
   pub known_back : Backwards cells placing ◌≡◌ Typed ◌≡◌ Placed Known
   known_back = let b = fronts_go_back whole no_bytes fit unused writable in record { give = b.give; put = b.put; set = b.set }

@@ -41,61 +41,31 @@ pub word-of-none : (w : WasmType) (x : Tree) (v : plain_value.Value) → None �
 word-of-none w x v e = go (plain x) e
   where
     go : (t : Plain) → None ≡ flags_kept t → None ≡ when (is_for (flags_of w x) t && is_value t v) (word_in t v)
-    go Plain.handle e = refl
-    go (Plain.builtin c) e = refl
-    go (Plain.list_of t) e = refl
-    go (Plain.pointer_to t) e = refl
-    go (Plain.const_pointer_to t) e = refl
     go (Plain.record_of (RecordKind.Bitflags r) ms) e = absurd (none_some e)
-    go (Plain.record_of RecordKind.Tuple ms) e = refl
-    go (Plain.record_of RecordKind.Other ms) e = refl
-    go (Plain.variant_of r cs) e = refl
+    go t e = refl
 
 pub word-of-flags : (w : WasmType) (x : Tree) (v : plain_value.Value) (r : IntRepr) (k : ℕ) → Some (r, k) ≡ flags_kept (plain x)
     → when (same_type w (repr_word_type r) && is_value (plain x) v) (flags_in_word r v) ≡ word_of (flags_of w x) v
 word-of-flags w x v r k e = go (plain x) e
   where
     same_word : (r : IntRepr) (ms : _) (v : plain_value.Value) → flags_in_word r v ≡ word_in (Plain.record_of (RecordKind.Bitflags r) ms) v
-    same_word r ms (plain_value.number k m) = refl
-    same_word r ms (plain_value.handle_number k) = refl
-    same_word r ms (plain_value.address m) = refl
-    same_word r ms (plain_value.const_address m) = refl
-    same_word r ms (plain_value.list_at a l) = refl
     same_word r ms (plain_value.flag_bits bs) = refl
-    same_word r ms (plain_value.tuple_values vs) = refl
-    same_word r ms (plain_value.record_values vs) = refl
-    same_word r ms (plain_value.enum_index i) = refl
-    same_word r ms (plain_value.bare_case i) = refl
-    same_word r ms (plain_value.case_with i p) = refl
+    same_word r ms v = refl
 
     go : (t : Plain) → Some (r, k) ≡ flags_kept t
         → when (same_type w (repr_word_type r) && is_value t v) (flags_in_word r v) ≡ when (is_for (flags_of w x) t && is_value t v) (word_in t v)
     go (Plain.record_of (RecordKind.Bitflags q) ms) e =
         ap (λ r. when (same_type w (repr_word_type r) && is_value (Plain.record_of (RecordKind.Bitflags q) ms) v) (flags_in_word r v)) (first-same e)
         ∙ ap (when (same_type w (repr_word_type q) && is_value (Plain.record_of (RecordKind.Bitflags q) ms) v)) (same_word q ms v)
-    go Plain.handle e = absurd (none_some (sym e))
-    go (Plain.builtin c) e = absurd (none_some (sym e))
-    go (Plain.list_of t) e = absurd (none_some (sym e))
-    go (Plain.pointer_to t) e = absurd (none_some (sym e))
-    go (Plain.const_pointer_to t) e = absurd (none_some (sym e))
-    go (Plain.record_of RecordKind.Tuple ms) e = absurd (none_some (sym e))
-    go (Plain.record_of RecordKind.Other ms) e = absurd (none_some (sym e))
-    go (Plain.variant_of s cs) e = absurd (none_some (sym e))
+    go t e = absurd (none_some (sym e))
 
 -- the flags of a word under a name that is one of no flags
 pub flags-of-none : (w : WasmType) (x : Tree) (u : Word) → None ≡ flags_kept (plain x) → None ≡ value_of (flags_of w x) u
 flags-of-none w x u e = go (plain x) e
   where
     go : (t : Plain) → None ≡ flags_kept t → None ≡ when (is_for (flags_of w x) t && same_type u.type w) (option_and_then (checked_value t) (value_in t u.bits))
-    go Plain.handle e = refl
-    go (Plain.builtin c) e = refl
-    go (Plain.list_of t) e = refl
-    go (Plain.pointer_to t) e = refl
-    go (Plain.const_pointer_to t) e = refl
     go (Plain.record_of (RecordKind.Bitflags r) ms) e = absurd (none_some e)
-    go (Plain.record_of RecordKind.Tuple ms) e = refl
-    go (Plain.record_of RecordKind.Other ms) e = refl
-    go (Plain.variant_of r cs) e = refl
+    go t e = refl
 
 eq-self : (n : ℕ) → nat_eq n n ≡ true
 eq-self n = (decides-eq n n).1 refl
@@ -121,27 +91,15 @@ flags-of-word w x u r k e = go (plain x) e
         ap (λ r. when (same_type w (repr_word_type r) && same_type u.type w) (flags_in k (u.bits % repr_modulus r))) (first-same e)
         ∙ ap (λ k. when (same_type w (repr_word_type q) && same_type u.type w) (flags_in k (u.bits % repr_modulus q))) (second-same e)
         ∙ ap (when (same_type w (repr_word_type q) && same_type u.type w)) (all-checked q ms (u.bits % repr_modulus q))
-    go Plain.handle e = absurd (none_some (sym e))
-    go (Plain.builtin c) e = absurd (none_some (sym e))
-    go (Plain.list_of t) e = absurd (none_some (sym e))
-    go (Plain.pointer_to t) e = absurd (none_some (sym e))
-    go (Plain.const_pointer_to t) e = absurd (none_some (sym e))
-    go (Plain.record_of RecordKind.Tuple ms) e = absurd (none_some (sym e))
-    go (Plain.record_of RecordKind.Other ms) e = absurd (none_some (sym e))
-    go (Plain.variant_of s cs) e = absurd (none_some (sym e))
+    go t e = absurd (none_some (sym e))
 
 -- the case of a word under a name that is one of no variant, and of a word of another type
 pub case-of-none : (x : Tree) (u : Word) → None ≡ tag_kept (plain x) → None ≡ value_of (enum_of x) u
 case-of-none x u e = go (plain x) e
   where
     go : (t : Plain) → None ≡ tag_kept t → None ≡ when (is_for (enum_of x) t && same_type u.type WasmType.I32) (option_and_then (checked_value t) (value_in t u.bits))
-    go Plain.handle e = refl
-    go (Plain.builtin c) e = refl
-    go (Plain.list_of t) e = refl
-    go (Plain.pointer_to t) e = refl
-    go (Plain.const_pointer_to t) e = refl
-    go (Plain.record_of k ms) e = refl
     go (Plain.variant_of r cs) e = absurd (none_some e)
+    go t e = refl
 
 pub case-of-other : (x : Tree) (u : Word) → same_type u.type WasmType.I32 ≡ false → None ≡ value_of (enum_of x) u
 case-of-other x u e =
@@ -160,12 +118,7 @@ case-of-word x u r h e = go (plain x) e
     go (Plain.variant_of q cs) e =
         ap (λ r. checked_value (Plain.variant_of q cs) (plain_value.enum_index (u.bits % repr_modulus r))) (some-same e)
         ∙ twice (all_bare cs) (nat_lt (u.bits % repr_modulus q) (arm_count cs)) (same_type u.type WasmType.I32) (Some (plain_value.enum_index (u.bits % repr_modulus q))) h
-    go Plain.handle e = absurd (none_some (sym e))
-    go (Plain.builtin c) e = absurd (none_some (sym e))
-    go (Plain.list_of t) e = absurd (none_some (sym e))
-    go (Plain.pointer_to t) e = absurd (none_some (sym e))
-    go (Plain.const_pointer_to t) e = absurd (none_some (sym e))
-    go (Plain.record_of k ms) e = absurd (none_some (sym e))
+    go t e = absurd (none_some (sym e))
 
 -- the same, where the program asks the type behind the name
 module _ (n : NamedType) where

@@ -1,5 +1,5 @@
 -- What `invoke` answers, from what the run with the stated addresses comes to.
-use Rattle.std.proofs.Common.{◌≡◌, ℕ, ◌+◌, ◌^◌, ◌<◌, ◌≤◌, Bool, true, false, refl, sym, ap, ◌∙◌, arith, List, length, Option, Some, option_to_list, Result, Ok, Err, nat_lt, inl, inr}
+use Rattle.std.proofs.Common.{◌≡◌, ℕ, ◌+◌, ◌^◌, ◌<◌, ◌≤◌, Bool, true, false, refl, sym, ap, ◌∙◌, arith, List, [], length, Option, Some, option_to_list, Result, Ok, Err, nat_lt, inl, inr}
 use Rattle.std.proofs.lemmas.List.{length-map}
 use Rattle.std.specs.Prelude.{IfErr, IfOk, IsFalse, map}
 use Rattle.witx_ast.proofs.Decided.{decides-lt}
@@ -9,7 +9,7 @@ use Rattle.witx_machine.specs.Events.{Event}
 use Rattle.witx_machine.specs.Faithful.{zero_error}
 use Rattle.witx_machine.specs.Functions.{Function}
 use Rattle.witx_machine.specs.Machine.{Tried, went, no_rule, stuck_at}
-use Rattle.witx_machine.specs.Positions.{Spot}
+use Rattle.witx_machine.specs.Positions.{Spot, spotted_run}
 use Rattle.witx_machine.specs.Run.{Outcome}
 use Rattle.witx_instructions.specs.Views.{event_of}
 use Rattle.witx_instructions.specs.declared.event.Event as declared_event
@@ -17,7 +17,8 @@ use Rattle.witx_call.specs.CallSeen.{IsSeen, seen_of}
 use Rattle.witx_invoke.specs.Answering.{EndsSeen, HasNotEnded, HasNoRoom, stated_run}
 use Rattle.witx_invoke.specs.Excepting.{is_excepted}
 use Rattle.witx_invoke.specs.Invoking.{CanRun, IsAnswer, Refuses}
-use Rattle.witx_call.specs.Room.{Room}
+use Rattle.witx_call.specs.Room.{Room, no_bytes}
+use Rattle.witx_invoke.specs.Placing.{placing}
 use Rattle.witx_invoke.specs.declared.error.InvokeError.{InvokeError}
 use Rattle.witx_call.specs.declared.call_seen.Invoked.{Invoked}
 use Rattle.witx_invoke.proofs.ExceptLemmas.{excepted-reply}
@@ -48,7 +49,10 @@ module _ (m : List ℕ) (f : Function) (caller callee : List Event) (arguments :
   many-refused b e h l = (accepted b e h, inl ((decides-lt (2 ^ 30) (length caller + length callee)).0 l))
 
   module _ (b : Bool) (e : b ≡ is_excepted f.abi reply) (h : b ≡ false) (l : nat_lt (2 ^ 30) (length caller + length callee) ≡ false)
-      (t : Tried Spot (Outcome Value Word Room)) (run : t ≡ stated_run m f caller callee arguments reply) where
+      (t : Tried Spot (Outcome Value Word Room)) (first : Room) (begun : t ≡ spotted_run placing m f caller callee arguments reply first) (new : first ≡ record { bytes = no_bytes; taken = [] }) where
+    run : t ≡ stated_run m f caller callee arguments reply
+    run = begun ∙ ap (spotted_run placing m f caller callee arguments reply) new
+
     ended : (q : Outcome Value Word Room) (i : Invoked) → t ≡ went q → IsSeen q (seen_of i) → IsAnswer m f caller callee arguments reply i
     ended q i g s =
         let ends = ends-in m f caller callee arguments reply can.faithful can.arguments_fit can.reply_fits (accepted b e h) (few (length caller + length callee) l) q (sym run ∙ g) in

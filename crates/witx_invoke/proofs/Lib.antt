@@ -1,5 +1,6 @@
 pub mod Examples
 pub mod Answers
+pub mod NewMemories
 pub mod BothEnd
 pub mod StatedRanges
 pub mod Listing

@@ -49,14 +49,8 @@ handle-in n w b e = go (plain n)
 
     go : (t : Plain) → when (is_for (handle_of n) t && is_i32 w) (option_and_then (checked_value t) (value_in t w.bits)) ≡ when b (checked_value t (plain_value.handle_number w.bits))
     go Plain.handle = split (is_i32 w) (is_u32 w.bits) b e
-    go (Plain.builtin c) = nothing b
-    go (Plain.list_of t) = nothing b
-    go (Plain.pointer_to t) = nothing b
-    go (Plain.const_pointer_to t) = nothing b
     go (Plain.record_of (RecordKind.Bitflags r) ms) = nothing b
-    go (Plain.record_of RecordKind.Tuple ms) = nothing b
-    go (Plain.record_of RecordKind.Other ms) = nothing b
-    go (Plain.variant_of r cs) = nothing b
+    go t = nothing b
 
 pub handle-lifted : (n : NamedType) (w : Word) (k : ℕ) (o : Option plain_value.Value) → Some k ≡ u32_in w → o ≡ checked_value (plain (tree_of n.tref)) (plain_value.handle_number k) → o ≡ value_of (handle_of (named_tree n)) w
 handle-lifted n w k o e h = by (is_i32 w && is_u32 w.bits) refl e

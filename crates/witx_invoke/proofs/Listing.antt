@@ -10,7 +10,7 @@ use Rattle.witx_ast.proofs.Decided.{both-then, decides-le}
 use Rattle.witx_machine.specs.Words.{Word, i32, is_u32, when}
 use Rattle.witx_machine.specs.Functions.{by_address}
 use Rattle.witx_machine.specs.Machine.{Domain}
-use Rattle.witx_machine.specs.Cells.{Taken, cells, is_i32}
+use Rattle.witx_machine.specs.Cells.{Taken, is_i32}
 use Rattle.witx_bytes.specs.Bytes.{with_zeros, is_free}
 use Rattle.witx_bytes.specs.Reading.{value_at}
 use Rattle.witx_bytes.specs.ByteMachine.{Store, bytes, has_room, range_size, range_given, value_written}
@@ -20,28 +20,17 @@ use Rattle.witx_invoke.specs.Placing.{is_writable, is_readable, is_address, valu
 use Rattle.witx_machine.proofs.Simulation.{Follows, Makes, Simulates, Backwards}
 use Rattle.witx_machine.proofs.Following.{follows_at}
 use Rattle.witx_machine.proofs.Following as following
+use Rattle.witx_invoke.proofs.NewMemories.{follows_anew}
 use Rattle.witx_invoke.proofs.Answers.{some-none, some-same, makes-if, when-true}
 use Rattle.witx_invoke.proofs.StatedRanges.{behind-positive, stand-more, below-more, place-free}
 
 -- the machine over bytes with the addresses of a list, which asks of values and types what the machine with the stated addresses asks
 abbrev pub listing : Domain Value Word Store
-listing = record {
-  lower = cells.lower;
-  lift = cells.lift;
-  list_words = cells.list_words;
-  list_value = cells.list_value;
-  tuple = cells.tuple;
-  parts = cells.parts;
-  give = λ t m. range_given t m.bytes m.fresh m.taken;
+listing = record bytes {
   put = λ t v m. when (by_address (plain t) && is_writable (plain t) v)
       (option_map (λ r. (r.0, value_written (plain t) v r.0.bits r.1)) (range_given t m.bytes m.fresh m.taken));
   get = λ t w m. when (is_address w && is_readable (plain t)) (value_at (plain t) m.bytes w.bits);
   set = λ t w v m. when (is_address w && (has_room (plain t) w.bits m.bytes && is_writable (plain t) v)) (Some (value_written (plain t) v w.bits m));
-  picks = cells.picks;
-  case_word = cells.case_word;
-  chooses = cells.chooses;
-  result = cells.result;
-  has_type = cells.has_type;
 }
 
 makes-map : {A B A' B' : Type 0} (K : A → Type 0) (R : A → B → Type 0) (K' : A' → Type 0) (R' : A' → B' → Type 0) (f : A → A') (g : B → B') (o : Option A) (p : Option B) → Makes K R o p → ((x : A) → K' (f x) → K x) → ((x : A) (y : B) → R x y → R' (f x) (g y)) → Makes K' R' (option_map f o) (option_map g p)
@@ -142,25 +131,12 @@ module _ (whole : Taken) (more : List ℕ) where
       (λ k. written t v w.bits m n r)
 
   pub listing_follows : Simulates placing listing ◌≡◌ (λ t v v'. v ≡ v') ◌≡◌ Listed Front
-  listing_follows = record {
-    plain = pure.plain;
-    forget = pure.forget;
-    lower = pure.lower;
-    lift = pure.lift;
-    list_words = pure.list_words;
-    list_value = pure.list_value;
-    tuple = pure.tuple;
-    parts = pure.parts;
-    give = give_listed;
-    put = λ t v v' m n e r. subst (λ v'. Makes Known Gives (placing.put t v m) (listing.put t v' n)) e (put_listed t v m n r);
-    get = λ t w w' m n e r. subst (λ w'. Follows ◌≡◌ (placing.get t w m) (listing.get t w' n)) e (get_listed t w m n r);
-    set = λ t w w' v v' m n e f r. subst (λ w'. Makes Front Listed (placing.set t w v m) (listing.set t w' v' n)) e (subst (λ v'. Makes Front Listed (placing.set t w v m) (listing.set t w v' n)) f (set_listed t w v m n r));
-    picks = pure.picks;
-    case_word = pure.case_word;
-    chooses = pure.chooses;
-    result = pure.result;
-    has_type = pure.has_type;
-  }
+  listing_follows =
+      follows_anew placing placing ◌≡◌ (λ t v v'. v ≡ v') ◌≡◌ (λ m m'. (m ≡ m') × (Unit {0} → Unit {0})) (λ m. Unit {0}) Listed Front listing.give listing.put listing.get listing.set pure
+      give_listed
+      (λ t v v' m n e r. subst (λ v'. Makes Known Gives (placing.put t v m) (listing.put t v' n)) e (put_listed t v m n r))
+      (λ t w w' m n e r. subst (λ w'. Follows ◌≡◌ (placing.get t w m) (listing.get t w' n)) e (get_listed t w m n r))
+      (λ t w w' v v' m n e f r. subst (λ w'. Makes Front Listed (placing.set t w v m) (listing.set t w' v' n)) e (subst (λ v'. Makes Front Listed (placing.set t w v m) (listing.set t w v' n)) f (set_listed t w v m n r)))
 
   -- what is taken is a front of what is taken later
   front_of : {A : Type 0} (b : Bool) (r x : A) (m n : Room) (of : A → Room) → when b (Some x) ≡ Some r → ((rest : Taken) → (of x).taken ++ rest ≡ whole → Front m) → Front (of r) → Front m
@@ -233,25 +209,12 @@ abbrev pure_list : Simulates listing listing ◌≡◌ (λ t v v'. v ≡ v') ◌
 pure_list = following.self listing (λ m. Unit {0}) (record { bytes = λ at. None; fresh = []; taken = [] }) (λ t m r e g. tt) (λ t v m r e g. tt) (λ t w v m n e g. tt)
 
 pub bytes_follow_list : Simulates listing bytes ◌≡◌ (λ t v v'. v ≡ v') ◌≡◌ SameStore AnyStore
-bytes_follow_list = record {
-  plain = pure_list.plain;
-  forget = pure_list.forget;
-  lower = pure_list.lower;
-  lift = pure_list.lift;
-  list_words = pure_list.list_words;
-  list_value = pure_list.list_value;
-  tuple = pure_list.tuple;
-  parts = pure_list.parts;
-  give = λ t m n r. subst (λ n. Makes AnyGiven GivesSame (listing.give t m) (bytes.give t n)) r (given-self (listing.give t m));
-  put = λ t v v' m n e r. subst (λ n. Makes AnyGiven GivesSame (listing.put t v m) (bytes.put t v' n)) r (subst (λ v'. Makes AnyGiven GivesSame (listing.put t v m) (bytes.put t v' m)) e (put_less t v m));
-  get = λ t w w' m n e r. subst (λ n. Follows ◌≡◌ (listing.get t w m) (bytes.get t w' n)) r (subst (λ w'. Follows ◌≡◌ (listing.get t w m) (bytes.get t w' m)) e (get_less t w m));
-  set = λ t w w' v v' m n e f r. subst (λ n. Makes AnyStore SameStore (listing.set t w v m) (bytes.set t w' v' n)) r (subst (λ w'. Makes AnyStore SameStore (listing.set t w v m) (bytes.set t w' v' m)) e (subst (λ v'. Makes AnyStore SameStore (listing.set t w v m) (bytes.set t w v' m)) f (set_less t w v m)));
-  picks = pure_list.picks;
-  case_word = pure_list.case_word;
-  chooses = pure_list.chooses;
-  result = pure_list.result;
-  has_type = pure_list.has_type;
-}
+bytes_follow_list =
+    follows_anew listing listing ◌≡◌ (λ t v v'. v ≡ v') ◌≡◌ (λ m m'. (m ≡ m') × (Unit {0} → Unit {0})) (λ m. Unit {0}) SameStore AnyStore bytes.give bytes.put bytes.get bytes.set pure_list
+    (λ t m n r. subst (λ n. Makes AnyGiven GivesSame (listing.give t m) (bytes.give t n)) r (given-self (listing.give t m)))
+    (λ t v v' m n e r. subst (λ n. Makes AnyGiven GivesSame (listing.put t v m) (bytes.put t v' n)) r (subst (λ v'. Makes AnyGiven GivesSame (listing.put t v m) (bytes.put t v' m)) e (put_less t v m)))
+    (λ t w w' m n e r. subst (λ n. Follows ◌≡◌ (listing.get t w m) (bytes.get t w' n)) r (subst (λ w'. Follows ◌≡◌ (listing.get t w m) (bytes.get t w' m)) e (get_less t w m)))
+    (λ t w w' v v' m n e f r. subst (λ n. Makes AnyStore SameStore (listing.set t w v m) (bytes.set t w' v' n)) r (subst (λ w'. Makes AnyStore SameStore (listing.set t w v m) (bytes.set t w' v' m)) e (subst (λ v'. Makes AnyStore SameStore (listing.set t w v m) (bytes.set t w v' m)) f (set_less t w v m))))
 
 pub any_back : Backwards listing bytes ◌≡◌ (λ t v v'. v ≡ v') ◌≡◌ SameStore AnyStore
 any_back = record { give = λ t m r e g. tt; put = λ t v m r e g. tt; set = λ t w v m n e g. tt }

@@ -4,6 +4,7 @@ use Rattle.witx_ast.specs.Plain.{Plain, plain}
 use Rattle.witx_ast.specs.Tags.{fits}
 use Rattle.witx_ast.specs.Views.{tree_of, named_tree}
 use Rattle.witx_ast.specs.declared.types.NamedType.{NamedType}
+use Rattle.witx_base.specs.SameBytes.{both}
 use Rattle.witx_ast.proofs.Decided.{decides-lt}
 use Rattle.witx_ast.proofs.Trees.{tree-NamedType}
 use Rattle.witx_layout.specs.Numbers.{size_of}
@@ -13,16 +14,6 @@ use Rattle.witx_call.specs.Room.{Room}
 use Rattle.witx_invoke.specs.Placing.{is_address, is_readable, placing}
 use Rattle.witx_call.specs.WordViews.{u32_in}
 use Rattle.witx_invoke.proofs.StoreLemmas.{is-number, no-number}
-
-clash : {A : Type 0} → false ≡ true → A
-clash e = absurd (no e)
-  where
-    no : false ≡ true → ⊥
-    no e = cc
-
-both : (a b : Bool) → a && b ≡ true → (a ≡ true) × (b ≡ true)
-both true b e = (refl, e)
-both false b e = clash e
 
 and-true : (a b : Bool) → b ≡ true → a ≡ a && b
 and-true true b e = sym e

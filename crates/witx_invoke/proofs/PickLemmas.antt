@@ -2,17 +2,11 @@
 use Rattle.std.proofs.Common.{◌≡◌, ℕ, zero, suc, Bool, true, false, refl, ap, ◌∙◌, Option, Some, None, option_map}
 use Rattle.std.specs.declared.alloc.Global.{Global}
 use Rattle.std.specs.declared.boxed.Box.{Box}
-use Rattle.std.specs.declared.rc.Rc.{Rc}
-use Rattle.witx_ast.specs.declared.types.Datatype.{Datatype}
-use Rattle.witx_ast.specs.declared.types.TypeRef.TheVariants as tref
 use Rattle.witx_ast.specs.Tree.{Tree}
 use Rattle.witx_ast.specs.Plain.{plain}
 use Rattle.witx_ast.specs.Values as plain_value
 use Rattle.witx_ast.specs.ValueTests.{is_value}
-use Rattle.witx_ast.specs.Words.{is_named}
-use Rattle.witx_ast.specs.Views.{tree_of, datatype_tree}
-use Rattle.witx_ast.proofs.Trees.{tree_rules, tree-Value}
-use Rattle.witx_ast.proofs.TreeKinds.{named-datatype}
+use Rattle.witx_ast.proofs.Trees.{tree_rules}
 use Rattle.witx_machine.specs.Functions.{name_of}
 use Rattle.witx_machine.specs.Words.{when}
 use Rattle.witx_machine.specs.Cells as cells
@@ -20,23 +14,8 @@ use Rattle.witx_bytes.specs.Seen.{seen, seen_in}
 use Rattle.witx_bytes.specs.declared.value.Value.{Value}
 use Rattle.witx_bytes.specs.declared.value.Value.TheVariants as value
 use Rattle.witx_bytes.proofs.Seen.{seen_rules, seen-Bare, seen-With}
+use Rattle.witx_run.proofs.SideLemmas.{name-value}
 use Rattle.witx_invoke.specs.Picking.{value_case_picked}
-
-no-name : (t : Tree) → is_named t ≡ false → name_of t ≡ None
-no-name (Tree.named n t d) e = absurd (clash e)
-  where
-    clash : true ≡ false → ⊥
-    clash e = cc
-no-name (Tree.builtin b) e = refl
-no-name Tree.handle e = refl
-no-name (Tree.list_of t) e = refl
-no-name (Tree.pointer_to t) e = refl
-no-name (Tree.const_pointer_to t) e = refl
-no-name (Tree.record_of k ms) e = refl
-no-name (Tree.variant_of r cs) e = refl
-
-pub name-value : (d : Rc Datatype Global) → name_of (tree_of (tref.Value d)) ≡ None
-name-value d = ap name_of (tree-Value d) ∙ no-name (datatype_tree d.value) (named-datatype d.value)
 
 -- a case of a result, with its payload or without
 pub case-picked : (ok err : Option Tree) (i : ℕ) (p : Option (Box Value Global)) → cells.case_picked ok err (seen (value.Case i p)) ≡ value_case_picked ok err i (option_map seen_in p)

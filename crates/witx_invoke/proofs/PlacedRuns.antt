@@ -117,6 +117,10 @@ empty_store addresses = record { bytes = no_bytes; fresh = addresses; taken = []
 abbrev no_cells : List ℕ → Memory
 no_cells addresses = record { cells = []; fresh = addresses; taken = [] }
 
+both_meet : (b c : Bool) → cond b c false ≡ true → (b ≡ true) × (c ≡ true)
+both_meet true c h = (refl, h)
+both_meet false c h = absurd (false-true h)
+
 -- arguments and replies carry values of their types
 module _ (whole : Taken) (stated : AreStated whole) (writable : AreWritable whole) where
   abbrev Carry : Item Value Word → Item Value Word → Type 0
@@ -129,11 +133,9 @@ module _ (whole : Taken) (stated : AreStated whole) (writable : AreWritable whol
   arguments_carry [] [] h = tt
   arguments_carry [] (v ∷ vs) h = absurd (false-true h)
   arguments_carry (t ∷ ts) [] h = absurd (false-true h)
-  arguments_carry (t ∷ ts) (v ∷ vs) h = by (is_value (plain t) v) refl h (arguments_carry ts vs)
-    where
-      by : (b : Bool) → is_value (plain t) v ≡ b → cond b (are_arguments ts vs) false ≡ true → (are_arguments ts vs ≡ true → Each Carry (argument_items ts vs) (argument_items ts vs)) → Each Carry (argument_items (t ∷ ts) (v ∷ vs)) (argument_items (t ∷ ts) (v ∷ vs))
-      by true e h k = (carries t v e, k h)
-      by false e h k = absurd (false-true h)
+  arguments_carry (t ∷ ts) (v ∷ vs) h =
+      let p = both_meet (is_value (plain t) v) (are_arguments ts vs) h in
+      (carries t v p.0, arguments_carry ts vs p.1)
 
   reply_carries : (ts : List Tree) (reply : Option Value) → is_reply ts reply ≡ true → Follows (Each Carry) (reply_items ts reply) (reply_items ts reply)
   reply_carries [] None h = tt

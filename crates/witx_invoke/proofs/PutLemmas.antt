@@ -6,6 +6,7 @@ use Rattle.witx_ast.specs.Tree.{Tree}
 use Rattle.witx_ast.specs.Values as plain_value
 use Rattle.witx_ast.specs.Views.{tree_of, named_tree}
 use Rattle.witx_ast.specs.declared.types.NamedType.{NamedType}
+use Rattle.witx_base.specs.SameBytes.{both}
 use Rattle.witx_ast.proofs.Decided.{decides-le, decides-lt}
 use Rattle.witx_ast.proofs.Trees.{tree-NamedType}
 use Rattle.witx_layout.specs.Numbers.{align_to}
@@ -30,20 +31,10 @@ none_some e = cc
 some-same : {A : Type 0} {x y : A} → Some x ≡ Some y → x ≡ y
 some-same e = cc
 
-clash : {A : Type 0} → false ≡ true → A
-clash e = absurd (no e)
-  where
-    no : false ≡ true → ⊥
-    no e = cc
-
-parts : (a b : Bool) → a && b ≡ true → (a ≡ true) × (b ≡ true)
-parts true b e = (refl, e)
-parts false b e = clash e
-
 -- a place within 2^20 is free
 free-place : (a n : ℕ) (m : Bytes) → 0 < a → is_range_place a n m ≡ true → is_free a n m ≡ true
 free-place a n m l h =
-    let p = parts (nat_le (a + n) (2 ^ 20)) (none_held a n m) h in
+    let p = both (nat_le (a + n) (2 ^ 20)) (none_held a n m) h in
     let within = (decides-le (a + n) (2 ^ 20)).0 p.0 in
     let low : a + n ≤ 2 ^ 32 = omega (arith, within) in
     ap (λ b. (b && nat_le (a + n) (2 ^ 32)) && none_held a n m) ((decides-lt 0 a).1 l)

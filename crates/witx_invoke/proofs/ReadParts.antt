@@ -5,6 +5,7 @@ use Rattle.std.specs.declared.alloc.Global.{Global}
 use Rattle.std.specs.declared.boxed.Box.{Box}
 use Rattle.witx_ast.specs.declared.types.BuiltinType.{BuiltinType}
 use Rattle.witx_ast.specs.declared.types.Case.{Case}
+use Rattle.witx_ast.specs.declared.types.IntRepr.{IntRepr}
 use Rattle.witx_ast.specs.declared.types.RecordKind.{RecordKind}
 use Rattle.witx_ast.specs.declared.types.RecordMember.{RecordMember}
 use Rattle.witx_ast.specs.declared.types.TypeRef.{TypeRef}
@@ -18,7 +19,8 @@ use Rattle.witx_bytes.specs.declared.read_error.ReadError.{ReadError}
 use Rattle.witx_bytes.specs.declared.value.Value.{Value}
 use Rattle.witx_bytes.specs.declared.value.Value.TheVariants as value
 use Rattle.witx_bytes.proofs.Members.{ms_from}
-use Rattle.witx_bytes.proofs.ReadParts.{followed_by, goes_on}
+use Rattle.witx_bytes.proofs.ReadNumbers.{goes_on}
+use Rattle.witx_bytes.proofs.ReadParts.{followed_by}
 use Rattle.witx_bytes.proofs.Seen.{seen-Num, seen-Handle, seen-Pointer, seen-ConstPointer, seen-List, seen-Flags, seen-Tuple, seen-Rec, seen-Enum, seen-Bare, seen-With}
 use Rattle.witx_invoke.specs.Reading.{Payloads, past, made, item_past, closed, list_behind, index_at, case_behind, cases_at, type_at, members_at, payload_at, word_at, signed_at, flags_read, taken}
 
@@ -29,14 +31,15 @@ enclosed_at ms s = option_and_then (closed 41) (option_and_then (members_at 0 ms
 pub tuple_taken : (ms : Fields) (s rest : List ℕ) (vs : List Value) → enclosed_at ms s ≡ Some (values_seen vs, rest) → type_at (Plain.record_of RecordKind.Tuple ms) s ≡ Some (seen (value.Tuple vs), rest)
 tuple_taken ms s rest vs h = ap (option_map (made plain.tuple_values)) h ∙ ap (λ v. Some (v, rest)) (sym (seen-Tuple vs))
 
-pub tuple_refused : (ms : Fields) (s : List ℕ) (e : ReadError) → ReadAs (taken values_seen) (enclosed_at ms s) (Err e) → ReadAs (taken seen) (type_at (Plain.record_of RecordKind.Tuple ms) s) (Err e)
-tuple_refused ms s e h = goes_on (taken values_seen) (taken seen) (enclosed_at ms s) (type_at (Plain.record_of RecordKind.Tuple ms) s) e (λ n. ap (option_map (made plain.tuple_values)) n) h
+pub other_taken : (k : RecordKind) (ms : Fields) (s rest : List ℕ) (vs : List Value) → ((r : IntRepr) → k ≡ RecordKind.Bitflags r → ⊥) → (k ≡ RecordKind.Tuple → ⊥) → enclosed_at ms s ≡ Some (values_seen vs, rest) → type_at (Plain.record_of k ms) s ≡ Some (seen (value.Rec vs), rest)
+other_taken (RecordKind.Bitflags r) ms s rest vs n o h = absurd (n r refl)
+other_taken RecordKind.Tuple ms s rest vs n o h = absurd (o refl)
+other_taken RecordKind.Other ms s rest vs n o h = ap (option_map (made plain.record_values)) h ∙ ap (λ v. Some (v, rest)) (sym (seen-Rec vs))
 
-pub record_taken : (ms : Fields) (s rest : List ℕ) (vs : List Value) → enclosed_at ms s ≡ Some (values_seen vs, rest) → type_at (Plain.record_of RecordKind.Other ms) s ≡ Some (seen (value.Rec vs), rest)
-record_taken ms s rest vs h = ap (option_map (made plain.record_values)) h ∙ ap (λ v. Some (v, rest)) (sym (seen-Rec vs))
-
-pub record_refused : (ms : Fields) (s : List ℕ) (e : ReadError) → ReadAs (taken values_seen) (enclosed_at ms s) (Err e) → ReadAs (taken seen) (type_at (Plain.record_of RecordKind.Other ms) s) (Err e)
-record_refused ms s e h = goes_on (taken values_seen) (taken seen) (enclosed_at ms s) (type_at (Plain.record_of RecordKind.Other ms) s) e (λ n. ap (option_map (made plain.record_values)) n) h
+pub members_refused : (k : RecordKind) (ms : Fields) (s : List ℕ) (e : ReadError) → ((r : IntRepr) → k ≡ RecordKind.Bitflags r → ⊥) → ReadAs (taken values_seen) (enclosed_at ms s) (Err e) → ReadAs (taken seen) (type_at (Plain.record_of k ms) s) (Err e)
+members_refused (RecordKind.Bitflags r) ms s e n h = absurd (n r refl)
+members_refused RecordKind.Tuple ms s e n h = goes_on (taken values_seen) (taken seen) (enclosed_at ms s) (type_at (Plain.record_of RecordKind.Tuple ms) s) e (λ n. ap (option_map (made plain.tuple_values)) n) h
+members_refused RecordKind.Other ms s e n h = goes_on (taken values_seen) (taken seen) (enclosed_at ms s) (type_at (Plain.record_of RecordKind.Other ms) s) e (λ n. ap (option_map (made plain.record_values)) n) h
 
 -- between the parentheses, and what follows them
 module _ (ms : Fields) (s : List ℕ) where
@@ -174,7 +177,7 @@ payload_none cs i c s l e n = payload_is cs i c s l e ∙ ap (λ o. of_payload o
 pub payload_some : (cs : List Case) (i : ℕ) (c : Case) (t : TypeRef) (s : List ℕ) (r : Result (Value × Bor (List ℕ)) ReadError) → i < length cs → c ≡ get_or cs i c → c.tref ≡ Some t → ReadAs (taken seen) (type_at (plain (tree_of t)) s) r → ReadAs (taken seen) (payload_at (cases_plain cs) i s) r
 payload_some cs i c t s r l e n h = subst (λ o. ReadAs (taken seen) o r) (sym (payload_is cs i c s l e ∙ ap (λ o. of_payload o s) n)) h
 
-pub ruleset part_rules = (tuple_taken, tuple_refused, record_taken, record_refused, enclosed_none, enclosed_refused, enclosed_open, enclosed_taken, member_none, member_some, members_first, members_stop, members_next, members_done, cases_bare, cases_alone, cases_carrying, carried_none, carried_near, carried_refused, carried_open, carried_taken, payload_beyond, payload_none, payload_some)
+pub ruleset part_rules = (enclosed_none, enclosed_refused, enclosed_open, enclosed_taken, member_none, member_some, members_first, members_stop, members_next, members_done, cases_bare, cases_alone, cases_carrying, carried_none, carried_near, carried_refused, carried_open, carried_taken, payload_beyond, payload_none, payload_some)
 
 -- flags, by what stands in their brackets
 abbrev pub bits_at : ℕ → List ℕ → Option (List Bool × List ℕ)

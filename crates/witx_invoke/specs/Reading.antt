@@ -6,7 +6,11 @@ use Rattle.std.specs.Borrow.{Bor}
 use Rattle.std.specs.Char.{is_digit, digit_value}
 use Rattle.witx_ast.specs.declared.types.RecordKind.{RecordKind}
 use Rattle.witx_ast.specs.Plain.{Plain, Fields, Arms, field_count, all_bare}
+use Rattle.witx_ast.specs.Tree.{Tree}
 use Rattle.witx_ast.specs.Values.{Value, Values}
+use Rattle.witx_bytes.specs.Seen.{seen}
+use Rattle.witx_bytes.specs.declared.value.Value as bytes
+use Rattle.witx_call.specs.Lines.{IsValueLine}
 
 -- what follows a byte, if it stands at the head
 abbrev pub past : ℕ → List ℕ → Option (List ℕ)
@@ -110,3 +114,7 @@ abbrev mutual
 -- as the program has what it takes: f says what it is
 abbrev pub taken : {A B : Type 0} → (A → B) → A × Bor (List ℕ) → B × List ℕ
 taken f p = (f p.0, p.1.now)
+
+-- a line of the text is a value of the program, and this follows the line
+abbrev pub TakesLine : Tree → List ℕ → bytes.Value × Bor (List ℕ) → Type 0
+TakesLine t text p = IsValueLine t text (seen p.0) p.1.now

@@ -3,8 +3,7 @@
 ghost use Rattle.std.specs.Prelude.{IfErr, IfOk};
 ghost use Rattle.witx_bytes.specs.Seen.{seen};
 ghost use Rattle.witx_run.specs.OutcomeViews.{run_of};
-ghost use Rattle.witx_call.specs.PlacementViews.{room_of};
-ghost use Rattle.witx_call.specs.WordViews.{word_view};
+ghost use Rattle.witx_call.specs.{PlacementViews.{room_of}, WordViews.{word_view}};
 ghost use Rattle.witx_invoke.specs.Answering.{EndsSeen, HasNoRoom};
 
 use crate::error::InvokeError;

@@ -4,9 +4,7 @@ ghost use Rattle.std.specs.Prelude.{◌≡◌, IfOk, map, option_map};
 ghost use Rattle.witx_ast.specs.Values as plain;
 ghost use Rattle.witx_machine.specs.Words as machine;
 ghost use Rattle.witx_bytes.specs.Seen.{seen};
-ghost use Rattle.witx_call.specs.PlacementViews.{room_of};
-ghost use Rattle.witx_call.specs.Room.{Room};
-ghost use Rattle.witx_call.specs.WordViews.{word_view};
+ghost use Rattle.witx_call.specs.{PlacementViews.{room_of}, Room.{Room}, WordViews.{word_view}};
 ghost use Rattle.witx_invoke.specs.Placing.{placing};
 
 use crate::copies::copy_value;

@@ -1,6 +1,7 @@
 //! Why lines give no values, and why a call isn't run.
 
 ghost use Rattle.std.specs.Prelude.{◌≡◌};
+ghost use Rattle.witx_invoke.specs.declared.error.{InvokeError.{InvokeError}, ValuesError.{ValuesError}};
 
 use witx_base::OutOfMemory;
 
@@ -15,8 +16,6 @@ pub enum ValuesError {
 }
 
 impl From<OutOfMemory> for ValuesError {
-    ghost use Rattle.witx_invoke.specs.declared.error.ValuesError.{ValuesError};
-
     ghost from_gives = { λ _ error. error ≡ ValuesError.OutOfMemory };
 
     fn from(_refused: OutOfMemory) -> ValuesError {
@@ -37,8 +36,6 @@ pub enum InvokeError {
 }
 
 impl From<OutOfMemory> for InvokeError {
-    ghost use Rattle.witx_invoke.specs.declared.error.InvokeError.{InvokeError};
-
     ghost from_gives = { λ _ error. error ≡ InvokeError.OutOfMemory };
 
     fn from(_refused: OutOfMemory) -> InvokeError {

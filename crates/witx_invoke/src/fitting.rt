@@ -1,8 +1,7 @@
 //! Whether a function fits its tags.
 
 ghost use Rattle.std.specs.Prelude.{◌≡◌, map};
-ghost use Rattle.witx_ast.specs.Functions.{func_tree, param_field};
-ghost use Rattle.witx_ast.specs.Tags.{function_fits, types_fit};
+ghost use Rattle.witx_ast.specs.{Functions.{func_tree, param_field}, Tags.{function_fits, types_fit}};
 
 use witx_ast::{InterfaceFunc, InterfaceFuncParam};
 use witx_bytes::writable;

@@ -2,14 +2,12 @@
 #![tactic(auto, using(crate::proofs::Lines::line_rules))]
 
 ghost use Rattle.std.specs.Prelude.{◌≡◌, ◌≤◌, ◌+◌, ◌^◌, ◌<◌, ◌++◌, ℕ, List, IfOk, true, map, option_map, length};
-ghost use Rattle.witx_ast.specs.Functions.{func_tree, param_field};
-ghost use Rattle.witx_ast.specs.Plain.{plain};
-ghost use Rattle.witx_ast.specs.Tags.{fits, function_fits, types_fit};
-ghost use Rattle.witx_ast.specs.Tree.{Tree};
-ghost use Rattle.witx_ast.specs.Views.{tree_of};
+ghost use Rattle.witx_ast.specs.{Functions.{func_tree, param_field}, Plain.{plain}};
+ghost use Rattle.witx_ast.specs.{Tags.{fits, function_fits, types_fit}, Tree.{Tree}, Views.{tree_of}};
 ghost use Rattle.witx_bytes.specs.Seen.{seen};
 ghost use Rattle.witx_machine.specs.Functions.{function_of};
-ghost use Rattle.witx_call.specs.Lines.{AreLines, FirstFault, Gives, IsValueLine, NoLine, line_param_types, line_types};
+ghost use Rattle.witx_call.specs.Lines.{AreLines, FirstFault, Gives, NoLine, line_param_types, line_types};
+ghost use Rattle.witx_invoke.specs.Reading.{TakesLine};
 
 use crate::error::ValuesError;
 use crate::extents::check_types;
@@ -92,7 +90,7 @@ fn read_numbered<'a>(
     text: &'a [u8],
 ) -> Result<(Value, &'a [u8]), ValuesError>
     requires { fits (plain (tree_of ty.now)) ≡ true }
-    ensures read { IfOk result (λ p. IsValueLine (tree_of ty.now) text.now (seen p.0) p.1.now) }
+    ensures read { IfOk result (TakesLine (tree_of ty.now) text.now) }
     ensures line { (n : ℕ) → result ≡ Err (ValuesError.Line n) → (n ≡ line) × NoLine (tree_of ty.now) text.now }
 {
     match read_line(alloc, ty, text) {

@@ -3,12 +3,9 @@
 ghost use Rattle.std.specs.Prelude.{◌≡◌, ◌+◌, ◌^◌, IfErr, IfOk, map, nat_lt};
 ghost use Rattle.witx_instructions.specs.Views.{called, event_of};
 ghost use Rattle.witx_bytes.specs.Seen.{seen};
-ghost use Rattle.witx_invoke.specs.Answering.{stated_run};
-ghost use Rattle.witx_invoke.specs.Invoking.{CanRun, IsAnswer, Refuses};
-ghost use Rattle.witx_run.specs.OutcomeViews.{run_of};
-ghost use Rattle.witx_run.specs.Views.{reply_of};
-ghost use Rattle.witx_call.specs.PlacementViews.{room_of};
-ghost use Rattle.witx_call.specs.WordViews.{word_view};
+ghost use Rattle.witx_invoke.specs.{Answering.{stated_run}, Invoking.{CanRun, IsAnswer, Refuses}};
+ghost use Rattle.witx_run.specs.{OutcomeViews.{run_of}, Views.{reply_of}};
+ghost use Rattle.witx_call.specs.{PlacementViews.{room_of}, WordViews.{word_view}};
 
 use crate::answering::answer;
 use crate::byte_domain::ByteDomain;
@@ -19,10 +16,10 @@ use std::alloc::Global;
 use witx_abi::Events;
 use witx_adapt::AdaptedFunc;
 use witx_ast::InterfaceFunc;
-use witx_base::{Id, OutOfMemory};
+use witx_base::Id;
 use witx_bytes::{Value, Values};
-use witx_call::{Invoked, Placement, Word};
-use witx_run::{Run, run_traces};
+use witx_call::{Invoked, Placement};
+use witx_run::run_traces;
 
 /// How many events are run at most.
 const MOST_EVENTS: u128 = 1 << 30;
@@ -63,7 +60,7 @@ pub fn invoke(
     )
 }
 
-/// The same of two traces of a function of a module.
+/// The same of two traces of a function of a module, from a memory that is empty.
 fn invoke_traces(
     alloc: Global,
     owner: &Id,
@@ -87,7 +84,11 @@ fn invoke_traces(
     if are_too_many(caller.len(), callee.len()) {
         return Err(InvokeError::NoRoom);
     }
-    let run = run_stated(alloc, owner, func, caller, callee, args, reply)?;
+    let domain = ByteDomain { alloc };
+    let memory = Placement::new(alloc);
+    let run = run_traces(
+        alloc, &domain, owner, func, caller, callee, args, reply, memory,
+    )?;
     answer(alloc, run)
 }
 
@@ -96,24 +97,4 @@ fn are_too_many(caller: usize, callee: usize) -> bool
     ensures { result ≡ nat_lt (2 ^ 30) (caller + callee) }
 {
     caller as u128 + callee as u128 > MOST_EVENTS
-}
-
-/// Runs the two traces, from a memory that is empty.
-fn run_stated(
-    alloc: Global,
-    owner: &Id,
-    func: &InterfaceFunc,
-    caller: &Events,
-    callee: &Events,
-    args: &[Value],
-    reply: Option<&Value>,
-) -> Result<Run<Value, Word, Placement>, OutOfMemory>
-    ensures { IfOk result (λ run. run_of seen word_view room_of run
-        ≡ stated_run owner.now (called func.now) (map event_of caller.now) (map event_of callee.now) (map seen args.now) (reply_of seen reply.entry)) }
-{
-    let domain = ByteDomain { alloc };
-    let memory = Placement::new(alloc);
-    run_traces(
-        alloc, &domain, owner, func, caller, callee, args, reply, memory,
-    )
 }

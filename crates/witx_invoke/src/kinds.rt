@@ -2,8 +2,7 @@
 #![tactic(auto, using(crate::proofs::KindLemmas::kept_rules))]
 
 ghost use Rattle.std.specs.Prelude.{◌≡◌, ◌%◌};
-ghost use Rattle.witx_ast.specs.Plain.{plain};
-ghost use Rattle.witx_ast.specs.Views.{tree_of, datatype_tree, record_tree};
+ghost use Rattle.witx_ast.specs.{Plain.{plain}, Views.{tree_of, datatype_tree, record_tree}};
 ghost use Rattle.witx_machine.specs.Functions.{by_address};
 ghost use Rattle.witx_machine.specs.Words.{repr_modulus, repr_word_type as type_of_word};
 ghost use Rattle.witx_invoke.specs.Representing.{flags_kept, tag_kept};

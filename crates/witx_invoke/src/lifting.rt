@@ -3,8 +3,7 @@
 #![tactic(auto, using(crate::proofs::ShapeLemmas::shape_rules))]
 
 ghost use Rattle.std.specs.Prelude.{◌≡◌, IfOk, option_map};
-ghost use Rattle.witx_ast.specs.Plain.{plain};
-ghost use Rattle.witx_ast.specs.Views.{tree_of, named_tree};
+ghost use Rattle.witx_ast.specs.{Plain.{plain}, Views.{tree_of, named_tree}};
 ghost use Rattle.witx_machine.specs.Cells.{cells};
 ghost use Rattle.witx_machine.specs.Words.{checked_value, const_pointer, enum_of, flags_in, flags_of as flags_by, handle_of, number_of as number_by, pointer};
 ghost use Rattle.witx_bytes.specs.Seen.{seen};

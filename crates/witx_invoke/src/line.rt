@@ -1,11 +1,9 @@
 //! One line: the text of a value of a type, and a line feed.
 
 ghost use Rattle.std.specs.Prelude.{◌≡◌, IfOk, true};
-ghost use Rattle.witx_ast.specs.Plain.{plain};
-ghost use Rattle.witx_ast.specs.Tags.{fits};
-ghost use Rattle.witx_ast.specs.Views.{tree_of};
-ghost use Rattle.witx_bytes.specs.Seen.{seen};
-ghost use Rattle.witx_call.specs.Lines.{IsValueLine, NoLine};
+ghost use Rattle.witx_ast.specs.{Plain.{plain}, Tags.{fits}, Views.{tree_of}};
+ghost use Rattle.witx_call.specs.Lines.{NoLine};
+ghost use Rattle.witx_invoke.specs.Reading.{TakesLine};
 
 use crate::read::read_type;
 use std::alloc::Global;
@@ -20,7 +18,7 @@ pub(crate) fn read_line<'a>(
     text: &'a [u8],
 ) -> Result<(Value, &'a [u8]), ReadError>
     requires { fits (plain (tree_of ty.now)) ≡ true }
-    ensures read { IfOk result (λ p. IsValueLine (tree_of ty.now) text.now (seen p.0) p.1.now) }
+    ensures read { IfOk result (TakesLine (tree_of ty.now) text.now) }
     ensures none { result ≡ Err ReadError.NoValue → NoLine (tree_of ty.now) text.now }
 {
     let (value, _behind) = read_type(alloc, ty, text, DEEPEST)?;

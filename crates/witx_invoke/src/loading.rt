@@ -2,14 +2,10 @@
 #![tactic(auto, using(crate::proofs::LoadLemmas::load_rules))]
 
 ghost use Rattle.std.specs.Prelude.{◌≡◌, IfOk, option_map, true};
-ghost use Rattle.witx_ast.specs.Plain.{plain};
-ghost use Rattle.witx_ast.specs.Views.{tree_of, named_tree};
-ghost use Rattle.witx_bytes.specs.Bytes.{held};
-ghost use Rattle.witx_bytes.specs.Reading.{value_at};
-ghost use Rattle.witx_bytes.specs.Seen.{seen};
+ghost use Rattle.witx_ast.specs.{Plain.{plain}, Views.{tree_of, named_tree}};
+ghost use Rattle.witx_bytes.specs.{Bytes.{held}, Reading.{value_at}, Seen.{seen}};
 ghost use Rattle.witx_invoke.specs.Placing.{is_readable as can_be_read, placing};
-ghost use Rattle.witx_call.specs.PlacementViews.{room_of};
-ghost use Rattle.witx_call.specs.WordViews.{word_view};
+ghost use Rattle.witx_call.specs.{PlacementViews.{room_of}, WordViews.{word_view}};
 
 use crate::word_parts::i32_number;
 use std::alloc::Global;

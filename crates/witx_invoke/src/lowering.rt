@@ -3,8 +3,7 @@
 #![tactic(auto, using(crate::proofs::ShapeLemmas::shape_rules))]
 
 ghost use Rattle.std.specs.Prelude.{◌≡◌, ◌≤◌, ◌^◌, IfOk, MatchOption, Some, option_map};
-ghost use Rattle.witx_ast.specs.ValueTests.{in_range as is_in_range};
-ghost use Rattle.witx_ast.specs.Views.{named_tree};
+ghost use Rattle.witx_ast.specs.{ValueTests.{in_range as is_in_range}, Views.{named_tree}};
 ghost use Rattle.witx_machine.specs.Cells.{cells};
 ghost use Rattle.witx_machine.specs.Words.{bits_of_flags, const_pointer, enum_of, flags_of, handle_of, i32 as word_i32, number_of, number_word, pointer, repr_word_type as type_of_word, when};
 ghost use Rattle.witx_bytes.specs.Seen.{seen};
@@ -34,16 +33,7 @@ pub(crate) fn lower_number(builtin: BuiltinType, value: &Value) -> Option<Word>
                 None
             }
         }
-        Value::Handle(_) => None,
-        Value::Pointer(_) => None,
-        Value::ConstPointer(_) => None,
-        Value::List { .. } => None,
-        Value::Flags(_) => None,
-        Value::Tuple(_) => None,
-        Value::Rec(_) => None,
-        Value::Enum(_) => None,
-        Value::Case(_, None) => None,
-        Value::Case(_, Some(_)) => None,
+        _ => None,
     }
 }
 
@@ -66,16 +56,7 @@ pub(crate) fn lower_pointer(value: &Value) -> Option<Word>
 {
     match value {
         Value::Pointer(address) => Some(i32_word(*address)),
-        Value::Num(_, _) => None,
-        Value::Handle(_) => None,
-        Value::ConstPointer(_) => None,
-        Value::List { .. } => None,
-        Value::Flags(_) => None,
-        Value::Tuple(_) => None,
-        Value::Rec(_) => None,
-        Value::Enum(_) => None,
-        Value::Case(_, None) => None,
-        Value::Case(_, Some(_)) => None,
+        _ => None,
     }
 }
 
@@ -85,16 +66,7 @@ pub(crate) fn lower_const_pointer(value: &Value) -> Option<Word>
 {
     match value {
         Value::ConstPointer(address) => Some(i32_word(*address)),
-        Value::Num(_, _) => None,
-        Value::Handle(_) => None,
-        Value::Pointer(_) => None,
-        Value::List { .. } => None,
-        Value::Flags(_) => None,
-        Value::Tuple(_) => None,
-        Value::Rec(_) => None,
-        Value::Enum(_) => None,
-        Value::Case(_, None) => None,
-        Value::Case(_, Some(_)) => None,
+        _ => None,
     }
 }
 
@@ -105,16 +77,7 @@ pub(crate) fn lower_handle(named: &NamedType, value: &Value) -> Option<Word>
 {
     match value {
         Value::Handle(number) => word_if(is_value(&named.tref, value), *number),
-        Value::Num(_, _) => None,
-        Value::Pointer(_) => None,
-        Value::ConstPointer(_) => None,
-        Value::List { .. } => None,
-        Value::Flags(_) => None,
-        Value::Tuple(_) => None,
-        Value::Rec(_) => None,
-        Value::Enum(_) => None,
-        Value::Case(_, None) => None,
-        Value::Case(_, Some(_)) => None,
+        _ => None,
     }
 }
 
@@ -125,16 +88,16 @@ pub(crate) fn lower_enum(named: &NamedType, value: &Value) -> Option<Word>
 {
     match value {
         Value::Enum(case) => word_if(is_value(&named.tref, value), *case),
-        Value::Num(_, _) => None,
-        Value::Handle(_) => None,
-        Value::Pointer(_) => None,
-        Value::ConstPointer(_) => None,
-        Value::List { .. } => None,
-        Value::Flags(_) => None,
-        Value::Tuple(_) => None,
-        Value::Rec(_) => None,
-        Value::Case(_, None) => None,
-        Value::Case(_, Some(_)) => None,
+        Value::Num(_, _)
+        | Value::Handle(_)
+        | Value::Pointer(_)
+        | Value::ConstPointer(_)
+        | Value::List { .. }
+        | Value::Flags(_)
+        | Value::Tuple(_)
+        | Value::Rec(_)
+        | Value::Case(_, None)
+        | Value::Case(_, Some(_)) => None,
     }
 }
 
@@ -177,16 +140,15 @@ fn flags_word(repr: IntRepr, value: &Value) -> Result<Option<Word>, OutOfMemory>
 {
     match value {
         Value::Flags(flags) => flags_number(repr, flags.as_slice()),
-        Value::Num(_, _) => Ok(None),
-        Value::Handle(_) => Ok(None),
-        Value::Pointer(_) => Ok(None),
-        Value::ConstPointer(_) => Ok(None),
-        Value::List { .. } => Ok(None),
-        Value::Tuple(_) => Ok(None),
-        Value::Rec(_) => Ok(None),
-        Value::Enum(_) => Ok(None),
-        Value::Case(_, None) => Ok(None),
-        Value::Case(_, Some(_)) => Ok(None),
+        Value::Num(_, _)
+        | Value::Handle(_)
+        | Value::Pointer(_)
+        | Value::ConstPointer(_)
+        | Value::List { .. }
+        | Value::Tuple(_)
+        | Value::Rec(_)
+        | Value::Enum(_)
+        | Value::Case(_, _) => Ok(None),
     }
 }
 

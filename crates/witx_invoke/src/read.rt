@@ -4,13 +4,11 @@
 //! the value is seen afterwards, when the value's text is compared with it.
 #![tactic(auto, using(crate::proofs::ReadParts::part_rules))]
 
-ghost use Rattle.std.specs.Prelude.{◌≡◌, ℕ, List, true, Some, None, option_and_then};
+ghost use Rattle.std.specs.Prelude.{ℕ, List, true, Some, None, option_and_then};
 ghost use Rattle.witx_ast.specs.Plain.{plain, builtin, handle, list_of, pointer_to, const_pointer_to, record_of, all_bare};
 ghost use Rattle.witx_ast.specs.Views.{tree_of, datatype_tree, record_tree, variant_tree, members_plain, cases_plain};
-ghost use Rattle.witx_ast.specs.declared.types.IntRepr.{IntRepr};
-ghost use Rattle.witx_ast.specs.declared.types.RecordKind.{RecordKind};
-ghost use Rattle.witx_bytes.specs.Readings.{ReadAs};
-ghost use Rattle.witx_bytes.specs.Seen.{seen, values_seen};
+ghost use Rattle.witx_ast.specs.{declared.types.IntRepr.{IntRepr}, declared.types.RecordKind.{RecordKind}};
+ghost use Rattle.witx_bytes.specs.{Readings.{ReadAs}, Seen.{seen, values_seen}};
 ghost use Rattle.witx_invoke.specs.Reading.{Payloads, past, case_behind, cases_at, closed, item_past, members_at, payload_at, taken, type_at};
 
 use crate::flags::read_flags;
@@ -21,15 +19,13 @@ use witx_ast::{
 };
 use witx_bytes::{ReadError, Value, Values, are_bare, boxed};
 
+/// What is read at the head of a text, and what follows it.
+type Read<'a, T = Value> = Result<(T, &'a [u8]), ReadError>;
+
 /// The value at the head, and what follows it, where the type has at most so many levels; else want of memory.
 #[cycle(reading)]
 #[tactic(auto, using(crate::proofs::ReadTypes::type_rules))]
-pub(crate) fn read_type<'a>(
-    alloc: Global,
-    ty: &TypeRef,
-    text: &'a [u8],
-    deep: u32,
-) -> Result<(Value, &'a [u8]), ReadError>
+pub(crate) fn read_type<'a>(alloc: Global, ty: &TypeRef, text: &'a [u8], deep: u32) -> Read<'a>
     ensures { ReadAs (taken seen) (type_at (plain (tree_of ty.now)) text.now) result }
 {
     if deep == 0 {
@@ -40,12 +36,7 @@ pub(crate) fn read_type<'a>(
 
 #[cycle(reading)]
 #[tactic(auto, using(crate::proofs::ReadTypes::type_rules))]
-fn read_datatype<'a>(
-    alloc: Global,
-    datatype: &Datatype,
-    text: &'a [u8],
-    deep: u32,
-) -> Result<(Value, &'a [u8]), ReadError>
+fn read_datatype<'a>(alloc: Global, datatype: &Datatype, text: &'a [u8], deep: u32) -> Read<'a>
     ensures { ReadAs (taken seen) (type_at (plain (datatype_tree datatype.now)) text.now) result }
 {
     match datatype {
@@ -66,53 +57,26 @@ fn read_record<'a>(
     record_type: &RecordDatatype,
     text: &'a [u8],
     deep: u32,
-) -> Result<(Value, &'a [u8]), ReadError>
+) -> Read<'a>
     ensures { ReadAs (taken seen) (type_at (plain (record_tree record_type.now)) text.now) result }
 {
     let members = record_type.members.as_slice();
+    if let RecordKind::Bitflags(_) = record_type.kind {
+        return read_bits(alloc, members, text);
+    }
+    let (values, rest) = read_enclosed(alloc, members, text, deep)?;
     match record_type.kind {
-        RecordKind::Bitflags(_) => read_bits(alloc, members, text),
-        RecordKind::Tuple => read_tuple(alloc, members, text, deep),
-        RecordKind::Other => read_other(alloc, members, text, deep),
+        RecordKind::Tuple => Ok((Value::Tuple(values), rest)),
+        _ => Ok((Value::Rec(values), rest)),
     }
 }
 
-fn read_bits<'a>(
-    alloc: Global,
-    members: &[RecordMember],
-    text: &'a [u8],
-) -> Result<(Value, &'a [u8]), ReadError>
+fn read_bits<'a>(alloc: Global, members: &[RecordMember], text: &'a [u8]) -> Read<'a>
     ensures { (r : IntRepr) → ReadAs (taken seen)
         (type_at (record_of (RecordKind.Bitflags r) (members_plain members.now)) text.now) result }
 {
     let (flags, rest) = read_flags(alloc, members.len(), text)?;
     Ok((Value::Flags(flags), rest))
-}
-
-#[cycle(reading)]
-fn read_tuple<'a>(
-    alloc: Global,
-    members: &[RecordMember],
-    text: &'a [u8],
-    deep: u32,
-) -> Result<(Value, &'a [u8]), ReadError>
-    ensures { ReadAs (taken seen) (type_at (record_of RecordKind.Tuple (members_plain members.now)) text.now) result }
-{
-    let (values, rest) = read_enclosed(alloc, members, text, deep)?;
-    Ok((Value::Tuple(values), rest))
-}
-
-#[cycle(reading)]
-fn read_other<'a>(
-    alloc: Global,
-    members: &[RecordMember],
-    text: &'a [u8],
-    deep: u32,
-) -> Result<(Value, &'a [u8]), ReadError>
-    ensures { ReadAs (taken seen) (type_at (record_of RecordKind.Other (members_plain members.now)) text.now) result }
-{
-    let (values, rest) = read_enclosed(alloc, members, text, deep)?;
-    Ok((Value::Rec(values), rest))
 }
 
 /// A value for each member, in parentheses.
@@ -122,7 +86,7 @@ fn read_enclosed<'a>(
     members: &[RecordMember],
     text: &'a [u8],
     deep: u32,
-) -> Result<(Values, &'a [u8]), ReadError>
+) -> Read<'a, Values>
     ensures { ReadAs (taken values_seen) (option_and_then (closed 41)
         (option_and_then (members_at 0 (members_plain members.now)) (past 40 text.now))) result }
 {
@@ -144,7 +108,7 @@ fn read_members<'a>(
     members: &[RecordMember],
     text: &'a [u8],
     deep: u32,
-) -> Result<(Values, &'a [u8]), ReadError>
+) -> Read<'a, Values>
     ensures { ReadAs (taken values_seen) (members_at 0 (members_plain members.now) text.now) result }
 {
     let mut values = Values::new(alloc);
@@ -159,13 +123,7 @@ fn read_members<'a>(
 
 /// The value of a member, behind the space before it.
 #[cycle(reading)]
-fn read_member<'a>(
-    alloc: Global,
-    item: usize,
-    ty: &TypeRef,
-    text: &'a [u8],
-    deep: u32,
-) -> Result<(Value, &'a [u8]), ReadError>
+fn read_member<'a>(alloc: Global, item: usize, ty: &TypeRef, text: &'a [u8], deep: u32) -> Read<'a>
     ensures { ReadAs (taken seen) (option_and_then (type_at (plain (tree_of ty.now))) (item_past item text.now)) result }
 {
     let Some(start) = item_start(item, text) else {
@@ -176,12 +134,7 @@ fn read_member<'a>(
 
 #[cycle(reading)]
 #[tactic(auto, using(crate::proofs::ReadTypes::type_rules))]
-fn read_variant<'a>(
-    alloc: Global,
-    variant: &Variant,
-    text: &'a [u8],
-    deep: u32,
-) -> Result<(Value, &'a [u8]), ReadError>
+fn read_variant<'a>(alloc: Global, variant: &Variant, text: &'a [u8], deep: u32) -> Read<'a>
     ensures { ReadAs (taken seen) (type_at (plain (variant_tree variant.now)) text.now) result }
 {
     read_cases(alloc, variant.cases.as_slice(), text, deep)
@@ -189,12 +142,7 @@ fn read_variant<'a>(
 
 /// A case: `#` and its number, and in parentheses with its payload if it has one.
 #[cycle(reading)]
-fn read_cases<'a>(
-    alloc: Global,
-    cases: &[Case],
-    text: &'a [u8],
-    deep: u32,
-) -> Result<(Value, &'a [u8]), ReadError>
+fn read_cases<'a>(alloc: Global, cases: &[Case], text: &'a [u8], deep: u32) -> Read<'a>
     ensures { ReadAs (taken seen)
         (cases_at (all_bare (cases_plain cases.now)) (payload_at (cases_plain cases.now)) text.now) result }
 {
@@ -209,12 +157,7 @@ fn read_cases<'a>(
 
 /// A case with its payload, behind the parenthesis.
 #[cycle(reading)]
-fn read_carrying<'a>(
-    alloc: Global,
-    cases: &[Case],
-    text: &'a [u8],
-    deep: u32,
-) -> Result<(Value, &'a [u8]), ReadError>
+fn read_carrying<'a>(alloc: Global, cases: &[Case], text: &'a [u8], deep: u32) -> Read<'a>
     ensures { (s : List ℕ)
         → ReadAs (taken seen) (case_behind (Some text.now) (payload_at (cases_plain cases.now)) s) result }
 {
@@ -235,13 +178,7 @@ fn read_carrying<'a>(
 
 /// The payload of the case of this number, if it has one.
 #[cycle(reading)]
-fn read_payload<'a>(
-    alloc: Global,
-    cases: &[Case],
-    case: u32,
-    text: &'a [u8],
-    deep: u32,
-) -> Result<(Value, &'a [u8]), ReadError>
+fn read_payload<'a>(alloc: Global, cases: &[Case], case: u32, text: &'a [u8], deep: u32) -> Read<'a>
     ensures { ReadAs (taken seen) (payload_at (cases_plain cases.now) case text.now) result }
 {
     if case as usize >= cases.len() {
@@ -254,7 +191,7 @@ fn read_payload<'a>(
 }
 
 #[tactic(auto, using(crate::proofs::ReadParts::scalar_rules))]
-fn read_builtin(ty: BuiltinType, text: &[u8]) -> Result<(Value, &[u8]), ReadError>
+fn read_builtin<'a>(ty: BuiltinType, text: &'a [u8]) -> Read<'a>
     ensures { ReadAs (taken seen) (type_at (builtin ty) text.now) result }
 {
     let (number, rest) = read_signed(text);
@@ -262,7 +199,7 @@ fn read_builtin(ty: BuiltinType, text: &[u8]) -> Result<(Value, &[u8]), ReadErro
 }
 
 #[tactic(auto, using(crate::proofs::ReadParts::scalar_rules))]
-fn read_handle(text: &[u8]) -> Result<(Value, &[u8]), ReadError>
+fn read_handle<'a>(text: &'a [u8]) -> Read<'a>
     ensures { ReadAs (taken seen) (type_at handle text.now) result }
 {
     let (number, rest) = read_word(text);
@@ -270,7 +207,7 @@ fn read_handle(text: &[u8]) -> Result<(Value, &[u8]), ReadError>
 }
 
 #[tactic(auto, using(crate::proofs::ReadParts::scalar_rules))]
-fn read_pointer<'a>(target: &TypeRef, text: &'a [u8]) -> Result<(Value, &'a [u8]), ReadError>
+fn read_pointer<'a>(target: &TypeRef, text: &'a [u8]) -> Read<'a>
     ensures { ReadAs (taken seen) (type_at (pointer_to (plain (tree_of target.now))) text.now) result }
 {
     let (address, rest) = read_word(text);
@@ -278,7 +215,7 @@ fn read_pointer<'a>(target: &TypeRef, text: &'a [u8]) -> Result<(Value, &'a [u8]
 }
 
 #[tactic(auto, using(crate::proofs::ReadParts::scalar_rules))]
-fn read_const_pointer<'a>(target: &TypeRef, text: &'a [u8]) -> Result<(Value, &'a [u8]), ReadError>
+fn read_const_pointer<'a>(target: &TypeRef, text: &'a [u8]) -> Read<'a>
     ensures { ReadAs (taken seen) (type_at (const_pointer_to (plain (tree_of target.now))) text.now) result }
 {
     let (address, rest) = read_word(text);
@@ -287,7 +224,7 @@ fn read_const_pointer<'a>(target: &TypeRef, text: &'a [u8]) -> Result<(Value, &'
 
 /// A list: `@`, its address, `+` and its length.
 #[tactic(auto, using(crate::proofs::ReadParts::scalar_rules))]
-fn read_list<'a>(target: &TypeRef, text: &'a [u8]) -> Result<(Value, &'a [u8]), ReadError>
+fn read_list<'a>(target: &TypeRef, text: &'a [u8]) -> Read<'a>
     ensures { ReadAs (taken seen) (type_at (list_of (plain (tree_of target.now))) text.now) result }
 {
     let Some(start) = after(b'@', text) else {
@@ -303,7 +240,7 @@ fn read_list<'a>(target: &TypeRef, text: &'a [u8]) -> Result<(Value, &'a [u8]), 
 
 /// A case of a variant without payloads.
 #[tactic(auto, using(crate::proofs::ReadParts::scalar_rules))]
-fn read_enum(text: &[u8]) -> Result<(Value, &[u8]), ReadError>
+fn read_enum<'a>(text: &'a [u8]) -> Read<'a>
     ensures { (payload : Payloads) → ReadAs (taken seen) (cases_at true payload text.now) result }
 {
     let Some((case, rest)) = read_index(text) else {
@@ -314,7 +251,7 @@ fn read_enum(text: &[u8]) -> Result<(Value, &[u8]), ReadError>
 
 /// A case without a payload, of a variant that has payloads.
 #[tactic(auto, using(crate::proofs::ReadParts::scalar_rules))]
-fn read_bare(text: &[u8]) -> Result<(Value, &[u8]), ReadError>
+fn read_bare<'a>(text: &'a [u8]) -> Read<'a>
     ensures { (payload : Payloads) → ReadAs (taken seen) (case_behind None payload text.now) result }
 {
     let Some((case, rest)) = read_index(text) else {

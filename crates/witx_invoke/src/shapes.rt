@@ -2,8 +2,7 @@
 #![tactic(auto, using(crate::proofs::ShapeLemmas::shape_rules))]
 
 ghost use Rattle.std.specs.Prelude.{◌≡◌, IfOk, Some, cond, length, map, nat_eq, option_map};
-ghost use Rattle.witx_machine.specs.Cells.{cells};
-ghost use Rattle.witx_machine.specs.Words.{when};
+ghost use Rattle.witx_machine.specs.{Cells.{cells}, Words.{when}};
 ghost use Rattle.witx_bytes.specs.Seen.{seen};
 ghost use Rattle.witx_call.specs.WordViews.{word_view};
 

@@ -1,16 +1,12 @@
 //! Values that are stored at an address.
 
 ghost use Rattle.std.specs.Prelude.{◌≡◌, IfOk, Some, option_map};
-ghost use Rattle.witx_ast.specs.Plain.{plain};
-ghost use Rattle.witx_ast.specs.Views.{tree_of, named_tree};
+ghost use Rattle.witx_ast.specs.{Plain.{plain}, Views.{tree_of, named_tree}};
 ghost use Rattle.witx_machine.specs.Words.{i32 as word_i32, when};
-ghost use Rattle.witx_bytes.specs.ByteMachine.{has_room as is_room};
-ghost use Rattle.witx_bytes.specs.Bytes.{held};
-ghost use Rattle.witx_bytes.specs.Laids.{IsLaid};
+ghost use Rattle.witx_bytes.specs.{ByteMachine.{has_room as is_room}, Bytes.{held}, Laids.{IsLaid}};
 ghost use Rattle.witx_bytes.specs.Seen.{seen};
 ghost use Rattle.witx_invoke.specs.Placing.{is_writable as fits_there, placing};
-ghost use Rattle.witx_call.specs.PlacementViews.{room_of};
-ghost use Rattle.witx_call.specs.WordViews.{word_view};
+ghost use Rattle.witx_call.specs.{PlacementViews.{room_of}, WordViews.{word_view}};
 
 use crate::kinds::is_by_address;
 use crate::word_parts::i32_number;

@@ -1,8 +1,7 @@
 //! Words of numbers and of cases, and what a word says.
 
 ghost use Rattle.std.specs.Prelude.{◌≡◌};
-ghost use Rattle.witx_machine.specs.Words.{i32 as word_i32};
-ghost use Rattle.witx_machine.specs.Cells.{cells};
+ghost use Rattle.witx_machine.specs.{Words.{i32 as word_i32}, Cells.{cells}};
 ghost use Rattle.witx_call.specs.WordViews.{u32_in, word_view};
 
 use witx_call::Word;

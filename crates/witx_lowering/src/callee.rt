@@ -1,16 +1,16 @@
 //! The plan of the side that is called.
 #![tactic(auto, using(witx_instructions::proofs::Sides::side_rules))]
 
-ghost use Rattle.std.specs.Prelude.{◌≡◌, ◌+◌, ◌++◌, ◌∷◌, [], cond, IfOk, None, Some, is_some, length, position, not, true, false};
-ghost use Rattle.witx_ast.specs.Plain.{plain};
-ghost use Rattle.witx_ast.specs.declared.function.Abi.TheVariants.{Preview1};
+ghost use Rattle.std.specs.Prelude.{◌≡◌, ◌+◌, ◌++◌, ◌∷◌, [], cond, IfOk, None, Some, is_some, length, true, false};
+ghost use Rattle.witx_ast.specs.{Plain.{plain}, declared.function.Abi.TheVariants.{Preview1}};
 ghost use Rattle.witx_ast.specs.Views.{tree_of};
 ghost use Rattle.witx_machine.specs.Events as machine;
 ghost use Rattle.witx_machine.specs.Functions.{is_tuple, result_cases};
-ghost use Rattle.witx_machine.specs.Lowerable.{can_be_param, can_be_err, can_be_result, unlowerable, unlowerable_result};
-ghost use Rattle.witx_machine.specs.Signature.{param_words, words_of_params, ok_pointers, pointers_of, pointers_by, pointers_under, return_pointers, signature_results};
+ghost use Rattle.witx_machine.specs.Lowerable.{can_be_err, can_be_result, unlowerable};
+ghost use Rattle.witx_machine.specs.Signature.{param_words, words_of_params, ok_pointers, signature_results};
 ghost use Rattle.witx_machine.specs.Traces as traces;
 ghost use Rattle.witx_instructions.specs.Views.{called, param_types, planned_events, pointer_types, payload_tree};
+ghost use Rattle.witx_lowering.specs.Asked.{CanBeParams, CanBeResults, PointersOfFunction, PointersOfResult, PointersOfResults};
 
 use crate::lowering::{lift, lower};
 use witx_ast::{Abi, InterfaceFunc, Params, TypeRef};
@@ -28,7 +28,7 @@ pub fn plan_callee<'a>(
     pointers: &Pointers<'a>,
 ) -> Result<(), OutOfMemory>
     requires lowerable { unlowerable (called func.now) ≡ None }
-    requires pointers { pointer_types pointers.now ≡ return_pointers (called func.now) }
+    requires pointers { PointersOfFunction func.now pointers.now }
     ensures { IfOk result (λ _. planned_events plan.new
         ≡ planned_events plan.old ++ traces.callee_events module_name.now (called func.now)) }
 {
@@ -58,7 +58,7 @@ fn word_count(func: &InterfaceFunc) -> usize
 
 // Answers the number of words: that of the first return pointer.
 fn lift_params<'a>(plan: &mut Plan<'a>, params: &'a Params) -> Result<usize, OutOfMemory>
-    requires { position (λ t. not (can_be_param t)) (param_types params.now) ≡ None }
+    requires { CanBeParams params.now }
     ensures events { IfOk result (λ _. planned_events plan.new
         ≡ planned_events plan.old ++ traces.lift_params 0 (param_types params.now)) }
     ensures words { IfOk result (λ words. words ≡ length (words_of_params (param_types params.now))) }
@@ -94,8 +94,8 @@ fn lower_results<'a>(
     first: usize,
     pointers: &Pointers<'a>,
 ) -> Result<(), OutOfMemory>
-    requires lowerable { unlowerable_result abi (param_types results.now) ≡ None }
-    requires pointers { pointer_types pointers.now ≡ pointers_under abi (param_types results.now) }
+    requires lowerable { CanBeResults abi results.now }
+    requires pointers { PointersOfResults abi results.now pointers.now }
     ensures { IfOk result (λ _. planned_events plan.new
         ≡ planned_events plan.old ++ traces.lower_under abi first (param_types results.now)) }
 {
@@ -111,8 +111,8 @@ fn lower_first<'a>(
     first: usize,
     pointers: &Pointers<'a>,
 ) -> Result<(), OutOfMemory>
-    requires lowerable { unlowerable_result Preview1 (param_types results.now) ≡ None }
-    requires pointers { pointer_types pointers.now ≡ pointers_of (param_types results.now) }
+    requires lowerable { CanBeResults Preview1 results.now }
+    requires pointers { PointersOfResults Preview1 results.now pointers.now }
     ensures { IfOk result (λ _. planned_events plan.new
         ≡ planned_events plan.old ++ traces.lower_of first (param_types results.now)) }
 {
@@ -129,7 +129,7 @@ fn lower_result<'a>(
     pointers: &Pointers<'a>,
 ) -> Result<(), OutOfMemory>
     requires lowerable { can_be_result Preview1 (tree_of tref.now) ≡ true }
-    requires pointers { pointer_types pointers.now ≡ pointers_by (result_cases (tree_of tref.now)) }
+    requires pointers { PointersOfResult tref.now pointers.now }
     ensures { IfOk result (λ _. planned_events plan.new ≡ planned_events plan.old
         ++ traces.lower_by (result_cases (tree_of tref.now)) first (tree_of tref.now)) }
 {

@@ -1,14 +1,14 @@
 //! The plan of the side that calls.
 #![tactic(auto, using(witx_instructions::proofs::Sides::side_rules))]
 
-ghost use Rattle.std.specs.Prelude.{◌≡◌, ◌++◌, IfOk, None, is_some, position, not, true};
-ghost use Rattle.witx_ast.specs.declared.function.Abi.TheVariants.{Preview1};
-ghost use Rattle.witx_ast.specs.Views.{tree_of};
+ghost use Rattle.std.specs.Prelude.{◌≡◌, ◌++◌, IfOk, None, is_some, true};
+ghost use Rattle.witx_ast.specs.{declared.function.Abi.TheVariants.{Preview1}, Views.{tree_of}};
 ghost use Rattle.witx_machine.specs.Functions.{result_cases};
-ghost use Rattle.witx_machine.specs.Lowerable.{can_be_param, can_be_err, can_be_result, unlowerable, unlowerable_result};
-ghost use Rattle.witx_machine.specs.Signature.{signature_params, signature_results, ok_pointers, pointers_of, pointers_by, pointers_under, return_pointers};
+ghost use Rattle.witx_machine.specs.Lowerable.{can_be_err, can_be_result, unlowerable};
+ghost use Rattle.witx_machine.specs.Signature.{signature_params, signature_results, ok_pointers};
 ghost use Rattle.witx_machine.specs.Traces as traces;
 ghost use Rattle.witx_instructions.specs.Views.{called, param_types, planned_events, pointer_types, payload_tree};
+ghost use Rattle.witx_lowering.specs.Asked.{CanBeParams, CanBeResults, PointersOfFunction, PointersOfResult, PointersOfResults};
 
 use crate::lowering::{lift, lower};
 use witx_ast::{Abi, InterfaceFunc, Params, TypeRef};
@@ -28,7 +28,7 @@ pub fn plan_caller<'a>(
     results: &'a WasmTypes,
 ) -> Result<(), OutOfMemory>
     requires lowerable { unlowerable (called func.now) ≡ None }
-    requires pointers { pointer_types pointers.now ≡ return_pointers (called func.now) }
+    requires pointers { PointersOfFunction func.now pointers.now }
     requires params { params.now ≡ signature_params (called func.now) }
     requires results { results.now ≡ signature_results (called func.now) }
     ensures { IfOk result (λ _. planned_events plan.new
@@ -51,7 +51,7 @@ pub fn plan_caller<'a>(
 }
 
 fn lower_params<'a>(plan: &mut Plan<'a>, params: &'a Params) -> Result<(), OutOfMemory>
-    requires { position (λ t. not (can_be_param t)) (param_types params.now) ≡ None }
+    requires { CanBeParams params.now }
     ensures { IfOk result (λ _. planned_events plan.new
         ≡ planned_events plan.old ++ traces.lower_params 0 (param_types params.now)) }
 {
@@ -68,8 +68,8 @@ fn lift_results<'a>(
     results: &'a Params,
     pointers: &Pointers<'a>,
 ) -> Result<(), OutOfMemory>
-    requires lowerable { unlowerable_result abi (param_types results.now) ≡ None }
-    requires pointers { pointer_types pointers.now ≡ pointers_under abi (param_types results.now) }
+    requires lowerable { CanBeResults abi results.now }
+    requires pointers { PointersOfResults abi results.now pointers.now }
     ensures { IfOk result (λ _. planned_events plan.new
         ≡ planned_events plan.old ++ traces.lift_under abi (param_types results.now)) }
 {
@@ -84,8 +84,8 @@ fn lift_first<'a>(
     results: &'a Params,
     pointers: &Pointers<'a>,
 ) -> Result<(), OutOfMemory>
-    requires lowerable { unlowerable_result Preview1 (param_types results.now) ≡ None }
-    requires pointers { pointer_types pointers.now ≡ pointers_of (param_types results.now) }
+    requires lowerable { CanBeResults Preview1 results.now }
+    requires pointers { PointersOfResults Preview1 results.now pointers.now }
     ensures { IfOk result (λ _. planned_events plan.new
         ≡ planned_events plan.old ++ traces.lift_of (param_types results.now)) }
 {
@@ -101,7 +101,7 @@ fn lift_result<'a>(
     pointers: &Pointers<'a>,
 ) -> Result<(), OutOfMemory>
     requires lowerable { can_be_result Preview1 (tree_of tref.now) ≡ true }
-    requires pointers { pointer_types pointers.now ≡ pointers_by (result_cases (tree_of tref.now)) }
+    requires pointers { PointersOfResult tref.now pointers.now }
     ensures { IfOk result (λ _. planned_events plan.new
         ≡ planned_events plan.old ++ traces.lift_by (result_cases (tree_of tref.now)) (tree_of tref.now)) }
 {

@@ -4,8 +4,7 @@
 ghost use Rattle.std.specs.Prelude.{◌≡◌, not, position};
 ghost use Rattle.witx_ast.specs.Views.{tree_of, datatype_tree};
 ghost use Rattle.witx_machine.specs.Lowerable.{can_be_result, can_return, can_be_param, unlowerable, unlowerable_result};
-ghost use Rattle.witx_instructions.specs.Views.{called, param_types};
-ghost use Rattle.witx_instructions.specs.Told.{refused_place};
+ghost use Rattle.witx_instructions.specs.{Views.{called, param_types}, Told.{refused_place}};
 
 use witx_ast::{Abi, Datatype, InterfaceFunc, Params, TypeRef};
 use witx_instructions::{can_be_param, record_can_return, variant_can_return};

@@ -17,17 +17,11 @@ use Rattle.witx_machine.specs.Lowerable.{can_return, can_be_ok, can_be_err, is_n
 use Rattle.witx_machine.specs.Traces.{lower_builtin, lift_builtin, lower_at, lift_at, lower_step, lift_step, lower_params, get_args, lift_params, make_spaces, load_all, store_all, ok_lifted, err_lifted, lift_cases, lift_by, lift_under, ok_lowered, err_lowered, lower_cases, lower_by, lower_under, lower_results, lift_results, caller_events, callee_events, block_events}
 use Rattle.witx_machine.proofs.Scalars.{right_true, same_types_is}
 use Rattle.witx_machine.proofs.All.{params_lower, result_lowers}
+use Rattle.witx_machine.proofs.Orders.{some_same}
 use Rattle.witx_machine.specs.Heights.{moved, height_after, heights}
 
 pub level-then : (a b : List Event) (n k m : ℕ) → heights a n ≡ Some k → heights b k ≡ Some m → heights (a ++ b) n ≡ Some m
-level-then [] b n k m h g = subst (λ x. heights b x ≡ Some m) (sym (same h)) g
-  where
-    some_of : ℕ → Option ℕ → ℕ
-    some_of d (Some x) = x
-    some_of d None = d
-
-    same : Some n ≡ Some k → n ≡ k
-    same e = ap (some_of n) e
+level-then [] b n k m h g = subst (λ x. heights b x ≡ Some m) (sym (some_same {x = n} {y = k} h)) g
 level-then (e ∷ a) b n k m h g = go (height_after e n) h (λ x h. level-then a b x k m h g)
   where
     none : None ≡ Some k → ⊥
@@ -60,117 +54,92 @@ finish-level v n =
 at : (es : List Event) (n n' m m' : ℕ) → n ≡ n' → m ≡ m' → heights es n ≡ Some m → heights es n' ≡ Some m'
 at es n n' m m' e f h = subst (λ n. heights es n ≡ Some m') e (h ∙ ap Some f)
 
-lower-builtin-counts : (b : BuiltinType) → (operands_count (lower_builtin b) ≡ 1) × (results_count (lower_builtin b) ≡ 1)
-lower-builtin-counts (BuiltinType.U8 true) = (refl, refl)
-lower-builtin-counts (BuiltinType.U8 false) = (refl, refl)
-lower-builtin-counts (BuiltinType.U32 true) = (refl, refl)
-lower-builtin-counts (BuiltinType.U32 false) = (refl, refl)
-lower-builtin-counts BuiltinType.Char = (refl, refl)
-lower-builtin-counts BuiltinType.U16 = (refl, refl)
-lower-builtin-counts BuiltinType.U64 = (refl, refl)
-lower-builtin-counts BuiltinType.S8 = (refl, refl)
-lower-builtin-counts BuiltinType.S16 = (refl, refl)
-lower-builtin-counts BuiltinType.S32 = (refl, refl)
-lower-builtin-counts BuiltinType.S64 = (refl, refl)
-lower-builtin-counts BuiltinType.F32 = (refl, refl)
-lower-builtin-counts BuiltinType.F64 = (refl, refl)
+builtin-counts : (b : BuiltinType)
+    → (operands_count (lower_builtin b) ≡ 1) × (results_count (lower_builtin b) ≡ 1) × (operands_count (lift_builtin b) ≡ 1) × (results_count (lift_builtin b) ≡ 1)
+builtin-counts (BuiltinType.U8 true) = (refl, refl, refl, refl)
+builtin-counts (BuiltinType.U8 false) = (refl, refl, refl, refl)
+builtin-counts (BuiltinType.U32 true) = (refl, refl, refl, refl)
+builtin-counts (BuiltinType.U32 false) = (refl, refl, refl, refl)
+builtin-counts BuiltinType.Char = (refl, refl, refl, refl)
+builtin-counts BuiltinType.U16 = (refl, refl, refl, refl)
+builtin-counts BuiltinType.U64 = (refl, refl, refl, refl)
+builtin-counts BuiltinType.S8 = (refl, refl, refl, refl)
+builtin-counts BuiltinType.S16 = (refl, refl, refl, refl)
+builtin-counts BuiltinType.S32 = (refl, refl, refl, refl)
+builtin-counts BuiltinType.S64 = (refl, refl, refl, refl)
+builtin-counts BuiltinType.F32 = (refl, refl, refl, refl)
+builtin-counts BuiltinType.F64 = (refl, refl, refl, refl)
 
-lift-builtin-counts : (b : BuiltinType) → (operands_count (lift_builtin b) ≡ 1) × (results_count (lift_builtin b) ≡ 1)
-lift-builtin-counts (BuiltinType.U8 true) = (refl, refl)
-lift-builtin-counts (BuiltinType.U8 false) = (refl, refl)
-lift-builtin-counts (BuiltinType.U32 true) = (refl, refl)
-lift-builtin-counts (BuiltinType.U32 false) = (refl, refl)
-lift-builtin-counts BuiltinType.Char = (refl, refl)
-lift-builtin-counts BuiltinType.U16 = (refl, refl)
-lift-builtin-counts BuiltinType.U64 = (refl, refl)
-lift-builtin-counts BuiltinType.S8 = (refl, refl)
-lift-builtin-counts BuiltinType.S16 = (refl, refl)
-lift-builtin-counts BuiltinType.S32 = (refl, refl)
-lift-builtin-counts BuiltinType.S64 = (refl, refl)
-lift-builtin-counts BuiltinType.F32 = (refl, refl)
-lift-builtin-counts BuiltinType.F64 = (refl, refl)
-
-lower-counts : (whole t : Tree) → (operands_count (lower_at whole t) ≡ 1) × (results_count (lower_at whole t) ≡ length (param_words (plain t)))
-lower-counts whole (Tree.named n t d) = lower-counts whole t
-lower-counts whole (Tree.builtin b) = lower-builtin-counts b
-lower-counts whole Tree.handle = (refl, refl)
-lower-counts whole (Tree.pointer_to t) = (refl, refl)
-lower-counts whole (Tree.const_pointer_to t) = (refl, refl)
-lower-counts whole (Tree.list_of t) = (refl, refl)
-lower-counts whole (Tree.record_of (RecordKind.Bitflags IntRepr.U8) ms) = (refl, refl)
-lower-counts whole (Tree.record_of (RecordKind.Bitflags IntRepr.U16) ms) = (refl, refl)
-lower-counts whole (Tree.record_of (RecordKind.Bitflags IntRepr.U32) ms) = (refl, refl)
-lower-counts whole (Tree.record_of (RecordKind.Bitflags IntRepr.U64) ms) = (refl, refl)
-lower-counts whole (Tree.record_of RecordKind.Tuple ms) = (refl, refl)
-lower-counts whole (Tree.record_of RecordKind.Other ms) = (refl, refl)
-lower-counts whole (Tree.variant_of r cs) = go (has_payload (plain_arms cs))
+-- what the step that lowers takes and leaves, then the one that lifts
+step-counts : (whole t : Tree)
+    → (operands_count (lower_at whole t) ≡ 1) × (results_count (lower_at whole t) ≡ length (param_words (plain t)))
+    × (operands_count (lift_at whole t) ≡ length (param_words (plain t))) × (results_count (lift_at whole t) ≡ 1)
+step-counts whole (Tree.named n t d) = step-counts whole t
+step-counts whole (Tree.builtin b) = builtin-counts b
+step-counts whole Tree.handle = (refl, refl, refl, refl)
+step-counts whole (Tree.pointer_to t) = (refl, refl, refl, refl)
+step-counts whole (Tree.const_pointer_to t) = (refl, refl, refl, refl)
+step-counts whole (Tree.list_of t) = (refl, refl, refl, refl)
+step-counts whole (Tree.record_of (RecordKind.Bitflags IntRepr.U8) ms) = (refl, refl, refl, refl)
+step-counts whole (Tree.record_of (RecordKind.Bitflags IntRepr.U16) ms) = (refl, refl, refl, refl)
+step-counts whole (Tree.record_of (RecordKind.Bitflags IntRepr.U32) ms) = (refl, refl, refl, refl)
+step-counts whole (Tree.record_of (RecordKind.Bitflags IntRepr.U64) ms) = (refl, refl, refl, refl)
+step-counts whole (Tree.record_of RecordKind.Tuple ms) = (refl, refl, refl, refl)
+step-counts whole (Tree.record_of RecordKind.Other ms) = (refl, refl, refl, refl)
+step-counts whole (Tree.variant_of r cs) = go (has_payload (plain_arms cs))
   where
-    go : (b : Bool) → (operands_count (cond b Step.AddrOf (Step.EnumLower whole)) ≡ 1) × (results_count (cond b Step.AddrOf (Step.EnumLower whole)) ≡ 1)
-    go true = (refl, refl)
-    go false = (refl, refl)
-
-lift-counts : (whole t : Tree) → (operands_count (lift_at whole t) ≡ length (param_words (plain t))) × (results_count (lift_at whole t) ≡ 1)
-lift-counts whole (Tree.named n t d) = lift-counts whole t
-lift-counts whole (Tree.builtin b) = lift-builtin-counts b
-lift-counts whole Tree.handle = (refl, refl)
-lift-counts whole (Tree.pointer_to t) = (refl, refl)
-lift-counts whole (Tree.const_pointer_to t) = (refl, refl)
-lift-counts whole (Tree.list_of t) = (refl, refl)
-lift-counts whole (Tree.record_of (RecordKind.Bitflags IntRepr.U8) ms) = (refl, refl)
-lift-counts whole (Tree.record_of (RecordKind.Bitflags IntRepr.U16) ms) = (refl, refl)
-lift-counts whole (Tree.record_of (RecordKind.Bitflags IntRepr.U32) ms) = (refl, refl)
-lift-counts whole (Tree.record_of (RecordKind.Bitflags IntRepr.U64) ms) = (refl, refl)
-lift-counts whole (Tree.record_of RecordKind.Tuple ms) = (refl, refl)
-lift-counts whole (Tree.record_of RecordKind.Other ms) = (refl, refl)
-lift-counts whole (Tree.variant_of r cs) = go (has_payload (plain_arms cs))
-  where
-    go : (b : Bool) → (operands_count (cond b (Step.Load whole) (Step.EnumLift whole)) ≡ 1) × (results_count (cond b (Step.Load whole) (Step.EnumLift whole)) ≡ 1)
-    go true = (refl, refl)
-    go false = (refl, refl)
+    go : (b : Bool)
+        → (operands_count (cond b Step.AddrOf (Step.EnumLower whole)) ≡ 1) × (results_count (cond b Step.AddrOf (Step.EnumLower whole)) ≡ 1)
+        × (operands_count (cond b (Step.Load whole) (Step.EnumLift whole)) ≡ 1) × (results_count (cond b (Step.Load whole) (Step.EnumLift whole)) ≡ 1)
+    go true = (refl, refl, refl, refl)
+    go false = (refl, refl, refl, refl)
 
 get-level : (i n : ℕ) → heights (emit (Step.GetArg i) ∷ []) n ≡ Some (n + 1)
 get-level i n = let e : n + 0 ≡ n = omega arith in at (emit (Step.GetArg i) ∷ []) (n + 0) n (n + 1) (n + 1) e refl (step-level (Step.GetArg i) 0 1 n refl refl)
 
 lower-level : (t : Tree) (n : ℕ) → heights (emit (lower_step t) ∷ []) (n + 1) ≡ Some (n + length (param_words (plain t)))
-lower-level t n = let c = lower-counts t t in step-level (lower_step t) 1 (length (param_words (plain t))) n c.0 c.1
+lower-level t n = let c = step-counts t t in step-level (lower_step t) 1 (length (param_words (plain t))) n c.0 c.1
 
 lift-level : (t : Tree) (n : ℕ) → heights (emit (lift_step t) ∷ []) (n + length (param_words (plain t))) ≡ Some (n + 1)
-lift-level t n = let c = lift-counts t t in step-level (lift_step t) (length (param_words (plain t))) 1 n c.0 c.1
+lift-level t n = let c = step-counts t t in step-level (lift_step t) (length (param_words (plain t))) 1 n c.2 c.3
+
+-- none more, and one more before the others
+none-level : (n : ℕ) → Some n ≡ Some (n + 0)
+none-level n = let e : n ≡ n + 0 = omega arith in ap Some e
+
+one-level : {A : Type 0} (n : ℕ) (x : A) (xs : List A) → Some (n + 1 + length xs) ≡ Some (n + length (x ∷ xs))
+one-level n x xs = let e : n + 1 + length xs ≡ n + length (x ∷ xs) = omega arith in ap Some e
 
 params-level : (i n : ℕ) (ts : List Tree) → heights (lower_params i ts) n ≡ Some (n + length (words_of_params ts))
-params-level i n [] = let e : n ≡ n + 0 = omega arith in ap Some e
+params-level i n [] = none-level n
 params-level i n (t ∷ ts) =
     let ws = param_words (plain t) in
     let e : n + length ws + length (words_of_params ts) ≡ n + length (words_of_params (t ∷ ts)) = let l = length-append ws (words_of_params ts) in omega arith in
     level-then (emit (Step.GetArg i) ∷ []) (emit (lower_step t) ∷ lower_params (i + 1) ts) n (n + 1) (n + length (words_of_params (t ∷ ts))) (get-level i n) (level-then (emit (lower_step t) ∷ []) (lower_params (i + 1) ts) (n + 1) (n + length ws) (n + length (words_of_params (t ∷ ts))) (lower-level t n) (params-level (i + 1) (n + length ws) ts ∙ ap Some e))
 
 gets-level : (w n : ℕ) (ts : List WasmType) → heights (get_args w ts) n ≡ Some (n + length ts)
-gets-level w n [] = let e : n ≡ n + 0 = omega arith in ap Some e
+gets-level w n [] = none-level n
 gets-level w n (t ∷ ts) =
-    let e : n + 1 + length ts ≡ n + length (t ∷ ts) = omega arith in
-    level-then (emit (Step.GetArg w) ∷ []) (get_args (w + 1) ts) n (n + 1) (n + length (t ∷ ts)) (get-level w n) (gets-level (w + 1) (n + 1) ts ∙ ap Some e)
+    level-then (emit (Step.GetArg w) ∷ []) (get_args (w + 1) ts) n (n + 1) (n + length (t ∷ ts)) (get-level w n) (gets-level (w + 1) (n + 1) ts ∙ one-level n t ts)
 
 lifts-level : (w n : ℕ) (ts : List Tree) → heights (lift_params w ts) n ≡ Some (n + length ts)
-lifts-level w n [] = let e : n ≡ n + 0 = omega arith in ap Some e
+lifts-level w n [] = none-level n
 lifts-level w n (t ∷ ts) =
     let ws = param_words (plain t) in
-    let e : n + 1 + length ts ≡ n + length (t ∷ ts) = omega arith in
-    level-then (get_args w ws) (emit (lift_step t) ∷ lift_params (w + length ws) ts) n (n + length ws) (n + length (t ∷ ts)) (gets-level w n ws) (level-then (emit (lift_step t) ∷ []) (lift_params (w + length ws) ts) (n + length ws) (n + 1) (n + length (t ∷ ts)) (lift-level t n) (lifts-level (w + length ws) (n + 1) ts ∙ ap Some e))
+    level-then (get_args w ws) (emit (lift_step t) ∷ lift_params (w + length ws) ts) n (n + length ws) (n + length (t ∷ ts)) (gets-level w n ws) (level-then (emit (lift_step t) ∷ []) (lift_params (w + length ws) ts) (n + length ws) (n + 1) (n + length (t ∷ ts)) (lift-level t n) (lifts-level (w + length ws) (n + 1) ts ∙ one-level n t ts))
 
 pointer-level : (k n : ℕ) → heights (emit (Step.ReturnPointerGet k) ∷ []) n ≡ Some (n + 1)
 pointer-level k n = let e : n + 0 ≡ n = omega arith in at (emit (Step.ReturnPointerGet k) ∷ []) (n + 0) n (n + 1) (n + 1) e refl (step-level (Step.ReturnPointerGet k) 0 1 n refl refl)
 
 spaces-level : (k n : ℕ) (ts : List Tree) → heights (make_spaces k ts) n ≡ Some (n + length ts)
-spaces-level k n [] = let e : n ≡ n + 0 = omega arith in ap Some e
+spaces-level k n [] = none-level n
 spaces-level k n (t ∷ ts) =
-    let e : n + 1 + length ts ≡ n + length (t ∷ ts) = omega arith in
-    level-then (emit (Step.ReturnPointerGet k) ∷ []) (make_spaces (k + 1) ts) n (n + 1) (n + length (t ∷ ts)) (pointer-level k n) (spaces-level (k + 1) (n + 1) ts ∙ ap Some e)
+    level-then (emit (Step.ReturnPointerGet k) ∷ []) (make_spaces (k + 1) ts) n (n + 1) (n + length (t ∷ ts)) (pointer-level k n) (spaces-level (k + 1) (n + 1) ts ∙ one-level n t ts)
 
 loads-level : (k n : ℕ) (ts : List Tree) → heights (load_all k ts) n ≡ Some (n + length ts)
-loads-level k n [] = let e : n ≡ n + 0 = omega arith in ap Some e
+loads-level k n [] = none-level n
 loads-level k n (t ∷ ts) =
-    let e : n + 1 + length ts ≡ n + length (t ∷ ts) = omega arith in
-    level-then (emit (Step.ReturnPointerGet k) ∷ []) (emit (Step.Load t) ∷ load_all (k + 1) ts) n (n + 1) (n + length (t ∷ ts)) (pointer-level k n) (level-then (emit (Step.Load t) ∷ []) (load_all (k + 1) ts) (n + 1) (n + 1) (n + length (t ∷ ts)) (step-level (Step.Load t) 1 1 n refl refl) (loads-level (k + 1) (n + 1) ts ∙ ap Some e))
+    level-then (emit (Step.ReturnPointerGet k) ∷ []) (emit (Step.Load t) ∷ load_all (k + 1) ts) n (n + 1) (n + length (t ∷ ts)) (pointer-level k n) (level-then (emit (Step.Load t) ∷ []) (load_all (k + 1) ts) (n + 1) (n + 1) (n + length (t ∷ ts)) (step-level (Step.Load t) 1 1 n refl refl) (loads-level (k + 1) (n + 1) ts ∙ one-level n t ts))
 
 stores-level : (w n : ℕ) (ts : List Tree) → heights (store_all w ts) (n + length ts) ≡ Some n
 stores-level w n [] = let e : n + 0 ≡ n = omega arith in ap Some e

@@ -81,14 +81,6 @@ module _ {V W M V' W' M' : Type 0} (D : Domain V W M) (D' : Domain V' W' M') (RV
     pub memory : RM o.memory o'.memory
 
   module _ (H : Simulates D D' RV RI RW RM G) where
-    off_values : (n : ℕ) (vs : List V) (vs' : List V') (xs : List (Item V W)) (ys : List (Item V' W')) → Each RV vs vs' → Each Items xs ys → Follows (λ p q. Each RV p.0 q.0 × Each Items p.1 q.1) (values_off n vs xs) (values_off n vs' ys)
-    off_values zero vs vs' xs ys g h = (g, h)
-    off_values (suc n) vs vs' [] ys g h = tt
-    off_values (suc n) vs vs' (word_item w ∷ xs) ys g h = tt
-    off_values (suc n) vs vs' (value_item v t ∷ xs) [] g h = absurd h
-    off_values (suc n) vs vs' (value_item v t ∷ xs) (word_item w ∷ ys) g h = absurd h.0
-    off_values (suc n) vs vs' (value_item v t ∷ xs) (value_item v' t' ∷ ys) g h = off_values n (v ∷ vs) (v' ∷ vs') xs ys (H.forget t v v' h.0.0, g) h.1
-
     typed_also : (ts : List WasmType) (ws : List W) (ws' : List W') → Each RW ws ws' → T (typed D ts ws) → T (typed D' ts ws')
     typed_also [] [] [] h k = tt
     typed_also [] [] (w' ∷ ws') h k = absurd h
@@ -124,7 +116,7 @@ module _ {V W M V' W' M' : Type 0} (D : Domain V W M) (D' : Domain V' W' M') (RV
         pub callee_interface : (reply : Option V) (reply' : Option V') (words : List W) (words' : List W') → Replies reply reply' → (m' n : List ℕ) (ps rs : List Tree) (s : State E V W M (List V)) (s' : State E' V' W' M' (List V')) → CalleeStates s s' → CalleeRules ((callee_side event place D m f reply words).on_interface m' n ps rs s) ((callee_side event' place' D' m f reply' words').on_interface m' n ps rs s')
         callee_interface reply reply' words words' h m' n ps rs s s' r =
             only_goes _ _ _ _ _ _ (λ t. subst (λ b. T (b && (same_bytes m' m && (same_bytes n f.name && (same_trees ps f.params && same_trees rs f.results))))) (both_none (Each RV) s.called s'.called r.called) t)
-            (found_goes _ _ _ _ _ (values_off (length f.params) [] s.stack) (values_off (length f.params) [] s'.stack) (off_values (length f.params) [] [] s.stack s'.stack tt r.stack) (λ p q k.
+            (found_goes _ _ _ _ _ (values_off (length f.params) [] s.stack) (values_off (length f.params) [] s'.stack) (sim.off_values D D' RV RI RW RM G H (length f.params) [] [] s.stack s'.stack tt r.stack) (λ p q k.
             found_goes (Each Items) _ _ _ _ (reply_items f.results reply) (reply_items f.results reply') h (λ xs ys u g.
             record { stack = each_append Items xs p.1 ys q.1 u k.1; slots = r.slots; memory = r.memory; blocks = r.blocks; returned = r.returned; called = k.0; answer = r.answer })))
 

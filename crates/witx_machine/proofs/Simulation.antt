@@ -218,7 +218,7 @@ module _ {V W M V' W' M' : Type 0} (D : Domain V W M) (D' : Domain V' W' M') (RV
   top_values K R f g (value_item v t ∷ xs) (value_item v' t' ∷ ys) h k = subst (λ c. Goes K R (f v t xs) (g v' c ys)) h.0.1 (k v v' t xs ys h.0.0 h.1)
 
   module _ (H : Simulates) where
-    off_values : (n : ℕ) (vs : List V) (vs' : List V') (xs : List (Item V W)) (ys : List (Item V' W')) → Each RV vs vs' → Each Items xs ys → Follows (λ p q. Each RV p.0 q.0 × Each Items p.1 q.1) (values_off n vs xs) (values_off n vs' ys)
+    pub off_values : (n : ℕ) (vs : List V) (vs' : List V') (xs : List (Item V W)) (ys : List (Item V' W')) → Each RV vs vs' → Each Items xs ys → Follows (λ p q. Each RV p.0 q.0 × Each Items p.1 q.1) (values_off n vs xs) (values_off n vs' ys)
     off_values zero vs vs' xs ys g h = (g, h)
     off_values (suc n) vs vs' [] ys g h = tt
     off_values (suc n) vs vs' (word_item w ∷ xs) ys g h = tt

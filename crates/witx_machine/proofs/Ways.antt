@@ -50,38 +50,23 @@ abbrev pub Ways : List Tree → Type 0
 Ways [] = Unit {0}
 Ways (t ∷ ts) = Way (name_of t) t t × Ways ts
 
-builtin_lower : (b : BuiltinType) → row (lower_builtin b) ≡ lowering (number_of b)
-builtin_lower (BuiltinType.U8 true) = refl
-builtin_lower (BuiltinType.U8 false) = refl
-builtin_lower (BuiltinType.U32 true) = refl
-builtin_lower (BuiltinType.U32 false) = refl
-builtin_lower BuiltinType.Char = refl
-builtin_lower BuiltinType.U16 = refl
-builtin_lower BuiltinType.U64 = refl
-builtin_lower BuiltinType.S8 = refl
-builtin_lower BuiltinType.S16 = refl
-builtin_lower BuiltinType.S32 = refl
-builtin_lower BuiltinType.S64 = refl
-builtin_lower BuiltinType.F32 = refl
-builtin_lower BuiltinType.F64 = refl
-
-builtin_lift : (b : BuiltinType) → row (lift_builtin b) ≡ lifting (number_of b)
-builtin_lift (BuiltinType.U8 true) = refl
-builtin_lift (BuiltinType.U8 false) = refl
-builtin_lift (BuiltinType.U32 true) = refl
-builtin_lift (BuiltinType.U32 false) = refl
-builtin_lift BuiltinType.Char = refl
-builtin_lift BuiltinType.U16 = refl
-builtin_lift BuiltinType.U64 = refl
-builtin_lift BuiltinType.S8 = refl
-builtin_lift BuiltinType.S16 = refl
-builtin_lift BuiltinType.S32 = refl
-builtin_lift BuiltinType.S64 = refl
-builtin_lift BuiltinType.F32 = refl
-builtin_lift BuiltinType.F64 = refl
+builtin_rows : (b : BuiltinType) → (row (lower_builtin b) ≡ lowering (number_of b)) × (row (lift_builtin b) ≡ lifting (number_of b))
+builtin_rows (BuiltinType.U8 true) = (refl, refl)
+builtin_rows (BuiltinType.U8 false) = (refl, refl)
+builtin_rows (BuiltinType.U32 true) = (refl, refl)
+builtin_rows (BuiltinType.U32 false) = (refl, refl)
+builtin_rows BuiltinType.Char = (refl, refl)
+builtin_rows BuiltinType.U16 = (refl, refl)
+builtin_rows BuiltinType.U64 = (refl, refl)
+builtin_rows BuiltinType.S8 = (refl, refl)
+builtin_rows BuiltinType.S16 = (refl, refl)
+builtin_rows BuiltinType.S32 = (refl, refl)
+builtin_rows BuiltinType.S64 = (refl, refl)
+builtin_rows BuiltinType.F32 = (refl, refl)
+builtin_rows BuiltinType.F64 = (refl, refl)
 
 pub builtin_word : (whole : Tree) (k : BuiltinType) → OneWord whole (Tree.builtin k) (number_of k)
-builtin_word whole k = record { lower = builtin_lower k; lift = builtin_lift k; types = refl; direct = refl; lowers = refl }
+builtin_word whole k = record { lower = (builtin_rows k).0; lift = (builtin_rows k).1; types = refl; direct = refl; lowers = refl }
 
 pub flags_way : (whole : Tree) (r : IntRepr) (ms : TreeFields) → plain whole ≡ Plain.record_of (RecordKind.Bitflags r) (plain_fields ms) → T (nat_le (field_count (plain_fields ms)) (repr_bits r)) → OneWord whole (Tree.record_of (RecordKind.Bitflags r) ms) (flags_of (repr_word_type r) whole)
 flags_way whole r ms e f = record { lower = lower_row r; lift = lift_row r; types = refl; direct = refl; lowers = (r, plain_fields ms, refl, e, refl, f) }

@@ -1,14 +1,10 @@
 //! The laws of the machine: what is faithful, the rows and their table, outcomes.
 
 ghost use Rattle.std.specs.Prelude.{◌≡◌, ℕ, List, Some, IsTrue};
-ghost use Rattle.witx_ast.specs.Functions.{FunctionTree};
-ghost use Rattle.witx_ast.specs.Tags.{function_fits};
-ghost use Rattle.witx_machine.specs.Functions.{function_of};
-ghost use Rattle.witx_machine.specs.Lowerable.{lowerable};
-ghost use Rattle.witx_machine.specs.Traces.{caller_events, callee_events};
-ghost use Rattle.witx_machine.specs.Faithful.{Faithful};
-ghost use Rattle.witx_machine.specs.Shims.{StandsIn, pass, FaithfulThrough};
-ghost use Rattle.witx_machine.specs.Moves.{RowsKeepToTable};
+ghost use Rattle.witx_ast.specs.{Functions.{FunctionTree}, Tags.{function_fits}};
+ghost use Rattle.witx_machine.specs.{Functions.{function_of}, Lowerable.{lowerable}};
+ghost use Rattle.witx_machine.specs.{Traces.{caller_events, callee_events}, Faithful.{Faithful}};
+ghost use Rattle.witx_machine.specs.{Shims.{StandsIn, pass, FaithfulThrough}, Moves.{RowsKeepToTable}};
 ghost use Rattle.witx_machine.specs.Outcomes.{AtMostOneOutcome};
 
 /// The two traces of a function that can be lowered, and whose types fit their tags, are faithful:

@@ -22,13 +22,7 @@ no-name (Tree.named n t d) e = absurd (clash e)
   where
     clash : true ≡ false → ⊥
     clash e = cc
-no-name (Tree.builtin b) e = refl
-no-name Tree.handle e = refl
-no-name (Tree.list_of t) e = refl
-no-name (Tree.pointer_to t) e = refl
-no-name (Tree.const_pointer_to t) e = refl
-no-name (Tree.record_of k ms) e = refl
-no-name (Tree.variant_of r cs) e = refl
+no-name t e = refl
 
 pub name-value : (d : Rc Datatype Global) → name_of (tree_of (tref.Value d)) ≡ None
 name-value d = ap name_of (tree-Value d) ∙ no-name (datatype_tree d.value) (named-datatype d.value)

@@ -41,6 +41,10 @@ module _ {V W : Type 0} where
   abbrev pub reply_row : Function → Option V → List (Item V W) → Option (List V × List (Item V W))
   reply_row f reply stack = option_and_then (reply_on (reply_items f.results reply)) (values_off (length f.params) [] stack)
 
+  -- the stack with this reply of a function with these results, if it is one
+  abbrev pub with_reply : List Tree → Option V → List (Item V W) → Option (List (Item V W))
+  with_reply results reply stack = option_map (λ xs. xs ++ stack) (reply_items results reply)
+
 module _ {V W M : Type 0} (D : Domain V W M) where
   -- words, if they are of these types
   abbrev pub typed_only : List WasmType → List W → Option (List W)

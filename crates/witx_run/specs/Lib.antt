@@ -9,6 +9,7 @@ pub mod Cuts
 pub mod Frames
 pub mod ScriptParts
 pub mod Turns
+pub mod BlockTurns
 pub mod Nearing
 pub mod LeftOver
 pub mod OutcomeViews

@@ -1,5 +1,5 @@
 -- What a side of a call comes to, by its trace, how far that was run, and what the run is given.
-use Rattle.std.specs.Prelude.{◌≡◌, List, map, true, Option, Some}
+use Rattle.std.specs.Prelude.{◌≡◌, List, map, true, Option, Some, None}
 use Rattle.std.specs.Global.{Vec}
 use Rattle.witx_ast.specs.Views.{tree_of}
 use Rattle.witx_ast.specs.declared.types.TypeRef.{TypeRef}
@@ -11,6 +11,8 @@ use Rattle.witx_machine.specs.Machine.{Tried, went}
 use Rattle.witx_machine.specs.Positions.{Spot}
 use Rattle.witx_machine.specs.Rows.{Row}
 use Rattle.witx_machine.specs.Run.{Call}
+use Rattle.witx_instructions.specs.Views.{event_of}
+use Rattle.witx_instructions.specs.declared.event.Event as declared_event
 use Rattle.witx_run.specs.CallViews.{Replies, HandsOn, TakesBack}
 use Rattle.witx_run.specs.MachineViews.{Noted, Setting, state_in}
 use Rattle.witx_run.specs.RunEnds.{CallsNoMore, CalleeComes, CalleeEnds, CallerComes, EndsAs, HandedOn, TakenUp, callee_run, finished}
@@ -95,6 +97,10 @@ module _ {D v w m : Type 0} (d : Domain.Ghosts D v w m) where
     EndsAsCaller callee made run r =
         CallerComes domain_in d.value_of d.word_of d.memory_of
         s.host.now.owner.now callee (reply_of d.value_of s.host.now.reply) made s.script.now run r
+
+    -- the same of a caller's trace that has made no call yet
+    abbrev pub CallerEnds : List declared_event.Event → Coming → Run v w m → Type 0
+    CallerEnds callee run r = EndsAsCaller (map event_of callee) None run r
 
     -- the same where these words are handed on, and where this has come back
     abbrev pub EndsHanding : List Event → List d.W → Run v w m → Type 0

@@ -43,6 +43,11 @@ module _ {v V : Type 0} (value : v → V) where
   abbrev pub picked_of : declared_picked.Picked v → Bool × Option (V × Option Tree)
   picked_of p = (p.error, payload_of p.payload)
 
+module _ {w m W M : Type 0} (word : w → W) (memory : m → M) where
+  -- an address that was given, with the memory as it is then
+  abbrev pub given_in : m → Option w → Option (W × M)
+  given_in new address = option_map (λ a. (word a, memory new)) address
+
 module _ {v w V W : Type 0} (value : v → V) (word : w → W) where
   abbrev pub item_of : declared_item.Item v w → machine.Item V W
   item_of (item.Word x) = word_item (word x)

@@ -1,17 +1,13 @@
 //! The turns that set blocks aside, run them and leave them.
 
 ghost use Rattle.std.specs.Prelude.{◌≡◌, ◌<◌, ◌≤◌, ◌-◌, ◌+◌, ◌∷◌, ◌++◌, [], suc, length, Some, cond, IfOk, MatchOption, option_map, Bool, true, false};
-ghost use Rattle.witx_machine.specs.Events.{push};
-ghost use Rattle.witx_run.specs.Views.{item_of, picked_of, stack_of, type_tree};
-ghost use Rattle.witx_machine.specs.Machine as machine_specs;
-ghost use Rattle.witx_machine.specs.Machine.{block_word, payload_item, went};
+ghost use Rattle.witx_machine.specs.{Events.{push}, Machine.{block_word, payload_item, went}};
 ghost use Rattle.witx_machine.specs.Rows.{result_lower, result_lift};
-ghost use Rattle.witx_run.specs.LeftOver.{left_item, left_row};
-ghost use Rattle.witx_run.specs.MachineViews.{Setting, block_view, inside_of, spot_in, state_in};
-ghost use Rattle.witx_run.specs.Nearing.{Falls};
-ghost use Rattle.witx_run.specs.RowEnds.{Makes};
+ghost use Rattle.witx_run.specs.Views.{item_of, picked_of, stack_of, type_tree};
+ghost use Rattle.witx_run.specs.{BlockTurns.{GoesInside, SetsAside}, LeftOver.{left_item, left_row}};
+ghost use Rattle.witx_run.specs.{MachineViews.{Setting, state_in}, Nearing.{Falls}, RowEnds.{Makes}};
 ghost use Rattle.witx_run.specs.ScriptParts.{event_below};
-ghost use Rattle.witx_run.specs.Turns.{ComesTo, FramesFit, TurnsHere, entering, script_events, leaving, lifting_by, lowering_by, turned, whole, whole_at, whole_behind, whole_with};
+ghost use Rattle.witx_run.specs.Turns.{ComesTo, FramesFit, TurnsHere, script_events, leaving, lifting_by, lowering_by, turned, whole_at, whole_behind, whole_with};
 
 use crate::cases::has_cases;
 use crate::domain::{Domain, Picked};
@@ -48,9 +44,7 @@ pub(crate) fn set_aside<'a, D: Domain>(
     script: &ScriptOf<'a, D>,
 ) -> Result<Turn<'a>, OutOfMemory>
     requires { event_below (script_events script.now) progress.old.at progress.old.end ≡ Some push }
-    ensures comes { IfOk result (λ turn. (d : machine_specs.Domain D.V D.W D.M) (x : Setting D.V D.W D.M) →
-        whole d D.value_of D.word_of D.memory_of x (script_events script.now) progress.old
-        ≡ turned d D.value_of D.word_of D.memory_of x (script_events script.now) progress.new turn) }
+    ensures comes { IfOk result (SetsAside D.Domain script.now progress.old progress.new) }
     ensures falls { IfOk result (λ turn. Falls 0 progress.old progress.new turn) }
     ensures frames { IfOk result (λ _. progress.new.frames ≡ progress.old.frames) }
     ensures here { IfOk result (λ turn. TurnsHere progress.new turn) }
@@ -206,14 +200,8 @@ fn enter<'a, D: Domain>(
 ) -> Result<Turn<'a>, OutOfMemory>
     requires here { progress.old.at < progress.old.end }
     requires deep { FramesFit script.now progress.old }
-    ensures comes { IfOk result (λ turn. (d : machine_specs.Domain D.V D.W D.M) (x : Setting D.V D.W D.M) →
-        whole_behind d D.value_of D.word_of D.memory_of x (script_events script.now) progress.old
-        (entering d D.value_of D.word_of D.memory_of x (script_events script.now) progress.old
-        (inside_of D.value_of D.word_of inside) step.lowers step.error
-        (block_view (spot_in x.trace) (script_events script.now) step.block)
-        (stack_of D.value_of D.word_of progress.old.machine.stack.items)
-        (state_in D.value_of D.word_of D.memory_of x (script_events script.now) progress.old.machine))
-        ≡ turned d D.value_of D.word_of D.memory_of x (script_events script.now) progress.new turn) }
+    ensures comes { IfOk result (GoesInside D.Domain script.now progress.old progress.new
+        inside step.lowers step.error step.block) }
     ensures falls { IfOk result (λ turn. Falls (suc (step.block.end - step.block.first)) progress.old progress.new turn) }
     ensures deep { IfOk result (λ _. FramesFit script.now progress.new) }
     ensures here { IfOk result (λ turn. TurnsHere progress.new turn) }
@@ -361,7 +349,7 @@ fn push_left<D: Domain>(
     error: bool,
     left: Option<Item<D::Value, D::Word>>,
 ) -> Result<bool, OutOfMemory>
-    ensures { IfOk result (Makes D.Domain stack.old.items stack.new.items
+    ensures { IfOk result (Makes D.Domain stack.old stack.new
         (left_row (D.domain domain.now) lowers error (option_map (item_of D.value_of D.word_of) left))) }
 {
     if lowers {
@@ -377,7 +365,7 @@ fn push_result<D: Domain>(
     error: bool,
     left: Option<Item<D::Value, D::Word>>,
 ) -> Result<bool, OutOfMemory>
-    ensures { IfOk result (Makes D.Domain stack.old.items stack.new.items
+    ensures { IfOk result (Makes D.Domain stack.old stack.new
         (left_row (D.domain domain.now) false error (option_map (item_of D.value_of D.word_of) left))) }
 {
     match left {

@@ -1,11 +1,10 @@
 //! The callee's side of a call: its trace, which calls the interface.
 
-ghost use Rattle.std.specs.Prelude.{◌≡◌, ◌<◌, None, Some, IfOk, map};
+ghost use Rattle.std.specs.Prelude.{◌<◌, None, Some, IfOk, map};
 ghost use Rattle.witx_instructions.specs.Views.{called, event_of};
 ghost use Rattle.witx_run.specs.RunEnds.{IsEndWith};
 ghost use Rattle.witx_run.specs.SideEnds.{EndsAsCallee, HostRuns, ahead, at_row, behind_event, halted};
-ghost use Rattle.witx_run.specs.Stops.{interface_row};
-ghost use Rattle.witx_run.specs.Turns.{FramesFit, IsHere};
+ghost use Rattle.witx_run.specs.{Stops.{interface_row}, Turns.{FramesFit, IsHere}};
 
 use crate::domain::Domain;
 use crate::item::Item;

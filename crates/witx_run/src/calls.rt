@@ -2,14 +2,13 @@
 //! callee's, of the interface's function.
 #![tactic(auto, using(crate::proofs::CallLemmas::call_rules))]
 
-ghost use Rattle.std.specs.Prelude.{◌≡◌, ◌++◌, Some, IfOk, map, option_and_then, option_map};
+ghost use Rattle.std.specs.Prelude.{◌≡◌, Some, IfOk, map, option_and_then, option_map};
 ghost use Rattle.witx_machine.specs.Machine.{pushed, word_item};
 ghost use Rattle.witx_machine.specs.Run.{one_word, reply_items, typed, words_in};
 ghost use Rattle.witx_machine.specs.Signature.{signature_results};
-ghost use Rattle.witx_machine.specs.Words.{when};
 ghost use Rattle.witx_instructions.specs.Views.{called, param_types};
-ghost use Rattle.witx_run.specs.CallViews.{reply_on, reply_row, typed_only, words_row, IsAnswered};
-ghost use Rattle.witx_run.specs.SideEnds.{HostHandsOn, HostReplies, HostTakesBack};
+ghost use Rattle.witx_run.specs.CallViews.{reply_on, reply_row, typed_only, with_reply, words_row, IsAnswered};
+ghost use Rattle.witx_run.specs.{RowEnds.{Makes}, SideEnds.{HostHandsOn, HostReplies, HostTakesBack}};
 ghost use Rattle.witx_run.specs.Views.{items_of, reply_of, stack_of};
 
 use crate::callee::{Returned, ReturnedOf};
@@ -157,9 +156,8 @@ fn push_reply<D: Domain>(
     results: &[InterfaceFuncParam],
     reply: Option<&D::Value>,
 ) -> Result<bool, OutOfMemory>
-    ensures { IfOk result (λ went. when went (Some (stack_of D.value_of D.word_of stack.new.items))
-        ≡ option_map (λ xs. xs ++ stack_of D.value_of D.word_of stack.old.items)
-        (reply_items (param_types results.now) (reply_of D.value_of reply.entry))) }
+    ensures { IfOk result (Makes D.Domain stack.old stack.new
+        (with_reply (param_types results.now) (reply_of D.value_of reply.entry))) }
 {
     match reply {
         Some(value) => push_result(domain, stack, results, value),
@@ -173,9 +171,8 @@ fn push_result<D: Domain>(
     results: &[InterfaceFuncParam],
     reply: &D::Value,
 ) -> Result<bool, OutOfMemory>
-    ensures { IfOk result (λ went. when went (Some (stack_of D.value_of D.word_of stack.new.items))
-        ≡ option_map (λ xs. xs ++ stack_of D.value_of D.word_of stack.old.items)
-        (reply_items (param_types results.now) (Some (D.value_of reply.now)))) }
+    ensures { IfOk result (Makes D.Domain stack.old stack.new
+        (with_reply (param_types results.now) (Some (D.value_of reply.now)))) }
 {
     match results {
         [only] => {

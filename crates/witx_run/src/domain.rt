@@ -4,7 +4,7 @@ ghost use Rattle.std.specs.Prelude.{◌≡◌, Some, IfOk, option_map, map};
 ghost use Rattle.witx_ast.specs.Views.{named_tree};
 ghost use Rattle.witx_machine.specs.Machine as machine;
 ghost use Rattle.witx_machine.specs.Words.{when};
-ghost use Rattle.witx_run.specs.Views.{scalar_of, type_tree, picked_of};
+ghost use Rattle.witx_run.specs.Views.{given_in, picked_of, scalar_of, type_tree};
 
 use crate::conversion::Conversion;
 use std::rc::Rc;
@@ -112,7 +112,7 @@ pub trait Domain {
         memory: &mut Self::Memory,
         ty: &Rc<NamedType>,
     ) -> Result<Option<Self::Word>, OutOfMemory>
-        ensures { IfOk result (λ word. option_map (λ w. (word_of w, memory_of memory.new)) word
+        ensures { IfOk result (λ word. given_in word_of memory_of memory.new word
             ≡ (domain self.now).give (named_tree ty.now.value) (memory_of memory.old)) };
 
     /// The next address, made for a type that is passed by address, with a value there.
@@ -122,7 +122,7 @@ pub trait Domain {
         ty: &Rc<NamedType>,
         value: Self::Value,
     ) -> Result<Option<Self::Word>, OutOfMemory>
-        ensures { IfOk result (λ word. option_map (λ w. (word_of w, memory_of memory.new)) word
+        ensures { IfOk result (λ word. given_in word_of memory_of memory.new word
             ≡ (domain self.now).put (named_tree ty.now.value) (value_of value) (memory_of memory.old)) };
 
     /// What stands at an address, under a type.

@@ -1,16 +1,14 @@
 //! The machine's state while a trace is run, and the rows that take it from one event to the next.
 #![tactic(auto, using(crate::proofs::MachineLemmas::machine_rules))]
 
-ghost use Rattle.std.specs.Prelude.{◌≡◌, List, true, None, IfOk, option_map, reverse};
+ghost use Rattle.std.specs.Prelude.{◌≡◌, List, true, None, IfOk, option_map};
 ghost use Rattle.witx_ast.specs.Views.{named_tree};
-ghost use Rattle.witx_machine.specs.Rows.{returns};
+ghost use Rattle.witx_machine.specs.{Rows.{returns}, Machine.{payload_in}};
 ghost use Rattle.witx_machine.specs.Machine as machine_specs;
-ghost use Rattle.witx_machine.specs.Machine.{payload_in, slot_word};
-ghost use Rattle.witx_run.specs.Views.{item_of};
-ghost use Rattle.witx_run.specs.RowViews.{row_view, runs_nothing};
+ghost use Rattle.witx_run.specs.{Views.{item_of}, RowViews.{row_view, runs_nothing}};
 ghost use Rattle.witx_run.specs.MachineViews.{inside_of, Performs, GivesSlot, IsNew};
-ghost use Rattle.witx_run.specs.declared.item.Item as declared_item;
 ghost use Rattle.witx_run.specs.declared.machine.Inside.TheVariants.{Outside};
+ghost use Rattle.witx_run.specs.declared.item.Item as declared_item;
 
 use crate::domain::Domain;
 use crate::item::Item;
@@ -196,26 +194,12 @@ pub fn give_slot<D: Domain>(
 {
     match machine.slots.get(slot) {
         Some(_address) => Ok(false),
-        None => give_free_slot(domain, machine, slot, ty),
-    }
-}
-
-fn give_free_slot<D: Domain>(
-    domain: &D,
-    machine: &mut MachineOf<D>,
-    slot: usize,
-    ty: &Rc<NamedType>,
-) -> Result<bool, OutOfMemory>
-    requires { None ≡ slot_word slot (reverse machine.old.slots.in_order.items) }
-    ensures gives { IfOk result (λ went. GivesSlot (D.domain domain.now) D.value_of D.word_of D.memory_of
-        slot (named_tree ty.now.value) machine.old machine.new went) }
-    ensures blocks { machine.new.blocks ≡ machine.old.blocks }
-{
-    match domain.give(&mut machine.memory, ty)? {
-        Some(address) => {
-            machine.slots.give(slot, address)?;
-            Ok(true)
-        }
-        None => Ok(false),
+        None => match domain.give(&mut machine.memory, ty)? {
+            Some(address) => {
+                machine.slots.give(slot, address)?;
+                Ok(true)
+            }
+            None => Ok(false),
+        },
     }
 }

@@ -3,14 +3,11 @@
 
 ghost use Rattle.std.specs.Prelude.{◌≡◌, ◌&&◌, IfOk, map};
 ghost use Rattle.witx_base.specs.SameBytes.{same_bytes};
-ghost use Rattle.witx_ast.specs.Same.{same_tree};
-ghost use Rattle.witx_ast.specs.Views.{tree_of};
-ghost use Rattle.witx_machine.specs.Run.{same_trees};
-ghost use Rattle.witx_machine.specs.Signature.{signature_params, signature_results};
+ghost use Rattle.witx_ast.specs.{Same.{same_tree}, Views.{tree_of}};
+ghost use Rattle.witx_machine.specs.{Run.{same_trees}, Signature.{signature_params, signature_results}};
 ghost use Rattle.witx_machine.specs.Words.{same_types};
 ghost use Rattle.witx_instructions.specs.Views.{called, param_types};
-ghost use Rattle.witx_run.specs.CallViews.{names_function, names_words};
-ghost use Rattle.witx_run.specs.Stops.{interface_at, wasm_at};
+ghost use Rattle.witx_run.specs.{CallViews.{names_function, names_words}, Stops.{interface_at, wasm_at}};
 
 use crate::progress::Stop;
 use std::alloc::Global;

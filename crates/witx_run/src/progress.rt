@@ -5,10 +5,8 @@ ghost use Rattle.std.specs.Prelude.{◌≡◌, ◌<◌, ◌≤◌, ◌||◌, [],
 ghost use Rattle.witx_ast.specs.Views.{named_tree};
 ghost use Rattle.witx_machine.specs.Machine as machine_specs;
 ghost use Rattle.witx_machine.specs.Machine.{went};
-ghost use Rattle.witx_run.specs.MachineViews.{Setting, state_in};
-ghost use Rattle.witx_run.specs.Nearing.{Falls};
-ghost use Rattle.witx_run.specs.RowViews.{row_view, runs_nothing};
-ghost use Rattle.witx_run.specs.ScriptParts.{event_below};
+ghost use Rattle.witx_run.specs.{MachineViews.{Setting, state_in}, Nearing.{Falls}};
+ghost use Rattle.witx_run.specs.{RowViews.{row_view, runs_nothing}, ScriptParts.{event_below}};
 ghost use Rattle.witx_run.specs.StackRows.{tried_if};
 ghost use Rattle.witx_run.specs.Turns.{ComesTo, FramesFit, HaltsAt, IsHere, TurnsHere, script_events, run_start, whole, whole_behind, whole_at, space_at, turned};
 

@@ -1,13 +1,10 @@
 //! The rows of the machine's table: what each step of a trace is.
 
 ghost use Rattle.std.specs.Prelude.{◌≡◌, false, true, map, option_map};
-ghost use Rattle.witx_ast.specs.declared.types.BuiltinType.TheVariants.{U8, U32};
-ghost use Rattle.witx_ast.specs.Views.{tree_of};
-ghost use Rattle.witx_machine.specs.Rows.{call_interface, call_wasm, result_lower, row};
-ghost use Rattle.witx_machine.specs.Words.{number_of};
+ghost use Rattle.witx_ast.specs.{declared.types.BuiltinType.TheVariants.{U8, U32}, Views.{tree_of}};
+ghost use Rattle.witx_machine.specs.{Rows.{call_interface, call_wasm, result_lower, row}, Words.{number_of}};
 ghost use Rattle.witx_instructions.specs.Views.{kept_step};
-ghost use Rattle.witx_run.specs.RowViews.{row_view};
-ghost use Rattle.witx_run.specs.Views.{scalar_of, type_tree};
+ghost use Rattle.witx_run.specs.{RowViews.{row_view}, Views.{scalar_of, type_tree}};
 
 use crate::conversion::Conversion;
 use std::rc::Rc;

@@ -3,10 +3,8 @@
 ghost use Rattle.std.specs.Prelude.{◌≡◌, ◌<◌, List, Some, IfOk, length};
 ghost use Rattle.witx_machine.specs.Events as machine_events;
 ghost use Rattle.witx_machine.specs.Machine.{ended};
-ghost use Rattle.witx_run.specs.MachineViews.{Noted, Setting, spot_in, state_in};
-ghost use Rattle.witx_run.specs.RunEnds.{EndsAs};
-ghost use Rattle.witx_run.specs.SideEnds.{EndsSo, behind_event, halted};
-ghost use Rattle.witx_run.specs.Stops.{stuck_event};
+ghost use Rattle.witx_run.specs.{MachineViews.{Noted, Setting, spot_in, state_in}, RunEnds.{EndsAs}};
+ghost use Rattle.witx_run.specs.{SideEnds.{EndsSo, behind_event, halted}, Stops.{stuck_event}};
 ghost use Rattle.witx_run.specs.Turns.{FramesFit};
 ghost use Rattle.witx_run.specs.declared.progress.Stop.TheVariants as stop_specs;
 

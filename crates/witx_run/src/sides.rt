@@ -3,8 +3,7 @@
 
 ghost use Rattle.std.specs.Prelude.{◌≡◌, IfOk, map};
 ghost use Rattle.witx_ast.specs.Views.{tree_of};
-ghost use Rattle.witx_machine.specs.Functions.{name_of};
-ghost use Rattle.witx_machine.specs.Machine.{value_item, word_item};
+ghost use Rattle.witx_machine.specs.{Functions.{name_of}, Machine.{value_item, word_item}};
 ghost use Rattle.witx_machine.specs.Run.{argument_items};
 ghost use Rattle.witx_instructions.specs.Views.{called};
 ghost use Rattle.witx_run.specs.Views.{item_of, items_of};

@@ -1,8 +1,7 @@
 //! The slots of a trace, each with the address that it was given.
 
 ghost use Rattle.std.specs.Prelude.{◌≡◌, ◌<◌, ◌∷◌, [], ℕ, length, Some, None, IfOk, option_map, reverse};
-ghost use Rattle.std.specs.Ordering.{nat_cmp};
-ghost use Rattle.std.specs.BTreeMap.{get};
+ghost use Rattle.std.specs.{Ordering.{nat_cmp}, BTreeMap.{get}};
 ghost use Rattle.witx_machine.specs.Machine.{slot_word};
 ghost use Rattle.witx_run.specs.SlotViews.{address_at};
 

@@ -4,8 +4,7 @@
 ghost use Rattle.std.specs.Prelude.{◌≡◌, ◌∷◌, [], Some, None, IfOk, MatchOption, map, option_map, slice_get};
 ghost use Rattle.witx_ast.specs.Views.{named_tree};
 ghost use Rattle.witx_machine.specs.Machine.{pushed, plain_item, values_off, words_off, items_off, slot_word};
-ghost use Rattle.witx_run.specs.RowEnds.{Makes, MakesBoth};
-ghost use Rattle.witx_run.specs.SlotViews.{given_slots};
+ghost use Rattle.witx_run.specs.{RowEnds.{Makes, MakesBoth}, SlotViews.{given_slots}};
 ghost use Rattle.witx_run.specs.StackRows.{top_word_of, top_named_of, top_value_of, pushed_item, pushed_word, pushed_value, pushed_words, lowering_row, lifting_row, list_words_row, list_value_row, load_row, store_row, addr_row, put_named, tuple_row, parts_row};
 ghost use Rattle.witx_run.specs.Views.{item_of, items_of, name_tree, scalar_of, stack_of};
 
@@ -68,7 +67,7 @@ pub(crate) fn push_word<D: Domain>(
     stack: &mut Stack<D>,
     word: Option<D::Word>,
 ) -> Result<bool, OutOfMemory>
-    ensures { IfOk result (Makes D.Domain stack.old.items stack.new.items
+    ensures { IfOk result (Makes D.Domain stack.old stack.new
         (pushed_word (option_map D.word_of word))) }
 {
     match word {
@@ -85,7 +84,7 @@ pub(crate) fn push_value<D: Domain>(
     stack: &mut Stack<D>,
     value: Option<D::Value>,
 ) -> Result<bool, OutOfMemory>
-    ensures { IfOk result (Makes D.Domain stack.old.items stack.new.items
+    ensures { IfOk result (Makes D.Domain stack.old stack.new
         (pushed_value (option_map D.value_of value))) }
 {
     match value {
@@ -104,7 +103,7 @@ pub(crate) fn get_arg<D: Domain>(
     arguments: &[Item<D::Value, D::Word>],
     nth: usize,
 ) -> Result<bool, OutOfMemory>
-    ensures { IfOk result (Makes D.Domain stack.old.items stack.new.items
+    ensures { IfOk result (Makes D.Domain stack.old stack.new
         (pushed_item (slice_get (items_of D.value_of D.word_of arguments.now) nth))) }
 {
     match arguments.get(nth) {
@@ -122,7 +121,7 @@ pub(crate) fn addr_of<D: Domain>(
     stack: &mut Stack<D>,
     memory: &mut D::Memory,
 ) -> Result<bool, OutOfMemory>
-    ensures { IfOk result (MakesBoth D.Domain stack.old.items stack.new.items memory.new
+    ensures { IfOk result (MakesBoth D.Domain stack.old stack.new memory.new
         (addr_row (D.domain domain.now) (D.memory_of memory.old))) }
 {
     match pop_named::<D>(stack) {
@@ -138,7 +137,7 @@ fn put_by_name<D: Domain>(
     value: D::Value,
     name: Option<Rc<NamedType>>,
 ) -> Result<bool, OutOfMemory>
-    ensures { IfOk result (MakesBoth D.Domain stack.old.items stack.new.items memory.new
+    ensures { IfOk result (MakesBoth D.Domain stack.old stack.new memory.new
         (put_named (D.domain domain.now) (name_tree name) (D.value_of value) (D.memory_of memory.old))) }
 {
     match name {
@@ -156,7 +155,7 @@ pub(crate) fn lowering<D: Domain>(
     stack: &mut Stack<D>,
     conversion: Conversion<'_>,
 ) -> Result<bool, OutOfMemory>
-    ensures { IfOk result (Makes D.Domain stack.old.items stack.new.items
+    ensures { IfOk result (Makes D.Domain stack.old stack.new
         (lowering_row (D.domain domain.now) (scalar_of conversion.entry))) }
 {
     match pop_value::<D>(stack) {
@@ -174,7 +173,7 @@ pub(crate) fn lifting<D: Domain>(
     stack: &mut Stack<D>,
     conversion: Conversion<'_>,
 ) -> Result<bool, OutOfMemory>
-    ensures { IfOk result (Makes D.Domain stack.old.items stack.new.items
+    ensures { IfOk result (Makes D.Domain stack.old stack.new
         (lifting_row (D.domain domain.now) (scalar_of conversion.entry))) }
 {
     match pop_word::<D>(stack) {
@@ -191,7 +190,7 @@ pub(crate) fn list_pointer_length<D: Domain>(
     domain: &D,
     stack: &mut Stack<D>,
 ) -> Result<bool, OutOfMemory>
-    ensures { IfOk result (Makes D.Domain stack.old.items stack.new.items
+    ensures { IfOk result (Makes D.Domain stack.old stack.new
         (list_words_row (D.domain domain.now))) }
 {
     match pop_value::<D>(stack) {
@@ -207,7 +206,7 @@ fn push_words<D: Domain>(
     stack: &mut Stack<D>,
     words: Option<(D::Word, D::Word)>,
 ) -> Result<bool, OutOfMemory>
-    ensures { IfOk result (Makes D.Domain stack.old.items stack.new.items
+    ensures { IfOk result (Makes D.Domain stack.old stack.new
         (pushed_words (option_map (λ p. (D.word_of p.0, D.word_of p.1)) words))) }
 {
     match words {
@@ -225,7 +224,7 @@ pub(crate) fn list_from_pointer_length<D: Domain>(
     domain: &D,
     stack: &mut Stack<D>,
 ) -> Result<bool, OutOfMemory>
-    ensures { IfOk result (Makes D.Domain stack.old.items stack.new.items
+    ensures { IfOk result (Makes D.Domain stack.old stack.new
         (list_value_row (D.domain domain.now))) }
 {
     let Some(length) = pop_word::<D>(stack) else {
@@ -245,7 +244,7 @@ pub(crate) fn return_pointer_get<D: Domain>(
     slots: &Slots<D::Word>,
     slot: usize,
 ) -> Result<bool, OutOfMemory>
-    ensures { IfOk result (Makes D.Domain stack.old.items stack.new.items
+    ensures { IfOk result (Makes D.Domain stack.old stack.new
         (pushed_word (slot_word slot (given_slots D.word_of slots.now.in_order.items)))) }
 {
     match slots.get(slot) {
@@ -264,7 +263,7 @@ pub(crate) fn load<D: Domain>(
     memory: &D::Memory,
     ty: &Rc<NamedType>,
 ) -> Result<bool, OutOfMemory>
-    ensures { IfOk result (Makes D.Domain stack.old.items stack.new.items
+    ensures { IfOk result (Makes D.Domain stack.old stack.new
         (load_row (D.domain domain.now) (named_tree ty.now.value) (D.memory_of memory.now))) }
 {
     let Some(word) = pop_word::<D>(stack) else {
@@ -287,7 +286,7 @@ pub(crate) fn store<D: Domain>(
     memory: &mut D::Memory,
     ty: &Rc<NamedType>,
 ) -> Result<bool, OutOfMemory>
-    ensures { IfOk result (MakesBoth D.Domain stack.old.items stack.new.items memory.new
+    ensures { IfOk result (MakesBoth D.Domain stack.old stack.new memory.new
         (store_row (D.domain domain.now) (named_tree ty.now.value) (D.memory_of memory.old))) }
 {
     let Some(word) = pop_word::<D>(stack) else {
@@ -378,7 +377,7 @@ pub(crate) fn tuple_lift<D: Domain>(
     stack: &mut Stack<D>,
     count: usize,
 ) -> Result<bool, OutOfMemory>
-    ensures { IfOk result (Makes D.Domain stack.old.items stack.new.items
+    ensures { IfOk result (Makes D.Domain stack.old stack.new
         (tuple_row (D.domain domain.now) count)) }
 {
     match values_off::<D>(alloc, stack, count)? {
@@ -397,7 +396,7 @@ pub(crate) fn tuple_lower<D: Domain>(
     stack: &mut Stack<D>,
     count: usize,
 ) -> Result<bool, OutOfMemory>
-    ensures { IfOk result (Makes D.Domain stack.old.items stack.new.items
+    ensures { IfOk result (Makes D.Domain stack.old stack.new
         (parts_row (D.domain domain.now) count)) }
 {
     let Some(value) = pop_value::<D>(stack) else {
@@ -430,7 +429,7 @@ pub(crate) fn variant_payload<D: Domain>(
     stack: &mut Stack<D>,
     payload: Option<&Item<D::Value, D::Word>>,
 ) -> Result<bool, OutOfMemory>
-    ensures { IfOk result (Makes D.Domain stack.old.items stack.new.items
+    ensures { IfOk result (Makes D.Domain stack.old stack.new
         (pushed_item (option_map (λ x. item_of D.value_of D.word_of x.now) payload.entry))) }
 {
     match payload {
@@ -448,7 +447,7 @@ pub(crate) fn reuse_return<D: Domain>(
     stack: &mut Stack<D>,
     returned: &Option<D::Word>,
 ) -> Result<bool, OutOfMemory>
-    ensures { IfOk result (Makes D.Domain stack.old.items stack.new.items
+    ensures { IfOk result (Makes D.Domain stack.old stack.new
         (pushed_word (option_map D.word_of returned.now))) }
 {
     match returned {

@@ -1,15 +1,12 @@
 //! The run of a caller's trace against a callee's, and the caller's side of it.
 
-ghost use Rattle.std.specs.Prelude.{◌≡◌, ◌<◌, List, None, Some, IfOk, map};
+ghost use Rattle.std.specs.Prelude.{◌≡◌, ◌<◌, List, Some, IfOk, map};
 ghost use Rattle.witx_machine.specs.Events as machine_events;
 ghost use Rattle.witx_machine.specs.Positions.{spotted_run};
 ghost use Rattle.witx_instructions.specs.Views.{called, event_of};
-ghost use Rattle.witx_run.specs.OutcomeViews.{call_of, run_of};
-ghost use Rattle.witx_run.specs.RunEnds.{IsRunWith};
-ghost use Rattle.witx_run.specs.SideEnds.{EndsAsCaller, EndsHanding, EndsTaking, ahead, at_row, behind_event, halted};
-ghost use Rattle.witx_run.specs.Stops.{wasm_row};
-ghost use Rattle.witx_run.specs.Views.{reply_of};
-ghost use Rattle.witx_run.specs.Turns.{FramesFit, IsHere};
+ghost use Rattle.witx_run.specs.{OutcomeViews.{call_of, run_of}, RunEnds.{IsRunWith}};
+ghost use Rattle.witx_run.specs.SideEnds.{CallerEnds, EndsAsCaller, EndsHanding, EndsTaking, ahead, at_row, behind_event, halted};
+ghost use Rattle.witx_run.specs.{Stops.{wasm_row}, Views.{reply_of}, Turns.{FramesFit, IsHere}};
 
 use crate::callee::{CalleeEnd, ReturnedOf};
 use crate::calls::CallMadeOf;
@@ -66,8 +63,7 @@ impl<'a, D: Domain> Side<'a, D> {
     /// Runs the caller's trace to its end.
     fn run_as_caller(mut self, callee: &[Event]) -> Result<RunOf<D>, OutOfMemory>
         requires { FramesFit self.script.now self.progress }
-        ensures { IfOk result (λ run. EndsAsCaller D.Domain self.entry (map event_of callee.now) None
-            (ahead D.Domain self.entry) run) }
+        ensures { IfOk result (CallerEnds D.Domain self.entry callee.now (ahead D.Domain self.entry)) }
     {
         let host = self.host;
         let script = self.script;
@@ -82,8 +78,7 @@ impl<'a, D: Domain> Side<'a, D> {
     fn caller_halted(self, stop: Stop<'_>, callee: &[Event]) -> Result<RunOf<D>, OutOfMemory>
         requires deep { FramesFit self.script.now self.progress }
         requires here { IsHere self.progress stop }
-        ensures { IfOk result (λ run. EndsAsCaller D.Domain self.entry (map event_of callee.now) None
-            (halted D.Domain self.entry stop.entry) run) }
+        ensures { IfOk result (CallerEnds D.Domain self.entry callee.now (halted D.Domain self.entry stop.entry)) }
     {
         match CallRow::of_wasm(stop) {
             Some(call) => self.call_wasm(call, callee),
@@ -99,8 +94,8 @@ impl<'a, D: Domain> Side<'a, D> {
     ) -> Result<RunOf<D>, OutOfMemory>
         requires deep { FramesFit self.script.now self.progress }
         requires here { self.progress.at < self.progress.end }
-        ensures { IfOk result (λ run. EndsAsCaller D.Domain self.entry (map event_of callee.now) None
-            (at_row D.Domain self.entry (wasm_row call.entry)) run) }
+        ensures { IfOk result (CallerEnds D.Domain self.entry callee.now
+            (at_row D.Domain self.entry (wasm_row call.entry))) }
     {
         let host = self.host;
         let func = self.script.func;

@@ -1,8 +1,7 @@
 //! The old function's words in the order in which the new function gets them.
 
-ghost use Rattle.std.specs.Prelude.{◌≡◌, ◌++◌, ◌-◌, ◌≤◌, List, IfOk, OnOk, length, map};
-ghost use Rattle.witx_ast.specs.Functions.{param_field};
-ghost use Rattle.witx_ast.specs.Tree.{Field};
+ghost use Rattle.std.specs.Prelude.{◌≡◌, ◌++◌, ◌-◌, List, IfOk, OnOk, map};
+ghost use Rattle.witx_ast.specs.{Functions.{param_field}, Tree.{Field}};
 ghost use Rattle.witx_machine.specs.Run.{numbers};
 ghost use Rattle.witx_shim.specs.Numbers.{AreSpans, all_handed, or_none, span_called};
 

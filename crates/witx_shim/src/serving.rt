@@ -2,8 +2,7 @@
 
 ghost use Rattle.std.specs.Prelude.{◌≡◌, IfOk, Some};
 ghost use Rattle.witx_ast.specs.Functions.{func_tree};
-ghost use Rattle.witx_compat.specs.Polyfills.{function_mapped};
-ghost use Rattle.witx_compat.specs.Views.{function_view};
+ghost use Rattle.witx_compat.specs.{Polyfills.{function_mapped}, Views.{function_view}};
 ghost use Rattle.witx_shim.specs.Refusals.{AnswersRefusal, call_refusals, first_refusal_of, refusal_of};
 ghost use Rattle.witx_shim.specs.Arrivals.{EachArrives, words_passed};
 

@@ -1,13 +1,10 @@
 //! The words of each parameter of a function, by the parameter's name.
 #![tactic(auto, using(crate::proofs::SpanSteps::width_rules))]
 
-ghost use Rattle.std.specs.Prelude.{◌≡◌, ◌+◌, ◌≤◌, ℕ, List, IfOk, OnOk, None, Some, cond, is_some, length, map, option_map};
-ghost use Rattle.witx_ast.specs.Functions.{param_field};
-ghost use Rattle.witx_ast.specs.Plain.{plain};
+ghost use Rattle.std.specs.Prelude.{◌≡◌, ◌+◌, ℕ, List, IfOk, OnOk, None, Some, cond, is_some, length, map, option_map};
+ghost use Rattle.witx_ast.specs.{Functions.{param_field}, Plain.{plain}, Views.{tree_of, datatype_tree}};
 ghost use Rattle.witx_base.specs.SameBytes.{same_bytes};
-ghost use Rattle.witx_ast.specs.Views.{tree_of, datatype_tree};
-ghost use Rattle.witx_machine.specs.Run.{numbers};
-ghost use Rattle.witx_machine.specs.Signature.{param_words};
+ghost use Rattle.witx_machine.specs.{Run.{numbers}, Signature.{param_words}};
 ghost use Rattle.witx_shim.specs.Numbers.{AreSpans, span_called, widths};
 ghost use Rattle.witx_shim.specs.Refusals.{AnswersRefusal, repeated, repeated_param};
 

@@ -20,7 +20,7 @@ use Rattle.witx_machine.proofs.Scalars.{when_true, both_true, left_true, right_t
 use Rattle.witx_machine.proofs.Laws.{Lowers}
 use Rattle.witx_machine.proofs.CellLaws.{scalar_words, own_cell, insert_other, not_zero}
 use Rattle.witx_machine.proofs.Simulation.{Follows, Both, Each, Makes, Simulates, both_follows}
-use Rattle.witx_symbols.proofs.SymbolLaws.{plain_same, symbol_same, option_same}
+use Rattle.witx_symbols.proofs.SymbolLaws.{plain_same, symbol_same, option_same, none_some}
 
 pub some_same : {A : Type 0} {x y : A} → Some x ≡ Some y → x ≡ y
 some_same {A} {x} e = ap (of x) e
@@ -28,12 +28,6 @@ some_same {A} {x} e = ap (of x) e
     of : A → Option A → A
     of d (Some y) = y
     of d None = d
-
-none_some : {A : Type 0} {x : A} {o : Option A} → o ≡ None → o ≡ Some x → ⊥
-none_some {A} {x} {o} e k = clash (sym e ∙ k)
-  where
-    clash : None ≡ Some x → ⊥
-    clash e = cc
 
 taken_last : (xs : Taken) (a : ℕ) (t : Tree) → IsTaken (xs ++ (a, t) ∷ []) a
 taken_last [] a t = inl refl

@@ -3,14 +3,11 @@ use Rattle.std.proofs.Common.{◌≡◌, ◌≢◌, ℕ, suc, ◌+◌, ◌<◌, 
 use Rattle.std.proofs.lemmas.Bool.{eqb-true}
 use Rattle.std.proofs.lemmas.List.{drop_more, drop_all}
 use Rattle.witx_ast.specs.declared.function.InterfaceFuncParam.{InterfaceFuncParam}
-use Rattle.witx_ast.specs.declared.types.RecordKind.{RecordKind}
 use Rattle.witx_ast.specs.declared.types.RecordMember.{RecordMember}
-use Rattle.witx_ast.specs.declared.types.Variant.{Variant}
 use Rattle.witx_ast.specs.Tree.{Tree}
 use Rattle.witx_ast.specs.Plain.{Plain, Fields, plain}
-use Rattle.witx_ast.specs.Words.{is_tuple_kind}
-use Rattle.witx_ast.specs.Views.{tree_of, variant_tree, members_plain}
-use Rattle.witx_ast.proofs.Trees.{tree-RecordMember, tree-VariantDatatype}
+use Rattle.witx_ast.specs.Views.{tree_of, members_plain}
+use Rattle.witx_ast.proofs.Trees.{tree-RecordMember}
 use Rattle.witx_symbols.specs.Symbols.{Source, argument, atom, tuple, part, Symbols, no_symbols, symbol, symbols_listed, symbols_of, symbol_from, parts_from}
 use Rattle.witx_symbols.specs.Symbols as symbols
 use Rattle.witx_symbols.specs.Verdicts.{arguments_from}
@@ -18,29 +15,15 @@ use Rattle.witx_symbols.specs.SymbolViews.{symbols_read}
 use Rattle.witx_symbols.specs.WordViews.{Shared, shared_of, shared_symbols}
 use Rattle.witx_machine.specs.Words.{when}
 use Rattle.witx_symbols.specs.Symbolic.{symbol_parts}
+use Rattle.witx_symbols.specs.Typing.{tuple_fields}
+use Rattle.witx_symbols.proofs.TupleLemmas.{tuple-type, other-type}
 use Rattle.witx_symbols.proofs.WordLemmas.{word_rules, listed-read, shared-length, parts-all}
 
-pub from-tuple : (k : RecordKind) (ms : Fields) (s : Source) → is_tuple_kind k ≡ true → symbol_from (Plain.record_of k ms) s ≡ tuple (parts_from ms s 0)
-from-tuple RecordKind.Tuple ms s e = refl
-from-tuple (RecordKind.Bitflags r) ms s e = absurd (clash e)
-  where
-    clash : false ≡ true → ⊥
-    clash e = cc
-from-tuple RecordKind.Other ms s e = absurd (clash e)
-  where
-    clash : false ≡ true → ⊥
-    clash e = cc
+pub from-tuple : (t : Plain) (ms : Fields) (s : Source) → Some ms ≡ tuple_fields t → symbol_from t s ≡ tuple (parts_from ms s 0)
+from-tuple t ms s e = ap (λ t. symbol_from t s) (tuple-type t ms e)
 
-pub from-record : (k : RecordKind) (ms : Fields) (s : Source) → is_tuple_kind k ≡ false → symbol_from (Plain.record_of k ms) s ≡ atom s (Plain.record_of k ms)
-from-record RecordKind.Tuple ms s e = absurd (clash e)
-  where
-    clash : true ≡ false → ⊥
-    clash e = cc
-from-record (RecordKind.Bitflags r) ms s e = refl
-from-record RecordKind.Other ms s e = refl
-
-pub from-variant : (v : Variant) (s : Source) → symbol_from (plain (variant_tree v)) s ≡ atom s (plain (variant_tree v))
-from-variant v s = rw (tree-VariantDatatype v) refl
+pub from-other : (t : Plain) (s : Source) → None ≡ tuple_fields t → symbol_from t s ≡ atom s t
+from-other t s e = other-type (λ t. symbol_from t s ≡ atom s t) (λ r ms. refl) (λ ms. refl) (λ b. refl) refl (λ t. refl) (λ t. refl) (λ t. refl) (λ r cs. refl) t e
 
 -- the parts made so far, and those to come
 abbrev pub parts_left : List Shared → List RecordMember → Source → ℕ → List symbols.Symbol
@@ -122,4 +105,4 @@ arguments-done done ps i l h = sym (append-none (shared_symbols done)) ∙ ends 
     ends : shared_symbols done ++ [] ≡ arguments_left done ps i
     ends = rw (drop_all i ps l) refl
 
-pub ruleset from_rules = (word_rules, from-tuple, from-record, from-variant, part-made, parts-done, members-parts, members-none, argument-made, arguments-done)
+pub ruleset from_rules = (word_rules, from-tuple, from-other, part-made, parts-done, members-parts, members-none, argument-made, arguments-done)

@@ -15,54 +15,23 @@ use Rattle.witx_symbols.specs.Symbolic.{has_kind, converts}
 use Rattle.witx_symbols.specs.Symbols.{Source, symbol_from}
 use Rattle.witx_symbols.specs.Typing.{is_pointer_type, is_const_pointer_type, is_handle_type, is_flags_type, is_enum_type}
 use Rattle.witx_symbols.proofs.AlikeTypes.{plain-of-behind}
+use Rattle.witx_symbols.proofs.EachType.{each-type}
 use Rattle.witx_symbols.proofs.SymbolReads.{symbol_rules}
 
 pub kind-pointer : (t : Plain) → has_kind pointer t ≡ is_pointer_type t
-kind-pointer (Plain.pointer_to t) = refl
-kind-pointer (Plain.builtin b) = refl
-kind-pointer Plain.handle = refl
-kind-pointer (Plain.list_of t) = refl
-kind-pointer (Plain.const_pointer_to t) = refl
-kind-pointer (Plain.record_of k ms) = refl
-kind-pointer (Plain.variant_of r cs) = refl
+kind-pointer t = each-type (λ t. has_kind pointer t ≡ is_pointer_type t) (λ ms. refl) (λ r ms. refl) (λ ms. refl) (λ b. refl) refl (λ t. refl) (λ t. refl) (λ t. refl) (λ r cs. refl) t
 
 pub kind-const-pointer : (t : Plain) → has_kind const_pointer t ≡ is_const_pointer_type t
-kind-const-pointer (Plain.const_pointer_to t) = refl
-kind-const-pointer (Plain.builtin b) = refl
-kind-const-pointer Plain.handle = refl
-kind-const-pointer (Plain.list_of t) = refl
-kind-const-pointer (Plain.pointer_to t) = refl
-kind-const-pointer (Plain.record_of k ms) = refl
-kind-const-pointer (Plain.variant_of r cs) = refl
+kind-const-pointer t = each-type (λ t. has_kind const_pointer t ≡ is_const_pointer_type t) (λ ms. refl) (λ r ms. refl) (λ ms. refl) (λ b. refl) refl (λ t. refl) (λ t. refl) (λ t. refl) (λ r cs. refl) t
 
 pub for-handle : (n : Tree) (t : Plain) → is_for (handle_of n) t ≡ is_handle_type t
-for-handle n Plain.handle = refl
-for-handle n (Plain.builtin b) = refl
-for-handle n (Plain.list_of t) = refl
-for-handle n (Plain.pointer_to t) = refl
-for-handle n (Plain.const_pointer_to t) = refl
-for-handle n (Plain.record_of k ms) = refl
-for-handle n (Plain.variant_of r cs) = refl
+for-handle n t = each-type (λ t. is_for (handle_of n) t ≡ is_handle_type t) (λ ms. refl) (λ r ms. refl) (λ ms. refl) (λ b. refl) refl (λ t. refl) (λ t. refl) (λ t. refl) (λ r cs. refl) t
 
 pub for-flags : (w : WasmType) (n : Tree) (t : Plain) → is_for (flags_of w n) t ≡ is_flags_type w t
-for-flags w n (Plain.record_of (RecordKind.Bitflags r) ms) = refl
-for-flags w n (Plain.record_of RecordKind.Tuple ms) = refl
-for-flags w n (Plain.record_of RecordKind.Other ms) = refl
-for-flags w n Plain.handle = refl
-for-flags w n (Plain.builtin b) = refl
-for-flags w n (Plain.list_of t) = refl
-for-flags w n (Plain.pointer_to t) = refl
-for-flags w n (Plain.const_pointer_to t) = refl
-for-flags w n (Plain.variant_of r cs) = refl
+for-flags w n t = each-type (λ t. is_for (flags_of w n) t ≡ is_flags_type w t) (λ ms. refl) (λ r ms. refl) (λ ms. refl) (λ b. refl) refl (λ t. refl) (λ t. refl) (λ t. refl) (λ r cs. refl) t
 
 pub for-enum : (n : Tree) (t : Plain) → is_for (enum_of n) t ≡ is_enum_type t
-for-enum n (Plain.variant_of r cs) = refl
-for-enum n Plain.handle = refl
-for-enum n (Plain.builtin b) = refl
-for-enum n (Plain.list_of t) = refl
-for-enum n (Plain.pointer_to t) = refl
-for-enum n (Plain.const_pointer_to t) = refl
-for-enum n (Plain.record_of k ms) = refl
+for-enum n t = each-type (λ t. is_for (enum_of n) t ≡ is_enum_type t) (λ ms. refl) (λ r ms. refl) (λ ms. refl) (λ b. refl) refl (λ t. refl) (λ t. refl) (λ t. refl) (λ r cs. refl) t
 
 -- a named type that is of a kind, and a type alike to it
 pub kind-handle : (n : Tree) (t : Plain) → has_kind (handle_of n) t ≡ is_handle_type (plain n) && same_plain t (plain n)
@@ -83,49 +52,15 @@ tuple-kind : (x : Scalar) (ms : Fields) → false ≡ has_kind x (Plain.record_o
 tuple-kind (number_of b) ms = refl
 tuple-kind pointer ms = refl
 tuple-kind const_pointer ms = refl
-tuple-kind (handle_of n) ms = sym (kind-handle n (Plain.record_of RecordKind.Tuple ms) ∙ go (plain n))
-  where
-    go : (t : Plain) → is_handle_type t && same_plain (Plain.record_of RecordKind.Tuple ms) t ≡ false
-    go Plain.handle = refl
-    go (Plain.builtin b) = refl
-    go (Plain.list_of t) = refl
-    go (Plain.pointer_to t) = refl
-    go (Plain.const_pointer_to t) = refl
-    go (Plain.record_of k ns) = refl
-    go (Plain.variant_of r cs) = refl
-tuple-kind (flags_of w n) ms = sym (kind-flags w n (Plain.record_of RecordKind.Tuple ms) ∙ go (plain n))
-  where
-    go : (t : Plain) → is_flags_type w t && same_plain (Plain.record_of RecordKind.Tuple ms) t ≡ false
-    go Plain.handle = refl
-    go (Plain.builtin b) = refl
-    go (Plain.list_of t) = refl
-    go (Plain.pointer_to t) = refl
-    go (Plain.const_pointer_to t) = refl
-    go (Plain.record_of (RecordKind.Bitflags r) ns) = and_false (is_flags_type w (Plain.record_of (RecordKind.Bitflags r) ns))
-    go (Plain.record_of RecordKind.Tuple ns) = refl
-    go (Plain.record_of RecordKind.Other ns) = refl
-    go (Plain.variant_of r cs) = refl
-tuple-kind (enum_of n) ms = sym (kind-enum n (Plain.record_of RecordKind.Tuple ms) ∙ go (plain n))
-  where
-    go : (t : Plain) → is_enum_type t && same_plain (Plain.record_of RecordKind.Tuple ms) t ≡ false
-    go Plain.handle = refl
-    go (Plain.builtin b) = refl
-    go (Plain.list_of t) = refl
-    go (Plain.pointer_to t) = refl
-    go (Plain.const_pointer_to t) = refl
-    go (Plain.record_of k ns) = refl
-    go (Plain.variant_of r cs) = and_false (is_enum_type (Plain.variant_of r cs))
+tuple-kind (handle_of n) ms = sym (kind-handle n (Plain.record_of RecordKind.Tuple ms) ∙ each-type (λ t. is_handle_type t && same_plain (Plain.record_of RecordKind.Tuple ms) t ≡ false)
+    (λ ns. refl) (λ r ns. refl) (λ ns. refl) (λ b. refl) refl (λ t. refl) (λ t. refl) (λ t. refl) (λ r cs. refl) (plain n))
+tuple-kind (flags_of w n) ms = sym (kind-flags w n (Plain.record_of RecordKind.Tuple ms) ∙ each-type (λ t. is_flags_type w t && same_plain (Plain.record_of RecordKind.Tuple ms) t ≡ false)
+    (λ ns. refl) (λ r ns. and_false (is_flags_type w (Plain.record_of (RecordKind.Bitflags r) ns))) (λ ns. refl) (λ b. refl) refl (λ t. refl) (λ t. refl) (λ t. refl) (λ r cs. refl) (plain n))
+tuple-kind (enum_of n) ms = sym (kind-enum n (Plain.record_of RecordKind.Tuple ms) ∙ each-type (λ t. is_enum_type t && same_plain (Plain.record_of RecordKind.Tuple ms) t ≡ false)
+    (λ ns. refl) (λ r ns. refl) (λ ns. refl) (λ b. refl) refl (λ t. refl) (λ t. refl) (λ t. refl) (λ r cs. and_false (is_enum_type (Plain.variant_of r cs))) (plain n))
 
 pub from-converts : (x : Scalar) (t : Plain) (s : Source) → converts x (symbol_from t s) ≡ has_kind x t
-from-converts x (Plain.record_of RecordKind.Tuple ms) s = tuple-kind x ms
-from-converts x (Plain.record_of (RecordKind.Bitflags r) ms) s = refl
-from-converts x (Plain.record_of RecordKind.Other ms) s = refl
-from-converts x (Plain.builtin b) s = refl
-from-converts x Plain.handle s = refl
-from-converts x (Plain.pointer_to t) s = refl
-from-converts x (Plain.const_pointer_to t) s = refl
-from-converts x (Plain.list_of t) s = refl
-from-converts x (Plain.variant_of r cs) s = refl
+from-converts x t s = each-type (λ t. converts x (symbol_from t s) ≡ has_kind x t) (tuple-kind x) (λ r ms. refl) (λ ms. refl) (λ b. refl) refl (λ t. refl) (λ t. refl) (λ t. refl) (λ r cs. refl) t
 
 bare-arm : (n d : List ℕ) (o : Option Tree) (cs : Arms) (b : Bool) → all_bare (plain_arms cs) ≡ b → all_bare (plain_arms (arm n o d cs)) ≡ is_bare o && b
 bare-arm n d None cs b e = e

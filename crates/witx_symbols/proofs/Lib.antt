@@ -11,6 +11,9 @@ pub mod Stated
 pub mod Examples
 pub mod AlikeTypes
 pub mod SymbolReads
+pub mod NamesBehind
+pub mod EachType
+pub mod TupleLemmas
 pub mod TypingLemmas
 pub mod KindLemmas
 pub mod WordLemmas

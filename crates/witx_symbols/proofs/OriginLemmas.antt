@@ -1,44 +1,26 @@
 -- Where a symbol comes from as one of a type: a tuple's parts come from the members of one place.
-use Rattle.std.proofs.Common.{◌≡◌, ◌≢◌, ℕ, suc, ◌+◌, ◌<◌, ◌≤◌, Bool, true, false, ◌&&◌, List, [], ◌∷◌, drop, length, get_or, refl, sym, ap, ◌∙◌, arith, nat_eq}
+use Rattle.std.proofs.Common.{◌≡◌, ◌≢◌, ℕ, suc, ◌+◌, ◌<◌, ◌≤◌, Bool, true, false, ◌&&◌, List, [], ◌∷◌, drop, length, get_or, refl, sym, ap, ◌∙◌, arith, nat_eq, Some, None}
 use Rattle.std.proofs.lemmas.Bool.{eq-eqb, eqb-true}
 use Rattle.std.proofs.lemmas.List.{drop_more, drop_all}
-use Rattle.witx_ast.specs.declared.types.RecordKind.{RecordKind}
 use Rattle.witx_ast.specs.declared.types.RecordMember.{RecordMember}
-use Rattle.witx_ast.specs.declared.types.Variant.{Variant}
 use Rattle.witx_ast.specs.Plain.{Plain, Fields, plain}
-use Rattle.witx_ast.specs.Views.{tree_of, variant_tree, members_plain}
-use Rattle.witx_ast.specs.Words.{is_tuple_kind}
-use Rattle.witx_ast.proofs.Trees.{tree-RecordMember, tree-VariantDatatype}
+use Rattle.witx_ast.specs.Views.{tree_of, members_plain}
+use Rattle.witx_ast.proofs.Trees.{tree-RecordMember}
 use Rattle.witx_symbols.specs.Symbols.{Source, Symbols, part, tuple, symbol_from, parts_from, same_source, same_symbol, same_members}
 use Rattle.witx_symbols.specs.SymbolViews.{symbol_of, symbols_read}
+use Rattle.witx_symbols.specs.Typing.{tuple_fields}
 use Rattle.witx_symbols.specs.Wholes.{comes_from}
 use Rattle.witx_symbols.specs.declared.wholes.Origin.{Origin}
-use Rattle.witx_symbols.specs.declared.wholes.Origin.TheVariants as origin
 use Rattle.witx_symbols.proofs.SymbolReads.{Shared}
+use Rattle.witx_symbols.proofs.TupleLemmas.{tuple-type, other-type}
 use Rattle.witx_symbols.proofs.WholeLemmas.{whole_rules}
 use Rattle.witx_symbols.proofs.WholeLaws.{whole-nowhere, whole-anywhere, whole-at, made-from, bare-from, two-same, two-differ}
 
-pub tuple-from : (k : RecordKind) (ms : Fields) (vs : Symbols) (z : Source) → is_tuple_kind k ≡ true → same_symbol (tuple vs) (symbol_from (Plain.record_of k ms) z) ≡ same_members vs (parts_from ms z 0)
-tuple-from RecordKind.Tuple ms vs z e = refl
-tuple-from (RecordKind.Bitflags r) ms vs z e = absurd (clash e)
-  where
-    clash : false ≡ true → ⊥
-    clash e = cc
-tuple-from RecordKind.Other ms vs z e = absurd (clash e)
-  where
-    clash : false ≡ true → ⊥
-    clash e = cc
+pub tuple-from : (t : Plain) (ms : Fields) (vs : Symbols) (z : Source) → Some ms ≡ tuple_fields t → same_symbol (tuple vs) (symbol_from t z) ≡ same_members vs (parts_from ms z 0)
+tuple-from t ms vs z e = ap (λ t. same_symbol (tuple vs) (symbol_from t z)) (tuple-type t ms e)
 
-pub tuple-record : (k : RecordKind) (ms : Fields) (vs : Symbols) (z : Source) → is_tuple_kind k ≡ false → same_symbol (tuple vs) (symbol_from (Plain.record_of k ms) z) ≡ false
-tuple-record RecordKind.Tuple ms vs z e = absurd (clash e)
-  where
-    clash : true ≡ false → ⊥
-    clash e = cc
-tuple-record (RecordKind.Bitflags r) ms vs z e = refl
-tuple-record RecordKind.Other ms vs z e = refl
-
-pub tuple-variant : (v : Variant) (vs : Symbols) (z : Source) → same_symbol (tuple vs) (symbol_from (plain (variant_tree v)) z) ≡ false
-tuple-variant v vs z = rw (tree-VariantDatatype v) refl
+pub tuple-elsewhere : (t : Plain) (vs : Symbols) (z : Source) → None ≡ tuple_fields t → same_symbol (tuple vs) (symbol_from t z) ≡ false
+tuple-elsewhere t vs z e = other-type (λ t. same_symbol (tuple vs) (symbol_from t z) ≡ false) (λ r ms. refl) (λ ms. refl) (λ b. refl) refl (λ t. refl) (λ t. refl) (λ t. refl) (λ r cs. refl) t e
 
 -- a part's source is a member's at a place
 and_true : (b : Bool) → b && true ≡ b
@@ -110,4 +92,4 @@ parts-longer (v ∷ vs) (m ∷ ms) z j n =
     both true e = e
     both false e = refl
 
-pub ruleset origin_rules = (whole_rules, whole-nowhere, whole-anywhere, whole-at, made-from, bare-from, two-same, two-differ, tuple-from, tuple-record, tuple-variant, behind-here, behind-elsewhere, parts-longer)
+pub ruleset origin_rules = (whole_rules, whole-nowhere, whole-anywhere, whole-at, made-from, bare-from, two-same, two-differ, tuple-from, tuple-elsewhere, behind-here, behind-elsewhere, parts-longer)

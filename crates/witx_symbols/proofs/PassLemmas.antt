@@ -1,5 +1,6 @@
 -- The words of a call going in: what is left of them behind each parameter.
 use Rattle.std.proofs.Common.{◌≡◌, ◌≢◌, ℕ, zero, suc, ◌+◌, ◌<◌, ◌≤◌, Bool, true, false, cond, ◌&&◌, refl, sym, ap, ◌∙◌, arith, List, [], ◌∷◌, map, length, get_or, take, drop, Some, None}
+use Rattle.std.proofs.lemmas.Bool.{false≢true, true≢false}
 use Rattle.std.specs.declared.alloc.Global.{Global}
 use Rattle.std.specs.declared.rc.Rc.{Rc}
 use Rattle.std.specs.Borrow.{Bor}
@@ -110,36 +111,15 @@ list-direct t v (one_word ∷ ws) = refl
 
 pub direct-list : (t : Plain) (v : Symbol) (ws : List SymbolWord) → is_listed_type t ≡ true → direct_are t v ws ≡ list_are v ws
 direct-list (Plain.list_of t) v ws e = list-direct t v ws
-direct-list (Plain.builtin b) v ws e = absurd (clash e)
-  where
-    clash : false ≡ true → ⊥
-    clash e = cc
-direct-list Plain.handle v ws e = absurd (clash e)
-  where
-    clash : false ≡ true → ⊥
-    clash e = cc
-direct-list (Plain.pointer_to t) v ws e = absurd (clash e)
-  where
-    clash : false ≡ true → ⊥
-    clash e = cc
-direct-list (Plain.const_pointer_to t) v ws e = absurd (clash e)
-  where
-    clash : false ≡ true → ⊥
-    clash e = cc
-direct-list (Plain.record_of k ms) v ws e = absurd (clash e)
-  where
-    clash : false ≡ true → ⊥
-    clash e = cc
-direct-list (Plain.variant_of r cs) v ws e = absurd (clash e)
-  where
-    clash : false ≡ true → ⊥
-    clash e = cc
+direct-list (Plain.builtin b) v ws e = absurd (false≢true e)
+direct-list Plain.handle v ws e = absurd (false≢true e)
+direct-list (Plain.pointer_to t) v ws e = absurd (false≢true e)
+direct-list (Plain.const_pointer_to t) v ws e = absurd (false≢true e)
+direct-list (Plain.record_of k ms) v ws e = absurd (false≢true e)
+direct-list (Plain.variant_of r cs) v ws e = absurd (false≢true e)
 
 no-more : (t : Plain) (v : Symbol) (w x : SymbolWord) (ws : List SymbolWord) → is_listed_type t ≡ false → direct_are t v (w ∷ x ∷ ws) ≡ false
-no-more (Plain.list_of t) v w x ws e = absurd (clash e)
-  where
-    clash : true ≡ false → ⊥
-    clash e = cc
+no-more (Plain.list_of t) v w x ws e = absurd (true≢false e)
 no-more (Plain.builtin b) v w x ws e = refl
 no-more Plain.handle v w x ws e = refl
 no-more (Plain.pointer_to t) v w x ws e = refl
@@ -157,10 +137,7 @@ no-word (Plain.record_of k ms) v = refl
 no-word (Plain.variant_of r cs) v = refl
 
 one-direct : (t : Plain) (v : Symbol) (w : SymbolWord) → is_listed_type t ≡ false → direct_are t v (w ∷ []) ≡ is_word_of (param_words t) v w
-one-direct (Plain.list_of t) v w e = absurd (clash e)
-  where
-    clash : true ≡ false → ⊥
-    clash e = cc
+one-direct (Plain.list_of t) v w e = absurd (true≢false e)
 one-direct (Plain.builtin b) v w e = refl
 one-direct Plain.handle v w e = refl
 one-direct (Plain.pointer_to t) v w e = refl
@@ -176,36 +153,15 @@ direct-one t v (w ∷ x ∷ ws) e = no-more t v w x ws e
 -- how many words a type has
 pub words-of-list : (t : Plain) → is_listed_type t ≡ true → length (param_words t) ≡ 2
 words-of-list (Plain.list_of t) e = refl
-words-of-list (Plain.builtin b) e = absurd (clash e)
-  where
-    clash : false ≡ true → ⊥
-    clash e = cc
-words-of-list Plain.handle e = absurd (clash e)
-  where
-    clash : false ≡ true → ⊥
-    clash e = cc
-words-of-list (Plain.pointer_to t) e = absurd (clash e)
-  where
-    clash : false ≡ true → ⊥
-    clash e = cc
-words-of-list (Plain.const_pointer_to t) e = absurd (clash e)
-  where
-    clash : false ≡ true → ⊥
-    clash e = cc
-words-of-list (Plain.record_of k ms) e = absurd (clash e)
-  where
-    clash : false ≡ true → ⊥
-    clash e = cc
-words-of-list (Plain.variant_of r cs) e = absurd (clash e)
-  where
-    clash : false ≡ true → ⊥
-    clash e = cc
+words-of-list (Plain.builtin b) e = absurd (false≢true e)
+words-of-list Plain.handle e = absurd (false≢true e)
+words-of-list (Plain.pointer_to t) e = absurd (false≢true e)
+words-of-list (Plain.const_pointer_to t) e = absurd (false≢true e)
+words-of-list (Plain.record_of k ms) e = absurd (false≢true e)
+words-of-list (Plain.variant_of r cs) e = absurd (false≢true e)
 
 pub words-of-other : (t : Plain) → is_listed_type t ≡ false → length (param_words t) ≡ 1
-words-of-other (Plain.list_of t) e = absurd (clash e)
-  where
-    clash : true ≡ false → ⊥
-    clash e = cc
+words-of-other (Plain.list_of t) e = absurd (true≢false e)
 words-of-other (Plain.builtin b) e = refl
 words-of-other Plain.handle e = refl
 words-of-other (Plain.pointer_to t) e = refl

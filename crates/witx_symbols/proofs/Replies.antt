@@ -13,6 +13,7 @@ use Rattle.witx_symbols.specs.Symbols.{Source, atom, tuple, symbol_from, parts_f
 use Rattle.witx_machine.proofs.Scalars.{left_true, right_true}
 use Rattle.witx_machine.proofs.Laws.{PayloadIs}
 use Rattle.witx_symbols.proofs.Denotes.{some_same}
+use Rattle.witx_symbols.proofs.SymbolLaws.{none_some}
 
 -- a type whose result has cases is a variant with a payload
 pub cases_variant : (t : Tree) (cs : Arms) → result_cases t ≡ Some cs → (r : IntRepr) × (plain t ≡ Plain.variant_of r (plain_arms cs)) × T (has_payload (plain_arms cs))
@@ -25,30 +26,12 @@ cases_variant (Tree.variant_of r ds) cs e = go (has_payload (plain_arms ds)) ref
     go : (b : Bool) → has_payload (plain_arms ds) ≡ b → cond b (Some ds) None ≡ Some cs → (q : IntRepr) × (Plain.variant_of r (plain_arms ds) ≡ Plain.variant_of q (plain_arms cs)) × T (has_payload (plain_arms cs))
     go false i e = absurd (clash e)
     go true i e = (r, ap (λ cs. Plain.variant_of r (plain_arms cs)) (some_same e), subst (λ cs. T (has_payload (plain_arms cs))) (some_same e) (subst T (sym i) tt))
-cases_variant (Tree.builtin b) cs e = absurd (clash e)
-  where
-    clash : None ≡ Some cs → ⊥
-    clash e = cc
-cases_variant Tree.handle cs e = absurd (clash e)
-  where
-    clash : None ≡ Some cs → ⊥
-    clash e = cc
-cases_variant (Tree.list_of t) cs e = absurd (clash e)
-  where
-    clash : None ≡ Some cs → ⊥
-    clash e = cc
-cases_variant (Tree.pointer_to t) cs e = absurd (clash e)
-  where
-    clash : None ≡ Some cs → ⊥
-    clash e = cc
-cases_variant (Tree.const_pointer_to t) cs e = absurd (clash e)
-  where
-    clash : None ≡ Some cs → ⊥
-    clash e = cc
-cases_variant (Tree.record_of k ms) cs e = absurd (clash e)
-  where
-    clash : None ≡ Some cs → ⊥
-    clash e = cc
+cases_variant (Tree.builtin b) cs e = absurd (none_some refl e)
+cases_variant Tree.handle cs e = absurd (none_some refl e)
+cases_variant (Tree.list_of t) cs e = absurd (none_some refl e)
+cases_variant (Tree.pointer_to t) cs e = absurd (none_some refl e)
+cases_variant (Tree.const_pointer_to t) cs e = absurd (none_some refl e)
+cases_variant (Tree.record_of k ms) cs e = absurd (none_some refl e)
 
 abbrev Payload : Option Tree → Option Value → Type 0
 Payload = PayloadIs (λ t v. T (is_value t v))
@@ -118,22 +101,13 @@ case_of r cs _ has is = absurd is
 
 -- the payload's types fit too
 arm_fits : (cs : Arms) (t : Tree) → ok_of cs ≡ Some t → T (arms_fit (plain_arms cs)) → T (fits (plain t))
-arm_fits Arms.no_arms t e f = absurd (clash e)
-  where
-    clash : None ≡ Some t → ⊥
-    clash e = cc
-arm_fits (Arms.bare n d cs) t e f = absurd (clash e)
-  where
-    clash : None ≡ Some t → ⊥
-    clash e = cc
+arm_fits Arms.no_arms t e f = absurd (none_some refl e)
+arm_fits (Arms.bare n d cs) t e f = absurd (none_some refl e)
 arm_fits (Arms.carries n u d cs) t e f = subst (λ t. T (fits (plain t))) (some_same e) (left_true (fits (plain u)) _ f)
 
 pub payload_fits : (e : Bool) (cs : Arms) (t : Tree) → cond e (err_of cs) (ok_of cs) ≡ Some t → T (arms_fit (plain_arms cs)) → T (fits (plain t))
 payload_fits false cs t e f = arm_fits cs t e f
-payload_fits true Arms.no_arms t e f = absurd (clash e)
-  where
-    clash : None ≡ Some t → ⊥
-    clash e = cc
+payload_fits true Arms.no_arms t e f = absurd (none_some refl e)
 payload_fits true (Arms.bare n d cs) t e f = arm_fits cs t e f
 payload_fits true (Arms.carries n u d cs) t e f = arm_fits cs t e (right_true (fits (plain u)) _ f)
 

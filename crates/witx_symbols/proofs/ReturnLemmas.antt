@@ -2,7 +2,8 @@
 use Rattle.std.proofs.Common.{◌≡◌, ◌≢◌, ℕ, zero, suc, ◌+◌, ◌-◌, ◌<◌, ◌≤◌, Bool, true, false, not, ◌&&◌, refl, sym, ap, ◌∙◌, arith, List, [], ◌∷◌, map, length, get_or, take, drop, Option, Some, None}
 use Rattle.std.specs.Prelude.{nat_eq}
 use Rattle.std.proofs.Math.Dec.{eqb-suc-zero}
-use Rattle.std.proofs.lemmas.List.{drop_more, drop_all, length-drop, length-map}
+use Rattle.std.proofs.lemmas.List.{length-drop, length-map}
+use Rattle.std.specs.Cmp.Lexicographic.{pointwise}
 use Rattle.witx_ast.specs.declared.function.Abi.{Abi}
 use Rattle.witx_ast.specs.declared.function.InterfaceFuncParam.{InterfaceFuncParam}
 use Rattle.witx_ast.specs.declared.types.RecordMember.{RecordMember}
@@ -13,6 +14,7 @@ use Rattle.witx_machine.specs.Machine.{is_nil}
 use Rattle.witx_machine.specs.Passage.{last_words}
 use Rattle.witx_machine.specs.Signature.{ok_pointers, or_alone}
 use Rattle.witx_machine.specs.declared.surface.WasmType.{WasmType}
+use Rattle.witx_run.proofs.PairLemmas.{pair-more, pair-fails, pairs-end, pairs-uneven}
 use Rattle.witx_symbols.specs.Symbols.{Symbol, SymbolWord, word_of_symbol, list_address, list_length, given, zero_word, one_word}
 use Rattle.witx_symbols.specs.Symbolic.{SymbolMemory, SymbolWorld}
 use Rattle.witx_symbols.specs.Verdicts.{gives_back, returns_case, hold_all, holds_symbol, is_case_word}
@@ -89,19 +91,18 @@ pub case-given : (e : Bool) (k : ℕ) → is_case_word e (given k ∷ []) ≡ fa
 case-given true k = refl
 case-given false k = refl
 
+each-word : (P : SymbolWord → Type 0) → ((v : Symbol) (t : WasmType) → P (word_of_symbol v t)) → ((v : Symbol) → P (list_address v)) → ((v : Symbol) → P (list_length v)) →
+    ((k : ℕ) → P (given k)) → P zero_word → P one_word → (w : SymbolWord) → P w
+each-word P a b c d e f (word_of_symbol v t) = a v t
+each-word P a b c d e f (list_address v) = b v
+each-word P a b c d e f (list_length v) = c v
+each-word P a b c d e f (given k) = d k
+each-word P a b c d e f zero_word = e
+each-word P a b c d e f one_word = f
+
 case-longer : (e : Bool) (w x : SymbolWord) (ws : List SymbolWord) → is_case_word e (w ∷ x ∷ ws) ≡ false
-case-longer true (word_of_symbol v t) x ws = refl
-case-longer true (list_address v) x ws = refl
-case-longer true (list_length v) x ws = refl
-case-longer true (given k) x ws = refl
-case-longer true zero_word x ws = refl
-case-longer true one_word x ws = refl
-case-longer false (word_of_symbol v t) x ws = refl
-case-longer false (list_address v) x ws = refl
-case-longer false (list_length v) x ws = refl
-case-longer false (given k) x ws = refl
-case-longer false zero_word x ws = refl
-case-longer false one_word x ws = refl
+case-longer true w x ws = each-word (λ w. is_case_word true (w ∷ x ∷ ws) ≡ false) (λ v t. refl) (λ v. refl) (λ v. refl) (λ k. refl) refl refl w
+case-longer false w x ws = each-word (λ w. is_case_word false (w ∷ x ∷ ws) ≡ false) (λ v t. refl) (λ v. refl) (λ v. refl) (λ k. refl) refl refl w
 
 pub case-other : (e : Bool) (ws : List SymbolWord) → length ws ≢ 1 → is_case_word e ws ≡ false
 case-other true [] n = refl
@@ -130,28 +131,13 @@ pub alone-count : (t : Tree) → None ≡ tuple_types t → length (ok_pointers 
 alone-count t e = sym (ap (λ o. length (or_alone t o)) e)
 
 -- addresses and what has to stand there
-abbrev pub left_held : SymbolMemory → Words → List Shared → ℕ → Bool
-left_held m ws vs i = hold_all m (words_of (drop i ws)) (shared_symbols (drop i vs))
+abbrev pub one_held : SymbolMemory → declared_word.Word → Shared → Bool
+one_held m w v = holds_symbol m (word_seen w) (shared_of v)
 
-held-step : (m : SymbolMemory) (ws : Words) (vs : List Shared) (i : ℕ) (w : declared_word.Word) (v : Shared) → i < length ws → i < length vs → w ≡ get_or ws i w → v ≡ get_or vs i v →
-    left_held m ws vs i ≡ holds_symbol m (word_seen w) (shared_of v) && left_held m ws vs (i + 1)
-held-step m ws vs i w v l k e f = rw (drop_more ws i w l, drop_more vs i v k, ← e, ← f) refl
+pub held-pairs : (m : SymbolMemory) (ws : Words) (vs : List Shared) → hold_all m (words_of ws) (shared_symbols vs) ≡ pointwise (one_held m) ws vs
+held-pairs m [] [] = refl
+held-pairs m [] (v ∷ vs) = refl
+held-pairs m (w ∷ ws) [] = refl
+held-pairs m (w ∷ ws) (v ∷ vs) = ap (λ t. one_held m w v && t) (held-pairs m ws vs)
 
-pub held-more : (m : SymbolMemory) (ws : Words) (vs : List Shared) (i : ℕ) (w : declared_word.Word) (v : Shared) (all : Bool) → i < length ws → length ws ≡ length vs → w ≡ get_or ws i w → v ≡ get_or vs i v →
-    holds_symbol m (word_seen w) (shared_of v) ≡ true → left_held m ws vs i ≡ all → left_held m ws vs (i + 1) ≡ all
-held-more m ws vs i w v all l n e f h k = sym (ap (λ b. b && left_held m ws vs (i + 1)) h) ∙ sym (held-step m ws vs i w v l (omega arith) e f) ∙ k
-
-pub held-done : (m : SymbolMemory) (ws : Words) (vs : List Shared) (i : ℕ) (all : Bool) → length ws ≤ i → length ws ≡ length vs → left_held m ws vs i ≡ all → true ≡ all
-held-done m ws vs i all l n k = sym (rw (drop_all i ws l, drop_all i vs (omega arith)) refl) ∙ k
-
-pub held-longer : (m : SymbolMemory) (ws : Words) (vs : List Shared) → length ws ≢ length vs → hold_all m (words_of ws) (shared_symbols vs) ≡ false
-held-longer m [] [] n = absurd (n refl)
-held-longer m [] (v ∷ vs) n = refl
-held-longer m (w ∷ ws) [] n = refl
-held-longer m (w ∷ ws) (v ∷ vs) n = both (holds_symbol m (word_seen w) (shared_of v)) (held-longer m ws vs (λ e. n (ap suc e)))
-  where
-    both : (t : Bool) → {u : Bool} → u ≡ false → t && u ≡ false
-    both true e = e
-    both false e = refl
-
-pub ruleset return_rules = (word_rules, pass_rules, nil-words, nil-types, gives-none, one-result, gives-other, last-read, case-zero, case-one, case-of, case-address, case-length, case-given, case-other, case-ok, case-err, members-count, alone-count, held-more, held-done, held-longer)
+pub ruleset return_rules = (word_rules, pass_rules, nil-words, nil-types, gives-none, one-result, gives-other, last-read, case-zero, case-one, case-of, case-address, case-length, case-given, case-other, case-ok, case-err, members-count, alone-count, held-pairs, pair-more, pair-fails, pairs-end, pairs-uneven)

@@ -1,63 +1,34 @@
 -- When a symbol is of a type.
-use Rattle.std.proofs.Common.{◌≡◌, ◌≢◌, ℕ, suc, ◌+◌, ◌<◌, ◌≤◌, Bool, true, false, ◌&&◌, List, [], ◌∷◌, drop, length, get_or, refl, sym, ap, ◌∙◌, arith}
+use Rattle.std.proofs.Common.{◌≡◌, ◌≢◌, ℕ, suc, ◌+◌, ◌<◌, ◌≤◌, Bool, true, false, ◌&&◌, List, [], ◌∷◌, drop, length, get_or, refl, sym, ap, ◌∙◌, arith, Some, None}
 use Rattle.std.specs.declared.alloc.Global.{Global}
 use Rattle.std.specs.declared.rc.Rc.{Rc}
 use Rattle.std.proofs.lemmas.List.{drop_more, drop_all}
-use Rattle.witx_ast.specs.declared.types.RecordKind.{RecordKind}
 use Rattle.witx_ast.specs.declared.types.RecordMember.{RecordMember}
 use Rattle.witx_ast.specs.Plain.{Plain, Fields, plain}
 use Rattle.witx_ast.specs.Views.{tree_of, members_plain}
-use Rattle.witx_ast.specs.Words.{is_tuple_kind}
-use Rattle.witx_ast.proofs.TreeKinds.{kind_rules}
 use Rattle.witx_ast.proofs.Trees.{tree-RecordMember}
 use Rattle.witx_symbols.specs.Symbols.{Symbols, tuple, made, bare_made, is_of, are_of}
 use Rattle.witx_symbols.specs.Symbols as specs
 use Rattle.witx_symbols.specs.SymbolViews.{symbol_of, symbols_read}
 use Rattle.witx_symbols.specs.declared.symbol.Symbol.{Symbol}
+use Rattle.witx_symbols.specs.Typing.{tuple_fields}
 use Rattle.witx_symbols.proofs.AlikeTypes.{plain-of-behind}
+use Rattle.witx_symbols.proofs.EachType.{each-type}
 use Rattle.witx_symbols.proofs.SymbolReads.{symbol_rules}
+use Rattle.witx_symbols.proofs.TupleLemmas.{tuple_rules, tuple-type, other-type}
 use Rattle.witx_symbols.proofs.WholeLaws.{whole-is}
 
-pub tuple-of : (k : RecordKind) (ms : Fields) (vs : Symbols) → is_tuple_kind k ≡ true → is_of (Plain.record_of k ms) (tuple vs) ≡ are_of ms vs
-tuple-of RecordKind.Tuple ms vs e = refl
-tuple-of (RecordKind.Bitflags r) ms vs e = absurd (clash e)
-  where
-    clash : false ≡ true → ⊥
-    clash e = cc
-tuple-of RecordKind.Other ms vs e = absurd (clash e)
-  where
-    clash : false ≡ true → ⊥
-    clash e = cc
+pub tuple-of : (t : Plain) (ms : Fields) (vs : Symbols) → Some ms ≡ tuple_fields t → is_of t (tuple vs) ≡ are_of ms vs
+tuple-of t ms vs e = ap (λ t. is_of t (tuple vs)) (tuple-type t ms e)
 
-pub tuple-other : (k : RecordKind) (ms : Fields) (vs : Symbols) → is_tuple_kind k ≡ false → is_of (Plain.record_of k ms) (tuple vs) ≡ false
-tuple-other RecordKind.Tuple ms vs e = absurd (clash e)
-  where
-    clash : true ≡ false → ⊥
-    clash e = cc
-tuple-other (RecordKind.Bitflags r) ms vs e = refl
-tuple-other RecordKind.Other ms vs e = refl
+pub tuple-other : (t : Plain) (vs : Symbols) → None ≡ tuple_fields t → is_of t (tuple vs) ≡ false
+tuple-other t vs e = other-type (λ t. is_of t (tuple vs) ≡ false) (λ r ms. refl) (λ ms. refl) (λ b. refl) refl (λ t. refl) (λ t. refl) (λ t. refl) (λ r cs. refl) t e
 
 pub of-made : (t : Plain) (i : ℕ) (v : specs.Symbol) → is_of t (made i v) ≡ false
-of-made (Plain.record_of RecordKind.Tuple ms) i v = refl
-of-made (Plain.record_of (RecordKind.Bitflags r) ms) i v = refl
-of-made (Plain.record_of RecordKind.Other ms) i v = refl
-of-made (Plain.builtin b) i v = refl
-of-made Plain.handle i v = refl
-of-made (Plain.pointer_to t) i v = refl
-of-made (Plain.const_pointer_to t) i v = refl
-of-made (Plain.list_of t) i v = refl
-of-made (Plain.variant_of r cs) i v = refl
+of-made t i v = each-type (λ t. is_of t (made i v) ≡ false) (λ ms. refl) (λ r ms. refl) (λ ms. refl) (λ b. refl) refl (λ t. refl) (λ t. refl) (λ t. refl) (λ r cs. refl) t
 
 pub of-bare : (t : Plain) (i : ℕ) → is_of t (bare_made i) ≡ false
-of-bare (Plain.record_of RecordKind.Tuple ms) i = refl
-of-bare (Plain.record_of (RecordKind.Bitflags r) ms) i = refl
-of-bare (Plain.record_of RecordKind.Other ms) i = refl
-of-bare (Plain.builtin b) i = refl
-of-bare Plain.handle i = refl
-of-bare (Plain.pointer_to t) i = refl
-of-bare (Plain.const_pointer_to t) i = refl
-of-bare (Plain.list_of t) i = refl
-of-bare (Plain.variant_of r cs) i = refl
+of-bare t i = each-type (λ t. is_of t (bare_made i) ≡ false) (λ ms. refl) (λ r ms. refl) (λ ms. refl) (λ b. refl) refl (λ t. refl) (λ t. refl) (λ t. refl) (λ r cs. refl) t
 
 abbrev Shared : Type 0
 Shared = Rc Symbol Global
@@ -96,4 +67,4 @@ of-longer (m ∷ ms) (v ∷ vs) n = rw (tree-RecordMember m) (both (one_of m v) 
     both true e = e
     both false e = refl
 
-pub ruleset typing_rules = (kind_rules, symbol_rules, plain-of-behind, whole-is, tuple-of, tuple-other, of-made, of-bare, of-left, of-done, of-longer)
+pub ruleset typing_rules = (tuple_rules, symbol_rules, plain-of-behind, whole-is, tuple-of, tuple-other, of-made, of-bare, of-left, of-done, of-longer)

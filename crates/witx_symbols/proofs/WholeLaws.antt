@@ -1,25 +1,18 @@
 -- The symbols of two types from two places: when one is of the other's type, and when they are the same.
-use Rattle.std.proofs.Common.{◌≡◌, ℕ, ◌+◌, Bool, true, false, not, cond, ◌&&◌, refl, sym, ap, ◌∙◌, nat_eq}
+use Rattle.std.proofs.Common.{◌≡◌, ℕ, ◌+◌, Bool, true, false, not, cond, ◌&&◌, refl, sym, ap, ◌∙◌}
 use Rattle.std.proofs.lemmas.Bool.{eq-eqb}
 use Rattle.witx_ast.specs.declared.types.RecordKind.{RecordKind}
 use Rattle.witx_ast.specs.Plain.{Plain, Fields}
 use Rattle.witx_ast.specs.Alike.{same_plain}
 use Rattle.witx_machine.proofs.Scalars.{truth, true_of}
-use Rattle.witx_symbols.specs.Symbols.{Source, Symbol, part, atom, tuple, made, bare_made, is_of, are_of, symbol_from, parts_from, same_source, same_symbol, same_members}
+use Rattle.witx_symbols.specs.Symbols.{Source, Symbol, part, atom, made, bare_made, is_of, are_of, symbol_from, parts_from, same_source, same_symbol, same_members}
 use Rattle.witx_symbols.specs.Typing.{is_tuple_type}
 use Rattle.witx_symbols.specs.Wholes.{same_whole, same_wholes, has_no_atom, have_no_atom}
+use Rattle.witx_symbols.proofs.EachType.{each-type}
 use Rattle.witx_symbols.proofs.SymbolLaws.{source_same, source_refl, symbol_same, symbol_refl}
 
 pub atom-is : (t u : Plain) (s : Source) → is_of u (atom s t) ≡ not (is_tuple_type u) && same_plain t u
-atom-is t (Plain.record_of RecordKind.Tuple ns) s = refl
-atom-is t (Plain.record_of (RecordKind.Bitflags r) ns) s = refl
-atom-is t (Plain.record_of RecordKind.Other ns) s = refl
-atom-is t (Plain.builtin b) s = refl
-atom-is t Plain.handle s = refl
-atom-is t (Plain.pointer_to u) s = refl
-atom-is t (Plain.const_pointer_to u) s = refl
-atom-is t (Plain.list_of u) s = refl
-atom-is t (Plain.variant_of r cs) s = refl
+atom-is t u s = each-type (λ u. is_of u (atom s t) ≡ not (is_tuple_type u) && same_plain t u) (λ ms. refl) (λ r ms. refl) (λ ms. refl) (λ b. refl) refl (λ t. refl) (λ t. refl) (λ t. refl) (λ r cs. refl) u
 
 -- the symbol of one type is of another
 abbrev mutual
@@ -62,15 +55,11 @@ and_true true = refl
 and_true false = refl
 
 pub atom-from : (t u : Plain) (s z : Source) → same_symbol (atom s t) (symbol_from u z) ≡ (not (is_tuple_type u) && same_plain t u) && same_source s z
-atom-from t (Plain.record_of RecordKind.Tuple ns) s z = refl
-atom-from t (Plain.record_of (RecordKind.Bitflags r) ns) s z = flip (same_source s z) (same_plain t (Plain.record_of (RecordKind.Bitflags r) ns))
-atom-from t (Plain.record_of RecordKind.Other ns) s z = flip (same_source s z) (same_plain t (Plain.record_of RecordKind.Other ns))
-atom-from t (Plain.builtin b) s z = flip (same_source s z) (same_plain t (Plain.builtin b))
-atom-from t Plain.handle s z = flip (same_source s z) (same_plain t Plain.handle)
-atom-from t (Plain.pointer_to u) s z = flip (same_source s z) (same_plain t (Plain.pointer_to u))
-atom-from t (Plain.const_pointer_to u) s z = flip (same_source s z) (same_plain t (Plain.const_pointer_to u))
-atom-from t (Plain.list_of u) s z = flip (same_source s z) (same_plain t (Plain.list_of u))
-atom-from t (Plain.variant_of r cs) s z = flip (same_source s z) (same_plain t (Plain.variant_of r cs))
+atom-from t u s z = each-type (λ u. same_symbol (atom s t) (symbol_from u z) ≡ (not (is_tuple_type u) && same_plain t u) && same_source s z)
+    (λ ms. refl) (λ r ms. turn _) (λ ms. turn _) (λ b. turn _) (turn _) (λ t. turn _) (λ t. turn _) (λ t. turn _) (λ r cs. turn _) u
+  where
+    turn : (b : Bool) → same_source s z && b ≡ b && same_source s z
+    turn b = flip (same_source s z) b
 
 pub mix : (a b c d q : Bool) → (a && cond b true q) && (c && cond d true q) ≡ (a && c) && cond (b && d) true q
 mix false b c d q = refl
@@ -123,26 +112,10 @@ pub whole-at : (t u : Plain) (s z : Source) → same_whole t u ≡ true → has_
 whole-at t u s z e h = from-from t u s z ∙ ap (λ b. b && cond (has_no_atom t) true (same_source s z)) e ∙ ap (λ b. cond b true (same_source s z)) h
 
 pub made-from : (t : Plain) (s : Source) (i : ℕ) (v : Symbol) → same_symbol (made i v) (symbol_from t s) ≡ false
-made-from (Plain.record_of RecordKind.Tuple ms) s i v = refl
-made-from (Plain.record_of (RecordKind.Bitflags r) ms) s i v = refl
-made-from (Plain.record_of RecordKind.Other ms) s i v = refl
-made-from (Plain.builtin b) s i v = refl
-made-from Plain.handle s i v = refl
-made-from (Plain.pointer_to t) s i v = refl
-made-from (Plain.const_pointer_to t) s i v = refl
-made-from (Plain.list_of t) s i v = refl
-made-from (Plain.variant_of r cs) s i v = refl
+made-from t s i v = each-type (λ t. same_symbol (made i v) (symbol_from t s) ≡ false) (λ ms. refl) (λ r ms. refl) (λ ms. refl) (λ b. refl) refl (λ t. refl) (λ t. refl) (λ t. refl) (λ r cs. refl) t
 
 pub bare-from : (t : Plain) (s : Source) (i : ℕ) → same_symbol (bare_made i) (symbol_from t s) ≡ false
-bare-from (Plain.record_of RecordKind.Tuple ms) s i = refl
-bare-from (Plain.record_of (RecordKind.Bitflags r) ms) s i = refl
-bare-from (Plain.record_of RecordKind.Other ms) s i = refl
-bare-from (Plain.builtin b) s i = refl
-bare-from Plain.handle s i = refl
-bare-from (Plain.pointer_to t) s i = refl
-bare-from (Plain.const_pointer_to t) s i = refl
-bare-from (Plain.list_of t) s i = refl
-bare-from (Plain.variant_of r cs) s i = refl
+bare-from t s i = each-type (λ t. same_symbol (bare_made i) (symbol_from t s) ≡ false) (λ ms. refl) (λ r ms. refl) (λ ms. refl) (λ b. refl) refl (λ t. refl) (λ t. refl) (λ t. refl) (λ r cs. refl) t
 
 -- a test that finds nothing but equals finds the same either way round
 pub turned : (v u : Symbol) → same_symbol v u ≡ same_symbol u v

@@ -1,7 +1,6 @@
 -- Words, lists and tuples of symbols.
 use Rattle.std.proofs.Common.{◌≡◌, ◌≢◌, ℕ, suc, Bool, true, false, refl, sym, ap, ◌∙◌, List, [], ◌∷◌, length, Some, None, nat_eq}
-use Rattle.std.proofs.lemmas.Bool.{eq-eqb, eqb-true}
-use Rattle.witx_ast.specs.declared.types.RecordKind.{RecordKind}
+use Rattle.std.proofs.lemmas.Bool.{eq-eqb, eqb-true, false≢true, true≢false}
 use Rattle.witx_ast.specs.Plain.{Plain}
 use Rattle.witx_machine.specs.Words.{when}
 use Rattle.witx_symbols.specs.Symbols.{Source, Symbol, atom, tuple, made, bare_made, list_address, list_length, symbols_listed, symbol_from}
@@ -9,52 +8,23 @@ use Rattle.witx_symbols.specs.Symbolic.{symbol_list_words, symbol_parts}
 use Rattle.witx_symbols.specs.SymbolViews.{symbols_read}
 use Rattle.witx_symbols.specs.WordViews.{Shared, shared_of, shared_symbols}
 use Rattle.witx_symbols.specs.Typing.{is_listed_type, is_list_symbol}
+use Rattle.witx_symbols.proofs.EachType.{each-type}
 use Rattle.witx_symbols.proofs.KindLemmas.{kind_rules}
 
 pub words-list : (v : Symbol) → is_list_symbol v ≡ true → symbol_list_words v ≡ Some (list_address v, list_length v)
 words-list (atom s (Plain.list_of t)) e = refl
-words-list (atom s (Plain.builtin b)) e = absurd (clash e)
-  where
-    clash : false ≡ true → ⊥
-    clash e = cc
-words-list (atom s Plain.handle) e = absurd (clash e)
-  where
-    clash : false ≡ true → ⊥
-    clash e = cc
-words-list (atom s (Plain.pointer_to t)) e = absurd (clash e)
-  where
-    clash : false ≡ true → ⊥
-    clash e = cc
-words-list (atom s (Plain.const_pointer_to t)) e = absurd (clash e)
-  where
-    clash : false ≡ true → ⊥
-    clash e = cc
-words-list (atom s (Plain.record_of k ms)) e = absurd (clash e)
-  where
-    clash : false ≡ true → ⊥
-    clash e = cc
-words-list (atom s (Plain.variant_of r cs)) e = absurd (clash e)
-  where
-    clash : false ≡ true → ⊥
-    clash e = cc
-words-list (tuple vs) e = absurd (clash e)
-  where
-    clash : false ≡ true → ⊥
-    clash e = cc
-words-list (made i v) e = absurd (clash e)
-  where
-    clash : false ≡ true → ⊥
-    clash e = cc
-words-list (bare_made i) e = absurd (clash e)
-  where
-    clash : false ≡ true → ⊥
-    clash e = cc
+words-list (atom s (Plain.builtin b)) e = absurd (false≢true e)
+words-list (atom s Plain.handle) e = absurd (false≢true e)
+words-list (atom s (Plain.pointer_to t)) e = absurd (false≢true e)
+words-list (atom s (Plain.const_pointer_to t)) e = absurd (false≢true e)
+words-list (atom s (Plain.record_of k ms)) e = absurd (false≢true e)
+words-list (atom s (Plain.variant_of r cs)) e = absurd (false≢true e)
+words-list (tuple vs) e = absurd (false≢true e)
+words-list (made i v) e = absurd (false≢true e)
+words-list (bare_made i) e = absurd (false≢true e)
 
 pub words-none : (v : Symbol) → is_list_symbol v ≡ false → symbol_list_words v ≡ None
-words-none (atom s (Plain.list_of t)) e = absurd (clash e)
-  where
-    clash : true ≡ false → ⊥
-    clash e = cc
+words-none (atom s (Plain.list_of t)) e = absurd (true≢false e)
 words-none (atom s (Plain.builtin b)) e = refl
 words-none (atom s Plain.handle) e = refl
 words-none (atom s (Plain.pointer_to t)) e = refl
@@ -66,15 +36,7 @@ words-none (made i v) e = refl
 words-none (bare_made i) e = refl
 
 pub from-list : (t : Plain) (s : Source) → is_list_symbol (symbol_from t s) ≡ is_listed_type t
-from-list (Plain.record_of RecordKind.Tuple ms) s = refl
-from-list (Plain.record_of (RecordKind.Bitflags r) ms) s = refl
-from-list (Plain.record_of RecordKind.Other ms) s = refl
-from-list (Plain.builtin b) s = refl
-from-list Plain.handle s = refl
-from-list (Plain.pointer_to t) s = refl
-from-list (Plain.const_pointer_to t) s = refl
-from-list (Plain.list_of t) s = refl
-from-list (Plain.variant_of r cs) s = refl
+from-list t s = each-type (λ t. is_list_symbol (symbol_from t s) ≡ is_listed_type t) (λ ms. refl) (λ r ms. refl) (λ ms. refl) (λ b. refl) refl (λ t. refl) (λ t. refl) (λ t. refl) (λ r cs. refl) t
 
 pub listed-read : (vs : List Shared) → symbols_listed (symbols_read vs) ≡ shared_symbols vs
 listed-read [] = refl

@@ -4,11 +4,9 @@
 ghost use Rattle.std.specs.Prelude.{◌≡◌, [], Some, IfOk, option_map, false, slice_get};
 ghost use Rattle.witx_ast.specs.Views.{named_tree};
 ghost use Rattle.witx_machine.specs.Words.{when};
-ghost use Rattle.witx_symbols.specs.Putting.{put_symbol};
-ghost use Rattle.witx_symbols.specs.Symbols.{given};
+ghost use Rattle.witx_symbols.specs.{Putting.{address_given, put_symbol}, Symbols.{given}};
 ghost use Rattle.witx_symbols.specs.Symbolic.{give_symbol, symbol_at, get_symbol, put_in, set_symbol};
-ghost use Rattle.witx_symbols.specs.Verdicts.{holds_symbol};
-ghost use Rattle.witx_symbols.specs.SymbolViews.{symbol_of};
+ghost use Rattle.witx_symbols.specs.{Verdicts.{holds_symbol}, SymbolViews.{symbol_of}};
 ghost use Rattle.witx_symbols.specs.WordViews.{takes_symbol, word_seen, shared_of, option_of, cell_of, memory_of};
 
 use crate::kinds::is_by_address;
@@ -68,7 +66,7 @@ impl Cells {
         ty: &Rc<NamedType>,
         content: Option<Rc<Symbol>>,
     ) -> Result<Option<Word>, OutOfMemory>
-        ensures { IfOk result (λ word. option_map (λ w. (word_seen w, memory_of self.new)) word ≡
+        ensures { IfOk result (λ word. address_given self.new word ≡
             give_symbol (named_tree ty.now.value) (option_of content) (memory_of self.old).made (memory_of self.old).left) }
     {
         match self.give_number(ty, content)? {
@@ -103,7 +101,7 @@ impl Cells {
         ty: &Rc<NamedType>,
         symbol: Rc<Symbol>,
     ) -> Result<Option<Word>, OutOfMemory>
-        ensures { IfOk result (λ word. option_map (λ w. (word_seen w, memory_of self.new)) word ≡
+        ensures { IfOk result (λ word. address_given self.new word ≡
             put_symbol (named_tree ty.now.value) (shared_of symbol) (memory_of self.old)) }
     {
         if is_by_address(&ty.tref) {

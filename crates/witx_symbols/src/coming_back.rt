@@ -2,17 +2,14 @@
 #![tactic(auto, using(crate::proofs::ReturnLemmas::return_rules))]
 
 ghost use Rattle.std.specs.Prelude.{◌≡◌, ◌∷◌, [], length, IfOk, Some};
-ghost use Rattle.witx_ast.specs.Plain.{plain};
 ghost use Rattle.witx_ast.specs.Views.{tree_of};
-ghost use Rattle.witx_machine.specs.Functions.{is_tuple, result_cases};
-ghost use Rattle.witx_machine.specs.Passage.{last_words};
+ghost use Rattle.witx_machine.specs.{Functions.{is_tuple, result_cases}, Passage.{last_words}};
 ghost use Rattle.witx_machine.specs.Signature.{ok_pointers};
 ghost use Rattle.witx_instructions.specs.Views.{param_types, payload_tree, variant_arms};
 ghost use Rattle.witx_symbols.specs.Verdicts.{gives_back, returns_under, returns_by, returns_whole, returns_case, hold_all, hold_parts, ok_parts, is_case_word};
 ghost use Rattle.witx_symbols.specs.Symbolic.{symbol_parts};
 ghost use Rattle.witx_symbols.specs.PassageParts.{nothing_returns, cases_return, ok_returns, err_returns};
-ghost use Rattle.witx_symbols.specs.OutcomeViews.{outcome_of, words_of};
-ghost use Rattle.witx_symbols.specs.SymbolViews.{symbol_of};
+ghost use Rattle.witx_symbols.specs.{OutcomeViews.{outcome_of, words_of}, SymbolViews.{symbol_of}};
 ghost use Rattle.witx_symbols.specs.WordViews.{memory_of, option_of, payload_pair, shared_symbols, word_seen, world_of};
 
 use crate::cells::Cells;
@@ -39,7 +36,10 @@ pub fn gives_back(
         gives_back func.now.abi (world_of world.now) (param_types func.now.results) (option_of world.now.whole) (outcome_of outcome.now)) }
 {
     match &world.whole {
-        Some(reply) => reply_returns(alloc, world, func, reply, outcome),
+        Some(reply) => match func.results.as_slice() {
+            [only] => result_returns(alloc, world, func.abi, &only.tref, reply, outcome),
+            _ => Ok(false),
+        },
         None => Ok(nothing_returns(func.results.as_slice(), outcome)),
     }
 }
@@ -48,22 +48,6 @@ fn nothing_returns(results: &[InterfaceFuncParam], outcome: &Outcome) -> bool
     ensures { result ≡ nothing_returns (param_types results.now) (outcome_of outcome.now) }
 {
     results.is_empty() && outcome.call.callee_words.is_empty()
-}
-
-fn reply_returns(
-    alloc: Global,
-    world: &World,
-    func: &InterfaceFunc,
-    reply: &Symbol,
-    outcome: &Outcome,
-) -> Result<bool, OutOfMemory>
-    ensures { IfOk result (λ fine. fine ≡
-        gives_back func.now.abi (world_of world.now) (param_types func.now.results) (Some (symbol_of reply.now)) (outcome_of outcome.now)) }
-{
-    match func.results.as_slice() {
-        [only] => result_returns(alloc, world, func.abi, &only.tref, reply, outcome),
-        _ => Ok(false),
-    }
 }
 
 fn result_returns(
@@ -113,26 +97,15 @@ fn word_returns(
         returns_by (world_of world.now) (result_cases (tree_of ty.now)) (tree_of ty.now) (symbol_of reply.now) (outcome_of outcome.now)) }
 {
     match result_cases(ty) {
-        Some(variant) => case_returns(alloc, world, variant, reply, outcome),
+        Some(variant) => {
+            let ok = ok_type(variant);
+            let err = err_type(variant);
+            match world.picks(ok, err, reply)? {
+                Some(picked) => picked_returns(alloc, ok, err, &picked, outcome),
+                None => Ok(false),
+            }
+        }
         None => Ok(direct_are(ty, reply, outcome.call.callee_words.as_slice())),
-    }
-}
-
-fn case_returns(
-    alloc: Global,
-    world: &World,
-    variant: &Variant,
-    reply: &Symbol,
-    outcome: &Outcome,
-) -> Result<bool, OutOfMemory>
-    ensures { IfOk result (λ fine. fine ≡
-        cases_return (world_of world.now) (variant_arms variant.now) (symbol_of reply.now) (outcome_of outcome.now)) }
-{
-    let ok = ok_type(variant);
-    let err = err_type(variant);
-    match world.picks(ok, err, reply)? {
-        Some(picked) => picked_returns(alloc, ok, err, &picked, outcome),
-        None => Ok(false),
     }
 }
 

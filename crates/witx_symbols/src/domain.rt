@@ -2,9 +2,9 @@
 
 ghost use Rattle.std.specs.Prelude.{◌≡◌, IfOk};
 ghost use Rattle.witx_symbols.specs.Symbolic.{SymbolMemory, symbols, result_in};
-ghost use Rattle.witx_symbols.specs.Symbols as symbol_words;
 ghost use Rattle.witx_symbols.specs.Symbols.{SymbolWord, tuple, symbols_of};
 ghost use Rattle.witx_symbols.specs.WordViews.{shared_of, option_of, shared_symbols, word_seen, memory_of, world_of};
+ghost use Rattle.witx_symbols.specs.Symbols as symbol_words;
 
 use crate::cells::Cells;
 use crate::symbol::Symbol;
@@ -81,10 +81,11 @@ impl Domain for Symbolic<'_> {
         list_of_words(address, length)
     }
 
+    #[tactic(auto, using(crate::proofs::WordLemmas::word_rules))]
     fn tuple(&self, values: Vec<Rc<Symbol>>) -> Result<Rc<Symbol>, OutOfMemory>
         ensures { IfOk result (λ made. shared_of made ≡ tuple (symbols_of (shared_symbols values.items))) }
     {
-        tuple_of(self.alloc, values)
+        Ok(Rc::new(self.alloc, Symbol::Tuple(Items::from_vec(values)))?)
     }
 
     fn parts(
@@ -154,12 +155,4 @@ impl Domain for Symbolic<'_> {
     fn has_type(&self, ty: WasmType, word: &Word) -> bool {
         word.has_type(ty)
     }
-}
-
-/// The tuple of these.
-#[tactic(auto, using(crate::proofs::WordLemmas::word_rules))]
-fn tuple_of(alloc: Global, values: Vec<Rc<Symbol>>) -> Result<Rc<Symbol>, OutOfMemory>
-    ensures { IfOk result (λ made. shared_of made ≡ tuple (symbols_of (shared_symbols values.items))) }
-{
-    Ok(Rc::new(alloc, Symbol::Tuple(Items::from_vec(values)))?)
 }

@@ -2,11 +2,9 @@
 #![tactic(auto, using(crate::proofs::FromLemmas::from_rules))]
 
 ghost use Rattle.std.specs.Prelude.{◌≡◌, IfOk, map};
-ghost use Rattle.witx_ast.specs.Plain.{plain};
-ghost use Rattle.witx_ast.specs.Views.{tree_of, members_plain};
+ghost use Rattle.witx_ast.specs.{Plain.{plain}, Views.{tree_of, members_plain}};
 ghost use Rattle.witx_symbols.specs.Symbols.{argument, part, symbol_from, parts_from};
-ghost use Rattle.witx_symbols.specs.Verdicts.{arguments_from};
-ghost use Rattle.witx_symbols.specs.SymbolViews.{source_of, symbols_read};
+ghost use Rattle.witx_symbols.specs.{Verdicts.{arguments_from}, SymbolViews.{source_of, symbols_read}};
 ghost use Rattle.witx_symbols.specs.WordViews.{shared_of, shared_symbols};
 
 use crate::symbol::{Source, Symbol};

@@ -3,10 +3,8 @@
 
 ghost use Rattle.std.specs.Prelude.{◌≡◌, ◌∷◌, [], option_to_list};
 ghost use Rattle.witx_machine.specs.Run.{values_in};
-ghost use Rattle.witx_symbols.specs.Verdicts.{are_values};
-ghost use Rattle.witx_symbols.specs.OutcomeViews.{symbol_item, symbol_items};
-ghost use Rattle.witx_symbols.specs.SymbolViews.{symbol_of};
-ghost use Rattle.witx_symbols.specs.WordViews.{option_of};
+ghost use Rattle.witx_symbols.specs.{Verdicts.{are_values}, OutcomeViews.{symbol_item, symbol_items}};
+ghost use Rattle.witx_symbols.specs.{SymbolViews.{symbol_of}, WordViews.{option_of}};
 
 use crate::outcome::Item;
 use crate::symbol::{Symbol, same};

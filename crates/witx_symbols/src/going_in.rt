@@ -2,14 +2,11 @@
 #![tactic(auto, using(crate::proofs::PassLemmas::pass_rules))]
 
 ghost use Rattle.std.specs.Prelude.{◌≡◌, ◌∷◌, [], length, option_map};
-ghost use Rattle.witx_ast.specs.Plain.{plain};
-ghost use Rattle.witx_ast.specs.Views.{tree_of};
+ghost use Rattle.witx_ast.specs.{Plain.{plain}, Views.{tree_of}};
 ghost use Rattle.witx_machine.specs.Signature.{param_words};
 ghost use Rattle.witx_symbols.specs.Verdicts.{param_are, direct_are, hold_all, is_word_of};
-ghost use Rattle.witx_symbols.specs.PassageParts.{words_behind, list_are, one_is};
-ghost use Rattle.witx_symbols.specs.OutcomeViews.{words_of};
-ghost use Rattle.witx_symbols.specs.SymbolViews.{symbol_of};
-ghost use Rattle.witx_symbols.specs.WordViews.{memory_of, word_seen};
+ghost use Rattle.witx_symbols.specs.{PassageParts.{words_behind, list_are, one_is}, OutcomeViews.{words_of}};
+ghost use Rattle.witx_symbols.specs.{SymbolViews.{symbol_of}, WordViews.{memory_of, word_seen}};
 
 use crate::cells::Cells;
 use crate::kinds::{has_one_word, is_by_address, is_list};

@@ -1,18 +1,13 @@
 //! Which conversions between values and words a type has.
 #![tactic(auto, using(crate::proofs::KindLemmas::kind_rules))]
 
-ghost use Rattle.std.specs.Prelude.{◌≡◌, ◌∷◌, []};
-ghost use Rattle.witx_ast.specs.Plain as plain_tree;
-ghost use Rattle.witx_ast.specs.Plain.{plain};
-ghost use Rattle.witx_ast.specs.Views.{tree_of, datatype_tree, record_tree};
+ghost use Rattle.std.specs.Prelude.{◌≡◌};
+ghost use Rattle.witx_ast.specs.{Plain.{Plain, plain}, Views.{tree_of, datatype_tree, record_tree}};
 ghost use Rattle.witx_ast.specs.Alike.{same_plain};
 ghost use Rattle.witx_machine.specs.Functions.{by_address};
-ghost use Rattle.witx_machine.specs.Signature.{param_words};
-ghost use Rattle.witx_machine.specs.Words.{same_types};
-ghost use Rattle.witx_symbols.specs.Symbolic.{has_kind, converts};
-ghost use Rattle.witx_symbols.specs.SymbolViews.{symbol_of};
 ghost use Rattle.witx_run.specs.Views.{scalar_of};
-ghost use Rattle.witx_symbols.specs.Typing.{is_listed_type, is_pointer_type, is_const_pointer_type, is_handle_type, is_flags_type, is_enum_type};
+ghost use Rattle.witx_symbols.specs.{Symbolic.{has_kind, converts}, SymbolViews.{symbol_of}};
+ghost use Rattle.witx_symbols.specs.Typing.{has_one_word, is_listed_type, is_pointer_type, is_const_pointer_type, is_handle_type, is_flags_type, is_enum_type};
 
 use crate::symbol::Symbol;
 use crate::types::alike;
@@ -53,7 +48,7 @@ pub fn converts(conversion: &Conversion<'_>, symbol: &Symbol) -> bool
 }
 
 fn is_builtin(builtin: BuiltinType, datatype: &Datatype) -> bool
-    ensures { result ≡ same_plain (plain (datatype_tree datatype.now)) (plain_tree.builtin builtin) }
+    ensures { result ≡ same_plain (plain (datatype_tree datatype.now)) (Plain.builtin builtin) }
 {
     match datatype {
         Datatype::Builtin(own) => *own == builtin,
@@ -81,13 +76,13 @@ fn is_handle(datatype: &Datatype) -> bool
 
 /// Whether a value of the type has one word, of this type.
 pub(crate) fn has_one_word(word: WasmType, ty: &TypeRef) -> bool
-    ensures { result ≡ same_types (word ∷ []) (param_words (plain (tree_of ty.now))) }
+    ensures { result ≡ has_one_word word (plain (tree_of ty.now)) }
 {
     is_one_word(word, ty.type_())
 }
 
 fn is_one_word(word: WasmType, datatype: &Datatype) -> bool
-    ensures { result ≡ same_types (word ∷ []) (param_words (plain (datatype_tree datatype.now))) }
+    ensures { result ≡ has_one_word word (plain (datatype_tree datatype.now)) }
 {
     match datatype {
         Datatype::List(_) => false,
@@ -101,7 +96,7 @@ fn is_one_word(word: WasmType, datatype: &Datatype) -> bool
 }
 
 fn is_word_of_record(word: WasmType, members: &RecordDatatype) -> bool
-    ensures { result ≡ same_types (word ∷ []) (param_words (plain (record_tree members.now))) }
+    ensures { result ≡ has_one_word word (plain (record_tree members.now)) }
 {
     match members.kind {
         RecordKind::Bitflags(repr) => same_type(word, WasmType::from(repr)),

@@ -1,11 +1,11 @@
 //! One world of a function: that of a known case, and that in which nothing is known.
 #![tactic(auto, using(crate::proofs::WorldsLemmas::worlds_rules))]
 
-ghost use Rattle.std.specs.Prelude.{◌≡◌, ◌∷◌, ◌++◌, [], IfOk, nat_le, true};
+ghost use Rattle.std.specs.Prelude.{◌≡◌, ◌∷◌, [], IfOk, nat_le, true};
 ghost use Rattle.witx_instructions.specs.Views.{payload_tree};
-ghost use Rattle.witx_symbols.specs.Symbolic.{unknown_world, world_if, payload_from};
+ghost use Rattle.witx_symbols.specs.Symbolic.{unknown_world, payload_from};
 ghost use Rattle.witx_symbols.specs.WordViews.{option_of, shared_of, world_of};
-ghost use Rattle.witx_symbols.specs.WorldViews.{worlds_read, world_known};
+ghost use Rattle.witx_symbols.specs.WorldViews.{GainWorld, worlds_read, world_known};
 
 use crate::from::symbol_from;
 use crate::symbol::{Source, Symbol};
@@ -48,8 +48,8 @@ pub fn push_second(
     count: usize,
     err: Option<&TypeRef>,
 ) -> Result<(), OutOfMemory>
-    ensures { IfOk result (λ _. worlds_read worlds.new.items ≡ worlds_read worlds.old.items
-        ++ world_if (nat_le 2 count) (world_known abi (shared_of reply.now) true (payload_tree err.entry))) }
+    ensures { IfOk result (λ _. GainWorld worlds.old.items worlds.new.items
+        (nat_le 2 count) (world_known abi (shared_of reply.now) true (payload_tree err.entry))) }
 {
     if count >= 2 {
         let alloc = *worlds.allocator();

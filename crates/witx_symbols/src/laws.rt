@@ -1,29 +1,16 @@
 //! What the verdict tells, as functions without work.
 
-ghost use Rattle.std.specs.Prelude.{ℕ, List, IsTrue, ◌≡◌};
-ghost use Rattle.witx_ast.specs.Functions.{FunctionTree};
-ghost use Rattle.witx_ast.specs.Tags.{function_fits};
-ghost use Rattle.witx_machine.specs.Events.{Event};
-ghost use Rattle.witx_machine.specs.Functions.{function_of};
-ghost use Rattle.witx_machine.specs.Lowerable.{lowerable};
-ghost use Rattle.witx_machine.specs.Traces.{caller_events, callee_events};
-ghost use Rattle.witx_machine.specs.Faithful.{Faithful};
-ghost use Rattle.witx_symbols.specs.declared.surface.Verdict.{Verdict};
-ghost use Rattle.witx_symbols.specs.Verdicts.{verdict, RunsNamePlaces};
-ghost use Rattle.witx_symbols.specs.Adapted.{AdaptedGetYes};
-ghost use Rattle.witx_symbols.specs.Meaning.{TestsTell};
+ghost use Rattle.witx_symbols.specs.Verdicts.{RunsNamePlaces};
+ghost use Rattle.witx_symbols.specs.{Adapted.{AdaptedGetYes, OwnGetYes, YesIsFaithful}, Meaning.{TestsTell}};
 
 /// Traces that get a yes are faithful to the function.
 pub fn a_yes_is_faithful()
-    ensures { (module_name : List ℕ) (func : FunctionTree) (caller callee : List Event) →
-        verdict module_name (function_of func) caller callee ≡ Verdict.Yes → Faithful module_name (function_of func) caller callee }
+    ensures { YesIsFaithful }
 {}
 
 /// The two traces that are defined for a function get a yes, where it can be lowered and its types fit their tags.
 pub fn own_traces_get_a_yes()
-    ensures { (module_name : List ℕ) (func : FunctionTree) → IsTrue (lowerable (function_of func))
-        → IsTrue (function_fits func) →
-        verdict module_name (function_of func) (caller_events module_name (function_of func)) (callee_events module_name (function_of func)) ≡ Verdict.Yes }
+    ensures { OwnGetYes }
 {}
 
 /// The two traces of each function of an adapted document get a yes, where the document is closed.

@@ -1,9 +1,7 @@
 //! Which part of a function doesn't fit its tags.
 
 ghost use Rattle.std.specs.Prelude.{◌≡◌, not, position};
-ghost use Rattle.witx_ast.specs.Plain.{plain};
-ghost use Rattle.witx_ast.specs.Tags.{fits};
-ghost use Rattle.witx_ast.specs.Views.{tree_of};
+ghost use Rattle.witx_ast.specs.{Plain.{plain}, Tags.{fits}, Views.{tree_of}};
 ghost use Rattle.witx_instructions.specs.Views.{called};
 ghost use Rattle.witx_symbols.specs.Verdicts.{misfit};
 

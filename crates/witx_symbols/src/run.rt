@@ -4,8 +4,7 @@ ghost use Rattle.std.specs.Prelude.{◌≡◌, ◌+◌, [], length, map, IfOk, I
 ghost use Rattle.witx_machine.specs.Positions.{spotted_run};
 ghost use Rattle.witx_instructions.specs.Views.{called, event_of};
 ghost use Rattle.witx_run.specs.Views.{reply_of};
-ghost use Rattle.witx_symbols.specs.OutcomeViews.{run_of};
-ghost use Rattle.witx_symbols.specs.Symbolic.{symbols};
+ghost use Rattle.witx_symbols.specs.{OutcomeViews.{run_of}, Symbolic.{symbols}};
 ghost use Rattle.witx_symbols.specs.WordViews.{option_of, shared_of, shared_symbols, world_of};
 
 use crate::cells::Cells;

@@ -1,7 +1,7 @@
 //! Symbols: where they come from, when two are the same, and how a deep one is let go.
 #![tactic(auto, using(crate::proofs::SymbolReads::symbol_rules))]
 
-ghost use Rattle.std.specs.Prelude.{◌≡◌, ℕ, IfErr, IfOk, IfSome, map};
+ghost use Rattle.std.specs.Prelude.{◌≡◌, ℕ, IfErr, IfOk, IfSome};
 ghost use Rattle.witx_symbols.specs.declared.symbol.Symbol.TheVariants as declared;
 ghost use Rattle.witx_symbols.specs.SymbolViews.{source_of, symbol_of, symbols_read};
 ghost use Rattle.witx_symbols.specs.Symbols.{same_source, same_symbol, same_members};

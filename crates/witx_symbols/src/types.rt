@@ -2,10 +2,9 @@
 #![tactic(auto, using(crate::proofs::AlikeTypes::alike_rules))]
 
 ghost use Rattle.std.specs.Prelude.{◌≡◌, ◌&&◌, option_map};
-ghost use Rattle.witx_ast.specs.Plain.{plain};
-ghost use Rattle.witx_ast.specs.Views.{tree_of, datatype_tree, members_plain, cases_plain};
-ghost use Rattle.witx_base.specs.SameBytes.{same_bytes};
+ghost use Rattle.witx_ast.specs.{Plain.{plain}, Views.{tree_of, datatype_tree, members_plain, cases_plain}};
 ghost use Rattle.witx_ast.specs.Alike.{same_plain, same_plain_fields, same_plain_arms};
+ghost use Rattle.witx_base.specs.SameBytes.{same_bytes};
 ghost use Rattle.witx_symbols.specs.Payloads.{payloads_alike};
 
 use witx_ast::{Case, Datatype, RecordMember, TypeRef};

@@ -1,12 +1,10 @@
 //! Which symbols are of a type.
 #![tactic(auto, using(crate::proofs::TypingLemmas::typing_rules))]
 
-ghost use Rattle.std.specs.Prelude.{◌≡◌};
-ghost use Rattle.witx_ast.specs.Plain.{plain};
-ghost use Rattle.witx_ast.specs.Views.{tree_of, datatype_tree, members_plain};
-ghost use Rattle.witx_symbols.specs.Symbols.{is_of, are_of, tuple};
-ghost use Rattle.witx_symbols.specs.SymbolViews.{symbol_of, symbols_read};
-ghost use Rattle.witx_symbols.specs.Typing.{is_tuple_type};
+ghost use Rattle.std.specs.Prelude.{◌≡◌, option_map};
+ghost use Rattle.witx_ast.specs.{Plain.{plain}, Views.{tree_of, datatype_tree, members_plain}};
+ghost use Rattle.witx_symbols.specs.{Symbols.{is_of, are_of, tuple}, SymbolViews.{symbol_of, symbols_read}};
+ghost use Rattle.witx_symbols.specs.Typing.{is_tuple_type, tuple_fields};
 
 use crate::symbol::Symbol;
 use crate::wholes::same_whole;
@@ -29,39 +27,30 @@ pub fn is_of(symbol: &Symbol, ty: &TypeRef) -> bool
     }
 }
 
+/// The members of a tuple type; none of another type.
+pub(crate) fn tuple_members(datatype: &Datatype) -> Option<&[RecordMember]>
+    ensures { option_map (λ ms. members_plain ms.now) result ≡ tuple_fields (plain (datatype_tree datatype.now)) }
+{
+    match datatype {
+        Datatype::Record(record) if record.is_tuple() => Some(record.members.as_slice()),
+        _ => None,
+    }
+}
+
 /// Whether a type is a tuple.
 pub(crate) fn is_tuple(datatype: &Datatype) -> bool
     ensures { result ≡ is_tuple_type (plain (datatype_tree datatype.now)) }
 {
-    match datatype {
-        Datatype::Record(members) => members.is_tuple(),
-        Datatype::Variant(_)
-        | Datatype::Handle(_)
-        | Datatype::List(_)
-        | Datatype::Pointer(_)
-        | Datatype::ConstPointer(_)
-        | Datatype::Builtin(_) => false,
-    }
+    tuple_members(datatype).is_some()
 }
 
 #[cycle(typing)]
 fn parts_are(parts: &[Rc<Symbol>], datatype: &Datatype) -> bool
     ensures { result ≡ is_of (plain (datatype_tree datatype.now)) (tuple (symbols_read parts.now)) }
 {
-    match datatype {
-        Datatype::Record(members) => {
-            if members.is_tuple() {
-                all_are(parts, members.members.as_slice())
-            } else {
-                false
-            }
-        }
-        Datatype::Variant(_)
-        | Datatype::Handle(_)
-        | Datatype::List(_)
-        | Datatype::Pointer(_)
-        | Datatype::ConstPointer(_)
-        | Datatype::Builtin(_) => false,
+    match tuple_members(datatype) {
+        Some(members) => all_are(parts, members),
+        None => false,
     }
 }
 

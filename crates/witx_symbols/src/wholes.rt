@@ -3,19 +3,18 @@
 #![tactic(auto, using(crate::proofs::WholeLemmas::whole_rules))]
 
 ghost use Rattle.std.specs.Prelude.{◌≡◌, ◌&&◌, not};
-ghost use Rattle.witx_ast.specs.Alike.{same_plain};
-ghost use Rattle.witx_ast.specs.Plain.{Plain, plain};
+ghost use Rattle.witx_ast.specs.{Alike.{same_plain}, Plain.{Plain, plain}};
 ghost use Rattle.witx_ast.specs.Views.{tree_of, datatype_tree, members_plain};
+ghost use Rattle.witx_ast.specs.declared.types.RecordKind.{RecordKind};
 ghost use Rattle.witx_symbols.specs.Symbols as symbols;
 ghost use Rattle.witx_symbols.specs.Symbols.{tuple, same_symbol, same_members, same_source, symbol_from, parts_from};
 ghost use Rattle.witx_symbols.specs.SymbolViews.{source_of, symbol_of, symbols_read};
 ghost use Rattle.witx_symbols.specs.Wholes.{same_whole, same_wholes, has_no_atom, have_no_atom, comes_from};
 ghost use Rattle.witx_symbols.specs.Typing.{is_tuple_type};
-ghost use Rattle.witx_ast.specs.declared.types.RecordKind.{RecordKind};
 
 use crate::symbol::{Source, Symbol, same_source};
 use crate::types::datatypes_alike;
-use crate::typing::is_tuple;
+use crate::typing::{is_tuple, tuple_members};
 use std::rc::Rc;
 use witx_ast::{Datatype, RecordMember, TypeRef};
 
@@ -39,19 +38,10 @@ fn same_written(own: &Datatype, other: &Datatype) -> bool
     ensures { result ≡ same_whole (plain (datatype_tree own.now)) (plain (datatype_tree other.now)) }
 {
     match own {
-        Datatype::Record(record) => {
-            if record.is_tuple() {
-                same_tuple(record.members.as_slice(), other)
-            } else {
-                same_atom(own, other)
-            }
+        Datatype::Record(record) if record.is_tuple() => {
+            same_tuple(record.members.as_slice(), other)
         }
-        Datatype::Variant(_)
-        | Datatype::Handle(_)
-        | Datatype::List(_)
-        | Datatype::Pointer(_)
-        | Datatype::ConstPointer(_)
-        | Datatype::Builtin(_) => same_atom(own, other),
+        _ => same_atom(own, other),
     }
 }
 
@@ -67,20 +57,9 @@ fn same_tuple(members: &[RecordMember], other: &Datatype) -> bool
     ensures { result ≡ same_whole (Plain.record_of RecordKind.Tuple (members_plain members.now))
         (plain (datatype_tree other.now)) }
 {
-    match other {
-        Datatype::Record(record) => {
-            if record.is_tuple() {
-                members_same(members, record.members.as_slice())
-            } else {
-                false
-            }
-        }
-        Datatype::Variant(_)
-        | Datatype::Handle(_)
-        | Datatype::List(_)
-        | Datatype::Pointer(_)
-        | Datatype::ConstPointer(_)
-        | Datatype::Builtin(_) => false,
+    match tuple_members(other) {
+        Some(others) => members_same(members, others),
+        None => false,
     }
 }
 
@@ -118,19 +97,8 @@ fn written_has_none(datatype: &Datatype) -> bool
     ensures { result ≡ has_no_atom (plain (datatype_tree datatype.now)) }
 {
     match datatype {
-        Datatype::Record(record) => {
-            if record.is_tuple() {
-                have_no_atom(record.members.as_slice())
-            } else {
-                false
-            }
-        }
-        Datatype::Variant(_)
-        | Datatype::Handle(_)
-        | Datatype::List(_)
-        | Datatype::Pointer(_)
-        | Datatype::ConstPointer(_)
-        | Datatype::Builtin(_) => false,
+        Datatype::Record(record) if record.is_tuple() => have_no_atom(record.members.as_slice()),
+        _ => false,
     }
 }
 
@@ -210,20 +178,9 @@ fn origin_of_tuple<'a>(parts: &'a [Rc<Symbol>], datatype: &Datatype) -> Origin<'
     ensures { (z : symbols.Source) → same_symbol (tuple (symbols_read parts.now))
         (symbol_from (plain (datatype_tree datatype.now)) z) ≡ comes_from result z }
 {
-    match datatype {
-        Datatype::Record(record) => {
-            if record.is_tuple() {
-                origin_of_parts(parts, record.members.as_slice())
-            } else {
-                Origin::Nowhere
-            }
-        }
-        Datatype::Variant(_)
-        | Datatype::Handle(_)
-        | Datatype::List(_)
-        | Datatype::Pointer(_)
-        | Datatype::ConstPointer(_)
-        | Datatype::Builtin(_) => Origin::Nowhere,
+    match tuple_members(datatype) {
+        Some(members) => origin_of_parts(parts, members),
+        None => Origin::Nowhere,
     }
 }
 

@@ -3,17 +3,17 @@
 
 ghost use Rattle.std.specs.Prelude.{◌≡◌, IfOk, option_map};
 ghost use Rattle.witx_symbols.specs.Symbolic.{lower_symbol, lift_word, symbol_list_words, list_of_words, symbol_parts, word_has_type};
-ghost use Rattle.witx_ast.specs.Plain.{plain};
-ghost use Rattle.witx_ast.specs.Views.{datatype_tree, members_plain};
 ghost use Rattle.witx_symbols.specs.Symbols.{tuple, symbol_from, parts_from};
 ghost use Rattle.witx_symbols.specs.SymbolViews.{source_of, symbol_of, symbols_read};
 ghost use Rattle.witx_symbols.specs.Typing.{is_list_symbol};
-ghost use Rattle.witx_run.specs.Views.{scalar_of};
 ghost use Rattle.witx_symbols.specs.WordViews.{word_seen, shared_of, option_of, shared_symbols};
+ghost use Rattle.witx_ast.specs.{Plain.{plain}, Views.{datatype_tree, members_plain}};
+ghost use Rattle.witx_run.specs.Views.{scalar_of};
 
 use crate::from::parts_from;
 use crate::kinds::{converts, is_list};
 use crate::symbol::{Source, Symbol, same};
+use crate::typing::tuple_members;
 use std::alloc::Global;
 use std::rc::Rc;
 use witx_ast::{Datatype, RecordMember};
@@ -201,20 +201,9 @@ fn whole_parts(
     ensures { IfOk result (λ parts. option_map (λ vs. shared_symbols vs.items) parts
         ≡ symbol_parts count (symbol_from (plain (datatype_tree datatype.now)) (source_of source.now.value))) }
 {
-    match datatype {
-        Datatype::Record(record) => {
-            if record.is_tuple() {
-                member_parts(alloc, count, source, record.members.as_slice())
-            } else {
-                Ok(None)
-            }
-        }
-        Datatype::Variant(_)
-        | Datatype::Handle(_)
-        | Datatype::List(_)
-        | Datatype::Pointer(_)
-        | Datatype::ConstPointer(_)
-        | Datatype::Builtin(_) => Ok(None),
+    match tuple_members(datatype) {
+        Some(members) => member_parts(alloc, count, source, members),
+        None => Ok(None),
     }
 }
 

@@ -6,8 +6,8 @@ ghost use Rattle.witx_machine.specs.Words.{when};
 ghost use Rattle.witx_symbols.specs.Symbols.{same_option};
 ghost use Rattle.witx_symbols.specs.Symbolic.{payload_is, picks_in, chooses_in, made_of, result_in};
 ghost use Rattle.witx_symbols.specs.SymbolViews.{symbol_of};
-ghost use Rattle.witx_run.specs.Views.{type_tree};
 ghost use Rattle.witx_symbols.specs.WordViews.{word_seen, shared_of, option_of, world_of, picked_of, payload_pair, is_case_of};
+ghost use Rattle.witx_run.specs.Views.{type_tree};
 
 use crate::symbol::{Symbol, same};
 use crate::typing::is_of;

@@ -23,7 +23,7 @@ use Rattle.witx_traces.specs.LineReading.{IsBehind, NumberAt, NamesAt, QuotedAt,
 use Rattle.witx_traces.specs.declared.candidates.KnownTypes.{KnownTypes}
 use Rattle.witx_traces.specs.ReadTypes.{PayloadAt, known_in}
 use Rattle.witx_traces.specs.Traces.{Types, CanSay, IsWord, IsPayload, EndsBeforeError, shown as shown_in, shown_payload}
-use Rattle.witx_traces.proofs.LineWords.{from-parts, text-parts, can-parts, spells, word-unbroken}
+use Rattle.witx_traces.proofs.LineWords.{each-named, each-number, each-shown, from-parts, text-parts, can-parts, spells, word-unbroken}
 use Rattle.witx_traces.proofs.OneEvent.{tails-same, said-parts, plain-shape, number-shape, named-shape, shown-shape, wasm-shape, interface-shape, lower-shape, room-shape, finished-shape, cut, number-unbroken, lower-texts, ends-first}
 use Rattle.witx_traces.proofs.PayloadTexts.{payloads-same}
 use Rattle.witx_traces.proofs.Quoting.{quoted-same}
@@ -71,28 +71,13 @@ parts-plain PlainWord.ResultLift = refl
 parts-plain PlainWord.PushBlock = refl
 
 parts-number : (w : NumberWord) (n : ℕ) → parts (emit (number_step w n)) ≡ number w n
-parts-number NumberWord.GetArg n = refl
-parts-number NumberWord.ReturnPointerGet n = refl
-parts-number NumberWord.TupleLift n = refl
-parts-number NumberWord.TupleLower n = refl
-parts-number NumberWord.Return n = refl
+parts-number w n = each-number (λ w. parts (emit (number_step w n)) ≡ number w n) refl refl refl refl refl w
 
 parts-named : (w : NamedWord) (t : Tree) → parts (emit (named_word_step w t)) ≡ named w t
-parts-named NamedWord.I32FromHandle t = refl
-parts-named NamedWord.I32FromBitflags t = refl
-parts-named NamedWord.I64FromBitflags t = refl
-parts-named NamedWord.HandleFromI32 t = refl
-parts-named NamedWord.BitflagsFromI32 t = refl
-parts-named NamedWord.BitflagsFromI64 t = refl
-parts-named NamedWord.Load t = refl
-parts-named NamedWord.Store t = refl
-parts-named NamedWord.EnumLift t = refl
-parts-named NamedWord.EnumLower t = refl
+parts-named w t = each-named (λ w. parts (emit (named_word_step w t)) ≡ named w t) refl refl refl refl refl refl refl refl refl refl w
 
 parts-shown : (w : ShownWord) (t : Tree) → parts (emit (shown_step w t)) ≡ shown w t
-parts-shown ShownWord.ListFromPointerLength t = refl
-parts-shown ShownWord.PointerFromI32 t = refl
-parts-shown ShownWord.ConstPointerFromI32 t = refl
+parts-shown w t = each-shown (λ w. parts (emit (shown_step w t)) ≡ shown w t) refl refl refl w
 
 from-event : (p : Parts) → parts (event_from p) ≡ p
 from-event (plain w) = parts-plain w

@@ -15,6 +15,35 @@ use Rattle.witx_traces.specs.declared.line_words.LineWord.{LineWord}
 use Rattle.witx_traces.specs.Traces.{Types, CanSay}
 use Rattle.witx_traces.specs.LineParts.{plain_event, number_step, named_word_step, shown_step, word_spelling, the_line_words, word_spelled, Parts, plain, number, named, shown, wasm, interface, lower, room, finished, event_from, line_word, lower_tail, tail_of, CanSayParts, parts, with_tail, no_blank}
 
+-- ---- what holds of each word of a kind holds of every one
+
+module _ (P : NumberWord → Type 0) (get_arg : P NumberWord.GetArg) (return_pointer_get : P NumberWord.ReturnPointerGet) (tuple_lift : P NumberWord.TupleLift) (tuple_lower : P NumberWord.TupleLower) (back : P NumberWord.Return) where
+  pub each-number : (w : NumberWord) → P w
+  each-number NumberWord.GetArg = get_arg
+  each-number NumberWord.ReturnPointerGet = return_pointer_get
+  each-number NumberWord.TupleLift = tuple_lift
+  each-number NumberWord.TupleLower = tuple_lower
+  each-number NumberWord.Return = back
+
+module _ (P : NamedWord → Type 0) (i32_from_handle : P NamedWord.I32FromHandle) (i32_from_bitflags : P NamedWord.I32FromBitflags) (i64_from_bitflags : P NamedWord.I64FromBitflags) (handle_from_i32 : P NamedWord.HandleFromI32) (bitflags_from_i32 : P NamedWord.BitflagsFromI32) (bitflags_from_i64 : P NamedWord.BitflagsFromI64) (load : P NamedWord.Load) (store : P NamedWord.Store) (enum_lift : P NamedWord.EnumLift) (enum_lower : P NamedWord.EnumLower) where
+  pub each-named : (w : NamedWord) → P w
+  each-named NamedWord.I32FromHandle = i32_from_handle
+  each-named NamedWord.I32FromBitflags = i32_from_bitflags
+  each-named NamedWord.I64FromBitflags = i64_from_bitflags
+  each-named NamedWord.HandleFromI32 = handle_from_i32
+  each-named NamedWord.BitflagsFromI32 = bitflags_from_i32
+  each-named NamedWord.BitflagsFromI64 = bitflags_from_i64
+  each-named NamedWord.Load = load
+  each-named NamedWord.Store = store
+  each-named NamedWord.EnumLift = enum_lift
+  each-named NamedWord.EnumLower = enum_lower
+
+module _ (P : ShownWord → Type 0) (list_from_pointer_length : P ShownWord.ListFromPointerLength) (pointer_from_i32 : P ShownWord.PointerFromI32) (const_pointer_from_i32 : P ShownWord.ConstPointerFromI32) where
+  pub each-shown : (w : ShownWord) → P w
+  each-shown ShownWord.ListFromPointerLength = list_from_pointer_length
+  each-shown ShownWord.PointerFromI32 = pointer_from_i32
+  each-shown ShownWord.ConstPointerFromI32 = const_pointer_from_i32
+
 -- ---- each event has its parts
 
 pub from-parts : (e : Event) → event_from (parts e) ≡ e
@@ -79,28 +108,13 @@ from-parts (finish v) = refl
 -- ---- its line is the word and what stands behind it
 
 number-text : (w : NumberWord) (n : ℕ) → event_text (emit (number_step w n)) ≡ with_tail (word_spelling (LineWord.Number w)) (tail_of (number w n))
-number-text NumberWord.GetArg n = refl
-number-text NumberWord.ReturnPointerGet n = refl
-number-text NumberWord.TupleLift n = refl
-number-text NumberWord.TupleLower n = refl
-number-text NumberWord.Return n = refl
+number-text w n = each-number (λ w. event_text (emit (number_step w n)) ≡ with_tail (word_spelling (LineWord.Number w)) (tail_of (number w n))) refl refl refl refl refl w
 
 named-text : (w : NamedWord) (t : Tree) → event_text (emit (named_word_step w t)) ≡ with_tail (word_spelling (LineWord.Named w)) (tail_of (named w t))
-named-text NamedWord.I32FromHandle t = refl
-named-text NamedWord.I32FromBitflags t = refl
-named-text NamedWord.I64FromBitflags t = refl
-named-text NamedWord.HandleFromI32 t = refl
-named-text NamedWord.BitflagsFromI32 t = refl
-named-text NamedWord.BitflagsFromI64 t = refl
-named-text NamedWord.Load t = refl
-named-text NamedWord.Store t = refl
-named-text NamedWord.EnumLift t = refl
-named-text NamedWord.EnumLower t = refl
+named-text w t = each-named (λ w. event_text (emit (named_word_step w t)) ≡ with_tail (word_spelling (LineWord.Named w)) (tail_of (named w t))) refl refl refl refl refl refl refl refl refl refl w
 
 shown-text : (w : ShownWord) (t : Tree) → event_text (emit (shown_step w t)) ≡ with_tail (word_spelling (LineWord.Shown w)) (tail_of (shown w t))
-shown-text ShownWord.ListFromPointerLength t = refl
-shown-text ShownWord.PointerFromI32 t = refl
-shown-text ShownWord.ConstPointerFromI32 t = refl
+shown-text w t = each-shown (λ w. event_text (emit (shown_step w t)) ≡ with_tail (word_spelling (LineWord.Shown w)) (tail_of (shown w t))) refl refl refl w
 
 lower-text : (ok err : Option Tree) → event_text (emit (Step.ResultLower ok err)) ≡ with_tail (word_spelling LineWord.ResultLower) (lower_tail ok err)
 lower-text None None = refl

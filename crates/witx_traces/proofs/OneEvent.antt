@@ -140,104 +140,58 @@ signature-same ps rs qs ts e =
 
 -- ---- the parts with each word
 
+-- what parts with this word are
+abbrev Shape : LineWord → Parts → Type 0
+Shape (LineWord.Plain v) p = p ≡ plain v
+Shape (LineWord.Number v) p = (n : ℕ) × (p ≡ number v n)
+Shape (LineWord.Named v) p = (t : Tree) × (p ≡ named v t)
+Shape (LineWord.Shown v) p = (t : Tree) × (p ≡ shown v t)
+Shape LineWord.CallWasm p = (m : List ℕ) × (n : List ℕ) × (ps : List WasmType) × (rs : List WasmType) × (p ≡ wasm m n ps rs)
+Shape LineWord.CallInterface p = (m : List ℕ) × (n : List ℕ) × (ps : List Tree) × (rs : List Tree) × (p ≡ interface m n ps rs)
+Shape LineWord.ResultLower p = (ok : Option Tree) × (err : Option Tree) × (p ≡ lower ok err)
+Shape LineWord.Space p = (k : ℕ) × (t : Tree) × (p ≡ room k t)
+Shape LineWord.FinishBlock p = (v : Bool) × (p ≡ finished v)
+
+own-shape : (p : Parts) → Shape (line_word p) p
+own-shape (plain w) = refl
+own-shape (number w n) = (n, refl)
+own-shape (named w t) = (t, refl)
+own-shape (shown w t) = (t, refl)
+own-shape (wasm m n ps rs) = (m, n, ps, rs, refl)
+own-shape (interface m n ps rs) = (m, n, ps, rs, refl)
+own-shape (lower ok err) = (ok, err, refl)
+own-shape (room k t) = (k, t, refl)
+own-shape (finished v) = (v, refl)
+
+with-shape : (w : LineWord) (p : Parts) → line_word p ≡ w → Shape w p
+with-shape w p e = subst (λ w. Shape w p) e (own-shape p)
+
 pub plain-shape : (v : PlainWord) (p : Parts) → line_word p ≡ LineWord.Plain v → p ≡ plain v
-plain-shape v (plain w) e = let s : w ≡ v = cc in ap plain s
-plain-shape v (number w n) e = absurd (cc)
-plain-shape v (named w t) e = absurd (cc)
-plain-shape v (shown w t) e = absurd (cc)
-plain-shape v (wasm m n ps rs) e = absurd (cc)
-plain-shape v (interface m n ps rs) e = absurd (cc)
-plain-shape v (lower ok err) e = absurd (cc)
-plain-shape v (room k t) e = absurd (cc)
-plain-shape v (finished b) e = absurd (cc)
+plain-shape v p e = with-shape (LineWord.Plain v) p e
 
 pub number-shape : (v : NumberWord) (p : Parts) → line_word p ≡ LineWord.Number v → (n : ℕ) × (p ≡ number v n)
-number-shape v (plain w) e = absurd (cc)
-number-shape v (number w n) e = let s : w ≡ v = cc in (n, ap (λ u. number u n) s)
-number-shape v (named w t) e = absurd (cc)
-number-shape v (shown w t) e = absurd (cc)
-number-shape v (wasm m n ps rs) e = absurd (cc)
-number-shape v (interface m n ps rs) e = absurd (cc)
-number-shape v (lower ok err) e = absurd (cc)
-number-shape v (room k t) e = absurd (cc)
-number-shape v (finished b) e = absurd (cc)
+number-shape v p e = with-shape (LineWord.Number v) p e
 
 pub named-shape : (v : NamedWord) (p : Parts) → line_word p ≡ LineWord.Named v → (t : Tree) × (p ≡ named v t)
-named-shape v (plain w) e = absurd (cc)
-named-shape v (number w n) e = absurd (cc)
-named-shape v (named w t) e = let s : w ≡ v = cc in (t, ap (λ u. named u t) s)
-named-shape v (shown w t) e = absurd (cc)
-named-shape v (wasm m n ps rs) e = absurd (cc)
-named-shape v (interface m n ps rs) e = absurd (cc)
-named-shape v (lower ok err) e = absurd (cc)
-named-shape v (room k t) e = absurd (cc)
-named-shape v (finished b) e = absurd (cc)
+named-shape v p e = with-shape (LineWord.Named v) p e
 
 pub shown-shape : (v : ShownWord) (p : Parts) → line_word p ≡ LineWord.Shown v → (t : Tree) × (p ≡ shown v t)
-shown-shape v (plain w) e = absurd (cc)
-shown-shape v (number w n) e = absurd (cc)
-shown-shape v (named w t) e = absurd (cc)
-shown-shape v (shown w t) e = let s : w ≡ v = cc in (t, ap (λ u. shown u t) s)
-shown-shape v (wasm m n ps rs) e = absurd (cc)
-shown-shape v (interface m n ps rs) e = absurd (cc)
-shown-shape v (lower ok err) e = absurd (cc)
-shown-shape v (room k t) e = absurd (cc)
-shown-shape v (finished b) e = absurd (cc)
+shown-shape v p e = with-shape (LineWord.Shown v) p e
 
 pub wasm-shape : (p : Parts) → line_word p ≡ LineWord.CallWasm → (m : List ℕ) × (n : List ℕ) × (ps : List WasmType) × (rs : List WasmType) × (p ≡ wasm m n ps rs)
-wasm-shape (plain w) e = absurd (cc)
-wasm-shape (number w n) e = absurd (cc)
-wasm-shape (named w t) e = absurd (cc)
-wasm-shape (shown w t) e = absurd (cc)
-wasm-shape (wasm m n ps rs) e = (m, n, ps, rs, refl)
-wasm-shape (interface m n ps rs) e = absurd (cc)
-wasm-shape (lower ok err) e = absurd (cc)
-wasm-shape (room k t) e = absurd (cc)
-wasm-shape (finished b) e = absurd (cc)
+wasm-shape p e = with-shape LineWord.CallWasm p e
 
 pub interface-shape : (p : Parts) → line_word p ≡ LineWord.CallInterface → (m : List ℕ) × (n : List ℕ) × (ps : List Tree) × (rs : List Tree) × (p ≡ interface m n ps rs)
-interface-shape (plain w) e = absurd (cc)
-interface-shape (number w n) e = absurd (cc)
-interface-shape (named w t) e = absurd (cc)
-interface-shape (shown w t) e = absurd (cc)
-interface-shape (wasm m n ps rs) e = absurd (cc)
-interface-shape (interface m n ps rs) e = (m, n, ps, rs, refl)
-interface-shape (lower ok err) e = absurd (cc)
-interface-shape (room k t) e = absurd (cc)
-interface-shape (finished b) e = absurd (cc)
+interface-shape p e = with-shape LineWord.CallInterface p e
 
 pub lower-shape : (p : Parts) → line_word p ≡ LineWord.ResultLower → (ok : Option Tree) × (err : Option Tree) × (p ≡ lower ok err)
-lower-shape (plain w) e = absurd (cc)
-lower-shape (number w n) e = absurd (cc)
-lower-shape (named w t) e = absurd (cc)
-lower-shape (shown w t) e = absurd (cc)
-lower-shape (wasm m n ps rs) e = absurd (cc)
-lower-shape (interface m n ps rs) e = absurd (cc)
-lower-shape (lower ok err) e = (ok, err, refl)
-lower-shape (room k t) e = absurd (cc)
-lower-shape (finished b) e = absurd (cc)
+lower-shape p e = with-shape LineWord.ResultLower p e
 
 pub room-shape : (p : Parts) → line_word p ≡ LineWord.Space → (k : ℕ) × (t : Tree) × (p ≡ room k t)
-room-shape (plain w) e = absurd (cc)
-room-shape (number w n) e = absurd (cc)
-room-shape (named w t) e = absurd (cc)
-room-shape (shown w t) e = absurd (cc)
-room-shape (wasm m n ps rs) e = absurd (cc)
-room-shape (interface m n ps rs) e = absurd (cc)
-room-shape (lower ok err) e = absurd (cc)
-room-shape (room k t) e = (k, t, refl)
-room-shape (finished b) e = absurd (cc)
+room-shape p e = with-shape LineWord.Space p e
 
 pub finished-shape : (p : Parts) → line_word p ≡ LineWord.FinishBlock → (v : Bool) × (p ≡ finished v)
-finished-shape (plain w) e = absurd (cc)
-finished-shape (number w n) e = absurd (cc)
-finished-shape (named w t) e = absurd (cc)
-finished-shape (shown w t) e = absurd (cc)
-finished-shape (wasm m n ps rs) e = absurd (cc)
-finished-shape (interface m n ps rs) e = absurd (cc)
-finished-shape (lower ok err) e = absurd (cc)
-finished-shape (room k t) e = absurd (cc)
-finished-shape (finished v) e = (v, refl)
+finished-shape p e = with-shape LineWord.FinishBlock p e
 
 -- ---- payloads
 

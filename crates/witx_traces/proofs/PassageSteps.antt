@@ -1,6 +1,6 @@
 -- What a loop over definitions has put into a draft, with what those still to come put, is the whole.
-use Rattle.std.proofs.Common.{◌≡◌, ℕ, ◌+◌, ◌<◌, ◌≤◌, List, [], ◌∷◌, length, get_or, map, drop, sym, ap, ◌∙◌, refl, zero, suc}
-use Rattle.std.proofs.lemmas.List.{drop_more, drop_all, drop-drop}
+use Rattle.std.proofs.Common.{◌≡◌, ℕ, ◌+◌, ◌<◌, ◌≤◌, List, [], ◌∷◌, length, get_or, map, drop, sym, ap, ◌∙◌}
+use Rattle.std.proofs.lemmas.List.{drop_more, drop_all, drop-map}
 use Rattle.std.specs.declared.alloc.Global.{Global}
 use Rattle.std.specs.declared.rc.Rc.{Rc}
 use Rattle.witx_ast.specs.declared.types.NamedType.{NamedType}
@@ -17,17 +17,13 @@ use Rattle.witx_ast.specs.Definitions.{definition_tree, module_tree}
 use Rattle.witx_layout.specs.declared.layout.SizeAlign.{SizeAlign}
 use Rattle.witx_adapt.specs.declared.adapted.AdaptedFunc.{AdaptedFunc}
 use Rattle.witx_adapt.specs.Listings.{func_count, import_line, listed_typename_lines, module_line, constant_line}
+use Rattle.witx_adapt.proofs.ListingSteps.{import-left, func-left, left-end}
 use Rattle.witx_traces.specs.Passages.{Draft, Passage, put, put_func, put_items, put_definitions}
 use Rattle.witx_traces.specs.Traces.{Offered, offered}
 use Rattle.witx_traces.proofs.TypeReading.{pushed}
 
 trees-drop : {A B : Type 0} (f : A → B) (xs : List A) (i : ℕ) (x : A) → i < length xs → x ≡ get_or xs i x → map f (drop i xs) ≡ f x ∷ map f (drop (i + 1) xs)
 trees-drop f xs i x l p = ap (map f) (drop_more xs i x l ∙ ap (λ y. y ∷ drop (i + 1) xs) (sym p))
-
-map-drop : {A B : Type 0} (f : A → B) (n : ℕ) (xs : List A) → map f (drop n xs) ≡ drop n (map f xs)
-map-drop f zero xs = refl
-map-drop f (suc n) [] = refl
-map-drop f (suc n) (x ∷ xs) = map-drop f n xs
 
 -- ---- the items of a module
 
@@ -45,26 +41,11 @@ pub func-step : (xs : List item.ModuleDefinition) (i : ℕ) (x : item.ModuleDefi
     → put_items (map item_tree (drop i xs)) (map offered fs) done ≡ total → put_items (map item_tree (drop (i + 1) xs)) (map offered gs) now ≡ total
 func-step xs i x r fs gs done now total l p q w d e =
     ap (put_items (map item_tree (drop (i + 1) xs)) (map offered gs)) w
-    ∙ (ap (λ hs. put_items (map item_tree (drop (i + 1) xs)) hs (put_func r.value.name r.value.abi (map offered fs) done)) (ap (map offered) d ∙ map-drop offered 1 fs)
+    ∙ (ap (λ hs. put_items (map item_tree (drop (i + 1) xs)) hs (put_func r.value.name r.value.abi (map offered fs) done)) (ap (map offered) d ∙ sym (drop-map offered 1 fs))
     ∙ (ap (λ ts. put_items ts (map offered fs) done) (sym (next-item xs i x (item_variant.Func r) l p q)) ∙ e))
 
 pub items-end : (xs : List item.ModuleDefinition) (i : ℕ) (fs : List Offered) (done total : Draft) → length xs ≤ i → put_items (map item_tree (drop i xs)) fs done ≡ total → done ≡ total
 items-end xs i fs done total l e = ap (λ ys. put_items (map item_tree ys) fs done) (sym (drop_all i xs l)) ∙ e
-
-pub import-left : (xs : List item.ModuleDefinition) (i : ℕ) (x : item.ModuleDefinition) (r : Rc ModuleImport Global) (fs all : List AdaptedFunc)
-    → i < length xs → x ≡ get_or xs i x → x ≡ item_variant.Import r
-    → drop (func_count (map item_tree (drop i xs))) fs ≡ all → drop (func_count (map item_tree (drop (i + 1) xs))) fs ≡ all
-import-left xs i x r fs all l p q e = ap (λ ts. drop (func_count ts) fs) (sym (next-item xs i x (item_variant.Import r) l p q)) ∙ e
-
-pub func-left : (xs : List item.ModuleDefinition) (i : ℕ) (x : item.ModuleDefinition) (r : Rc InterfaceFunc Global) (fs gs all : List AdaptedFunc)
-    → i < length xs → x ≡ get_or xs i x → x ≡ item_variant.Func r → gs ≡ drop 1 fs
-    → drop (func_count (map item_tree (drop i xs))) fs ≡ all → drop (func_count (map item_tree (drop (i + 1) xs))) gs ≡ all
-func-left xs i x r fs gs all l p q d e =
-    let n = func_count (map item_tree (drop (i + 1) xs)) in
-    ap (drop n) d ∙ (drop-drop n 1 fs ∙ (ap (λ ts. drop (func_count ts) fs) (sym (next-item xs i x (item_variant.Func r) l p q)) ∙ e))
-
-pub left-end : (xs : List item.ModuleDefinition) (i : ℕ) (fs all : List AdaptedFunc) → length xs ≤ i → drop (func_count (map item_tree (drop i xs))) fs ≡ all → fs ≡ all
-left-end xs i fs all l e = ap (λ ys. drop (func_count (map item_tree ys)) fs) (sym (drop_all i xs l)) ∙ e
 
 pub ruleset item_rules = (import-step, func-step, items-end, import-left, func-left, left-end)
 
@@ -95,7 +76,7 @@ pub module-step : (xs : List definition.Definition) (i : ℕ) (x : definition.De
 module-step xs i x r fs gs ls done now total l p q w d e =
     let n = func_count (module_tree r.value).items in
     ap (put_definitions (map definition_tree (drop (i + 1) xs)) (map offered gs) ls) w
-    ∙ (ap (λ hs. put_definitions (map definition_tree (drop (i + 1) xs)) hs ls (put_items (module_tree r.value).items (map offered fs) (put (module_line r.value.name) done))) (ap (map offered) d ∙ map-drop offered n fs)
+    ∙ (ap (λ hs. put_definitions (map definition_tree (drop (i + 1) xs)) hs ls (put_items (module_tree r.value).items (map offered fs) (put (module_line r.value.name) done))) (ap (map offered) d ∙ sym (drop-map offered n fs))
     ∙ (ap (λ ts. put_definitions ts (map offered fs) ls done) (sym (next-tree xs i x (definition_variant.Module r) l p q)) ∙ e))
 
 pub definitions-end : (xs : List definition.Definition) (i : ℕ) (fs : List Offered) (ls : List SizeAlign) (done total : Draft) → length xs ≤ i → put_definitions (map definition_tree (drop i xs)) fs ls done ≡ total → done ≡ total

@@ -260,13 +260,8 @@ cases-by ds false cs es e s = absurd (cc)
 
 pub cases-stand : (ds : List DefinitionTree) (t : Tree) (cs : Arms) → NamesStand ds (behind t) → result_cases t ≡ Some cs → ArmNamesStand ds cs
 cases-stand ds (Tree.named n t d) cs s e = cases-stand ds t cs s e
-cases-stand ds (Tree.builtin b) cs s e = absurd (cc)
-cases-stand ds Tree.handle cs s e = absurd (cc)
-cases-stand ds (Tree.list_of t) cs s e = absurd (cc)
-cases-stand ds (Tree.pointer_to t) cs s e = absurd (cc)
-cases-stand ds (Tree.const_pointer_to t) cs s e = absurd (cc)
-cases-stand ds (Tree.record_of k ms) cs s e = absurd (cc)
 cases-stand ds (Tree.variant_of r es) cs s e = cases-by ds (has_payload (plain_arms es)) es cs e s
+cases-stand ds _ cs s e = absurd (cc)
 
 members-all : (ds : List DefinitionTree) (ms : Fields) → FieldNamesStand ds ms → AllByRecursion (NamesStand ds) (member_types ms)
 members-all ds Fields.no_fields s = tt

@@ -3,6 +3,7 @@ use Rattle.std.proofs.Common.{◌≡◌, ℕ, suc, ◌+◌, ◌≤◌, List, [],
 use Rattle.std.specs.Prelude.{⊤, is_some}
 use Rattle.std.specs.List.{AllByRecursion}
 use Rattle.std.specs.Str.{IsUtf8}
+use Rattle.witx_ast.specs.declared.function.Abi.{Abi}
 use Rattle.witx_ast.specs.declared.types.BuiltinType.{BuiltinType}
 use Rattle.witx_ast.specs.declared.types.IntRepr.{IntRepr}
 use Rattle.witx_ast.specs.declared.types.RecordKind.{RecordKind}
@@ -11,9 +12,9 @@ use Rattle.witx_ast.specs.Plain.{Plain, plain, plain_arms}
 use Rattle.witx_machine.specs.declared.surface.WasmType.{WasmType}
 use Rattle.witx_machine.specs.Events.{Step, Event, emit, finish}
 use Rattle.witx_machine.specs.Functions.{Function, has_payload, is_tuple}
-use Rattle.witx_machine.specs.Signature.{ok_pointers, param_words, pointers_at, return_pointers, signature_params, signature_results, words_of_params}
+use Rattle.witx_machine.specs.Signature.{ok_pointers, param_words, pointers_at, pointers_under, return_pointers, signature_params, signature_results, words_back, words_of_params}
 use Rattle.witx_machine.specs.Lowerable.{can_be_param, can_be_err}
-use Rattle.witx_machine.specs.Traces.{block_events, callee_events, caller_events, err_lifted, err_lowered, get_args, lift_at, lift_cases, lift_params, lift_results, lift_step, load_all, lower_at, lower_builtin, lift_builtin, lower_cases, lower_params, lower_results, lower_step, make_spaces, ok_lifted, ok_lowered, store_all}
+use Rattle.witx_machine.specs.Traces.{block_events, callee_events, caller_events, err_lifted, err_lowered, get_args, lift_at, lift_cases, lift_params, lift_results, lift_step, lift_under, load_all, lower_at, lower_builtin, lift_builtin, lower_cases, lower_params, lower_results, lower_step, lower_under, make_spaces, ok_lifted, ok_lowered, store_all}
 use Rattle.witx_instructions.proofs.Sides.{err-param}
 use Rattle.witx_traces.specs.Traces.{EndsBeforeError, IsWord, Types, shown as shown_in, target}
 use Rattle.witx_traces.specs.LineParts.{parts}
@@ -49,35 +50,20 @@ Readable types t = NameStands types t × AllByRecursion (Stands (shown_in types)
 abbrev StepTells : Types → Step → Type 0
 StepTells types x = CanTell types (parts (emit x))
 
-builtin-lower : (types : Types) (b : BuiltinType) → StepTells types (lower_builtin b)
-builtin-lower types BuiltinType.Char = tt
-builtin-lower types (BuiltinType.U8 true) = tt
-builtin-lower types (BuiltinType.U8 false) = tt
-builtin-lower types BuiltinType.U16 = tt
-builtin-lower types (BuiltinType.U32 true) = tt
-builtin-lower types (BuiltinType.U32 false) = tt
-builtin-lower types BuiltinType.U64 = tt
-builtin-lower types BuiltinType.S8 = tt
-builtin-lower types BuiltinType.S16 = tt
-builtin-lower types BuiltinType.S32 = tt
-builtin-lower types BuiltinType.S64 = tt
-builtin-lower types BuiltinType.F32 = tt
-builtin-lower types BuiltinType.F64 = tt
-
-builtin-lift : (types : Types) (b : BuiltinType) → StepTells types (lift_builtin b)
-builtin-lift types BuiltinType.Char = tt
-builtin-lift types (BuiltinType.U8 true) = tt
-builtin-lift types (BuiltinType.U8 false) = tt
-builtin-lift types BuiltinType.U16 = tt
-builtin-lift types (BuiltinType.U32 true) = tt
-builtin-lift types (BuiltinType.U32 false) = tt
-builtin-lift types BuiltinType.U64 = tt
-builtin-lift types BuiltinType.S8 = tt
-builtin-lift types BuiltinType.S16 = tt
-builtin-lift types BuiltinType.S32 = tt
-builtin-lift types BuiltinType.S64 = tt
-builtin-lift types BuiltinType.F32 = tt
-builtin-lift types BuiltinType.F64 = tt
+builtin-tells : (types : Types) (b : BuiltinType) → StepTells types (lower_builtin b) × StepTells types (lift_builtin b)
+builtin-tells types BuiltinType.Char = (tt, tt)
+builtin-tells types (BuiltinType.U8 true) = (tt, tt)
+builtin-tells types (BuiltinType.U8 false) = (tt, tt)
+builtin-tells types BuiltinType.U16 = (tt, tt)
+builtin-tells types (BuiltinType.U32 true) = (tt, tt)
+builtin-tells types (BuiltinType.U32 false) = (tt, tt)
+builtin-tells types BuiltinType.U64 = (tt, tt)
+builtin-tells types BuiltinType.S8 = (tt, tt)
+builtin-tells types BuiltinType.S16 = (tt, tt)
+builtin-tells types BuiltinType.S32 = (tt, tt)
+builtin-tells types BuiltinType.S64 = (tt, tt)
+builtin-tells types BuiltinType.F32 = (tt, tt)
+builtin-tells types BuiltinType.F64 = (tt, tt)
 
 step-if : (types : Types) (b : Bool) (x y : Step) → StepTells types x → StepTells types y → StepTells types (cond b x y)
 step-if types true x y g h = g
@@ -86,7 +72,7 @@ step-if types false x y g h = h
 -- under a name
 lower-named : (types : Types) (whole : Tree) → Stands types.typename whole → (t : Tree) → StepTells types (lower_at whole t)
 lower-named types whole h (Tree.named n t d) = lower-named types whole h t
-lower-named types whole h (Tree.builtin b) = builtin-lower types b
+lower-named types whole h (Tree.builtin b) = (builtin-tells types b).0
 lower-named types whole h Tree.handle = h
 lower-named types whole h (Tree.pointer_to t) = tt
 lower-named types whole h (Tree.const_pointer_to t) = tt
@@ -101,7 +87,7 @@ lower-named types whole h (Tree.variant_of r cs) = step-if types (has_payload (p
 
 lift-named : (types : Types) (whole : Tree) → Stands types.typename whole → (t : Tree) → AllByRecursion (Stands (shown_in types)) (target t) → StepTells types (lift_at whole t)
 lift-named types whole h (Tree.named n t d) g = lift-named types whole h t g
-lift-named types whole h (Tree.builtin b) g = builtin-lift types b
+lift-named types whole h (Tree.builtin b) g = (builtin-tells types b).1
 lift-named types whole h Tree.handle g = h
 lift-named types whole h (Tree.pointer_to t) g = g.0
 lift-named types whole h (Tree.const_pointer_to t) g = g.0
@@ -117,7 +103,7 @@ lift-named types whole h (Tree.variant_of r cs) g = step-if types (has_payload (
 -- what a function takes
 lower-tells : (types : Types) (t : Tree) → can_be_param t ≡ true → NameStands types t → StepTells types (lower_step t)
 lower-tells types (Tree.named n t d) e h = lower-named types (Tree.named n t d) h t
-lower-tells types (Tree.builtin b) e h = builtin-lower types b
+lower-tells types (Tree.builtin b) e h = (builtin-tells types b).0
 lower-tells types (Tree.pointer_to t) e h = tt
 lower-tells types (Tree.const_pointer_to t) e h = tt
 lower-tells types (Tree.list_of t) e h = tt
@@ -127,7 +113,7 @@ lower-tells types (Tree.variant_of r cs) e h = absurd (cc)
 
 lift-tells : (types : Types) (t : Tree) → can_be_param t ≡ true → Readable types t → StepTells types (lift_step t)
 lift-tells types (Tree.named n t d) e h = lift-named types (Tree.named n t d) h.0 t h.1
-lift-tells types (Tree.builtin b) e h = builtin-lift types b
+lift-tells types (Tree.builtin b) e h = (builtin-tells types b).1
 lift-tells types (Tree.pointer_to t) e h = h.1.0
 lift-tells types (Tree.const_pointer_to t) e h = h.1.0
 lift-tells types (Tree.list_of t) e h = h.1.0
@@ -257,14 +243,17 @@ lower-cases-tell types ok err k w h =
 
 -- ---- both sides
 
+pub record ResultsTell (types : Types) (abi : Abi) (ts : List Tree) (k : ℕ) : Type 0 where
+  pub pointers : AllStand types (pointers_under abi ts)
+  pub lift : Tells types (lift_under abi ts)
+  pub lower : Tells types (lower_under abi k ts)
+  pub few : length ts ≤ 1
+  pub back : length (words_back abi ts) ≤ 1
+
 pub record SidesTell (types : Types) (m : List ℕ) (f : Function) : Type 0 where
   pub can : AllByRecursion CanBeParam f.params
   pub params : AllByRecursion (Readable types) f.params
-  pub pointers : AllStand types (return_pointers f)
-  pub lift : Tells types (lift_results f)
-  pub lower : Tells types (lower_results f)
-  pub few : length f.results ≤ 1
-  pub back : length (signature_results f) ≤ 1
+  pub results : ResultsTell types f.abi f.results (length (words_of_params f.params))
   pub words : IsWord (length (words_of_params f.params) + length (return_pointers f))
   pub owner : IsUtf8 m
   pub name : IsUtf8 f.name
@@ -282,8 +271,8 @@ caller-tells types m f h =
     tells-both types (lower_params 0 f.params) (make_spaces 0 (return_pointers f) ++ (call ∷ (lift_results f ++ end)))
     (lower-params-tell types 0 f.params (less-word (0 + length (words_of_params f.params)) all (omega arith) h.words) h.can h.params)
     (tells-both types (make_spaces 0 (return_pointers f)) (call ∷ (lift_results f ++ end))
-    (spaces-tell types 0 (return_pointers f) (less-word (0 + length (return_pointers f)) all (omega arith) h.words) h.pointers)
-    ((h.owner, h.name), tells-both types (lift_results f) end h.lift (one-word (length f.results) h.few, tt)))
+    (spaces-tell types 0 (return_pointers f) (less-word (0 + length (return_pointers f)) all (omega arith) h.words) h.results.pointers)
+    ((h.owner, h.name), tells-both types (lift_results f) end h.results.lift (one-word (length f.results) h.results.few, tt)))
 
 pub callee-tells : (types : Types) (m : List ℕ) (f : Function) → SidesTell types m f → Tells types (callee_events m f)
 callee-tells types m f h =
@@ -292,4 +281,4 @@ callee-tells types m f h =
     let end = emit (Step.Return (length (signature_results f))) ∷ [] in
     tells-both types (lift_params 0 f.params) (call ∷ (lower_results f ++ end))
     (lift-params-tell types 0 f.params (less-word (0 + length (words_of_params f.params)) all (omega arith) h.words) h.can h.params)
-    ((h.owner, h.name, h.takes, h.gives), tells-both types (lower_results f) end h.lower (one-word (length (signature_results f)) h.back, tt))
+    ((h.owner, h.name, h.takes, h.gives), tells-both types (lower_results f) end h.results.lower (one-word (length (signature_results f)) h.results.back, tt))

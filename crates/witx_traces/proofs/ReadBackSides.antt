@@ -19,9 +19,9 @@ use Rattle.witx_ast.specs.Closed.{AllNamesStand, ClosedAfter, IsClosed, ItemName
 use Rattle.witx_machine.specs.declared.surface.Place.{Place}
 use Rattle.witx_machine.specs.declared.surface.WasmType.{WasmType}
 use Rattle.witx_machine.specs.Functions.{Function, err_of, function_of, member_types, ok_of, result_cases, tuple_types}
-use Rattle.witx_machine.specs.Signature.{before_rest, ok_pointers, pointers_by, pointers_under, result_word, return_pointers, signature_params, words_back, words_of_params}
+use Rattle.witx_machine.specs.Signature.{before_rest, ok_pointers, pointers_by, pointers_under, result_word, return_pointers, signature_params, words_of_params}
 use Rattle.witx_machine.specs.Lowerable.{all_names, can_be_ok, can_be_param, can_be_result, earlier_place, unlowerable, unlowerable_result}
-use Rattle.witx_machine.specs.Traces.{lift_by, lift_under, lower_by, lower_under}
+use Rattle.witx_machine.specs.Traces.{lift_by, lower_by}
 use Rattle.witx_instructions.proofs.PointerTypes.{ok-members, ok-named, ok-single, ok-tuple}
 use Rattle.witx_instructions.proofs.Sides.{result-err, result-ok, word-param}
 use Rattle.witx_adapt.specs.Entries.{Owned, all_functions, owned_functions, owned_item}
@@ -30,7 +30,7 @@ use Rattle.witx_traces.specs.Traces.{EndsBeforeError, IsWord, err_types, first_s
 use Rattle.witx_traces.specs.ReadBack.{AreTypesHeld, ItemsAreHeld}
 use Rattle.witx_traces.proofs.OkTexts.{EachNoBlank, name-ends, tuple-ends}
 use Rattle.witx_traces.proofs.ReadBackParts.{PayloadStands, Stands, Tells, both-true}
-use Rattle.witx_traces.proofs.ReadBackEvents.{AllStand, CanBeParam, ErrReads, NameStands, PayloadsTell, Readable, SidesTell, lift-cases-tell, load-all-tells, lower-cases-tell, step-tells, store-all-tells}
+use Rattle.witx_traces.proofs.ReadBackEvents.{AllStand, CanBeParam, ErrReads, NameStands, PayloadsTell, Readable, ResultsTell, SidesTell, lift-cases-tell, load-all-tells, lower-cases-tell, step-tells, store-all-tells}
 use Rattle.witx_traces.proofs.ReadBackDocs.{Among, Document, OptionStands, among-all, among-flat, among-left, among-right, all-among, behind-stands, cases-stand, err-stands, first-among, ok-stands, or-first, or-found, params-still-stand, target-stands, tuple-stands, type-one, unbroken-name}
 
 can-back : (b : Bool) → cond b None (Some (Place.Result 0)) ≡ None → b ≡ true
@@ -62,28 +62,30 @@ ok-among t cs x e o = subst (Among x) (sym (ap (λ c. option_to_list (option_and
 err-among : (t : Tree) (cs : Arms) (x : Tree) → result_cases t ≡ Some cs → err_of cs ≡ Some x → Among x (err_types t)
 err-among t cs x e o = subst (Among x) (sym (ap (λ c. option_to_list (option_and_then err_of c)) e ∙ ap option_to_list o)) (inl refl)
 
+named-is : (t : Tree) → is_named t ≡ true → (name : List ℕ) × (u : Tree) × (docs : List ℕ) × (t ≡ Tree.named name u docs)
+named-is (Tree.named n t d) e = (n, t, d, refl)
+named-is (Tree.builtin b) e = absurd (cc)
+named-is Tree.handle e = absurd (cc)
+named-is (Tree.list_of t) e = absurd (cc)
+named-is (Tree.pointer_to t) e = absurd (cc)
+named-is (Tree.const_pointer_to t) e = absurd (cc)
+named-is (Tree.record_of k ms) e = absurd (cc)
+named-is (Tree.variant_of r cs) e = absurd (cc)
+
 module _ (ds : List DefinitionTree) (doc : Document ds) (f : Function) where
   -- ---- types of a function
 
   named-stands : (t : Tree) → is_named t ≡ true → NamesStand ds t → Stands (typename_called ds) t
-  named-stands (Tree.named n t d) e s = record { for = s.0; is = s.1; one = (unbroken-name ds doc.unbroken n s.0 s.1).0 }
-  named-stands (Tree.builtin b) e s = absurd (cc)
-  named-stands Tree.handle e s = absurd (cc)
-  named-stands (Tree.list_of t) e s = absurd (cc)
-  named-stands (Tree.pointer_to t) e s = absurd (cc)
-  named-stands (Tree.const_pointer_to t) e s = absurd (cc)
-  named-stands (Tree.record_of k ms) e s = absurd (cc)
-  named-stands (Tree.variant_of r cs) e s = absurd (cc)
+  named-stands t e s =
+      let is = named-is t e in
+      let stands : NamesStand ds (Tree.named is.0 is.1 is.2) = subst (NamesStand ds) is.3 s in
+      subst (Stands (typename_called ds)) (sym is.3) (record { for = stands.0; is = stands.1; one = (unbroken-name ds doc.unbroken is.0 stands.0 stands.1).0 })
 
   text-unbroken : (t : Tree) → is_named t ≡ true → NamesStand ds t → no_blank (type_text t) ≡ true
-  text-unbroken (Tree.named n t d) e s = (unbroken-name ds doc.unbroken n s.0 s.1).1
-  text-unbroken (Tree.builtin b) e s = absurd (cc)
-  text-unbroken Tree.handle e s = absurd (cc)
-  text-unbroken (Tree.list_of t) e s = absurd (cc)
-  text-unbroken (Tree.pointer_to t) e s = absurd (cc)
-  text-unbroken (Tree.const_pointer_to t) e s = absurd (cc)
-  text-unbroken (Tree.record_of k ms) e s = absurd (cc)
-  text-unbroken (Tree.variant_of r cs) e s = absurd (cc)
+  text-unbroken t e s =
+      let is = named-is t e in
+      let stands : NamesStand ds (Tree.named is.0 is.1 is.2) = subst (NamesStand ds) is.3 s in
+      ap (λ t. no_blank (type_text t)) is.3 ∙ (unbroken-name ds doc.unbroken is.0 stands.0 stands.1).1
 
   name-stands : (t : Tree) → NamesStand ds t → NameStands (known_of ds f) t
   name-stands (Tree.named n t d) s = named-stands (Tree.named n t d) refl s
@@ -185,13 +187,6 @@ module _ (ds : List DefinitionTree) (doc : Document ds) (f : Function) where
 
   -- ---- results
 
-  record ResultsTell (abi : Abi) (ts : List Tree) (k : ℕ) : Type 0 where
-    pointers : AllStand (known_of ds f) (pointers_under abi ts)
-    lift : Tells (known_of ds f) (lift_under abi ts)
-    lower : Tells (known_of ds f) (lower_under abi k ts)
-    few : length ts ≤ 1
-    back : length (words_back abi ts) ≤ 1
-
   record CasesTell (t : Tree) (o : Option Arms) (k : ℕ) : Type 0 where
     pointers : AllStand (known_of ds f) (pointers_by o ++ [])
     lift : Tells (known_of ds f) (lift_by o t)
@@ -216,7 +211,7 @@ module _ (ds : List DefinitionTree) (doc : Document ds) (f : Function) where
   one-back None = omega arith
   one-back (Some w) = omega arith
 
-  results-tell : (abi : Abi) (ts : List Tree) (k : ℕ) → f.results ≡ ts → AllByRecursion (NamesStand ds) ts → unlowerable_result abi ts ≡ None → IsWord (k + length (pointers_under abi ts)) → ResultsTell abi ts k
+  results-tell : (abi : Abi) (ts : List Tree) (k : ℕ) → f.results ≡ ts → AllByRecursion (NamesStand ds) ts → unlowerable_result abi ts ≡ None → IsWord (k + length (pointers_under abi ts)) → ResultsTell (known_of ds f) abi ts k
   results-tell Abi.Preview1 [] k e s h w = record { pointers = tt; lift = tt; lower = tt; few = omega arith; back = omega arith }
   results-tell Abi.Preview1 (t ∷ []) k e s h w =
       let c = cases-tell t (result_cases t) k refl e s.0 (can-back (can_be_result Abi.Preview1 t) h) w in
@@ -249,15 +244,10 @@ module _ (ds : List DefinitionTree) (doc : Document ds) (f : Function) where
       let none = none-first (position (λ t. not (can_be_param t)) f.params) (unlowerable_result f.abi f.results) h.can in
       let count = length-append (words_of_params f.params) (map (λ t. WasmType.I32) (return_pointers f)) ∙ ap (λ n. length (words_of_params f.params) + n) (length-map (return_pointers f) (λ t. WasmType.I32)) in
       let words : IsWord (length (words_of_params f.params) + length (return_pointers f)) = subst IsWord count h.words in
-      let r = results-tell f.abi f.results (length (words_of_params f.params)) refl h.results none.1 words in
       record {
         can = all-can 0 f.params (sym (position_from-zero (λ t. not (can_be_param t)) f.params) ∙ none.0);
         params = params-read h.params;
-        pointers = r.pointers;
-        lift = r.lift;
-        lower = r.lower;
-        few = r.few;
-        back = r.back;
+        results = results-tell f.abi f.results (length (words_of_params f.params)) refl h.results none.1 words;
         words = words;
         owner = h.owner;
         name = h.name;

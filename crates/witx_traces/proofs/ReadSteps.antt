@@ -16,7 +16,7 @@ use Rattle.witx_traces.specs.declared.passages.Passage as code_passage
 use Rattle.witx_traces.specs.declared.reading.Stopped.{Stopped}
 use Rattle.witx_traces.specs.declared.reading.Stopped.TheVariants as stopped_variant
 use Rattle.witx_traces.specs.Refusals.{TellsOfStop}
-use Rattle.witx_traces.specs.Passages.{AreFixed, IsCutAt, LacksWantedLine, IsFixed, IsLast, BeginPlainly, Passage, ReadPairs, Stretch, StopsAt, is_ended, events_of, feeds, indented, pair_text, passage_of, stretches}
+use Rattle.witx_traces.specs.Passages.{AreFixed, IsCutAt, LacksWantedLine, IsFixed, IsLast, BeginPlainly, Passage, ReadPairs, Stretch, StopsAt, is_ended, events_of, feeds, indented, pair_text, passage_of, side_of, stretches}
 use Rattle.witx_traces.proofs.Stopping.{no-feed, stops-after, stops-behind, stops-event, stops-fixed, stops-last, stops-past, stops-unended, stops-unsaid}
 use Rattle.witx_traces.proofs.TypeReading.{pushed}
 use Rattle.witx_traces.proofs.UnfitLines.{ends-both, ends-feed, line-cut}
@@ -205,9 +205,6 @@ callee-fixed = (refl, refl)
 pub handed-on : {A : Type 0} (Q : List ℕ → Type 0) (r : Result A Stopped) (e : Stopped) → IsErrAnd r (λ d. d ≡ e) → TellsOfStop Q e → IfErr r (TellsOfStop Q)
 handed-on Q (Ok x) e is h = tt
 handed-on Q (Err d) e is h = subst (TellsOfStop Q) (sym is) h
-
-abbrev pub side_of : List ℕ → Types → Stretch
-side_of fixed types = record { fixed = fixed; types = types }
 
 -- both sides of a function, with the types as they were made
 both-sides : (ds : List DefinitionTree) (p : Passage) (types : Types) (ps : List Passage) (P : List Stretch → Type 0) → types ≡ known_of ds p.function.function

@@ -105,12 +105,16 @@ bare-byte c i h l = (
 bare-bytes : (c : ℕ) → escapes c ≡ false → AreOthers (encode_utf8 c)
 bare-bytes c h = λ i l. bare-byte c i h l
 
-hex-digit : (k : ℕ) → k < 16 → hex_value (digit k) ≡ k
-hex-digit k l = by (nat_lt k 10) refl
+-- what holds of a decimal digit and of a letter holds of each digit
+each-digit : (P : ℕ → Type 0) (k : ℕ) → (nat_lt k 10 ≡ true → P (48 + k)) → (nat_lt k 10 ≡ false → P (87 + k)) → P (digit k)
+each-digit P k decimal_digit letter = by (nat_lt k 10) refl
   where
-    by : (t : Bool) → nat_lt k 10 ≡ t → hex_value (if t then 48 + k else 87 + k) ≡ k
-    by true e = grind (arith, nat_tests)
-    by false e = grind (arith, nat_tests)
+    by : (t : Bool) → nat_lt k 10 ≡ t → P (if t then 48 + k else 87 + k)
+    by true e = decimal_digit e
+    by false e = letter e
+
+hex-digit : (k : ℕ) → k < 16 → hex_value (digit k) ≡ k
+hex-digit k l = each-digit (λ d. hex_value d ≡ k) k (λ e. grind (arith, nat_tests)) (λ e. grind (arith, nat_tests))
 
 hex-both : (c : ℕ) → c < 128 → hex_byte (digit (c / 16)) (digit (c % 16)) ≡ c
 hex-both c l =
@@ -120,11 +124,7 @@ hex-both c l =
     ∙ (ap (λ h. min (min (c / 16 * 16) 255 + h) 255) (hex-digit (c % 16) low) ∙ omega (arith, l))
 
 digit-mark : (k : ℕ) → k < 16 → is_mark (digit k) ≡ false
-digit-mark k l = by (nat_lt k 10) refl
-  where
-    by : (t : Bool) → nat_lt k 10 ≡ t → is_mark (if t then 48 + k else 87 + k) ≡ false
-    by true e = grind (arith, nat_tests)
-    by false e = grind (arith, nat_tests)
+digit-mark k l = each-digit (λ d. is_mark d ≡ false) k (λ e. grind (arith, nat_tests)) (λ e. grind (arith, nat_tests))
 
 control-small : (c : ℕ) → (nat_lt c 32 || c == 127) ≡ true → c < 128
 control-small c e = grind (arith, nat_tests)

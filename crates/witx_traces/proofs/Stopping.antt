@@ -56,18 +56,18 @@ some-text (s ∷ ss) last =
 
 -- ---- a text that has no line feed, or whose first line is another one than is wanted
 
+-- it stops where it begins
+stops-here : (ss : List Stretch) (last text : List ℕ)
+    → ((line behind after : List ℕ) → one_line line ≡ true → text ≡ ended line ++ behind → Has ss last (ended line ++ after) → ⊥)
+    → (text ≡ [] → Has ss last text → ⊥) → StopsAt ss last text text
+stops-here ss last text stops missing =
+    let some = some-text ss last in
+    record { front = []; whole = refl; lines = refl; more = some.text; begins = some.has; stops = stops; missing = missing }
+
 pub stops-unended : (ss : List Stretch) (last text : List ℕ) → one_line text ≡ true → indented text ≡ true → StopsAt ss last text text
 stops-unended ss last text one blank =
-    let some = some-text ss last in
-    record {
-      front = [];
-      whole = refl;
-      lines = refl;
-      more = some.text;
-      begins = some.has;
-      stops = λ line behind after f e has. no-feed line behind (ap one_line (sym e) ∙ one);
-      missing = λ e has. let wrong : false ≡ true = ap indented (sym e) ∙ blank in absurd (cc);
-    }
+    stops-here ss last text (λ line behind after f e has. no-feed line behind (ap one_line (sym e) ∙ one))
+    (λ e has. let wrong : false ≡ true = ap indented (sym e) ∙ blank in absurd (cc))
 
 -- lines that stand above all that can follow
 record Above (L : List ℕ → Type 0) (fixed : List ℕ) : Type 0 where
@@ -196,18 +196,11 @@ stops-after types ss last text rest plain h =
 pub stops-unsaid : (types : Types) (ss : List Stretch) (last line text more : List ℕ) → BeginPlainly ss last → one_line line ≡ true → text ≡ ended line ++ more → indented text ≡ true
     → ((e : Event) → CanSay types e → codes "  " ++ event_text e ≡ line → ⊥) → StopsAt (events_of types ∷ ss) last text text
 stops-unsaid types ss last line text more plain one whole blank none =
-    let some = some-text (events_of types ∷ ss) last in
-    record {
-      front = [];
-      whole = refl;
-      lines = refl;
-      more = some.text;
-      begins = some.has;
-      stops = λ other behind after f is has.
-          let same = (line-cut line other more behind one f (sym whole ∙ is)).0 in
-          unsaid other after f same has (same-start other after behind ∙ (ap indented (sym is) ∙ blank));
-      missing = λ is has. some-line line more (sym is ∙ whole);
-    }
+    stops-here (events_of types ∷ ss) last text
+    (λ other behind after f is has.
+    let same = (line-cut line other more behind one f (sym whole ∙ is)).0 in
+    unsaid other after f same has (same-start other after behind ∙ (ap indented (sym is) ∙ blank)))
+    (λ is has. some-line line more (sym is ∙ whole))
   where
     unsaid : (other after : List ℕ) → one_line other ≡ true → line ≡ other → Has (events_of types ∷ ss) last (ended other ++ after) → indented (ended other ++ after) ≡ true → ⊥
     unsaid other after f same ([], m, all, is, has) led = let wrong : true ≡ false = sym led ∙ (ap indented is ∙ plain m has) in absurd (cc)

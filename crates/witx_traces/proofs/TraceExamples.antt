@@ -136,10 +136,10 @@ some-line : (line more : List ℕ) → (line ++ (10 ∷ [])) ++ more ≡ [] → 
 some-line [] more e = absurd (cc)
 some-line (b ∷ line) more e = absurd (cc)
 
-first_is_unfit : IsUnfit nothing (codes "x\n") 1
-first_is_unfit = record {
+first-unfit : (b : ℕ) (rest : List ℕ) → IsUnfit nothing (b ∷ rest) 1
+first-unfit b rest = record {
   before = [];
-  rest = codes "x\n";
+  rest = b ∷ rest;
   lines = tt;
   whole = refl;
   counted = refl;
@@ -148,18 +148,12 @@ first_is_unfit = record {
   missing = λ none sides gives. absurd (cc);
 }
 
+a_line_is_unfit : IsUnfit nothing (codes "x\n") 1
+a_line_is_unfit = first-unfit 120 (10 ∷ [])
+
 -- a text without its last line feed is refused at that line
 unended : IsUnfit nothing (codes "x") 1
-unended = record {
-  before = [];
-  rest = codes "x";
-  lines = tt;
-  whole = refl;
-  counted = refl;
-  begins = ([], [], (refl, tt));
-  stops = λ line more one e begins. some-line line begins.0 begins.2.0;
-  missing = λ none sides gives. absurd (cc);
-}
+unended = first-unfit 120 []
 
 -- lines are missing: the number is that of the line behind the last
 abbrev only_module : Listed

@@ -63,17 +63,12 @@ goes-on (x ∷ xs) (y ∷ ys) r t f g e l =
     let flat : ended x ++ (whole xs ++ r) ≡ ended y ++ (whole ys ++ t) = sym (append_assoc (ended x) (whole xs) r) ∙ (e ∙ append_assoc (ended y) (whole ys) t) in
     let cut = line-cut x y (whole xs ++ r) (whole ys ++ t) f.0 g.0 flat in
     let behind = goes-on xs ys r t f.1 g.1 cut.1 (omega (arith, l)) in
-    record {
-      line = behind.line;
-      more = behind.more;
-      others = behind.others;
-      one = behind.one;
-      next = behind.next;
-      same = ap (λ z. ended y ++ z) behind.same
-          ∙ (ap (λ z. ended z ++ ((whole xs ++ ended behind.line) ++ whole behind.others)) (sym cut.0)
-          ∙ (sym (append_assoc (ended x) (whole xs ++ ended behind.line) (whole behind.others))
-          ∙ ap (λ z. z ++ whole behind.others) (sym (append_assoc (ended x) (whole xs) (ended behind.line)))));
-    }
+    let same =
+    ap (λ z. ended y ++ z) behind.same
+    ∙ (ap (λ z. ended z ++ ((whole xs ++ ended behind.line) ++ whole behind.others)) (sym cut.0)
+    ∙ (sym (append_assoc (ended x) (whole xs ++ ended behind.line) (whole behind.others))
+    ∙ ap (λ z. z ++ whole behind.others) (sym (append_assoc (ended x) (whole xs) (ended behind.line))))) in
+    record { line = behind.line; more = behind.more; others = behind.others; one = behind.one; next = behind.next; same = same }
 
 -- what begins such a text, begins one with any part of it
 front-begins : (l : Listed) (front more : List ℕ) → CanBegin l (front ++ more) → CanBegin l front

@@ -1,5 +1,5 @@
 -- What the reader takes from the head of a text, loosely: that it is spelled so is seen afterwards, when its own text is compared.
-use Rattle.std.specs.Prelude.{◌≡◌, ℕ, ⊤, ◌+◌, ◌-◌, ◌*◌, ◌≤◌, min, length, codes, option_copied, nat_lt, List, [], ◌∷◌, ◌++◌, Bool, ◌||◌, ◌==◌, if◌then◌else◌, Option, Some, None}
+use Rattle.std.specs.Prelude.{◌≡◌, ℕ, ⊤, ◌+◌, ◌-◌, ◌*◌, ◌≤◌, ◌<◌, min, length, codes, option_copied, nat_lt, List, [], ◌∷◌, ◌++◌, Bool, ◌||◌, ◌==◌, if◌then◌else◌, Option, Some, None, MatchOption}
 use Rattle.std.specs.Borrow.{Bor}
 use Rattle.std.specs.Str.{IsUtf8}
 use Rattle.std.specs.Fmt.{decimal}
@@ -16,6 +16,10 @@ IsBehind front text o = Answered (λ rest. text ≡ front ++ rest) o
 -- as the program has what it takes, and what follows
 abbrev pub taken_line : {A : Type 0} → A × Bor (List ℕ) → A × List ℕ
 taken_line p = (p.0, p.1.now)
+
+-- what follows is shorter than the text, where something was taken
+abbrev pub LeavesLess : {A : Type 0} → List ℕ → Option (A × Bor (List ℕ)) → Type 0
+LeavesLess text o = MatchOption o (length text ≡ length text) (λ p. length p.1.now < length text)
 
 -- ---- numbers
 

@@ -71,12 +71,16 @@ pub record Stretch : Type 0 where
   pub fixed : List ℕ
   pub types : Types
 
+-- a side of a function: the text before its events, and the types that they can name
+abbrev pub side_of : List ℕ → Types → Stretch
+side_of fixed types = record { fixed = fixed; types = types }
+
 -- both sides of each function
 abbrev pub stretches : List DefinitionTree → List Passage → List Stretch
 stretches ds [] = []
 stretches ds (p ∷ ps) =
-    record { fixed = p.fixed; types = known_of ds p.function.function }
-    ∷ record { fixed = codes "callee\n"; types = known_of ds p.function.function }
+    side_of p.fixed (known_of ds p.function.function)
+    ∷ side_of (codes "callee\n") (known_of ds p.function.function)
     ∷ stretches ds ps
 
 -- the text has each stretch with some events, and then the last fixed text
@@ -145,9 +149,14 @@ pub record IsCutAt (lines text rest : List ℕ) : Type 0 where
 abbrev pub StopsAt : List Stretch → List ℕ → List ℕ → List ℕ → Type 0
 StopsAt ss last text rest = Stops (Has ss last) text rest
 
+-- the text stops where what follows a stretch in it stops
+abbrev pub StopsBehind : Stretch → List ℕ → List ℕ → Type 0
+StopsBehind s text end =
+    (ss : List Stretch) (last rest : List ℕ) → BeginPlainly ss last → StopsAt ss last end rest → StopsAt (s ∷ ss) last text rest
+
 -- events that can follow, with nothing before them
 abbrev pub events_of : Types → Stretch
-events_of types = record { fixed = []; types = types }
+events_of types = side_of [] types
 
 -- ---- the traces of passages
 

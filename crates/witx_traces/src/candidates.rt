@@ -1,8 +1,7 @@
 //! The types that texts can stand for in the lines of a function.
 
 ghost use Rattle.std.specs.Prelude.{◌≡◌};
-ghost use Rattle.witx_ast.specs.TypeNames.{type_text};
-ghost use Rattle.witx_ast.specs.Views.{tree_of};
+ghost use Rattle.witx_ast.specs.{TypeNames.{type_text}, Views.{tree_of}};
 
 use witx_ast::{Document, InterfaceFunc, TypeRef};
 use witx_base::Text;

@@ -9,8 +9,7 @@ ghost use Rattle.witx_instructions.specs.Views.{event_of, param_types};
 ghost use Rattle.witx_machine.specs.Events as machine;
 ghost use Rattle.witx_traces.specs.LineParts.{SaidBy, SaidByLine, SaidByText, no_blank};
 ghost use Rattle.witx_traces.specs.LineReading.{NamesAt, NumberAt, PayloadsAt, names_behind, texts_taken};
-ghost use Rattle.witx_traces.specs.ReadTypes.{PayloadAt, known_in};
-ghost use Rattle.witx_traces.specs.Traces.{Types};
+ghost use Rattle.witx_traces.specs.{ReadTypes.{PayloadAt, known_in}, Traces.{Types}};
 ghost use Rattle.witx_traces.specs.declared.line_words.LineWord.TheVariants as line_word;
 
 use crate::candidates::KnownTypes;
@@ -27,12 +26,11 @@ use witx_abi::{Event, InterfaceCall, Payloads, Step, WasmCall};
 use witx_ast::{InterfaceFuncParam, TypeRef, TypeRefs};
 use witx_base::{Id, OutOfMemory};
 
+/// The event that is said, if one is.
+type Said = Result<Option<Event>, OutOfMemory>;
+
 /// The event that a line says; none if it says none.
-pub(crate) fn read_event(
-    alloc: Global,
-    types: &KnownTypes<'_>,
-    line: &str,
-) -> Result<Option<Event>, OutOfMemory>
+pub(crate) fn read_event(alloc: Global, types: &KnownTypes<'_>, line: &str) -> Said
     ensures { IfOk result (λ o. SaidByLine (known_in types.now) line.now (option_map event_of o)) }
 {
     match behind(line, "  ") {
@@ -42,11 +40,7 @@ pub(crate) fn read_event(
 }
 
 /// The event whose text this is.
-fn read_text(
-    alloc: Global,
-    types: &KnownTypes<'_>,
-    text: &str,
-) -> Result<Option<Event>, OutOfMemory>
+fn read_text(alloc: Global, types: &KnownTypes<'_>, text: &str) -> Said
     ensures { IfOk result (λ o. SaidByText (known_in types.now) text.now (option_map event_of o)) }
 {
     match cut_word(text) {
@@ -57,7 +51,7 @@ fn read_text(
 
 /// The event whose text is the word alone.
 #[tactic(auto, using(crate::proofs::EventReading::word_rules))]
-fn bare_event(alloc: Global, word: &str) -> Result<Option<Event>, OutOfMemory>
+fn bare_event(alloc: Global, word: &str) -> Said
     requires { no_blank word.now ≡ true }
     ensures { (types : Types) → IfOk result (λ o. SaidByText types word.now (option_map event_of o)) }
 {
@@ -68,7 +62,7 @@ fn bare_event(alloc: Global, word: &str) -> Result<Option<Event>, OutOfMemory>
 }
 
 #[tactic(auto, using(crate::proofs::EventReading::alone_rules))]
-fn event_alone(alloc: Global, word: LineWord) -> Result<Option<Event>, OutOfMemory>
+fn event_alone(alloc: Global, word: LineWord) -> Said
     ensures { (types : Types) → IfOk result (λ o. SaidBy types word None (option_map event_of o)) }
 {
     match word {
@@ -86,12 +80,7 @@ fn event_alone(alloc: Global, word: LineWord) -> Result<Option<Event>, OutOfMemo
 
 /// The event whose text is the word and, behind a space, the tail.
 #[tactic(auto, using(crate::proofs::EventReading::word_rules))]
-fn read_spelled(
-    alloc: Global,
-    types: &KnownTypes<'_>,
-    word: &str,
-    tail: &str,
-) -> Result<Option<Event>, OutOfMemory>
+fn read_spelled(alloc: Global, types: &KnownTypes<'_>, word: &str, tail: &str) -> Said
     requires { no_blank word.now ≡ true }
     ensures { IfOk result (λ o. SaidByText (known_in types.now) (word.now ++ 32 ∷ tail.now) (option_map event_of o)) }
 {
@@ -103,12 +92,7 @@ fn read_spelled(
 
 /// The event of a word and what stands behind the space after it.
 #[tactic(auto, using(crate::proofs::EventReading::fields_rules))]
-fn read_fields(
-    alloc: Global,
-    types: &KnownTypes<'_>,
-    word: LineWord,
-    tail: &str,
-) -> Result<Option<Event>, OutOfMemory>
+fn read_fields(alloc: Global, types: &KnownTypes<'_>, word: LineWord, tail: &str) -> Said
     ensures { IfOk result (λ o. SaidBy (known_in types.now) word (Some tail.now) (option_map event_of o)) }
 {
     match word {
@@ -149,11 +133,7 @@ fn is_printed(alloc: Global, number: usize, text: &str) -> Result<bool, OutOfMem
 }
 
 #[tactic(auto, using(crate::proofs::EventReading::number_rules))]
-fn read_number_step(
-    alloc: Global,
-    word: NumberWord,
-    tail: &str,
-) -> Result<Option<Event>, OutOfMemory>
+fn read_number_step(alloc: Global, word: NumberWord, tail: &str) -> Said
     ensures { (types : Types)
         → IfOk result (λ o. SaidBy types (line_word.Number word) (Some tail.now) (option_map event_of o)) }
 {
@@ -164,28 +144,18 @@ fn read_number_step(
 }
 
 #[tactic(auto, using(crate::proofs::EventReading::named_rules))]
-fn read_named_step(
-    alloc: Global,
-    types: &KnownTypes<'_>,
-    word: NamedWord,
-    tail: &str,
-) -> Result<Option<Event>, OutOfMemory>
+fn read_named_step(alloc: Global, types: &KnownTypes<'_>, word: NamedWord, tail: &str) -> Said
     ensures { IfOk result
         (λ o. SaidBy (known_in types.now) (line_word.Named word) (Some tail.now) (option_map event_of o)) }
 {
-    match types.typename(alloc, tail)? {
-        Some(named) => Ok(Some(Event::Emit(named_step(word, named.clone()?)))),
-        None => Ok(None),
-    }
+    let Some(named) = types.typename(alloc, tail)? else {
+        return Ok(None);
+    };
+    Ok(Some(Event::Emit(named_step(word, named.clone()?))))
 }
 
 #[tactic(auto, using(crate::proofs::EventReading::shown_rules))]
-fn read_shown_step(
-    alloc: Global,
-    types: &KnownTypes<'_>,
-    word: ShownWord,
-    tail: &str,
-) -> Result<Option<Event>, OutOfMemory>
+fn read_shown_step(alloc: Global, types: &KnownTypes<'_>, word: ShownWord, tail: &str) -> Said
     ensures { IfOk result
         (λ o. SaidBy (known_in types.now) (line_word.Shown word) (Some tail.now) (option_map event_of o)) }
 {
@@ -196,11 +166,7 @@ fn read_shown_step(
 }
 
 #[tactic(auto, using(crate::proofs::EventReading::room_rules))]
-fn read_space(
-    alloc: Global,
-    types: &KnownTypes<'_>,
-    tail: &str,
-) -> Result<Option<Event>, OutOfMemory>
+fn read_space(alloc: Global, types: &KnownTypes<'_>, tail: &str) -> Said
     ensures { IfOk result (λ o. SaidBy (known_in types.now) line_word.Space (Some tail.now) (option_map event_of o)) }
 {
     let Some((number, name)) = cut_word(tail) else {
@@ -249,7 +215,7 @@ fn read_names<'a>(alloc: Global, text: &'a str) -> Result<Option<(Id, Id, &'a st
 }
 
 #[tactic(auto, using(crate::proofs::EventReading::wasm_rules))]
-fn read_call_wasm(alloc: Global, tail: &str) -> Result<Option<Event>, OutOfMemory>
+fn read_call_wasm(alloc: Global, tail: &str) -> Said
     ensures { (types : Types) → IfOk result (λ o. SaidBy types line_word.CallWasm (Some tail.now) (option_map event_of o)) }
 {
     let Some((module, name, rest)) = read_names(alloc, tail)? else {
@@ -273,11 +239,7 @@ fn read_call_wasm(alloc: Global, tail: &str) -> Result<Option<Event>, OutOfMemor
 }
 
 #[tactic(auto, using(crate::proofs::EventReading::interface_rules))]
-fn read_call_interface(
-    alloc: Global,
-    types: &KnownTypes<'_>,
-    tail: &str,
-) -> Result<Option<Event>, OutOfMemory>
+fn read_call_interface(alloc: Global, types: &KnownTypes<'_>, tail: &str) -> Said
     ensures { IfOk result
         (λ o. SaidBy (known_in types.now) line_word.CallInterface (Some tail.now) (option_map event_of o)) }
 {
@@ -345,11 +307,7 @@ fn ok_texts(payloads: &str) -> Option<(Option<&str>, Option<&str>)>
 }
 
 #[tactic(auto, using(crate::proofs::EventReading::lower_rules))]
-fn read_result_lower(
-    alloc: Global,
-    types: &KnownTypes<'_>,
-    tail: &str,
-) -> Result<Option<Event>, OutOfMemory>
+fn read_result_lower(alloc: Global, types: &KnownTypes<'_>, tail: &str) -> Said
     ensures { IfOk result (λ o. SaidBy (known_in types.now) line_word.ResultLower (Some tail.now) (option_map event_of o)) }
 {
     let Some((ok, err)) = payload_texts(tail) else {

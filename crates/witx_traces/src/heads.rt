@@ -2,9 +2,7 @@
 
 ghost use Rattle.std.specs.Prelude.{◌≡◌, ◌∷◌, ◌++◌, MatchOption, option_copied, true};
 ghost use Rattle.witx_base.specs.Texts.{same_text};
-ghost use Rattle.witx_traces.specs.LineParts.{no_blank};
-ghost use Rattle.witx_traces.specs.LineReading.{IsBehind};
-ghost use Rattle.witx_traces.specs.Traces.{ended, one_line};
+ghost use Rattle.witx_traces.specs.{LineParts.{no_blank}, LineReading.{IsBehind}, Traces.{ended, one_line}};
 
 /// What stands behind a front, if the text begins with it.
 pub(crate) fn behind<'a>(text: &'a str, front: &str) -> Option<&'a str>

@@ -1,13 +1,11 @@
 //! Which type a text stands for in the lines of a function.
 #![tactic(auto, using(crate::proofs::TypeReading::gather_rules))]
 
-ghost use Rattle.std.specs.Prelude.{◌≡◌, ◌++◌, IfOk, OnOk, map, option_map};
-ghost use Rattle.std.specs.List.{flat_map};
+ghost use Rattle.std.specs.{Prelude.{◌≡◌, ◌++◌, IfOk, OnOk, map, option_map}, List.{flat_map}};
 ghost use Rattle.std.specs.Option.{option_to_list, option_and_then};
 ghost use Rattle.witx_base.specs.Texts.{same_text};
 ghost use Rattle.witx_ast.specs.Views.{datatype_tree, named_tree, tree_of};
-ghost use Rattle.witx_ast.specs.Definitions.{definition_tree, typename_called};
-ghost use Rattle.witx_ast.specs.TypeNames.{type_text};
+ghost use Rattle.witx_ast.specs.{Definitions.{definition_tree, typename_called}, TypeNames.{type_text}};
 ghost use Rattle.witx_machine.specs.Functions.{err_of, ok_of, result_cases};
 ghost use Rattle.witx_instructions.specs.Views.{called, param_types, payload_tree};
 ghost use Rattle.witx_traces.specs.ReadTypes.{candidate_type, known_in};

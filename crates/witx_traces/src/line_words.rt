@@ -102,109 +102,91 @@ pub(crate) struct Spelled {
     text: &'static str,
 }
 
-macro_rules! plain {
-    ($word:ident, $text:literal) => {
-        Spelled {
-            word: LineWord::Plain(PlainWord::$word),
-            text: $text,
-        }
-    };
-}
-
-macro_rules! number {
-    ($word:ident, $text:literal) => {
-        Spelled {
-            word: LineWord::Number(NumberWord::$word),
-            text: $text,
-        }
-    };
-}
-
-macro_rules! named {
-    ($word:ident, $text:literal) => {
-        Spelled {
-            word: LineWord::Named(NamedWord::$word),
-            text: $text,
-        }
-    };
-}
-
-macro_rules! shown {
-    ($word:ident, $text:literal) => {
-        Spelled {
-            word: LineWord::Shown(ShownWord::$word),
-            text: $text,
-        }
-    };
-}
-
-macro_rules! other {
+macro_rules! spelled {
     ($word:ident, $text:literal) => {
         Spelled {
             word: LineWord::$word,
             text: $text,
         }
     };
+    (Plain $word:ident, $text:literal) => {
+        spelled!(in Plain PlainWord $word, $text)
+    };
+    (Number $word:ident, $text:literal) => {
+        spelled!(in Number NumberWord $word, $text)
+    };
+    (Named $word:ident, $text:literal) => {
+        spelled!(in Named NamedWord $word, $text)
+    };
+    (Shown $word:ident, $text:literal) => {
+        spelled!(in Shown ShownWord $word, $text)
+    };
+    (in $kind:ident $words:ident $word:ident, $text:literal) => {
+        Spelled {
+            word: LineWord::$kind($words::$word),
+            text: $text,
+        }
+    };
 }
 
 static WORDS: [Spelled; 57] = [
-    number!(GetArg, "get_arg"),
-    plain!(AddrOf, "addr_of"),
-    plain!(I32FromChar, "i32_from_char"),
-    plain!(I64FromU64, "i64_from_u64"),
-    plain!(I64FromS64, "i64_from_s64"),
-    plain!(I32FromU32, "i32_from_u32"),
-    plain!(I32FromS32, "i32_from_s32"),
-    plain!(I32FromUsize, "i32_from_usize"),
-    plain!(I32FromU16, "i32_from_u16"),
-    plain!(I32FromS16, "i32_from_s16"),
-    plain!(I32FromU8, "i32_from_u8"),
-    plain!(I32FromS8, "i32_from_s8"),
-    plain!(I32FromChar8, "i32_from_char8"),
-    plain!(I32FromPointer, "i32_from_pointer"),
-    plain!(I32FromConstPointer, "i32_from_const_pointer"),
-    named!(I32FromHandle, "i32_from_handle"),
-    named!(I32FromBitflags, "i32_from_bitflags"),
-    named!(I64FromBitflags, "i64_from_bitflags"),
-    plain!(F32FromIf32, "f32_from_if32"),
-    plain!(F64FromIf64, "f64_from_if64"),
-    plain!(ListPointerLength, "list_pointer_length"),
-    shown!(ListFromPointerLength, "list_from_pointer_length"),
-    other!(CallWasm, "call_wasm"),
-    other!(CallInterface, "call_interface"),
-    plain!(S8FromI32, "s8_from_i32"),
-    plain!(U8FromI32, "u8_from_i32"),
-    plain!(S16FromI32, "s16_from_i32"),
-    plain!(U16FromI32, "u16_from_i32"),
-    plain!(S32FromI32, "s32_from_i32"),
-    plain!(U32FromI32, "u32_from_i32"),
-    plain!(S64FromI64, "s64_from_i64"),
-    plain!(U64FromI64, "u64_from_i64"),
-    plain!(CharFromI32, "char_from_i32"),
-    plain!(Char8FromI32, "char8_from_i32"),
-    plain!(UsizeFromI32, "usize_from_i32"),
-    plain!(If32FromF32, "if32_from_f32"),
-    plain!(If64FromF64, "if64_from_f64"),
-    named!(HandleFromI32, "handle_from_i32"),
-    shown!(PointerFromI32, "pointer_from_i32"),
-    shown!(ConstPointerFromI32, "const_pointer_from_i32"),
-    named!(BitflagsFromI32, "bitflags_from_i32"),
-    named!(BitflagsFromI64, "bitflags_from_i64"),
-    number!(ReturnPointerGet, "return_pointer_get"),
-    named!(Load, "load"),
-    named!(Store, "store"),
-    number!(TupleLift, "tuple_lift"),
-    number!(TupleLower, "tuple_lower"),
-    named!(EnumLift, "enum_lift"),
-    named!(EnumLower, "enum_lower"),
-    plain!(VariantPayload, "variant_payload"),
-    plain!(ReuseReturn, "reuse_return"),
-    other!(ResultLower, "result_lower"),
-    plain!(ResultLift, "result_lift"),
-    number!(Return, "return"),
-    other!(Space, "space"),
-    plain!(PushBlock, "push_block"),
-    other!(FinishBlock, "finish_block"),
+    spelled!(Number GetArg, "get_arg"),
+    spelled!(Plain AddrOf, "addr_of"),
+    spelled!(Plain I32FromChar, "i32_from_char"),
+    spelled!(Plain I64FromU64, "i64_from_u64"),
+    spelled!(Plain I64FromS64, "i64_from_s64"),
+    spelled!(Plain I32FromU32, "i32_from_u32"),
+    spelled!(Plain I32FromS32, "i32_from_s32"),
+    spelled!(Plain I32FromUsize, "i32_from_usize"),
+    spelled!(Plain I32FromU16, "i32_from_u16"),
+    spelled!(Plain I32FromS16, "i32_from_s16"),
+    spelled!(Plain I32FromU8, "i32_from_u8"),
+    spelled!(Plain I32FromS8, "i32_from_s8"),
+    spelled!(Plain I32FromChar8, "i32_from_char8"),
+    spelled!(Plain I32FromPointer, "i32_from_pointer"),
+    spelled!(Plain I32FromConstPointer, "i32_from_const_pointer"),
+    spelled!(Named I32FromHandle, "i32_from_handle"),
+    spelled!(Named I32FromBitflags, "i32_from_bitflags"),
+    spelled!(Named I64FromBitflags, "i64_from_bitflags"),
+    spelled!(Plain F32FromIf32, "f32_from_if32"),
+    spelled!(Plain F64FromIf64, "f64_from_if64"),
+    spelled!(Plain ListPointerLength, "list_pointer_length"),
+    spelled!(Shown ListFromPointerLength, "list_from_pointer_length"),
+    spelled!(CallWasm, "call_wasm"),
+    spelled!(CallInterface, "call_interface"),
+    spelled!(Plain S8FromI32, "s8_from_i32"),
+    spelled!(Plain U8FromI32, "u8_from_i32"),
+    spelled!(Plain S16FromI32, "s16_from_i32"),
+    spelled!(Plain U16FromI32, "u16_from_i32"),
+    spelled!(Plain S32FromI32, "s32_from_i32"),
+    spelled!(Plain U32FromI32, "u32_from_i32"),
+    spelled!(Plain S64FromI64, "s64_from_i64"),
+    spelled!(Plain U64FromI64, "u64_from_i64"),
+    spelled!(Plain CharFromI32, "char_from_i32"),
+    spelled!(Plain Char8FromI32, "char8_from_i32"),
+    spelled!(Plain UsizeFromI32, "usize_from_i32"),
+    spelled!(Plain If32FromF32, "if32_from_f32"),
+    spelled!(Plain If64FromF64, "if64_from_f64"),
+    spelled!(Named HandleFromI32, "handle_from_i32"),
+    spelled!(Shown PointerFromI32, "pointer_from_i32"),
+    spelled!(Shown ConstPointerFromI32, "const_pointer_from_i32"),
+    spelled!(Named BitflagsFromI32, "bitflags_from_i32"),
+    spelled!(Named BitflagsFromI64, "bitflags_from_i64"),
+    spelled!(Number ReturnPointerGet, "return_pointer_get"),
+    spelled!(Named Load, "load"),
+    spelled!(Named Store, "store"),
+    spelled!(Number TupleLift, "tuple_lift"),
+    spelled!(Number TupleLower, "tuple_lower"),
+    spelled!(Named EnumLift, "enum_lift"),
+    spelled!(Named EnumLower, "enum_lower"),
+    spelled!(Plain VariantPayload, "variant_payload"),
+    spelled!(Plain ReuseReturn, "reuse_return"),
+    spelled!(ResultLower, "result_lower"),
+    spelled!(Plain ResultLift, "result_lift"),
+    spelled!(Number Return, "return"),
+    spelled!(Space, "space"),
+    spelled!(Plain PushBlock, "push_block"),
+    spelled!(FinishBlock, "finish_block"),
 ];
 
 /// The words of the lines of events.

@@ -2,8 +2,7 @@
 #![tactic(auto, using(crate::proofs::PassageSteps::end_rules))]
 
 ghost use Rattle.std.specs.Prelude.{◌≡◌, ◌++◌, ◌∷◌, [], IfOk, OnOk, codes, drop, map, string_bytes};
-ghost use Rattle.witx_ast.specs.Items.{item_tree};
-ghost use Rattle.witx_ast.specs.Definitions.{definition_tree, module_tree};
+ghost use Rattle.witx_ast.specs.{Items.{item_tree}, Definitions.{definition_tree, module_tree}};
 ghost use Rattle.witx_adapt.specs.Listings.{func_count, listed_func_line, module_line};
 ghost use Rattle.witx_traces.specs.Passages.{draft_of, end_passage, passage_of, passages_of, put, put_definitions, put_func, put_items};
 ghost use Rattle.witx_traces.specs.Traces.{listed, offered};
@@ -162,12 +161,8 @@ fn put_head(text: &mut String, func: &InterfaceFunc, entry: &AdaptedFunc) -> Res
     ensures { OnOk result (string_bytes text.new ≡ string_bytes text.old
         ++ (listed_func_line func.now.name func.now.abi entry.now.params entry.now.results ++ codes "caller\n")) }
 {
-    put_func_line(
-        text,
-        func,
-        entry.params.as_slice(),
-        entry.results.as_slice(),
-    )?;
+    let (params, results) = (entry.params.as_slice(), entry.results.as_slice());
+    put_func_line(text, func, params, results)?;
     text.push_str("caller\n")?;
     Ok(())
 }

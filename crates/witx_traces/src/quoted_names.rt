@@ -3,8 +3,8 @@
 //! It is read loosely, and then its own text is compared with what stands there.
 #![tactic(auto, using(crate::proofs::Spelling::byte_rules))]
 
-ghost use Rattle.std.specs.Prelude.{◌≡◌, ◌<◌, IfOk, MatchOption, length, option_map};
-ghost use Rattle.witx_traces.specs.LineReading.{QuotedAt, FrontOf, SpellsQuoted, escaped_byte, hex_byte, hex_value, is_mark, name_behind, spelled_byte, taken_line};
+ghost use Rattle.std.specs.Prelude.{◌≡◌, IfOk, option_map};
+ghost use Rattle.witx_traces.specs.LineReading.{QuotedAt, FrontOf, LeavesLess, SpellsQuoted, escaped_byte, hex_byte, hex_value, is_mark, name_behind, spelled_byte, taken_line};
 
 use crate::heads::behind;
 use std::alloc::Global;
@@ -41,7 +41,7 @@ fn is_mark(byte: u8) -> bool
 /// The byte that is spelled behind a backslash, and what follows.
 fn escaped_byte(text: &[u8]) -> Option<(u8, &[u8])>
     ensures byte { option_map taken_line result ≡ escaped_byte text.now }
-    ensures shorter { MatchOption result (length text.now ≡ length text.now) (λ p. length p.1.now < length text.now) }
+    ensures shorter { LeavesLess text.now result }
 {
     let [mark, rest @ ..] = text else {
         return None;
@@ -58,7 +58,7 @@ fn escaped_byte(text: &[u8]) -> Option<(u8, &[u8])>
 /// The byte that is spelled at the head, and what follows; none at a quote and at the end.
 fn spelled_byte(text: &[u8]) -> Option<(u8, &[u8])>
     ensures byte { option_map taken_line result ≡ spelled_byte text.now }
-    ensures shorter { MatchOption result (length text.now ≡ length text.now) (λ p. length p.1.now < length text.now) }
+    ensures shorter { LeavesLess text.now result }
 {
     let [byte, rest @ ..] = text else {
         return None;

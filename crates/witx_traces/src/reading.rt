@@ -1,14 +1,14 @@
 //! The traces that a text gives.
 
 ghost use Rattle.std.specs.Prelude.{◌≡◌, ◌∷◌, ◌++◌, [], ℕ, List, Some, None, IfOk, IfErr, map, suc, length, ◌≤◌, true};
-ghost use Rattle.std.specs.List.{AllByRecursion};
 ghost use Rattle.witx_ast.specs.Definitions.{definition_tree};
 ghost use Rattle.witx_adapt.specs.Lines.{event_line, event_lines};
 ghost use Rattle.witx_instructions.specs.Views.{event_of};
-ghost use Rattle.witx_traces.specs.Passages.{AreFixed, IsCutAt, IsFixed, IsLast, BeginPlainly, LacksWantedLine, Passage as PassageText, ReadPairs, Stretch, StopsAt, is_ended, events_of, feeds, indented, pair_text, passage_of, sides_of, stretches};
-ghost use Rattle.witx_traces.specs.ReadTypes.{known_in};
-ghost use Rattle.witx_traces.specs.Refusals.{RefusesLines, TellsOfStop};
+ghost use Rattle.witx_traces.specs.Passages.{AreFixed, IsCutAt, IsFixed, IsLast, BeginPlainly, LacksWantedLine, Passage as PassageText, ReadPairs, Stretch, StopsAt, StopsBehind, is_ended, events_of, feeds, indented, pair_text, passage_of, side_of, sides_of, stretches};
+ghost use Rattle.witx_traces.specs.{ReadTypes.{LinesCanSay, known_in}, Refusals.{RefusesLines, TellsOfStop}};
 ghost use Rattle.witx_traces.specs.Traces.{AreSayable, GivesTraces, HasEachEntry, IsSayable, ended, listed, one_line, known_of};
+ghost use Rattle.witx_traces.specs.declared.reading.Stopped.TheVariants as stopped;
+ghost use Rattle.witx_traces.specs.declared.reading.TracesError.TheVariants as traces_error;
 
 use crate::candidates::KnownTypes;
 use crate::event_texts::read_event;
@@ -44,6 +44,14 @@ pub enum TracesError {
     OutOfMemory,
 }
 
+impl From<OutOfMemory> for TracesError {
+    ghost from_gives = { λ _ e. e ≡ traces_error.OutOfMemory };
+
+    fn from(_refused: OutOfMemory) -> TracesError {
+        TracesError::OutOfMemory
+    }
+}
+
 /// Why reading stopped.
 enum Stopped<'a> {
     /// The line that can't stand, and all that follows it.
@@ -51,23 +59,14 @@ enum Stopped<'a> {
     OutOfMemory,
 }
 
-impl From<OutOfMemory> for Stopped<'_> {
-    ghost use Rattle.witx_traces.specs.declared.reading.Stopped.{Stopped};
+/// What is read, and what follows it.
+type Reading<'t, T> = Result<(T, &'t str), Stopped<'t>>;
 
-    ghost from_gives = { λ _ e. e ≡ Stopped.OutOfMemory };
+impl From<OutOfMemory> for Stopped<'_> {
+    ghost from_gives = { λ _ e. e ≡ stopped.OutOfMemory };
 
     fn from(_refused: OutOfMemory) -> Self {
         Stopped::OutOfMemory
-    }
-}
-
-impl From<OutOfMemory> for TracesError {
-    ghost use Rattle.witx_traces.specs.declared.reading.TracesError.{TracesError};
-
-    ghost from_gives = { λ _ e. e ≡ TracesError.OutOfMemory };
-
-    fn from(_refused: OutOfMemory) -> TracesError {
-        TracesError::OutOfMemory
     }
 }
 
@@ -157,7 +156,7 @@ fn read_pairs<'t>(
     document: &Document,
     passages: &[Passage<'_>],
     text: &'t str,
-) -> Result<(TracePairs, &'t str), Stopped<'t>>
+) -> Reading<'t, TracePairs>
     requires { AreFixed (map passage_of passages.now) }
     ensures pairs { IfOk result (λ p. ReadPairs (map definition_tree document.now.definitions)
         (map passage_of passages.now) (map sides_of p.0) text.now p.1.now) }
@@ -183,7 +182,7 @@ fn read_pair<'t>(
     document: &Document,
     passage: &Passage<'_>,
     text: &'t str,
-) -> Result<(TracePair, &'t str), Stopped<'t>>
+) -> Reading<'t, TracePair>
     requires { IsFixed (passage_of passage.now).fixed }
     ensures pair { IfOk result (λ p. text.now ≡ pair_text (passage_of passage.now) (sides_of p.0) p.1.now) }
     ensures lines { IfOk result (λ p. AreSayable (known_of (map definition_tree document.now.definitions)
@@ -209,15 +208,14 @@ fn read_side<'t>(
     types: &KnownTypes<'_>,
     fixed: &str,
     text: &'t str,
-) -> Result<(Events, &'t str), Stopped<'t>>
+) -> Reading<'t, Events>
     requires { IsFixed fixed.now }
     ensures events { IfOk result (λ p. text.now ≡ fixed.now ++ (event_lines (map event_of p.0) ++ p.1.now)) }
-    ensures lines { IfOk result (λ p. AllByRecursion (IsSayable (known_in types.now)) (map event_of p.0)) }
-    ensures behind { IfOk result (λ p. (ss : List Stretch) (last rest : List ℕ) → BeginPlainly ss last
-        → StopsAt ss last p.1.now rest
-        → StopsAt (record { fixed = fixed.now; types = known_in types.now } ∷ ss) last text.now rest) }
+    ensures lines { IfOk result (λ p. LinesCanSay types.now p.0) }
+    ensures behind { IfOk result (λ p.
+        StopsBehind (side_of fixed.now (known_in types.now)) text.now p.1.now) }
     ensures stopped { (ss : List Stretch) (last : List ℕ) → BeginPlainly ss last
-        → IfErr result (TellsOfStop (StopsAt (record { fixed = fixed.now; types = known_in types.now } ∷ ss) last text.now)) }
+        → IfErr result (TellsOfStop (StopsAt (side_of fixed.now (known_in types.now) ∷ ss) last text.now)) }
 {
     let behind = behind_lines(text, fixed)?;
     read_events(alloc, types, behind)
@@ -257,16 +255,11 @@ fn behind_line<'t>(text: &'t str, wanted: &str) -> Result<&'t str, Stopped<'t>>
 
 /// The events of the lines that begin with a space, and what follows them.
 #[tactic(auto, using(crate::proofs::ReadSteps::events_rules))]
-fn read_events<'t>(
-    alloc: Global,
-    types: &KnownTypes<'_>,
-    text: &'t str,
-) -> Result<(Events, &'t str), Stopped<'t>>
+fn read_events<'t>(alloc: Global, types: &KnownTypes<'_>, text: &'t str) -> Reading<'t, Events>
     ensures events { IfOk result (λ p. text.now ≡ event_lines (map event_of p.0) ++ p.1.now) }
-    ensures lines { IfOk result (λ p. AllByRecursion (IsSayable (known_in types.now)) (map event_of p.0)) }
-    ensures behind { IfOk result (λ p. (ss : List Stretch) (last rest : List ℕ) → BeginPlainly ss last
-        → StopsAt ss last p.1.now rest
-        → StopsAt (events_of (known_in types.now) ∷ ss) last text.now rest) }
+    ensures lines { IfOk result (λ p. LinesCanSay types.now p.0) }
+    ensures behind { IfOk result (λ p.
+        StopsBehind (events_of (known_in types.now)) text.now p.1.now) }
     ensures stopped { (ss : List Stretch) (last : List ℕ) → BeginPlainly ss last
         → IfErr result (TellsOfStop (StopsAt (events_of (known_in types.now) ∷ ss) last text.now)) }
 {
@@ -289,11 +282,7 @@ fn is_indented(text: &str) -> bool
 
 /// The event that the first line says, and what follows the line.
 #[tactic(auto, using(crate::proofs::ReadSteps::event_rules))]
-fn read_line<'t>(
-    alloc: Global,
-    types: &KnownTypes<'_>,
-    text: &'t str,
-) -> Result<(Event, &'t str), Stopped<'t>>
+fn read_line<'t>(alloc: Global, types: &KnownTypes<'_>, text: &'t str) -> Reading<'t, Event>
     requires { indented text.now ≡ true }
     ensures event { IfOk result (λ p. text.now ≡ event_line (event_of p.0) ++ p.1.now) }
     ensures line { IfOk result (λ p. IsSayable (known_in types.now) (event_of p.0)) }

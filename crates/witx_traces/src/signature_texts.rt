@@ -3,10 +3,10 @@
 //! It is read loosely, and then its own text is compared with what stands there.
 #![tactic(auto, using(crate::proofs::SignatureReading::type_rules))]
 
-ghost use Rattle.std.specs.Prelude.{◌≡◌, ◌<◌, ◌≤◌, IfOk, MatchOption, length, option_map};
+ghost use Rattle.std.specs.Prelude.{◌≡◌, ◌≤◌, IfOk, length, option_map};
 ghost use Rattle.witx_base.specs.Texts.{same_text};
 ghost use Rattle.witx_adapt.specs.Names.{signature};
-ghost use Rattle.witx_traces.specs.LineReading.{IsFirstType, SignatureAt, TypesAt, behind_space, signature_parts, taken_line};
+ghost use Rattle.witx_traces.specs.LineReading.{IsFirstType, LeavesLess, SignatureAt, TypesAt, behind_space, signature_parts, taken_line};
 
 use crate::heads::behind;
 use std::alloc::Global;
@@ -24,7 +24,7 @@ pub(crate) struct WasmSignature {
 /// The type at the head, and what follows it.
 fn first_type(text: &str) -> Option<(WasmType, &str)>
     ensures first { IsFirstType text.now (option_map taken_line result) }
-    ensures shorter { MatchOption result (length text.now ≡ length text.now) (λ p. length p.1.now < length text.now) }
+    ensures shorter { LeavesLess text.now result }
 {
     if let Some(rest) = behind(text, "i32") {
         return Some((WasmType::I32, rest));

@@ -3,8 +3,7 @@
 
 ghost use Rattle.std.specs.Prelude.{◌≡◌};
 ghost use Rattle.witx_instructions.specs.Views.{param_types, pointer_types};
-ghost use Rattle.witx_symbols.specs.Verdicts.{passes, pointers_are};
-ghost use Rattle.witx_symbols.specs.OutcomeViews.{words_of};
+ghost use Rattle.witx_symbols.specs.{Verdicts.{passes, pointers_are}, OutcomeViews.{words_of}};
 ghost use Rattle.witx_symbols.specs.WordViews.{memory_of, shared_symbols};
 
 use crate::spaces::is_made_for;

@@ -2,10 +2,8 @@
 #![tactic(auto, using(witx_symbols::proofs::CellLemmas::cell_rules))]
 
 ghost use Rattle.std.specs.Prelude.{◌≡◌};
-ghost use Rattle.witx_ast.specs.Same.{same_tree};
-ghost use Rattle.witx_ast.specs.Views.{named_tree};
-ghost use Rattle.witx_symbols.specs.Verdicts.{is_made_for};
-ghost use Rattle.witx_symbols.specs.WordViews.{memory_of, word_seen};
+ghost use Rattle.witx_ast.specs.{Same.{same_tree}, Views.{named_tree}};
+ghost use Rattle.witx_symbols.specs.{Verdicts.{is_made_for}, WordViews.{memory_of, word_seen}};
 
 use witx_ast::NamedType;
 use witx_symbols::{Cell, Cells, Word, cell_at};
@@ -19,11 +17,7 @@ pub(crate) fn is_made_for(cells: &Cells, word: &Word, ty: &NamedType) -> bool
             Some(cell) => is_for(cell, ty),
             None => false,
         },
-        Word::Of { symbol: _, ty: _ }
-        | Word::Address(_)
-        | Word::Length(_)
-        | Word::Zero
-        | Word::One => false,
+        _ => false,
     }
 }
 

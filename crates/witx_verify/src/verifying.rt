@@ -2,15 +2,11 @@
 #![tactic(auto, using(crate::proofs::VerifyLemmas::verify_rules))]
 
 ghost use Rattle.std.specs.Prelude.{◌≡◌, IfOk, None, map};
-ghost use Rattle.witx_machine.specs.Faithful.{Faithful};
-ghost use Rattle.witx_machine.specs.Lowerable.{unlowerable};
+ghost use Rattle.witx_machine.specs.{Faithful.{Faithful}, Lowerable.{unlowerable}};
 ghost use Rattle.witx_instructions.specs.Views.{called, event_of, param_types};
-ghost use Rattle.witx_symbols.specs.declared.surface.Verdict.TheVariants.{Yes};
-ghost use Rattle.witx_symbols.specs.Adapted.{AdaptedGetsYes};
-ghost use Rattle.witx_symbols.specs.Symbolic.{reply_from};
-ghost use Rattle.witx_symbols.specs.Verdicts.{doubt, doubt_in, first_doubt, verdict};
-ghost use Rattle.witx_symbols.specs.WordViews.{option_of, world_of};
-ghost use Rattle.witx_symbols.specs.WorldViews.{AreOf, worlds_read};
+ghost use Rattle.witx_symbols.specs.{declared.surface.Verdict.TheVariants.{Yes}, Adapted.{AdaptedGetsYes}};
+ghost use Rattle.witx_symbols.specs.{Symbolic.{reply_from}, Verdicts.{doubt, doubt_in, first_doubt, verdict}};
+ghost use Rattle.witx_symbols.specs.{WordViews.{option_of, world_of}, WorldViews.{AreOf, worlds_read}};
 
 use crate::extents::Allotment;
 use crate::judging::judged;

@@ -1,12 +1,11 @@
 //! The worlds of a function: what its reply can be.
 #![tactic(auto, using(witx_symbols::proofs::WorldsLemmas::worlds_rules))]
 
-ghost use Rattle.std.specs.Prelude.{◌≡◌, ◌∷◌, ◌++◌, [], IfOk, Some, nat_le};
+ghost use Rattle.std.specs.Prelude.{◌≡◌, ◌∷◌, [], IfOk, Some, nat_le};
 ghost use Rattle.witx_ast.specs.Views.{tree_of};
 ghost use Rattle.witx_instructions.specs.Views.{called, variant_arms};
-ghost use Rattle.witx_symbols.specs.Symbolic.{worlds, worlds_of, worlds_by, unknown_world, world_if};
-ghost use Rattle.witx_symbols.specs.WordViews.{shared_of};
-ghost use Rattle.witx_symbols.specs.WorldViews.{worlds_read};
+ghost use Rattle.witx_symbols.specs.Symbolic.{worlds, worlds_of, worlds_by, unknown_world};
+ghost use Rattle.witx_symbols.specs.{WordViews.{shared_of}, WorldViews.{GainWorld, worlds_read}};
 
 use std::alloc::Global;
 use std::rc::Rc;
@@ -61,8 +60,8 @@ fn push_later(
     reply: &Rc<Symbol>,
     count: usize,
 ) -> Result<(), OutOfMemory>
-    ensures { IfOk result (λ _. worlds_read worlds.new.items ≡ worlds_read worlds.old.items
-        ++ world_if (nat_le 3 count) (unknown_world abi (Some (shared_of reply.now)))) }
+    ensures { IfOk result (λ _. GainWorld worlds.old.items worlds.new.items
+        (nat_le 3 count) (unknown_world abi (Some (shared_of reply.now)))) }
 {
     if count >= 3 {
         worlds.push(unknown(abi, Some(Rc::clone(reply)?)))?;

@@ -1,5 +1,4 @@
-use Rattle.std.proofs.Common.{rules, arith, ◌∙◌, sym, ap, not, ◌&&◌, option_map}
-use Rattle.std.proofs.lemmas.Grind.{common_steps}
+use Rattle.std.proofs.Common.{◌∙◌, sym, ap, not, ◌&&◌, option_map}
 use Rattle.witx_ast.specs.Plain.{Plain}
 use Rattle.witx_ast.specs.Views.{cases_plain, members_plain}
 use Rattle.witx_ast.specs.ValueTests.{is_value}
@@ -11,9 +10,6 @@ use Rattle.witx_bytes.specs.Payloads.{is_case}
 use Rattle.witx_bytes.specs.Seen.{seen, seen_in}
 use Rattle.witx_bytes.proofs.Belonging.{case_value}
 use Rattle.witx_bytes.proofs.Parts.{not_variant}
-use Rattle.witx_bytes.proofs.Belonging.{loop_rules}
-use Rattle.witx_bytes.proofs.Belonging.{member_rules}
-use Rattle.witx_bytes.proofs.Belonging.{value_rules}
 use Rattle.witx_bytes.proofs.membership.+membership.Goals as goal
 
 pub is_case_value-returns-else-not-are_bare : goal.is_case_value-returns-else-not-are_bare
@@ -38,72 +34,3 @@ is_variant_value-returns t c =
     let r = (out-Variant c.args.variant.now).tag_repr in
     let v = seen c.args.value.now in
     c.is_case_value.ensures r ∙ ap (λ cs. is_value (Plain.variant_of r (cases_plain cs)) v) c.as_slice.ensures ∙ sym (ap (λ t. is_value t v) (variant-plain c.args.variant.now))
-
-pub are_member_values-returns-then-not-is_value : goal.are_member_values-returns-then-not-is_value
-are_member_values-returns-then-not-is_value t c = search (rules, loop_rules)
-
-pub are_member_values-loop-i-preserved : goal.are_member_values-loop-i-preserved
-are_member_values-loop-i-preserved t c = search (rules, loop_rules)
-
-pub are_member_values-returns : goal.are_member_values-returns
-are_member_values-returns t c = grind (arith, common_steps)
-
-pub is_case_value-returns-then-are_bare : goal.is_case_value-returns-then-are_bare
-is_case_value-returns-then-are_bare t c = search (rules, value_rules)
-
-pub is_case_value-returns-else-are_bare : goal.is_case_value-returns-else-are_bare
-is_case_value-returns-else-are_bare t c = search (rules, value_rules)
-
-pub is_case_value-returns-then-not-are_bare : goal.is_case_value-returns-then-not-are_bare
-is_case_value-returns-then-not-are_bare t c = search (rules, value_rules)
-
-pub is_datatype_value-returns-in-Record : goal.is_datatype_value-returns-in-Record
-is_datatype_value-returns-in-Record t c = search (rules, member_rules)
-
-pub is_datatype_value-returns-in-Variant : goal.is_datatype_value-returns-in-Variant
-is_datatype_value-returns-in-Variant t c = search (rules, member_rules)
-
-pub is_datatype_value-returns-in-Handle : goal.is_datatype_value-returns-in-Handle
-is_datatype_value-returns-in-Handle t c = search (rules, member_rules)
-
-pub is_datatype_value-returns-in-List : goal.is_datatype_value-returns-in-List
-is_datatype_value-returns-in-List t c = search (rules, member_rules)
-
-pub is_datatype_value-returns-in-Pointer : goal.is_datatype_value-returns-in-Pointer
-is_datatype_value-returns-in-Pointer t c = search (rules, member_rules)
-
-pub is_datatype_value-returns-in-ConstPointer : goal.is_datatype_value-returns-in-ConstPointer
-is_datatype_value-returns-in-ConstPointer t c = search (rules, member_rules)
-
-pub is_datatype_value-returns-in-Builtin : goal.is_datatype_value-returns-in-Builtin
-is_datatype_value-returns-in-Builtin t c = search (rules, member_rules)
-
-pub is_payload-returns-then-i-cases : goal.is_payload-returns-then-i-cases
-is_payload-returns-then-i-cases t c = search (rules, loop_rules)
-
-pub is_payload-returns : goal.is_payload-returns
-is_payload-returns t c = search (rules, loop_rules)
-
-pub is_record-returns-in-Rec : goal.is_record-returns-in-Rec
-is_record-returns-in-Rec t c = search (rules, value_rules)
-
-pub is_record-returns-in_default : goal.is_record-returns-in_default
-is_record-returns-in_default t c = search (rules, value_rules)
-
-pub is_record_value-returns-in-Tuple : goal.is_record_value-returns-in-Tuple
-is_record_value-returns-in-Tuple t c = search (rules, member_rules)
-
-pub is_record_value-returns-in-Other : goal.is_record_value-returns-in-Other
-is_record_value-returns-in-Other t c = search (rules, member_rules)
-
-pub is_tuple-returns-in-Tuple : goal.is_tuple-returns-in-Tuple
-is_tuple-returns-in-Tuple t c = search (rules, value_rules)
-
-pub is_tuple-returns-in_default : goal.is_tuple-returns-in_default
-is_tuple-returns-in_default t c = search (rules, value_rules)
-
-pub is_value-returns-in-Name : goal.is_value-returns-in-Name
-is_value-returns-in-Name t c = search (rules, member_rules)
-
-pub is_value-returns-in-Value : goal.is_value-returns-in-Value
-is_value-returns-in-Value t c = search (rules, member_rules)

@@ -1,7 +1,8 @@
 use Rattle.std.proofs.Common.{◌≡◌, ◌<◌, ◌+◌, ◌^◌, rules, arith, sym, ap, ◌∙◌, subst, true, false, Some, None, Err, length}
 use Rattle.std.proofs.Common.{option_map}
+use Rattle.std.specs.Prelude.{option_copied}
 use Rattle.witx_ast.specs.Plain.{plain, Plain, all_bare}
-use Rattle.witx_ast.specs.Views.{tree_of, datatype_tree, variant_tree, members_plain, cases_plain}
+use Rattle.witx_ast.specs.Views.{tree_of, datatype_tree, record_tree, variant_tree, members_plain, cases_plain}
 use Rattle.witx_ast.specs.declared.types.RecordKind.{RecordKind}
 use Rattle.witx_ast.specs.declared.types.RecordDatatype.{out-RecordDatatype}
 use Rattle.witx_ast.specs.declared.types.Variant.{out-Variant}
@@ -15,11 +16,9 @@ use Rattle.witx_bytes.specs.Reading.{number_at, value_at, members_at}
 use Rattle.witx_bytes.specs.Readings.{CanRead, CanReadCase, ReadAs, case_number}
 use Rattle.witx_bytes.specs.Seen.{seen, seen_in, values_seen}
 use Rattle.witx_bytes.specs.declared.read_error.ReadError.{ReadError}
-use Rattle.witx_bytes.proofs.ReadParts.{ReadTo, read_first, read_within, read_can, read_next, read_stops, can_read_by, case_can_read_by, tuple_can_read, record_can_read, bare_read, case_below, case_read, case_refused, case_can_read, cases_few, no_case_read}
-use Rattle.witx_bytes.proofs.KnownParts.{known_by, payload_known_by, known_tuple, known_record, known_cases}
-use Rattle.witx_bytes.proofs.Members.{write_rules}
+use Rattle.witx_bytes.proofs.ReadParts.{ReadTo, read_first, read_within, read_can, read_next, read_stops, can_read_by, case_can_read_by, members_can_read, members_refused, tuple_read, other_read, bare_read, case_below, case_read, case_refused, case_can_read, cases_few, no_case_read}
+use Rattle.witx_bytes.proofs.KnownParts.{known_by, member_known, payload_known, payload_known_by, known_members, known_cases}
 use Rattle.witx_bytes.proofs.Nodes.{nodes, payload_nodes, behind_plain, member_fewer, payload_fewer}
-use Rattle.witx_bytes.proofs.ReadParts.{read_rules}
 use Rattle.witx_bytes.proofs.read.+reading.Goals as goal
 
 pub read_type-read_datatype-requires : goal.read_type-read_datatype-requires
@@ -55,15 +54,39 @@ read_datatype-read_builtin-requires t c = omega (arith, c.requires.can.end)
 pub read_record-read_flags-requires : goal.read_record-read_flags-requires
 read_record-read_flags-requires t c = omega (arith, c.requires.can.end)
 
-pub read_record-read_tuple-requires : goal.read_record-read_tuple-requires
-read_record-read_tuple-requires t c =
-    let e = record-plain c.args.record_type.now ∙ ap (λ k. Plain.record_of k (members_plain (out-RecordDatatype c.args.record_type.now).members)) c.in-Tuple.is ∙ ap (λ ms. Plain.record_of RecordKind.Tuple (members_plain ms)) (sym c.as_slice-members.ensures) in
-    (omega (arith, ap nodes e), (tuple_can_read _ c.args.at (can_read_by c.args.at _ _ e c.requires.can), known_tuple _ _ (known_by _ _ _ e c.requires.known)))
+pub read_record-read_members-requires : goal.read_record-read_members-requires
+read_record-read_members-requires t c =
+    let k = (out-RecordDatatype c.args.record_type.now).kind in
+    let e = record-plain c.args.record_type.now ∙ ap (λ ms. Plain.record_of k (members_plain ms)) (sym c.as_slice-members.ensures) in (
+      omega (arith, ap nodes e),
+      (
+        members_can_read k _ c.args.at c.in_default.not-Bitflags (can_read_by c.args.at _ _ e c.requires.can),
+        known_members k _ _ c.in_default.not-Bitflags (known_by _ _ _ e c.requires.known),
+      ),
+    )
 
-pub read_record-read_other-requires : goal.read_record-read_other-requires
-read_record-read_other-requires t c =
-    let e = record-plain c.args.record_type.now ∙ ap (λ k. Plain.record_of k (members_plain (out-RecordDatatype c.args.record_type.now).members)) c.in-Other.is ∙ ap (λ ms. Plain.record_of RecordKind.Other (members_plain ms)) (sym c.as_slice-members.ensures) in
-    (omega (arith, ap nodes e), (record_can_read _ c.args.at (can_read_by c.args.at _ _ e c.requires.can), known_record _ _ (known_by _ _ _ e c.requires.known)))
+pub read_record-returns-in_err-values : goal.read_record-returns-in_err-values
+read_record-returns-in_err-values t c =
+    let k = (out-RecordDatatype c.args.record_type.now).kind in
+    let m = held c.args.memory.now in
+    let e = record-plain c.args.record_type.now ∙ ap (λ ms. Plain.record_of k (members_plain ms)) (sym c.as_slice-members.ensures) in
+    let refused : (error : ReadError) → ReadAs values_seen (members_at 0 (members_plain c.as_slice-members.result.now) m c.args.at) (Err error) → ReadAs seen (value_at (plain (record_tree c.args.record_type.now)) m c.args.at) (Err error) =
+    λ error h. subst (λ t. ReadAs seen (value_at t m c.args.at) (Err error)) (sym e) (members_refused k _ m c.args.at error c.in_default.not-Bitflags h)
+    in
+    search (rules, refused)
+
+pub read_record-returns-in-Tuple : goal.read_record-returns-in-Tuple
+read_record-returns-in-Tuple t c =
+    let m = held c.args.memory.now in
+    let e = record-plain c.args.record_type.now ∙ ap (λ k. Plain.record_of k (members_plain (out-RecordDatatype c.args.record_type.now).members)) c.in-Tuple.is ∙ ap (λ ms. Plain.record_of RecordKind.Tuple (members_plain ms)) (sym c.as_slice-members.ensures) in
+    ap (λ t. value_at t m c.args.at) e ∙ tuple_read (members_plain c.as_slice-members.result.now) m c.args.at c.in_ok-values.values c.in_ok-values.ensures
+
+pub read_record-returns-in_default-kind : goal.read_record-returns-in_default-kind
+read_record-returns-in_default-kind t c =
+    let k = (out-RecordDatatype c.args.record_type.now).kind in
+    let m = held c.args.memory.now in
+    let e = record-plain c.args.record_type.now ∙ ap (λ ms. Plain.record_of k (members_plain ms)) (sym c.as_slice-members.ensures) in
+    ap (λ t. value_at t m c.args.at) e ∙ other_read k (members_plain c.as_slice-members.result.now) m c.args.at c.in_ok-values.values c.in_default.not-Bitflags c.in_default-kind.not-Tuple c.in_ok-values.ensures
 
 pub read_members-rounded_up-start-requires-clause-some : goal.read_members-rounded_up-start-requires-clause-some
 read_members-rounded_up-start-requires-clause-some t c = omega (arith, c.layout_of-layout.ensures.align, align-low (plain (tree_of c.index-members-i.result.tref)))
@@ -85,7 +108,7 @@ read_members-layout_of-layout-requires-clause-size t c =
     omega (arith, w, c.requires.can.size)
 
 pub read_members-layout_of-layout-requires-clause-known : goal.read_members-layout_of-layout-requires-clause-known
-read_members-layout_of-layout-requires-clause-known t c = c.known_member-part.ensures c.index-members-i.result c.index-members-i.is
+read_members-layout_of-layout-requires-clause-known t c = member_known c.args.members.now (option_copied c.args.known) c.loop-i.i (option_copied c.known_part-part.result) c.requires.known c.loop-i-test.true c.known_part-part.ensures c.index-members-i.result c.index-members-i.is
 
 pub read_members-loop-i-init : goal.read_members-loop-i-init
 read_members-loop-i-init t c = subst (λ vs. ReadTo c.args.members.now vs c.args.at 0 0 (held c.args.memory.now)) (sym c.new-values.ensures) (read_first c.args.members.now c.args.at (held c.args.memory.now) c.requires.can)
@@ -104,7 +127,7 @@ read_members-read_type-requires t c =
     let start : c.rounded_up-start.result ≡ align_to c.loop-i.end (align_of (plain (tree_of d.tref))) = c.rounded_up-start.ensures ∙ ap (align_to c.loop-i.end) c.layout_of-layout.ensures.align in
     let can = read_can c.args.members.now c.loop-i.values c.args.at c.loop-i.end c.loop-i.i (held c.args.memory.now) d c.loop-i.invariant c.loop-i-test.true c.index-members-i.is c.requires.can in (
       omega (arith, member_fewer c.args.members.now c.loop-i.i d c.loop-i-test.true c.index-members-i.is),
-      (subst (λ s. CanRead (c.args.at + s) (plain (tree_of d.tref))) (sym start) can, c.known_member-part.ensures d c.index-members-i.is),
+      (subst (λ s. CanRead (c.args.at + s) (plain (tree_of d.tref))) (sym start) can, member_known c.args.members.now (option_copied c.args.known) c.loop-i.i (option_copied c.known_part-part.result) c.requires.known c.loop-i-test.true c.known_part-part.ensures d c.index-members-i.is),
     )
 
 pub read_members-overflow_add-end : goal.read_members-overflow_add-end
@@ -147,45 +170,6 @@ read_payload-read_boxed-requires t c =
 pub read_boxed-read_type-requires : goal.read_boxed-read_type-requires
 read_boxed-read_type-requires t c = (omega arith, (c.requires.can, c.requires.known))
 
-pub read_datatype-returns-in-Record : goal.read_datatype-returns-in-Record
-read_datatype-returns-in-Record t c = search (rules, write_rules)
-
-pub read_datatype-returns-in-Variant : goal.read_datatype-returns-in-Variant
-read_datatype-returns-in-Variant t c = search (rules, write_rules)
-
-pub read_datatype-returns-in-Handle : goal.read_datatype-returns-in-Handle
-read_datatype-returns-in-Handle t c = search (rules, write_rules)
-
-pub read_datatype-returns-in-List : goal.read_datatype-returns-in-List
-read_datatype-returns-in-List t c = search (rules, write_rules)
-
-pub read_datatype-returns-in-Pointer : goal.read_datatype-returns-in-Pointer
-read_datatype-returns-in-Pointer t c = search (rules, write_rules)
-
-pub read_datatype-returns-in-ConstPointer : goal.read_datatype-returns-in-ConstPointer
-read_datatype-returns-in-ConstPointer t c = search (rules, write_rules)
-
-pub read_datatype-returns-in-Builtin : goal.read_datatype-returns-in-Builtin
-read_datatype-returns-in-Builtin t c = search (rules, write_rules)
-
-pub read_members-returns : goal.read_members-returns
-read_members-returns t c = search (rules, read_rules)
-
-pub read_other-returns : goal.read_other-returns
-read_other-returns t c = search (rules, read_rules)
-
-pub read_record-returns-in-Bitflags : goal.read_record-returns-in-Bitflags
-read_record-returns-in-Bitflags t c = search (rules, write_rules)
-
-pub read_record-returns-in-Tuple : goal.read_record-returns-in-Tuple
-read_record-returns-in-Tuple t c = search (rules, write_rules)
-
-pub read_record-returns-in-Other : goal.read_record-returns-in-Other
-read_record-returns-in-Other t c = search (rules, write_rules)
-
-pub read_tuple-returns : goal.read_tuple-returns
-read_tuple-returns t c = search (rules, read_rules)
-
 pub read_type-returns : goal.read_type-returns
 read_type-returns t c =
     let e = behind_plain (datatype_tree c.deref.result.now) (tree_of c.args.ty.now) (ap datatype_tree c.deref.ensures ∙ c.type_.ensures) in
@@ -220,14 +204,6 @@ read_variant-returns-then-are_bare t c =
     let bare : all_bare (cases_plain c.as_slice-cases.result.now) ≡ true = search rules in
     ap (λ t. value_at t m c.args.at) e ∙ bare_read r cs m c.args.at c.in-Some.i number bare
 
-pub read_variant-known_payload-part-requires-clause-known : goal.read_variant-known_payload-part-requires-clause-known
-read_variant-known_payload-part-requires-clause-known t c =
-    let v = c.args.variant.now in
-    let r = (out-Variant v).tag_repr in
-    let cs = c.as_slice-cases.result.now in
-    let e = variant-plain v ∙ ap (λ cs. Plain.variant_of r (cases_plain cs)) (sym c.as_slice-cases.ensures) in
-    known_cases r (cases_plain cs) _ (known_by _ _ _ e c.requires.known)
-
 pub read_variant-read_payload-requires : goal.read_variant-read_payload-requires
 read_variant-read_payload-requires t c =
     let v = c.args.variant.now in
@@ -243,7 +219,7 @@ read_variant-read_payload-requires t c =
       omega (arith, ap nodes e, payload_fewer cs c.in-Some.i d l c.index-cases-i.is),
       (
         subst (λ o. CanReadCase (c.args.at + o) d.tref) (sym offset) (case_can_read r cs m c.args.at c.in-Some.i number d c.index-cases-i.is can),
-        c.known_payload-part.ensures d c.index-cases-i.is,
+        payload_known cs (option_copied c.args.known) c.in-Some.i (option_copied c.known_part-part.result) (known_cases r (cases_plain cs) _ (known_by _ _ _ e c.requires.known)) l c.known_part-part.ensures d c.index-cases-i.is,
       ),
     )
 

@@ -18,12 +18,6 @@ decreases-read_datatype l = 8 * nodes (plain (datatype_tree l.datatype.now)) + 1
 abbrev pub decreases-read_record : goal.decreases-read_record
 decreases-read_record l = 8 * nodes (plain (record_tree l.record_type.now))
 
-abbrev pub decreases-read_tuple : goal.decreases-read_tuple
-decreases-read_tuple l = 8 * field_nodes (members_plain l.members.now) + 4
-
-abbrev pub decreases-read_other : goal.decreases-read_other
-decreases-read_other l = 8 * field_nodes (members_plain l.members.now) + 4
-
 abbrev pub decreases-read_members : goal.decreases-read_members
 decreases-read_members l = 8 * field_nodes (members_plain l.members.now) + 3
 

@@ -1,9 +1,8 @@
-use Rattle.std.proofs.Common.{sym}
 use Rattle.witx_ast.specs.Plain.{plain}
 use Rattle.witx_ast.specs.Views.{tree_of}
 use Rattle.witx_bytes.specs.Bytes.{held}
 use Rattle.witx_bytes.proofs.ReadNumbers.{pointer_read}
 use Rattle.witx_bytes.proofs.scalars.read_pointer.Goals as goal
 
-pub returns-in-Some : goal.returns-in-Some
-returns-in-Some c = pointer_read (plain (tree_of c.args.target.now)) (held c.args.memory.now) c.args.at c.in-Some.number (sym c.in-Some.ensures.number)
+pub returns : goal.returns
+returns c = pointer_read (plain (tree_of c.args.target.now)) (held c.args.memory.now) c.args.at c.in_ok-address.address c.in_ok-address.ensures

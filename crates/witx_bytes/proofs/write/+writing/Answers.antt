@@ -1,5 +1,4 @@
-use Rattle.std.proofs.Common.{◌≡◌, ◌≤◌, ◌<◌, ◌+◌, ◌^◌, rules, arith, sym, ap, ◌∙◌, subst, length, Some, None}
-use Rattle.std.proofs.lemmas.Grind.{common_steps}
+use Rattle.std.proofs.Common.{◌≡◌, ◌≤◌, ◌<◌, ◌+◌, ◌^◌, arith, sym, ap, ◌∙◌, subst, length, Some, None}
 use Rattle.witx_ast.specs.Plain.{plain, Plain}
 use Rattle.witx_ast.specs.Views.{tree_of, datatype_tree, members_plain, cases_plain}
 use Rattle.witx_ast.specs.declared.types.Case.{Case}
@@ -16,9 +15,9 @@ use Rattle.witx_bytes.specs.Payloads.{type_image}
 use Rattle.witx_bytes.specs.Writes.{CanWrite, HasRange, Writes}
 use Rattle.witx_bytes.proofs.Writing.{range_kept}
 use Rattle.witx_bytes.proofs.Members.{MembersLeft, members_first, members_bound, members_can, members_room, members_within, members_next, HasMembers, record_can, record_room, record_written, enum_written, case_written, case_can, payload_room, can_by, room_by, payload_bound, case_can_by, case_room_by, case_can_be, case_has_room, case_is_written}
-use Rattle.witx_bytes.proofs.KnownParts.{known_by, known_cases, known_members, payload_known_by}
+use Rattle.witx_bytes.proofs.KnownParts.{known_by, known_cases, known_members, member_known, payload_known, payload_known_by}
+use Rattle.std.specs.Prelude.{option_copied}
 use Rattle.witx_bytes.proofs.Parts.{other_members, other_variant}
-use Rattle.witx_bytes.proofs.Members.{write_rules}
 use Rattle.witx_bytes.proofs.Nodes.{nodes, payload_nodes, behind_plain, member_fewer, payload_fewer}
 use Rattle.witx_bytes.proofs.write.+writing.Goals as goal
 
@@ -61,7 +60,7 @@ write_members-write_type-requires t c =
     let u = members_bound ms vs c.args.at c.loop-i.end c.loop-i.i (held c.args.memory.now) (held c.loop-i.memory) d f c.loop-i-test.true c.index-members-i.is in
     let start : c.rounded_up-start.result ≡ align_to c.loop-i.end (align_of (plain (tree_of d.tref))) = c.rounded_up-start.ensures ∙ ap (align_to c.loop-i.end) c.layout_of-layout.ensures.align in
     let room = members_room ms vs c.args.at c.loop-i.end c.loop-i.i (held c.args.memory.now) (held c.loop-i.memory) d v f c.loop-i-test.true c.index-members-i.is u c.index-values-i.is in
-    (omega (arith, member_fewer ms c.loop-i.i d c.loop-i-test.true c.index-members-i.is), (members_can ms vs c.args.at c.loop-i.end c.loop-i.i (held c.args.memory.now) (held c.loop-i.memory) d v f c.loop-i-test.true c.index-members-i.is u c.index-values-i.is, (subst (λ s. HasRange (c.args.at + s) (size_of (plain (tree_of d.tref))) (held c.loop-i.memory)) (sym start) room, c.known_member-part.ensures d c.index-members-i.is)))
+    (omega (arith, member_fewer ms c.loop-i.i d c.loop-i-test.true c.index-members-i.is), (members_can ms vs c.args.at c.loop-i.end c.loop-i.i (held c.args.memory.now) (held c.loop-i.memory) d v f c.loop-i-test.true c.index-members-i.is u c.index-values-i.is, (subst (λ s. HasRange (c.args.at + s) (size_of (plain (tree_of d.tref))) (held c.loop-i.memory)) (sym start) room, member_known c.args.members.now (option_copied c.args.known) c.loop-i.i (option_copied c.known_part-part.result) c.requires.known c.loop-i-test.true c.known_part-part.ensures d c.index-members-i.is)))
 
 pub write_members-overflow_add-at : goal.write_members-overflow_add-at
 write_members-overflow_add-at t c =
@@ -75,7 +74,7 @@ write_members-overflow_add-at t c =
     omega (arith, small)
 
 pub write_members-layout_of-layout-requires-clause-known : goal.write_members-layout_of-layout-requires-clause-known
-write_members-layout_of-layout-requires-clause-known t c = c.known_member-part.ensures c.index-members-i.result c.index-members-i.is
+write_members-layout_of-layout-requires-clause-known t c = member_known c.args.members.now (option_copied c.args.known) c.loop-i.i (option_copied c.known_part-part.result) c.requires.known c.loop-i-test.true c.known_part-part.ensures c.index-members-i.result c.index-members-i.is
 
 pub write_members-layout_of-layout-requires-clause-size : goal.write_members-layout_of-layout-requires-clause-size
 write_members-layout_of-layout-requires-clause-size t c =
@@ -116,18 +115,6 @@ write_type-write_datatype-requires t c =
     let e = behind_plain (datatype_tree c.deref.result.now) (tree_of c.args.ty.now) (ap datatype_tree c.deref.ensures ∙ c.type_.ensures) in
     (omega (arith, ap nodes e), (can_by _ _ (seen c.args.value.now) e c.requires.value, (room_by c.args.at _ _ (held c.args.memory.now) e c.requires.room, known_by _ _ _ e c.requires.known)))
 
-pub write_datatype-returns-in-Record : goal.write_datatype-returns-in-Record
-write_datatype-returns-in-Record t c = search (rules, write_rules)
-
-pub write_datatype-returns-in-Variant : goal.write_datatype-returns-in-Variant
-write_datatype-returns-in-Variant t c = search (rules, write_rules)
-
-pub write_members-bounds-values-i : goal.write_members-bounds-values-i
-write_members-bounds-values-i t c = grind (arith, common_steps)
-
-pub write_members-returns : goal.write_members-returns
-write_members-returns t c = grind (arith, common_steps)
-
 pub write_type-returns : goal.write_type-returns
 write_type-returns t c =
     let e = behind_plain (datatype_tree c.deref.result.now) (tree_of c.args.ty.now) (ap datatype_tree c.deref.ensures ∙ c.type_.ensures) in
@@ -164,10 +151,6 @@ write_record-unreachable-requires t c =
     let v = c.args.value.now in
     other_members (out-RecordDatatype c.args.record_type.now).kind _ v (can_by _ _ (seen v) (record-plain c.args.record_type.now) c.requires.value) c.in_default.not-Bitflags c.in_default-value.not-Tuple c.in_default-value.not-Rec
 
-pub write_payload-known_payload-part-requires-clause-some : goal.write_payload-known_payload-part-requires-clause-some
-write_payload-known_payload-part-requires-clause-some t c =
-    payload_bound c.args.cases.now c.args.i c.args.payload.now c.in-Some.value c.requires.value c.in-Some.is
-
 pub write_payload-bounds-cases-i : goal.write_payload-bounds-cases-i
 write_payload-bounds-cases-i t c = payload_bound c.args.cases.now c.args.i c.args.payload.now c.in-Some.value c.requires.value c.in-Some.is
 
@@ -183,7 +166,7 @@ write_payload-write_type-requires t c =
         subst (λ u. CanWrite (plain (tree_of c.in-Some-tref.tref)) (seen u)) (sym c.deref.ensures) (case_can_by _ _ (seen c.in-Some.value.value) told can),
         (
           case_room_by c.args.at _ _ (held c.args.memory.now) told room,
-          payload_known_by _ _ _ told (c.known_payload-part.ensures d c.index-cases-i.is),
+          payload_known_by _ _ _ told (payload_known c.args.cases.now (option_copied c.args.known) c.args.i (option_copied c.known_part-part.result) c.requires.known l c.known_part-part.ensures d c.index-cases-i.is),
         ),
       ),
     )

@@ -24,11 +24,11 @@ returns-clause-answer c =
     answers c.args.owner.now (called c.args.func.now) (map event_of c.args.caller.now) (map event_of c.args.callee.now) (map seen c.args.args.now) (reply_of seen c.args.reply) c.requires
     c.is_excepted.result c.is_excepted.ensures c.if-is_excepted.false
     (counted c.args.caller.now c.args.callee.now c.are_too_many.result c.len.result c.len-2.result c.are_too_many.ensures c.len.ensures c.len-2.ensures ∙ c.if-are_too_many.false)
-    (run_of seen word_view room_of c.in_ok-run.run') c.in_ok-run.ensures c.answer.result c.answer.ensures.seen
+    (run_of seen word_view room_of c.in_ok-run.run') (room_of c.new-memory.result) c.in_ok-run.ensures c.new-memory.ensures c.answer.result c.answer.ensures.seen
 
 pub returns-clause-refused : goal.returns-clause-refused
 returns-clause-refused c =
     refusals c.args.owner.now (called c.args.func.now) (map event_of c.args.caller.now) (map event_of c.args.callee.now) (map seen c.args.args.now) (reply_of seen c.args.reply) c.requires
     c.is_excepted.result c.is_excepted.ensures c.if-is_excepted.false
     (counted c.args.caller.now c.args.callee.now c.are_too_many.result c.len.result c.len-2.result c.are_too_many.ensures c.len.ensures c.len-2.ensures ∙ c.if-are_too_many.false)
-    (run_of seen word_view room_of c.in_ok-run.run') c.in_ok-run.ensures c.answer.result c.answer.ensures.refused
+    (run_of seen word_view room_of c.in_ok-run.run') (room_of c.new-memory.result) c.in_ok-run.ensures c.new-memory.ensures c.answer.result c.answer.ensures.refused

@@ -14,12 +14,6 @@ decreases-read_datatype l = 8 * l.deep + 7
 abbrev pub decreases-read_record : goal.decreases-read_record
 decreases-read_record l = 8 * l.deep + 6
 
-abbrev pub decreases-read_tuple : goal.decreases-read_tuple
-decreases-read_tuple l = 8 * l.deep + 5
-
-abbrev pub decreases-read_other : goal.decreases-read_other
-decreases-read_other l = 8 * l.deep + 5
-
 abbrev pub decreases-read_enclosed : goal.decreases-read_enclosed
 decreases-read_enclosed l = 8 * l.deep + 4
 

@@ -1,19 +1,13 @@
-use Rattle.std.proofs.Common.{◌≤◌, sym, ap, ◌∙◌, arith}
+use Rattle.std.proofs.Common.{sym, ap, ◌∙◌}
 use Rattle.witx_ast.specs.Plain.{plain}
 use Rattle.witx_ast.specs.Views.{tree_of}
-use Rattle.witx_ast.proofs.types.TypeRef.TheLaws.{the_size}
-use Rattle.witx_extent.proofs.Depths.{behind-name, behind-plain}
 use Rattle.witx_symbols.specs.Wholes.{has_no_atom}
+use Rattle.witx_symbols.proofs.NamesBehind.{next-behind}
 use Rattle.witx_symbols.proofs.WholeLemmas.{bare-refused}
 use Rattle.witx_symbols.proofs.wholes.+bare.Goals as goal
 
 pub has_no_atom-loop-tref-preserved : goal.has_no_atom-loop-tref-preserved
-has_no_atom-loop-tref-preserved t c = record {
-  behind = rw (c.deref.ensures) (sym (behind-plain c.in-Name.named) ∙ ap (λ t. plain (tree_of t)) (sym c.in-Name.is) ∙ c.loop-tref.invariant.behind);
-  shallower =
-      let d : the_size c.deref.result.now.tref ≤ the_size c.loop-tref.tref.now = rw (c.deref.ensures, c.in-Name.is) (behind-name c.in-Name.named) in
-      omega (arith, d, c.loop-tref.invariant.shallower);
-}
+has_no_atom-loop-tref-preserved t c = next-behind _ c.loop-tref.tref.now c.in-Name.named c.deref.result.now c.in-Name.is c.deref.ensures c.loop-tref.invariant
 
 pub have_no_atom-returns-then-not-has_no_atom : goal.have_no_atom-returns-then-not-has_no_atom
 have_no_atom-returns-then-not-has_no_atom t c =

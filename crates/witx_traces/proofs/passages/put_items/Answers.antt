@@ -1,4 +1,5 @@
-use Rattle.witx_traces.proofs.PassageSteps.{func-left, func-step}
+use Rattle.witx_adapt.proofs.ListingSteps.{func-left}
+use Rattle.witx_traces.proofs.PassageSteps.{func-step}
 use Rattle.witx_traces.proofs.passages.put_items.Goals as goal
 
 pub loop-item-preserved : goal.loop-item-preserved

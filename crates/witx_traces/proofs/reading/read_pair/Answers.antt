@@ -3,11 +3,11 @@ use Rattle.witx_ast.specs.Definitions.{definition_tree}
 use Rattle.witx_instructions.specs.Views.{called, event_of}
 use Rattle.witx_traces.specs.declared.reading.Stopped.{Stopped}
 use Rattle.witx_traces.specs.Refusals.{TellsOfStop}
-use Rattle.witx_traces.specs.Passages.{BeginPlainly, Stretch, StopsAt, passage_of, stretches}
+use Rattle.witx_traces.specs.Passages.{BeginPlainly, Stretch, StopsAt, passage_of, side_of, stretches}
 use Rattle.witx_traces.specs.ReadTypes.{known_in}
 use Rattle.witx_traces.specs.Traces.{IsSayable, known_of}
 use Rattle.std.specs.List.{AllByRecursion}
-use Rattle.witx_traces.proofs.ReadSteps.{handed-on, pair-behind, pair-callee, pair-caller, side_of}
+use Rattle.witx_traces.proofs.ReadSteps.{handed-on, pair-behind, pair-callee, pair-caller}
 use Rattle.witx_traces.proofs.reading.read_pair.Goals as goal
 
 pub returns-in_err-caller-clause-stopped : goal.returns-in_err-caller-clause-stopped

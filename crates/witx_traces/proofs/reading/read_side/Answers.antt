@@ -1,9 +1,9 @@
 use Rattle.std.proofs.Common.{◌∷◌, rules}
 use Rattle.witx_traces.specs.declared.reading.Stopped.{Stopped}
 use Rattle.witx_traces.specs.Refusals.{TellsOfStop}
-use Rattle.witx_traces.specs.Passages.{IsCutAt, StopsAt, events_of}
+use Rattle.witx_traces.specs.Passages.{IsCutAt, StopsAt, events_of, side_of}
 use Rattle.witx_traces.specs.ReadTypes.{known_in}
-use Rattle.witx_traces.proofs.ReadSteps.{answer-moved, cut-fixed, refusal-moved, side-stop, side_of, tells-moved}
+use Rattle.witx_traces.proofs.ReadSteps.{answer-moved, cut-fixed, refusal-moved, side-stop, tells-moved}
 use Rattle.witx_traces.proofs.reading.read_side.Goals as goal
 
 pub returns-in_err-behind-clause-stopped : goal.returns-in_err-behind-clause-stopped
