@@ -20,12 +20,12 @@ use Rattle.witx_ast.specs.Plain.{plain}
 use Rattle.witx_layout.specs.Numbers.{size_of}
 use Rattle.witx_markdown.specs.declared.heading.MdHeading.{MdHeading}
 use Rattle.witx_markdown.specs.declared.branch.Branch.{Branch}
-use Rattle.witx_markdown.specs.Forests.{no_nodes, each, sprouted}
+use Rattle.witx_markdown.specs.Forests.{no_nodes, sprouted}
 use Rattle.witx_markdown.specs.Constants.{constants_in}
 use Rattle.witx_markdown.proofs.ConstantTypes.{no-constant}
-use Rattle.witx_docs.specs.Parts.{constants_of, constants_part, constant_node, typename_node, typename_nodes, typename_with, module_node, module_nodes}
+use Rattle.witx_docs.specs.Parts.{constants_of, constants_part, typename_node, typename_nodes, typename_with}
 use Rattle.witx_docs.specs.LaidOut.{too_large, typenames_laid_out, typename_laid_out, modules_laid_out, module_laid_out, laid_out}
-use Rattle.witx_docs.proofs.EachSteps.{next-each, all-each, next-fit, one-large, all-fit, this-holds, left-hold}
+use Rattle.witx_docs.proofs.EachSteps.{next-each, next-fit, one-large, all-fit, this-holds, left-hold}
 use Rattle.witx_docs.proofs.Grown.{grown_rules, sprouted-none}
 use Rattle.witx_docs.proofs.Judging.{judging_rules}
 
@@ -33,19 +33,6 @@ pub next-typename : (h : MdHeading) (cs : List Constant) (b : Branch) (p : ℕ) 
     → sprouted b p (typename_nodes h cs (map definition_tree (drop i ds))) ≡ all
     → sprouted (sprouted b p (typename_node h cs (definition_tree d))) p (typename_nodes h cs (map definition_tree (drop (i + 1) ds))) ≡ all
 next-typename h cs b p all ds i d l q e = next-each (typename_node h cs) definition_tree b p all ds i d l q e
-
-pub all-typenames : (h : MdHeading) (cs : List Constant) (b : Branch) (p : ℕ) (all : Branch) (ds : List Definition) (i : ℕ) → length ds ≤ i
-    → sprouted b p (typename_nodes h cs (map definition_tree (drop i ds))) ≡ all → b ≡ all
-all-typenames h cs b p all ds i l e = all-each (typename_node h cs) definition_tree b p all ds i l e
-
-pub next-module : (h : MdHeading) (b : Branch) (p : ℕ) (all : Branch) (ds : List Definition) (i : ℕ) (d : Definition) → i < length ds → d ≡ get_or ds i d
-    → sprouted b p (module_nodes h (map definition_tree (drop i ds))) ≡ all
-    → sprouted (sprouted b p (module_node h (definition_tree d))) p (module_nodes h (map definition_tree (drop (i + 1) ds))) ≡ all
-next-module h b p all ds i d l q e = next-each (module_node h) definition_tree b p all ds i d l q e
-
-pub all-modules : (h : MdHeading) (b : Branch) (p : ℕ) (all : Branch) (ds : List Definition) (i : ℕ) → length ds ≤ i
-    → sprouted b p (module_nodes h (map definition_tree (drop i ds))) ≡ all → b ≡ all
-all-modules h b p all ds i l e = all-each (module_node h) definition_tree b p all ds i l e
 
 pub typename-fits : (all : Bool) (ds : List Definition) (i : ℕ) (d : Definition) → i < length ds → d ≡ get_or ds i d
     → too_large (typenames_laid_out (map definition_tree (drop i ds))) ≡ all → too_large (typename_laid_out (definition_tree d)) ≡ false
@@ -72,26 +59,12 @@ this-fits all ds i d n l q k e h = typename-fits all ds i d l q e (rw k h)
 pub typenames-fit : (all : Bool) (ds : List Definition) (i : ℕ) → length ds ≤ i → too_large (typenames_laid_out (map definition_tree (drop i ds))) ≡ all → all ≡ false
 typenames-fit all ds i l e = all-fit typename_laid_out definition_tree all ds i l e
 
-pub module-fits : (all : Bool) (ds : List Definition) (i : ℕ) (d : Definition) → i < length ds → d ≡ get_or ds i d
-    → too_large (modules_laid_out (map definition_tree (drop i ds))) ≡ all → too_large (module_laid_out (definition_tree d)) ≡ false
-    → too_large (modules_laid_out (map definition_tree (drop (i + 1) ds))) ≡ all
-module-fits all ds i d l q e h = next-fit module_laid_out definition_tree all ds i d l q e h
-
 pub module-large : (all : Bool) (ds : List Definition) (i : ℕ) (d : Definition) → i < length ds → d ≡ get_or ds i d
     → too_large (modules_laid_out (map definition_tree (drop i ds))) ≡ all → too_large (module_laid_out (definition_tree d)) ≡ true → all ≡ true
 module-large all ds i d l q e h = one-large module_laid_out definition_tree all ds i d l q e h
 
 pub modules-fit : (all : Bool) (ds : List Definition) (i : ℕ) → length ds ≤ i → too_large (modules_laid_out (map definition_tree (drop i ds))) ≡ all → all ≡ false
 modules-fit all ds i l e = all-fit module_laid_out definition_tree all ds i l e
-
-pub next-constant-node : (b : Branch) (p : ℕ) (all : Branch) (cs : List (Bor Constant)) (i : ℕ) (c : Bor Constant) → i < length cs → c ≡ get_or cs i c
-    → sprouted b p (each constant_node (map (λ x. x.now) (drop i cs))) ≡ all
-    → sprouted (sprouted b p (constant_node c.now)) p (each constant_node (map (λ x. x.now) (drop (i + 1) cs))) ≡ all
-next-constant-node b p all cs i c l q e = next-each constant_node (λ x. x.now) b p all cs i c l q e
-
-pub all-constant-nodes : (b : Branch) (p : ℕ) (all : Branch) (cs : List (Bor Constant)) (i : ℕ) → length cs ≤ i
-    → sprouted b p (each constant_node (map (λ x. x.now) (drop i cs))) ≡ all → b ≡ all
-all-constant-nodes b p all cs i l e = all-each constant_node (λ x. x.now) b p all cs i l e
 
 -- definitions that are no typenames add nothing
 no-typename : (h : MdHeading) (cs : List Constant) (d : Definition) → ((n : Rc NamedType Global) → d ≡ definition.Typename n → ⊥) → typename_node h cs (definition_tree d) ≡ no_nodes
@@ -163,7 +136,7 @@ pub nothing-part : (b : Branch) (p : ℕ) (h : MdHeading) (cs : List (Bor Consta
 nothing-part b p h [] e = sym (sprouted-none b p)
 nothing-part b p h (c ∷ cs) e = absurd (omega (arith, e))
 
-pub ruleset definition_rules = (typename-in, definition-in, definitions-left, empty-part, nothing-part, grown_rules, judging_rules, next-typename, all-typenames, next-module, all-modules, typename-fits, typename-large, typenames-fit, module-fits, module-large, modules-fit, next-constant-node, all-constant-nodes)
+pub ruleset definition_rules = (typename-in, definition-in, definitions-left, empty-part, nothing-part, grown_rules, judging_rules, next-typename, typename-fits, typename-large, typenames-fit, module-large, modules-fit)
 
 -- constants
 pub other-definition : (ds : List Definition) (i : ℕ) (d : Definition) → i < length ds → d ≡ get_or ds i d → ((c : Constant) → d ≡ definition.Constant c → ⊥)

@@ -22,17 +22,31 @@ mapped_lines word xs = flat_map part_line (map (mapped_part word) (map mapped_vi
 abbrev pub unknown_lines : List ℕ → List ParamUnknown → List ℕ
 unknown_lines word xs = flat_map part_line (map (unknown_part word) (map unknown_view xs))
 
-pub next-mapped : (word : List ℕ) (xs : List ParamPolyfill) (i : ℕ) (x : ParamPolyfill) (before whole : List ℕ) → i < length xs → x ≡ get_or xs i x
-    → before ++ mapped_lines word (drop i xs) ≡ whole
-    → (before ++ part_line (mapped_part word (mapped_view x))) ++ mapped_lines word (drop (i + 1) xs) ≡ whole
-next-mapped word xs i x before whole l p e =
-    let here : mapped_lines word (drop i xs) ≡ part_line (mapped_part word (mapped_view x)) ++ mapped_lines word (drop (i + 1) xs) =
-    ap (mapped_lines word) (drop_more xs i x l ∙ ap (λ y. y ∷ drop (i + 1) xs) (sym p)) in
-    append_assoc before (part_line (mapped_part word (mapped_view x))) (mapped_lines word (drop (i + 1) xs)) ∙ ap (λ r. before ++ r) (sym here) ∙ e
+-- one more of some values, and no more
+abbrev NextPart : (A : Type 0) {B : Type 0} → (B → List ℕ) → (A → B) → Type 0
+NextPart A part view = (xs : List A) (i : ℕ) (x : A) (before whole : List ℕ) → i < length xs → x ≡ get_or xs i x
+    → before ++ flat_map part_line (map part (map view (drop i xs))) ≡ whole
+    → (before ++ part_line (part (view x))) ++ flat_map part_line (map part (map view (drop (i + 1) xs))) ≡ whole
 
-pub no-mapped : (word : List ℕ) (xs : List ParamPolyfill) (i : ℕ) (before whole : List ℕ) → length xs ≤ i
-    → before ++ mapped_lines word (drop i xs) ≡ whole → before ≡ whole
-no-mapped word xs i before whole l e = sym (append-nil before) ∙ (rw (drop_all i xs l) at e)
+next-part : {A B : Type 0} (part : B → List ℕ) (view : A → B) → NextPart A part view
+next-part part view xs i x before whole l p e =
+    let left = flat_map part_line (map part (map view (drop (i + 1) xs))) in
+    let here : flat_map part_line (map part (map view (drop i xs))) ≡ part_line (part (view x)) ++ left =
+    ap (λ ys. flat_map part_line (map part (map view ys))) (drop_more xs i x l ∙ ap (λ y. y ∷ drop (i + 1) xs) (sym p)) in
+    append_assoc before (part_line (part (view x))) left ∙ ap (λ r. before ++ r) (sym here) ∙ e
+
+abbrev NoPart : (A : Type 0) {B : Type 0} → (B → List ℕ) → (A → B) → Type 0
+NoPart A part view = (xs : List A) (i : ℕ) (before whole : List ℕ) → length xs ≤ i
+    → before ++ flat_map part_line (map part (map view (drop i xs))) ≡ whole → before ≡ whole
+
+no-part : {A B : Type 0} (part : B → List ℕ) (view : A → B) → NoPart A part view
+no-part part view xs i before whole l e = sym (append-nil before) ∙ (rw (drop_all i xs l) at e)
+
+pub next-mapped : (word : List ℕ) → NextPart ParamPolyfill (mapped_part word) mapped_view
+next-mapped word = next-part (mapped_part word) mapped_view
+
+pub no-mapped : (word : List ℕ) → NoPart ParamPolyfill (mapped_part word) mapped_view
+no-mapped word = no-part (mapped_part word) mapped_view
 
 and-assoc : (a b c : Bool) → ((a && b) && c) ≡ (a && (b && c))
 and-assoc true b c = refl
@@ -58,17 +72,11 @@ all-compatible xs i so_far whole l e = sym (and-true so_far) ∙ (rw (drop_all i
 
 pub ruleset mapped_rules = (next-mapped, no-mapped, next-compatible, all-compatible)
 
-pub next-unknown : (word : List ℕ) (xs : List ParamUnknown) (i : ℕ) (x : ParamUnknown) (before whole : List ℕ) → i < length xs → x ≡ get_or xs i x
-    → before ++ unknown_lines word (drop i xs) ≡ whole
-    → (before ++ part_line (unknown_part word (unknown_view x))) ++ unknown_lines word (drop (i + 1) xs) ≡ whole
-next-unknown word xs i x before whole l p e =
-    let here : unknown_lines word (drop i xs) ≡ part_line (unknown_part word (unknown_view x)) ++ unknown_lines word (drop (i + 1) xs) =
-    ap (unknown_lines word) (drop_more xs i x l ∙ ap (λ y. y ∷ drop (i + 1) xs) (sym p)) in
-    append_assoc before (part_line (unknown_part word (unknown_view x))) (unknown_lines word (drop (i + 1) xs)) ∙ ap (λ r. before ++ r) (sym here) ∙ e
+pub next-unknown : (word : List ℕ) → NextPart ParamUnknown (unknown_part word) unknown_view
+next-unknown word = next-part (unknown_part word) unknown_view
 
-pub no-unknown : (word : List ℕ) (xs : List ParamUnknown) (i : ℕ) (before whole : List ℕ) → length xs ≤ i
-    → before ++ unknown_lines word (drop i xs) ≡ whole → before ≡ whole
-no-unknown word xs i before whole l e = sym (append-nil before) ∙ (rw (drop_all i xs l) at e)
+pub no-unknown : (word : List ℕ) → NoPart ParamUnknown (unknown_part word) unknown_view
+no-unknown word = no-part (unknown_part word) unknown_view
 
 -- the name of one that is not mapped
 pub name-of-unknown : (u : ParamUnknown) → (unknown_param u).name ≡ unknown_name (unknown_view u)

@@ -86,4 +86,12 @@ pub then-sprouted : {A E : Type 0} (r : Result A E) (x y z : Branch) → OnOk r 
 then-sprouted (Ok v) x y z h e = h ∙ e
 then-sprouted (Err v) x y z h e = tt
 
+-- two sections, each with what is added below its number
+pub two-groups : {A E : Type 0} (b one two three four : Branch) (p i j : ℕ) (c d : MdContent) (f g : Forest) (r : Result A E)
+    → i ≡ next_number b → one ≡ sprouted b p (lone_node c) → two ≡ sprouted one i f
+    → j ≡ next_number two → three ≡ sprouted two p (lone_node d) → OnOk r (four ≡ sprouted three j g)
+    → OnOk r (four ≡ sprouted b p (node c f (node d g no_nodes)))
+two-groups b one two three four p i j c d f g r number first below other second h =
+    then-sprouted r four _ _ h (rw (second, other, below, first, number) (sprouted-two b p c d f g))
+
 pub ruleset grown_rules = (sprouted-none, sprouted-followed, sprouted-node, sprouted-three, sprouted-four, sprouted-two)

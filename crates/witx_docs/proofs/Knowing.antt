@@ -1,15 +1,14 @@
 -- A table that has the layouts of a closed document's typenames knows the types of all its definitions.
-use Rattle.std.specs.Prelude.{◌≡◌, ℕ, zero, suc, ◌≤◌, ◌<◌, ◌^◌, List, [], ◌∷◌, ◌++◌, Bool, true, false, cond, ◌||◌, length, map, option_map, Option, Some}
+use Rattle.std.specs.Prelude.{◌≡◌, ℕ, zero, suc, ◌≤◌, ◌<◌, ◌^◌, List, [], ◌∷◌, ◌++◌, Bool, true, false, cond, ◌||◌, length, map, Option, Some}
 use Rattle.std.specs.Option.{option_and_then}
 use Rattle.std.proofs.Common.{arith, get_or, refl, sym, ap, ◌∙◌, subst, append_assoc}
 use Rattle.std.proofs.lemmas.List.{take_all}
-use Rattle.std.proofs.lemmas.List.Elements.{filter_map-append}
 use Rattle.witx_base.specs.Found.{found}
-use Rattle.witx_ast.specs.Tree.{Tree, Fields, Arms, Field, behind}
+use Rattle.witx_ast.specs.Tree.{Tree, Field}
 use Rattle.witx_ast.specs.Plain.{plain}
 use Rattle.witx_ast.specs.Entries.{by_name}
 use Rattle.witx_ast.specs.Definitions.{DefinitionTree, typename_of, module_of, constant_of, definition_tree, introduced, as_typename, typename_called}
-use Rattle.witx_ast.specs.Ordered.{NamesStand, FieldNamesStand, ArmNamesStand, DefinitionStands, OrderedAfter, IsOrdered}
+use Rattle.witx_ast.specs.Ordered.{DefinitionStands, OrderedAfter, IsOrdered}
 use Rattle.witx_ast.specs.Closed.{ParamNamesStand, ItemNamesStand, AllNamesStand, ClosedAfter, IsClosed}
 use Rattle.witx_ast.specs.Items.{ItemTree, import_of, func_of}
 use Rattle.witx_ast.proofs.EntryLaws.{is_key}
@@ -23,39 +22,12 @@ use Rattle.witx_layout.specs.declared.layout.SizeAlign.{SizeAlign}
 use Rattle.witx_layout.specs.declared.members.LayoutError.{LayoutError}
 use Rattle.witx_layout.specs.declared.members.LayoutError.TheVariants as layout_error
 use Rattle.witx_layout.specs.Numbers.{size_of}
-use Rattle.witx_layout.specs.Known.{Tells, Knows, KnowsFields, KnowsArms}
-use Rattle.witx_layout.proofs.Tabled.{HasOf, KeptBy, Tabled, behind-same, passed, tabled-start, ahead-start, next-known}
+use Rattle.witx_layout.specs.Known.{Knows}
+use Rattle.witx_layout.proofs.Tabled.{HasAll, Tabled, has-all, names-append, passed, type-known, tabled-start, ahead-start, next-known}
 use Rattle.witx_docs.specs.LaidOut.{too_large, refusal_fits, document_laid_out, typenames_laid_out, typename_laid_out, modules_laid_out, laid_out}
 use Rattle.witx_markdown.specs.NamesKnown.{InParams, InItems, InDefinition, InDefinitions}
 use Rattle.witx_docs.proofs.Judging.{large-append, large-head, or-true}
 use Rattle.witx_markdown.proofs.NameSteps.{layout_steps}
-
--- the table tells the layout of each typename that stands before
-abbrev pub HasAll : List (List ℕ × SizeAlign) → List DefinitionTree → Type 0
-HasAll table before = (name : List ℕ) → (u : Tree) → typename_called before name ≡ Some u → Tells (found table name) (plain u)
-
-behind-told : (entry : Option SizeAlign) (u t : Tree) → behind u ≡ behind t → Tells entry (plain u) → Tells entry (plain t)
-behind-told entry u t b h = subst (Tells entry) (behind-same u t b) h
-
-mutual
-  type-known : (table : List (List ℕ × SizeAlign)) (before : List DefinitionTree) → HasAll table before → (t : Tree) → NamesStand before t → Knows table t
-  type-known table before h (Tree.named n t d) s = behind-told (found table n) s.0 t s.2 (h n s.0 s.1)
-  type-known table before h (Tree.builtin b) s = tt
-  type-known table before h Tree.handle s = tt
-  type-known table before h (Tree.list_of t) s = tt
-  type-known table before h (Tree.pointer_to t) s = tt
-  type-known table before h (Tree.const_pointer_to t) s = tt
-  type-known table before h (Tree.record_of k ms) s = fields-known table before h ms s
-  type-known table before h (Tree.variant_of r cs) s = arms-known table before h cs s
-
-  fields-known : (table : List (List ℕ × SizeAlign)) (before : List DefinitionTree) → HasAll table before → (ms : Fields) → FieldNamesStand before ms → KnowsFields table ms
-  fields-known table before h Fields.no_fields s = tt
-  fields-known table before h (Fields.field n t d ms) s = (type-known table before h t s.0, fields-known table before h ms s.1)
-
-  arms-known : (table : List (List ℕ × SizeAlign)) (before : List DefinitionTree) → HasAll table before → (cs : Arms) → ArmNamesStand before cs → KnowsArms table cs
-  arms-known table before h Arms.no_arms s = tt
-  arms-known table before h (Arms.bare n d cs) s = arms-known table before h cs s
-  arms-known table before h (Arms.carries n t d cs) s = (type-known table before h t s.0, arms-known table before h cs s.1)
 
 params-known : (table : List (List ℕ × SizeAlign)) (before : List DefinitionTree) → HasAll table before → (ps : List Field) → ParamNamesStand before ps → InParams (Knows table) ps
 params-known table before h [] s = tt
@@ -81,9 +53,6 @@ among : {V : Type 0} (f : V → Option Tree) (n : List ℕ) (u : Tree) (es fs : 
 among f n u [] fs h = cc
 among f n u (e ∷ es) fs h = step f u (is_key n e.0) e.1 (found es n) (found (es ++ fs) n) h (among f n u es fs)
 
-names-append : (before rest : List DefinitionTree) → by_name introduced (before ++ rest) ≡ by_name introduced before ++ by_name introduced rest
-names-append before rest = filter_map-append {Y = List ℕ × DefinitionTree} (λ (u : DefinitionTree). option_map (λ (m : List ℕ). (m, u)) (introduced u)) before rest
-
 called-among : (before rest : List DefinitionTree) (n : List ℕ) (u : Tree) → typename_called before n ≡ Some u → typename_called (before ++ rest) n ≡ Some u
 called-among before rest n u h =
     subst (λ es. option_and_then as_typename (found es n) ≡ Some u) (sym (names-append before rest)) (among as_typename n u (by_name introduced before) (by_name introduced rest) h)
@@ -95,21 +64,17 @@ all-after table before (d ∷ ds) all o e h = (
   all-after table (before ++ d ∷ []) ds all o.1 (append_assoc before (d ∷ []) ds ∙ e) h,
 )
 
-definition-ordered : (before : List DefinitionTree) (d : DefinitionTree) → AllNamesStand before d → DefinitionStands before d
+pub definition-ordered : (before : List DefinitionTree) (d : DefinitionTree) → AllNamesStand before d → DefinitionStands before d
 definition-ordered before (typename_of n t docs) s = s
 definition-ordered before (module_of m) s = tt
 definition-ordered before (constant_of c) s = tt
 
-ordered-after : (before rest : List DefinitionTree) → ClosedAfter before rest → OrderedAfter before rest
+pub ordered-after : (before rest : List DefinitionTree) → ClosedAfter before rest → OrderedAfter before rest
 ordered-after before [] s = tt
 ordered-after before (d ∷ ds) s = (definition-ordered before d s.0, ordered-after (before ++ d ∷ []) ds s.1)
 
 pub closed-ordered : (xs : List Definition) → IsClosed (map definition_tree xs) → IsOrdered (map definition_tree xs)
 closed-ordered xs s = ordered-after [] (map definition_tree xs) s
-
-has-all : (table : List (List ℕ × SizeAlign)) (ds : List DefinitionTree) → Tabled table ds → HasAll table ds
-unfolding KeptBy
-has-all table ds h n u c = subst (HasOf Tells (found table n)) c (h n)
 
 -- the loop over all definitions has ended
 pub all-known : (table : List (List ℕ × SizeAlign)) (xs : List Definition) (i : ℕ) → length xs ≤ i → IsClosed (map definition_tree xs) → Tabled table (passed xs i)

@@ -36,13 +36,6 @@ abbrev r : DefinitionTree
 r = typename_of (codes "r") (Tree.record_of RecordKind.Other (Fields.field (codes "a") u8 [] (Fields.field (codes "b") (Tree.named (codes "n") u32 []) [] Fields.no_fields)))
     (codes "See `n`, `gone`, `r::b` and `n.\n")
 
-record-page : page_text (r ∷ [])
-    ≡ codes "# Types\n## <a href=\"#r\" name=\"r\"></a> `r`: `Record`\nSee `n`, `gone`, [`r::b`](#r.b) and `n.\n\nSize: 8\n\nAlignment: 4\n"
-    ++ codes "\n### Record members\n- <a href=\"#r.a\" name=\"r.a\"></a> `a`: `u8`\n\nOffset: 0\n"
-    ++ codes "\n- <a href=\"#r.b\" name=\"r.b\"></a> `b`: [`n`](#n)\n\nOffset: 4\n\n# Modules\n"
-unfolding page_tree digits same_text
-record-page = refl
-
 record-links : missing_links (r ∷ []) ≡ codes "n" ∷ codes "gone" ∷ []
 unfolding page_tree digits same_text
 record-links = refl
@@ -51,23 +44,23 @@ record-links = refl
 abbrev f : DefinitionTree
 f = typename_of (codes "f") (Tree.record_of (RecordKind.Bitflags IntRepr.U8) (Fields.field (codes "a") bool [] (Fields.field (codes "b") bool [] Fields.no_fields))) []
 
-flags-page : page_text (f ∷ [])
-    ≡ codes "# Types\n## <a href=\"#f\" name=\"f\"></a> `f`: `Record`\n\nSize: 1\n\nAlignment: 1\n"
-    ++ codes "\n### Record members\n- <a href=\"#f.a\" name=\"f.a\"></a> `a`: `bool`\n\nBit: 0\n"
-    ++ codes "\n- <a href=\"#f.b\" name=\"f.b\"></a> `b`: `bool`\n\nBit: 1\n\n# Modules\n"
-unfolding page_tree digits same_text
-flags-page = refl
-
 -- a variant with a payload
 abbrev v : DefinitionTree
 v = typename_of (codes "v") (Tree.variant_of IntRepr.U8 (Arms.carries (codes "a") u32 [] (Arms.bare (codes "b") [] Arms.no_arms))) []
 
-variant-page : page_text (v ∷ [])
-    ≡ codes "# Types\n## <a href=\"#v\" name=\"v\"></a> `v`: `Variant`\n\nSize: 8\n\nAlignment: 4\n"
+-- all three, one after the other
+types-page : page_text (r ∷ f ∷ v ∷ [])
+    ≡ codes "# Types\n## <a href=\"#r\" name=\"r\"></a> `r`: `Record`\nSee `n`, `gone`, [`r::b`](#r.b) and `n.\n\nSize: 8\n\nAlignment: 4\n"
+    ++ codes "\n### Record members\n- <a href=\"#r.a\" name=\"r.a\"></a> `a`: `u8`\n\nOffset: 0\n"
+    ++ codes "\n- <a href=\"#r.b\" name=\"r.b\"></a> `b`: [`n`](#n)\n\nOffset: 4\n"
+    ++ codes "\n## <a href=\"#f\" name=\"f\"></a> `f`: `Record`\n\nSize: 1\n\nAlignment: 1\n"
+    ++ codes "\n### Record members\n- <a href=\"#f.a\" name=\"f.a\"></a> `a`: `bool`\n\nBit: 0\n"
+    ++ codes "\n- <a href=\"#f.b\" name=\"f.b\"></a> `b`: `bool`\n\nBit: 1\n"
+    ++ codes "\n## <a href=\"#v\" name=\"v\"></a> `v`: `Variant`\n\nSize: 8\n\nAlignment: 4\n"
     ++ codes "\n### Variant Layout\n- size: 8\n- align: 4\n- tag_size: 1\n### Variant cases\n- <a href=\"#v.a\" name=\"v.a\"></a> `a`: `u32`\n"
     ++ codes "\n- <a href=\"#v.b\" name=\"v.b\"></a> `b`\n\n# Modules\n"
 unfolding page_tree digits same_text
-variant-page = refl
+types-page = refl
 
 -- a handle with a constant of its type
 abbrev h : DefinitionTree

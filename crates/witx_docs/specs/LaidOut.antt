@@ -1,16 +1,18 @@
 -- The numbers that a page needs of types: each has to fit a `usize`, or there is no page.
 -- Of a typename its size. Of each type whose parts are shown: the size of a record that isn't flags and of a variant with
 -- a payload, and of flags the offsets of their members as a plain record.
-use Rattle.std.specs.Prelude.{◌≡◌, ℕ, ◌^◌, List, [], ◌∷◌, ◌++◌, Bool, true, false, nat_le, Option, Some, None, Result, Ok, Err, if◌then◌else◌}
+use Rattle.std.specs.Prelude.{◌≡◌, ◌⊎◌, ℕ, ◌^◌, List, [], ◌∷◌, ◌++◌, map, Bool, true, false, nat_le, Option, Some, None, Result, Ok, Err, if◌then◌else◌}
 use Rattle.std.specs.List.{flat_map, list_any}
 use Rattle.witx_ast.specs.declared.types.RecordKind.{RecordKind}
 use Rattle.witx_ast.specs.declared.types.IntRepr.{IntRepr}
 use Rattle.witx_ast.specs.Tree.{Tree, Fields, Arms, Field, Arm, arm_list}
 use Rattle.witx_ast.specs.Plain.{Plain, plain, plain_fields, plain_arms}
 use Rattle.witx_ast.specs.Words.{is_bool_arms, all_arms_bare}
-use Rattle.witx_ast.specs.Functions.{FunctionTree}
+use Rattle.witx_ast.specs.declared.function.InterfaceFunc.{InterfaceFunc}
+use Rattle.witx_ast.specs.Functions.{FunctionTree, func_tree}
 use Rattle.witx_ast.specs.Items.{ItemTree, import_of, func_of}
-use Rattle.witx_ast.specs.Definitions.{DefinitionTree, typename_of, module_of, constant_of}
+use Rattle.witx_ast.specs.declared.definition.Definition.{Definition}
+use Rattle.witx_ast.specs.Definitions.{DefinitionTree, definition_tree, typename_of, module_of, constant_of}
 use Rattle.witx_layout.specs.Numbers.{size_of, offsets}
 use Rattle.witx_layout.specs.declared.members.LayoutError.{LayoutError}
 use Rattle.witx_layout.specs.declared.members.LayoutError.TheVariants as layout_error
@@ -102,6 +104,13 @@ abbrev pub Judged : {A : Type 0} → Bool → Result A LayoutError → Type 0
 Judged large (Ok answer) = large ≡ false
 Judged large (Err refused) = refusal_fits large refused
 
+-- the same by the numbers that a function needs, and by those of all that is defined
+abbrev pub JudgedByFunction : {A : Type 0} → InterfaceFunc → Result A LayoutError → Type 0
+JudgedByFunction func result = Judged (too_large (function_laid_out (func_tree func))) result
+
+abbrev pub JudgedByDefinitions : {A : Type 0} → List Definition → Result A LayoutError → Type 0
+JudgedByDefinitions definitions result = Judged (too_large (document_laid_out (map definition_tree definitions))) result
+
 abbrev pub layout_refusal : LayoutError → DocsError
 layout_refusal layout_error.TooLarge = docs_error.TooLarge
 layout_refusal layout_error.OutOfMemory = docs_error.OutOfMemory
@@ -117,3 +126,12 @@ unknown_or otherwise (Some name) = Some (docs_error.UnknownConstantType name)
 -- why a document has no page: a constant of an unknown type before a number that is too large
 abbrev pub document_refusal : List DefinitionTree → Option DocsError
 document_refusal ds = unknown_or (number_refusal (document_laid_out ds)) (unknown_type ds)
+
+-- nothing refuses a document of these definitions
+abbrev pub NothingRefuses : List Definition → Type 0
+NothingRefuses definitions = document_refusal (map definition_tree definitions) ≡ None
+
+-- a refusal is for want of memory, or the one that these definitions have
+abbrev pub RefusedFor : List Definition → DocsError → Type 0
+RefusedFor definitions refused =
+    (refused ≡ DocsError.OutOfMemory) ⊎ (document_refusal (map definition_tree definitions) ≡ Some refused)

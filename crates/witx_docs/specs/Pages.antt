@@ -1,8 +1,9 @@
 -- The page of a document: the text of the tree that generation makes of it below a root, with the links of each node's
 -- documentation; and the links that lead nowhere, in the order of the text.
-use Rattle.std.specs.Prelude.{ℕ, List, ◌++◌, map, Option, Some, None, Result, Ok, Err, codes}
+use Rattle.std.specs.Prelude.{◌≡◌, ℕ, List, ◌++◌, map, Option, Some, None, Result, Ok, Err, codes}
 use Rattle.std.specs.List.{flat_map}
-use Rattle.witx_ast.specs.Definitions.{DefinitionTree}
+use Rattle.witx_ast.specs.declared.definition.Definition.{Definition}
+use Rattle.witx_ast.specs.Definitions.{DefinitionTree, definition_tree}
 use Rattle.witx_markdown.specs.declared.content.MdContent.{MdContent}
 use Rattle.witx_markdown.specs.declared.content.MdContent.TheVariants as content
 use Rattle.witx_docs.specs.declared.error.DocsError.{DocsError}
@@ -30,6 +31,13 @@ all_missing t = told_of (missing_in (ids t.contents)) t
 
 abbrev pub missing_links : List DefinitionTree → List (List ℕ)
 missing_links ds = all_missing (page_tree ds)
+
+-- a text, and links that are missing, are those of a document's page
+abbrev pub HasPageText : List Definition → List ℕ × List (List ℕ) → Type 0
+HasPageText definitions page = page.0 ≡ page_text (map definition_tree definitions)
+
+abbrev pub HasPageLinks : List Definition → List ℕ × List (List ℕ) → Type 0
+HasPageLinks definitions page = page.1 ≡ missing_links (map definition_tree definitions)
 
 -- the same by the contents alone, which stand in the order of the text before there are links
 abbrev pub page_contents : List DefinitionTree → List MdContent

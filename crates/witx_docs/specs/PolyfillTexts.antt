@@ -1,5 +1,5 @@
 -- The Markdown of polyfills: in which terms an old interface is told by a new one, and which types are converted.
-use Rattle.std.specs.Prelude.{ℕ, List, [], ◌∷◌, ◌++◌, map, not, codes, if◌then◌else◌}
+use Rattle.std.specs.Prelude.{ℕ, List, [], ◌∷◌, ◌++◌, Bool, map, not, codes, if◌then◌else◌}
 use Rattle.std.specs.List.{filter, flat_map, join_by}
 use Rattle.witx_ast.specs.Tree.{Tree}
 use Rattle.witx_base.specs.SameBytes.{same_bytes}
@@ -57,9 +57,16 @@ types_text RepEquality.Eq old new = codes "compatible types"
 types_text RepEquality.Superset old new = related (codes "is superset-compatible with") old new
 types_text RepEquality.NotEq old new = related (codes "is incompatible with new") old new
 
+-- the types of two that are mapped
+abbrev pub mapped_types : RepEquality → Mapped → List ℕ
+mapped_types answer m = types_text answer (type_text m.old.tree) (type_text m.new.tree)
+
+abbrev pub related_types : (relation : List ℕ) → Mapped → List ℕ
+related_types relation m = related relation (type_text m.old.tree) (type_text m.new.tree)
+
 -- the names and the types of two that are mapped, with that answer
 abbrev pub mapped_line : RepEquality → Mapped → List ℕ
-mapped_line answer m = renamed m.old.called m.new.called ++ codes ": " ++ types_text answer (type_text m.old.tree) (type_text m.new.tree)
+mapped_line answer m = renamed m.old.called m.new.called ++ codes ": " ++ mapped_types answer m
 
 abbrev pub mapped_text : Mapped → List ℕ
 mapped_text m = mapped_line (conversion_answer m.conversion) m
@@ -115,9 +122,16 @@ module_heading new old = codes "## `" ++ new ++ codes "` in terms of `" ++ old +
 abbrev pub module_text : MappedModule → List ℕ
 module_text m = module_heading m.new.name m.old.name ++ lines function_text m.functions
 
--- the conversions between types that are not alike
+-- a conversion between types that are alike, and of conversions those between others
+abbrev pub are_alike : Conversion → Bool
+are_alike c = is_same (conversion_answer c)
+
+abbrev pub between_others : List Conversion → List Conversion
+between_others = filter (λ c. not (are_alike c))
+
+-- what the modules convert between types that are not alike, each conversion once
 abbrev pub true_conversions : List MappedModule → List Conversion
-true_conversions modules = filter (λ c. not (is_same (conversion_answer c))) (each_once (flat_map module_conversions modules))
+true_conversions modules = between_others (each_once (flat_map module_conversions modules))
 
 -- the report on an old interface and a new one
 abbrev pub polyfill_text : List MappedModule → List ℕ

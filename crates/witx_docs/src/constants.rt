@@ -4,8 +4,7 @@
 ghost use Rattle.std.specs.Prelude.{◌≡◌, ◌∷◌, ◌++◌, [], ℕ, List, IfOk, OnOk, map};
 ghost use Rattle.witx_ast.specs.Definitions.{definition_tree};
 ghost use Rattle.witx_markdown.specs.Constants.{constants_in};
-ghost use Rattle.witx_docs.specs.Parts.{constants_of};
-ghost use Rattle.witx_docs.specs.ByType.{StandByType, standing};
+ghost use Rattle.witx_docs.specs.{Parts.{constants_of}, ByType.{StandByType, standing}};
 
 use std::alloc::Global;
 use std::collections::BTreeMap;

@@ -1,12 +1,9 @@
 //! The lines of a polyfill's conversions.
 
-ghost use Rattle.std.specs.Prelude.{◌≡◌, ◌++◌, ◌&&◌, IfOk, OnOk, map, not, string_bytes};
-ghost use Rattle.std.specs.List.{filter};
+ghost use Rattle.std.specs.Prelude.{◌≡◌, ◌++◌, ◌&&◌, IfOk, OnOk, map, string_bytes};
 ghost use Rattle.witx_ast.specs.Views.{tree_of};
-ghost use Rattle.witx_compat.specs.Answers.{is_same};
-ghost use Rattle.witx_compat.specs.Conversions.{conversion_answer};
-ghost use Rattle.witx_compat.specs.Views.{conversion_view};
-ghost use Rattle.witx_docs.specs.PolyfillTexts.{conversion_line, conversion_mark, conversion_text, directed, lines, owned_type};
+ghost use Rattle.witx_compat.specs.{Answers.{is_same}, Views.{conversion_view}};
+ghost use Rattle.witx_docs.specs.PolyfillTexts.{are_alike, between_others, conversion_line, conversion_mark, conversion_text, directed, lines, owned_type};
 ghost use Rattle.witx_docs.specs.Pieces.{unless_alike};
 
 use crate::written::{Written, start_line};
@@ -31,41 +28,41 @@ fn put_conversion(
     ensures { OnOk result (string_bytes out.new
         ≡ string_bytes out.old ++ conversion_line answer (conversion_view conversion.now)) }
 {
-    let mark = mark_of(answer);
     match conversion {
-        TypePolyfill::OldToNew(old, new) => put_directed(out, "old", old, "new", new, mark),
-        TypePolyfill::NewToOld(new, old) => put_directed(out, "new", new, "old", old, mark),
+        TypePolyfill::OldToNew(old, new) => put_directed(out, "old", old, "new", new, answer),
+        TypePolyfill::NewToOld(new, old) => put_directed(out, "new", new, "old", old, answer),
     }
 }
 
-fn mark_of(answer: RepEquality) -> &'static str
-    ensures { result.now ≡ conversion_mark answer }
-{
-    match answer {
-        RepEquality::Eq => ": compatible",
-        RepEquality::Superset => ": superset",
-        RepEquality::NotEq => "",
-    }
-}
-
-/// The type that gives values, then the one that receives them, and a mark.
+/// The type that gives values, then the one that receives them, and the mark of their answer.
 fn put_directed(
     out: &mut String,
     giver: &str,
     from: &TypeRef,
     receiver: &str,
     to: &TypeRef,
-    mark: &str,
+    answer: RepEquality,
 ) -> Result<(), OutOfMemory>
     ensures { OnOk result (string_bytes out.new ≡ string_bytes out.old
-        ++ directed giver.now (tree_of from.now) receiver.now (tree_of to.now) mark.now) }
+        ++ directed giver.now (tree_of from.now) receiver.now (tree_of to.now) (conversion_mark answer)) }
 {
     out.push_str("* ")?;
     put_owned_type(out, giver, from)?;
     out.push_str(" => ")?;
     put_owned_type(out, receiver, to)?;
-    out.push_str(mark)?;
+    put_mark(out, answer)?;
     Ok(())
+}
+
+/// What is said of types that are alike, or of which one has more values.
+fn put_mark(out: &mut String, answer: RepEquality) -> Result<(), OutOfMemory>
+    ensures { OnOk result (string_bytes out.new ≡ string_bytes out.old ++ conversion_mark answer) }
+{
+    match answer {
+        RepEquality::Eq => Ok(out.push_str(": compatible")?),
+        RepEquality::Superset => Ok(out.push_str(": superset")?),
+        RepEquality::NotEq => Ok(()),
+    }
 }
 
 /// A type, behind the word of the interface that has it.
@@ -82,7 +79,7 @@ fn put_owned_type(out: &mut String, owner: &str, tref: &TypeRef) -> Result<(), O
 #[tactic(auto, using(crate::proofs::Conversions::conversion_rules))]
 pub fn put_conversions(out: &mut String, conversions: &[TypePolyfill]) -> Result<(), OutOfMemory>
     ensures { OnOk result (string_bytes out.new ≡ string_bytes out.old
-        ++ lines conversion_text (filter (λ c. not (is_same (conversion_answer c))) (map conversion_view conversions.now))) }
+        ++ lines conversion_text (between_others (map conversion_view conversions.now))) }
 {
     let mut first = true;
     for conversion in conversions {
@@ -99,7 +96,7 @@ fn put_unless_alike(
 ) -> Result<bool, OutOfMemory>
     ensures line { OnOk result (string_bytes out.new
         ≡ string_bytes out.old ++ unless_alike first (conversion_view conversion.now)) }
-    ensures still { IfOk result (λ still. still ≡ (is_same (conversion_answer (conversion_view conversion.now)) && first)) }
+    ensures still { IfOk result (λ still. still ≡ (are_alike (conversion_view conversion.now) && first)) }
 {
     let answer = conversion.repeq();
     if is_alike(answer) {

@@ -2,16 +2,14 @@
 #![tactic(auto, using(crate::proofs::DocumentParts::definition_rules))]
 
 ghost use Rattle.std.specs.Prelude.{◌≡◌, ◌∷◌, ◌++◌, [], IfOk, OnOk, Some, codes, map, string_bytes};
-ghost use Rattle.witx_ast.specs.Plain.{plain};
-ghost use Rattle.witx_ast.specs.Views.{tree_of};
-ghost use Rattle.witx_ast.specs.Definitions.{definition_tree, module_tree, typename_of, module_of};
+ghost use Rattle.witx_ast.specs.{Plain.{plain}, Views.{tree_of}};
+ghost use Rattle.witx_ast.specs.Definitions.{definition_tree, module_tree, module_of};
 ghost use Rattle.witx_layout.specs.Numbers.{align_of, size_of};
-ghost use Rattle.witx_markdown.specs.Forests.{each, no_nodes, node, sprouted};
+ghost use Rattle.witx_markdown.specs.{Forests.{each, no_nodes, node, sprouted}, Constants.{constants_in}};
+ghost use Rattle.witx_markdown.specs.NamesKnown.{NamesKnown, AllNamesKnown, InDefinition, InItems};
 ghost use Rattle.witx_docs.specs.Parts.{section as section_of, document_parts, typename_nodes, typename_with, typename_docs, layout_lines, number_line, typename_shown, module_node, module_nodes, module_content, constants_part, constant_node};
-ghost use Rattle.witx_markdown.specs.Constants.{constants_in};
-ghost use Rattle.witx_markdown.specs.NamesKnown.{NamesKnown, InDefinition, InDefinitions, InItems};
 ghost use Rattle.witx_docs.specs.ByType.{StandByType, standing};
-ghost use Rattle.witx_docs.specs.LaidOut.{Judged, too_large, document_laid_out, typenames_laid_out, modules_laid_out, module_laid_out, laid_out, items_laid_out};
+ghost use Rattle.witx_docs.specs.LaidOut.{Judged, JudgedByDefinitions, too_large, typenames_laid_out, modules_laid_out, module_laid_out, laid_out, items_laid_out};
 
 use crate::constants::{ConstantsByType, constants_by_type};
 use crate::functions::put_module;
@@ -32,10 +30,10 @@ pub fn put_document(
     names: NamedLayouts,
     definitions: &[Definition],
 ) -> Result<(), LayoutError>
-    requires { InDefinitions (NamesKnown names) (map definition_tree definitions.now) }
+    requires { AllNamesKnown names definitions.now }
     ensures nodes { OnOk result (branch.new ≡ sprouted branch.old at.now.node
         (document_parts at.now.heading (map definition_tree definitions.now))) }
-    ensures refusal { Judged (too_large (document_laid_out (map definition_tree definitions.now))) result }
+    ensures refusal { JudgedByDefinitions definitions.now result }
 {
     let inner = at.heading.new_level_down();
     let constants = constants_by_type(branch.allocator(), definitions)?;
@@ -54,7 +52,7 @@ fn put_typenames(
     constants: &ConstantsByType,
     definitions: &[Definition],
 ) -> Result<(), LayoutError>
-    requires known { InDefinitions (NamesKnown names) (map definition_tree definitions.now) }
+    requires known { AllNamesKnown names definitions.now }
     requires constants { StandByType constants.now.entries (constants_in (map definition_tree definitions.now)) }
     ensures nodes { OnOk result (branch.new ≡ sprouted branch.old parent
         (typename_nodes heading (constants_in (map definition_tree definitions.now)) (map definition_tree definitions.now))) }
@@ -232,7 +230,7 @@ fn put_modules(
     names: NamedLayouts,
     definitions: &[Definition],
 ) -> Result<(), LayoutError>
-    requires { InDefinitions (NamesKnown names) (map definition_tree definitions.now) }
+    requires { AllNamesKnown names definitions.now }
     ensures nodes { OnOk result (branch.new
         ≡ sprouted branch.old parent (module_nodes heading (map definition_tree definitions.now))) }
     ensures refusal { Judged (too_large (modules_laid_out (map definition_tree definitions.now))) result }

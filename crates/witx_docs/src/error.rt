@@ -1,6 +1,7 @@
 //! Why a document has no documentation.
 
 ghost use Rattle.std.specs.Prelude.{◌≡◌};
+ghost use Rattle.witx_docs.specs.declared.error.DocsError.{DocsError};
 
 use std::alloc::AllocError;
 use witx_base::{Id, OutOfMemory};
@@ -18,9 +19,7 @@ pub enum DocsError {
 }
 
 impl From<OutOfMemory> for DocsError {
-    ghost use Rattle.witx_docs.specs.declared.error.DocsError.TheVariants as error;
-
-    ghost from_gives = { λ _ e. e ≡ error.OutOfMemory };
+    ghost from_gives = { λ _ e. e ≡ DocsError.OutOfMemory };
 
     fn from(_refused: OutOfMemory) -> DocsError {
         DocsError::OutOfMemory
@@ -28,9 +27,7 @@ impl From<OutOfMemory> for DocsError {
 }
 
 impl From<AllocError> for DocsError {
-    ghost use Rattle.witx_docs.specs.declared.error.DocsError.TheVariants as error;
-
-    ghost from_gives = { λ _ e. e ≡ error.OutOfMemory };
+    ghost from_gives = { λ _ e. e ≡ DocsError.OutOfMemory };
 
     fn from(_refused: AllocError) -> DocsError {
         DocsError::OutOfMemory

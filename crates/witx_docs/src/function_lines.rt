@@ -5,17 +5,16 @@ ghost use Rattle.std.specs.Prelude.{◌≡◌, ◌==◌, ◌&&◌, ◌++◌, IfO
 ghost use Rattle.std.specs.List.{flat_map, list_all};
 ghost use Rattle.witx_ast.specs.Functions.{func_tree};
 ghost use Rattle.witx_base.specs.SameBytes.{same_bytes};
-ghost use Rattle.witx_ast.specs.Views.{tree_of};
-ghost use Rattle.witx_ast.specs.TypeNames.{type_text};
 ghost use Rattle.witx_compat.specs.Conversions.{is_compatible};
 ghost use Rattle.witx_compat.specs.Views.{mapped_view, unknown_view, function_view};
-ghost use Rattle.witx_docs.specs.PolyfillTexts.{compatible_part, full_line, mapped_function_parts, nothing_found, function_text, mapped_line, mapped_part, mapped_text, part_line, backquoted, related, renamed, types_text, unknown_part};
+ghost use Rattle.witx_docs.specs.PolyfillTexts.{compatible_part, full_line, mapped_function_parts, nothing_found, function_text, mapped_line, mapped_part, mapped_text, part_line, backquoted, related_types, renamed, mapped_types, unknown_part};
 ghost use Rattle.witx_docs.specs.Pieces.{behind_colon, compared_part, has_compatible_parts};
 
 use crate::conversion_lines::is_alike;
 use crate::written::Written;
 use witx_base::{Id, OutOfMemory};
 use witx_compat::{FuncPolyfill, ParamPolyfill, ParamUnknown, RepEquality};
+use witx_markdown::put;
 
 impl Written for ParamPolyfill {
     ghost written = { λ p. mapped_text (mapped_view p) };
@@ -65,20 +64,13 @@ fn put_types(
     answer: RepEquality,
 ) -> Result<(), OutOfMemory>
     ensures { OnOk result (string_bytes out.new ≡ string_bytes out.old
-        ++ types_text answer (type_text (tree_of mapped.now.old.tref)) (type_text (tree_of mapped.now.new.tref))) }
+        ++ mapped_types answer (mapped_view mapped.now)) }
 {
     match answer {
-        RepEquality::Eq => put_text(out, "compatible types"),
+        RepEquality::Eq => put(out, "compatible types"),
         RepEquality::Superset => put_two_types(out, mapped, "is superset-compatible with"),
         RepEquality::NotEq => put_two_types(out, mapped, "is incompatible with new"),
     }
-}
-
-fn put_text(out: &mut String, text: &str) -> Result<(), OutOfMemory>
-    ensures { OnOk result (string_bytes out.new ≡ string_bytes out.old ++ text.now) }
-{
-    out.push_str(text)?;
-    Ok(())
 }
 
 /// The old type, what it is to the new one, and the new one.
@@ -88,7 +80,7 @@ fn put_two_types(
     relation: &str,
 ) -> Result<(), OutOfMemory>
     ensures { OnOk result (string_bytes out.new ≡ string_bytes out.old
-        ++ related relation.now (type_text (tree_of mapped.now.old.tref)) (type_text (tree_of mapped.now.new.tref))) }
+        ++ related_types relation.now (mapped_view mapped.now)) }
 {
     let old_name = mapped.old.tref.type_name(*out.allocator())?;
     let new_name = mapped.new.tref.type_name(*out.allocator())?;

@@ -1,15 +1,13 @@
 //! What a function and a module add below a node.
 #![tactic(auto, using(crate::proofs::FunctionNodes::item_rules))]
 
-ghost use Rattle.std.specs.Prelude.{◌≡◌, ◌++◌, IfOk, OnOk, Some, codes, map, option_map};
-ghost use Rattle.witx_ast.specs.Functions.{func_tree, param_field};
-ghost use Rattle.witx_ast.specs.Items.{item_tree};
+ghost use Rattle.std.specs.Prelude.{◌≡◌, IfOk, OnOk, Some, codes, map, option_map};
+ghost use Rattle.witx_ast.specs.{Functions.{func_tree, param_field}, Items.{item_tree}};
 ghost use Rattle.witx_ast.specs.Definitions.{module_tree};
-ghost use Rattle.witx_markdown.specs.Contents.{level_down};
-ghost use Rattle.witx_markdown.specs.Forests.{lone_node, sprouted, no_nodes, node};
-ghost use Rattle.witx_docs.specs.Parts.{section as section_of, param_nodes, function_parts, function_content, inputs_of, outputs_of, import_nodes, func_nodes, module_parts, func_node, import_node};
+ghost use Rattle.witx_markdown.specs.{Contents.{level_down}, Forests.{lone_node, sprouted, no_nodes, node}};
 ghost use Rattle.witx_markdown.specs.NamesKnown.{NamesKnown, InFunction, InItem, InItems, InParams};
-ghost use Rattle.witx_docs.specs.LaidOut.{Judged, too_large, params_laid_out, function_laid_out, items_laid_out, item_laid_out};
+ghost use Rattle.witx_docs.specs.Parts.{section as section_of, param_nodes, function_parts, function_content, inputs_of, outputs_of, import_nodes, func_nodes, module_parts, func_node, import_node};
+ghost use Rattle.witx_docs.specs.LaidOut.{Judged, JudgedByFunction, too_large, params_laid_out, items_laid_out, item_laid_out};
 
 use crate::parts::{put_group, put_section, put_typed};
 use crate::place::Place;
@@ -29,7 +27,7 @@ pub fn put_function(
     requires { InFunction (NamesKnown names) (func_tree func.now) }
     ensures nodes { OnOk result (branch.new ≡ sprouted branch.old at.now.node
         (function_parts at.now.heading (option_map (λ id. id.now) at.now.id) (func_tree func.now))) }
-    ensures refusal { Judged (too_large (function_laid_out (func_tree func.now))) result }
+    ensures refusal { JudgedByFunction func.now result }
 {
     put_section(branch, at, "Params")?;
     put_params(branch, at, names, func.params.as_slice())?;
@@ -202,7 +200,7 @@ fn put_func(
     requires { InFunction (NamesKnown names) (func_tree func.now) }
     ensures nodes { OnOk result (branch.new ≡ sprouted branch.old parent
         (node (function_content heading (func_tree func.now)) (function_parts (level_down heading) (Some func.now.name) (func_tree func.now)) no_nodes)) }
-    ensures refusal { Judged (too_large (function_laid_out (func_tree func.now))) result }
+    ensures refusal { JudgedByFunction func.now result }
 {
     let content = func_content(branch.allocator(), heading, func)?;
     let node = branch.push(parent, content)?;

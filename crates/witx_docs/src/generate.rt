@@ -2,11 +2,9 @@
 
 ghost use Rattle.std.specs.Prelude.{◌≡◌, ◌⊎◌, ◌<◌, ℕ, List, Option, Some, None, IfErr, OnErr, OnOk, length};
 ghost use Rattle.witx_markdown.specs.declared.heading.MdHeading.{MdHeading};
-ghost use Rattle.witx_markdown.specs.declared.content.MdContent.{MdContent};
+ghost use Rattle.witx_markdown.specs.{declared.content.MdContent.{MdContent}, Contents.{content_id}};
+ghost use Rattle.witx_markdown.specs.{Forests.{Forest}, Trees.{content_at, generated, heading_below}};
 ghost use Rattle.witx_docs.specs.declared.error.DocsError.{DocsError};
-ghost use Rattle.witx_markdown.specs.Contents.{content_id};
-ghost use Rattle.witx_markdown.specs.Forests.{Forest};
-ghost use Rattle.witx_markdown.specs.Trees.{content_at, generated, heading_below};
 
 use crate::error::DocsError;
 use witx_markdown::MdTree;

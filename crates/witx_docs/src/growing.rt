@@ -1,12 +1,11 @@
 //! Nodes that are added below a node of a tree.
 
 ghost use Rattle.std.specs.Prelude.{◌≡◌, ◌⊎◌, ◌<◌, [], ℕ, List, Option, Some, None, IfErr, IfOk, OnErr, OnOk, length, option_map};
-ghost use Rattle.witx_markdown.specs.declared.heading.MdHeading.{MdHeading};
-ghost use Rattle.witx_docs.specs.declared.error.DocsError.{DocsError};
-ghost use Rattle.witx_markdown.specs.Contents.{content_id};
+ghost use Rattle.witx_markdown.specs.{declared.heading.MdHeading.{MdHeading}, Contents.{content_id}};
 ghost use Rattle.witx_markdown.specs.Forests.{Forest, sprouted};
-ghost use Rattle.witx_docs.specs.LaidOut.{Judged, too_large, number_refusal};
 ghost use Rattle.witx_markdown.specs.Trees.{content_at, generated, heading_below};
+ghost use Rattle.witx_docs.specs.declared.error.DocsError.{DocsError};
+ghost use Rattle.witx_docs.specs.LaidOut.{Judged, too_large, number_refusal};
 
 use crate::error::DocsError;
 use crate::place::Place;

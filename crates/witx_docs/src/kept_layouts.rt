@@ -1,13 +1,8 @@
 //! The layouts of a closed document's typenames.
 
-ghost use Rattle.std.specs.Prelude.{◌≡◌, IfErr, IfOk, OnOk, map};
-ghost use Rattle.std.specs.List.{IsDistinct};
-ghost use Rattle.std.specs.Map.{keys_of};
-ghost use Rattle.witx_base.specs.Texts.{same_text};
-ghost use Rattle.witx_ast.specs.Entries.{by_name};
-ghost use Rattle.witx_ast.specs.Definitions.{definition_tree, introduced};
-ghost use Rattle.witx_ast.specs.Closed.{IsClosed};
-ghost use Rattle.witx_layout.specs.Known.{Knows, KnowsDefinition, IsEntered};
+ghost use Rattle.std.specs.Prelude.{IfErr, IfOk, OnOk, map};
+ghost use Rattle.witx_ast.specs.{Definitions.{definition_tree}, Closed.{IsClosed}};
+ghost use Rattle.witx_layout.specs.Known.{Knows, KnowsDefinition, HaveDistinctNames, Enters};
 ghost use Rattle.witx_docs.specs.LaidOut.{refusal_fits, too_large, document_laid_out, typename_laid_out};
 ghost use Rattle.witx_markdown.specs.NamesKnown.{InDefinitions};
 
@@ -33,7 +28,7 @@ pub fn kept_layouts(alloc: Global, document: &Document) -> Result<NameMap<SizeAl
 #[tactic(auto, using(crate::proofs::Knowing::knowing_rules))]
 fn layouts_of(alloc: Global, definitions: &[Definition]) -> Result<NameMap<SizeAlign>, LayoutError>
     requires closed { IsClosed (map definition_tree definitions.now) }
-    requires distinct { IsDistinct same_text (keys_of (by_name introduced (map definition_tree definitions.now))) }
+    requires distinct { HaveDistinctNames definitions.now }
     ensures known { IfOk result (λ table. InDefinitions (Knows table) (map definition_tree definitions.now)) }
     ensures refusal { IfErr result (refusal_fits (too_large (document_laid_out (map definition_tree definitions.now)))) }
 {
@@ -48,7 +43,7 @@ fn layouts_of(alloc: Global, definitions: &[Definition]) -> Result<NameMap<SizeA
 #[tactic(auto, using(crate::proofs::Knowing::keeping_rules))]
 fn keep_layout(table: &mut NameMap<SizeAlign>, definition: &Definition) -> Result<(), LayoutError>
     requires { KnowsDefinition table.old (definition_tree definition.now) }
-    ensures kept { OnOk result (IsEntered table.old (definition_tree definition.now) table.new) }
+    ensures kept { OnOk result (Enters definition.now table.old table.new) }
     ensures refusal { IfErr result (refusal_fits (too_large (typename_laid_out (definition_tree definition.now)))) }
 {
     let Definition::Typename(named) = definition else {

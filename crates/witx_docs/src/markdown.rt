@@ -1,9 +1,15 @@
 //! What is shown of each type of an interface.
 #![tactic(auto, using(crate::proofs::DocumentParts::through_rules))]
 
-ghost use Rattle.std.specs.Prelude.{◌≡◌, IfOk};
-ghost use Rattle.witx_ast.specs.Views.{datatype_tree};
-ghost use Rattle.witx_docs.specs.Parts.{type_shown};
+ghost use Rattle.std.specs.Prelude.{◌≡◌, [], None, codes, map, IfOk};
+ghost use Rattle.witx_ast.specs.Functions.{func_tree};
+ghost use Rattle.witx_ast.specs.Views.{tree_of, datatype_tree, record_tree, variant_tree};
+ghost use Rattle.witx_ast.specs.Definitions.{module_tree, definition_tree};
+ghost use Rattle.witx_ast.specs.Tree as tree;
+ghost use Rattle.witx_markdown.specs.Contents.{with_type, with_title, with_signature, content_with_docs};
+ghost use Rattle.witx_markdown.specs.Forests.{no_nodes};
+ghost use Rattle.witx_docs.specs.Parts.{type_parts, type_shown, module_parts, function_parts, inputs_of, outputs_of, document_parts};
+ghost use Rattle.witx_docs.specs.LaidOut.{laid_out, number_refusal, items_laid_out, function_laid_out, document_laid_out, document_refusal};
 
 use crate::documents::put_document;
 use crate::error::DocsError;
@@ -25,10 +31,6 @@ use witx_layout::LayoutError;
 use witx_markdown::{Branch, MdTree, NamedLayouts, allocator_of, unknown_constant_type};
 
 impl Parts for TypeRef {
-    ghost use Rattle.witx_ast.specs.Views.{tree_of};
-    ghost use Rattle.witx_docs.specs.Parts.{type_parts};
-    ghost use Rattle.witx_docs.specs.LaidOut.{laid_out};
-
     ghost nodes_of = { λ t h id. type_parts h id (tree_of t) };
 
     ghost numbers_of = { λ t. laid_out (tree_of t) };
@@ -39,11 +41,6 @@ impl Parts for TypeRef {
 }
 
 impl ToMarkdown for TypeRef {
-    ghost use Rattle.witx_ast.specs.Views.{tree_of};
-    ghost use Rattle.witx_markdown.specs.Contents.{with_type};
-    ghost use Rattle.witx_docs.specs.Parts.{type_parts, type_shown};
-    ghost use Rattle.witx_docs.specs.LaidOut.{laid_out, number_refusal};
-
     ghost shown = { λ t c. with_type c (type_shown (tree_of t)) };
 
     ghost parts = { λ t h id. type_parts h id (tree_of t) };
@@ -59,11 +56,6 @@ impl ToMarkdown for TypeRef {
 }
 
 impl ToMarkdown for NamedType {
-    ghost use Rattle.witx_ast.specs.Views.{tree_of};
-    ghost use Rattle.witx_markdown.specs.Contents.{with_type};
-    ghost use Rattle.witx_docs.specs.Parts.{type_parts, type_shown};
-    ghost use Rattle.witx_docs.specs.LaidOut.{laid_out, number_refusal};
-
     ghost shown = { λ n c. with_type c (type_shown (tree_of n.tref)) };
 
     ghost parts = { λ n h id. type_parts h id (tree_of n.tref) };
@@ -76,10 +68,6 @@ impl ToMarkdown for NamedType {
 }
 
 impl Parts for Datatype {
-    ghost use Rattle.witx_ast.specs.Views.{datatype_tree};
-    ghost use Rattle.witx_docs.specs.Parts.{type_parts};
-    ghost use Rattle.witx_docs.specs.LaidOut.{laid_out};
-
     ghost nodes_of = { λ d h id. type_parts h id (datatype_tree d) };
 
     ghost numbers_of = { λ d. laid_out (datatype_tree d) };
@@ -90,11 +78,6 @@ impl Parts for Datatype {
 }
 
 impl ToMarkdown for Datatype {
-    ghost use Rattle.witx_ast.specs.Views.{datatype_tree};
-    ghost use Rattle.witx_markdown.specs.Contents.{with_type};
-    ghost use Rattle.witx_docs.specs.Parts.{type_parts, type_shown};
-    ghost use Rattle.witx_docs.specs.LaidOut.{laid_out, number_refusal};
-
     ghost shown = { λ d c. with_type c (type_shown (datatype_tree d)) };
 
     ghost parts = { λ d h id. type_parts h id (datatype_tree d) };
@@ -120,10 +103,6 @@ fn datatype_shown(alloc: Global, datatype: &Datatype) -> Result<Text, OutOfMemor
 }
 
 impl Parts for RecordDatatype {
-    ghost use Rattle.witx_ast.specs.Views.{record_tree};
-    ghost use Rattle.witx_docs.specs.Parts.{type_parts};
-    ghost use Rattle.witx_docs.specs.LaidOut.{laid_out};
-
     ghost nodes_of = { λ r h id. type_parts h id (record_tree r) };
 
     ghost numbers_of = { λ r. laid_out (record_tree r) };
@@ -134,10 +113,6 @@ impl Parts for RecordDatatype {
 }
 
 impl ToMarkdown for RecordDatatype {
-    ghost use Rattle.witx_ast.specs.Views.{record_tree};
-    ghost use Rattle.witx_docs.specs.Parts.{type_parts};
-    ghost use Rattle.witx_docs.specs.LaidOut.{laid_out, number_refusal};
-
     ghost shown = { λ r c. c };
 
     ghost parts = { λ r h id. type_parts h id (record_tree r) };
@@ -150,10 +125,6 @@ impl ToMarkdown for RecordDatatype {
 }
 
 impl Parts for Variant {
-    ghost use Rattle.witx_ast.specs.Views.{variant_tree};
-    ghost use Rattle.witx_docs.specs.Parts.{type_parts};
-    ghost use Rattle.witx_docs.specs.LaidOut.{laid_out};
-
     ghost nodes_of = { λ v h id. type_parts h id (variant_tree v) };
 
     ghost numbers_of = { λ v. laid_out (variant_tree v) };
@@ -164,10 +135,6 @@ impl Parts for Variant {
 }
 
 impl ToMarkdown for Variant {
-    ghost use Rattle.witx_ast.specs.Views.{variant_tree};
-    ghost use Rattle.witx_docs.specs.Parts.{type_parts};
-    ghost use Rattle.witx_docs.specs.LaidOut.{laid_out, number_refusal};
-
     ghost shown = { λ v c. c };
 
     ghost parts = { λ v h id. type_parts h id (variant_tree v) };
@@ -180,10 +147,6 @@ impl ToMarkdown for Variant {
 }
 
 impl Parts for HandleDatatype {
-    ghost use Rattle.std.specs.Prelude.{[]};
-    ghost use Rattle.witx_ast.specs.Tree as tree;
-    ghost use Rattle.witx_docs.specs.Parts.{type_parts};
-
     ghost nodes_of = { λ d h id. type_parts h id tree.handle };
 
     ghost numbers_of = { λ d. [] };
@@ -194,11 +157,6 @@ impl Parts for HandleDatatype {
 }
 
 impl ToMarkdown for HandleDatatype {
-    ghost use Rattle.std.specs.Prelude.{[]};
-    ghost use Rattle.witx_ast.specs.Tree as tree;
-    ghost use Rattle.witx_docs.specs.Parts.{type_parts};
-    ghost use Rattle.witx_docs.specs.LaidOut.{number_refusal};
-
     ghost shown = { λ d c. c };
 
     ghost parts = { λ d h id. type_parts h id tree.handle };
@@ -211,10 +169,6 @@ impl ToMarkdown for HandleDatatype {
 }
 
 impl Parts for Module {
-    ghost use Rattle.witx_ast.specs.Definitions.{module_tree};
-    ghost use Rattle.witx_docs.specs.Parts.{module_parts};
-    ghost use Rattle.witx_docs.specs.LaidOut.{items_laid_out};
-
     ghost nodes_of = { λ m h id. module_parts h (module_tree m) };
 
     ghost numbers_of = { λ m. items_laid_out (module_tree m).items };
@@ -225,10 +179,6 @@ impl Parts for Module {
 }
 
 impl ToMarkdown for Module {
-    ghost use Rattle.witx_ast.specs.Definitions.{module_tree};
-    ghost use Rattle.witx_docs.specs.Parts.{module_parts};
-    ghost use Rattle.witx_docs.specs.LaidOut.{items_laid_out, number_refusal};
-
     ghost shown = { λ m c. c };
 
     ghost parts = { λ m h id. module_parts h (module_tree m) };
@@ -241,10 +191,6 @@ impl ToMarkdown for Module {
 }
 
 impl ToMarkdown for ModuleImport {
-    ghost use Rattle.std.specs.Prelude.{None, codes};
-    ghost use Rattle.witx_markdown.specs.Contents.{with_title};
-    ghost use Rattle.witx_markdown.specs.Forests.{no_nodes};
-
     ghost shown = { λ i c. with_title c (codes "Memory") };
 
     ghost parts = { λ i h id. no_nodes };
@@ -259,10 +205,6 @@ impl ToMarkdown for ModuleImport {
 }
 
 impl Parts for InterfaceFunc {
-    ghost use Rattle.witx_ast.specs.Functions.{func_tree};
-    ghost use Rattle.witx_docs.specs.Parts.{function_parts};
-    ghost use Rattle.witx_docs.specs.LaidOut.{function_laid_out};
-
     ghost nodes_of = { λ f h id. function_parts h id (func_tree f) };
 
     ghost numbers_of = { λ f. function_laid_out (func_tree f) };
@@ -273,11 +215,6 @@ impl Parts for InterfaceFunc {
 }
 
 impl ToMarkdown for InterfaceFunc {
-    ghost use Rattle.witx_ast.specs.Functions.{func_tree};
-    ghost use Rattle.witx_markdown.specs.Contents.{with_signature};
-    ghost use Rattle.witx_docs.specs.Parts.{function_parts, inputs_of, outputs_of};
-    ghost use Rattle.witx_docs.specs.LaidOut.{function_laid_out, number_refusal};
-
     ghost shown = { λ f c. with_signature c (inputs_of (func_tree f).params) (outputs_of (func_tree f).results) };
 
     ghost parts = { λ f h id. function_parts h id (func_tree f) };
@@ -294,11 +231,6 @@ impl ToMarkdown for InterfaceFunc {
 }
 
 impl ToMarkdown for InterfaceFuncParam {
-    ghost use Rattle.witx_ast.specs.Views.{tree_of};
-    ghost use Rattle.witx_markdown.specs.Contents.{content_with_docs, with_type};
-    ghost use Rattle.witx_docs.specs.Parts.{type_parts, type_shown};
-    ghost use Rattle.witx_docs.specs.LaidOut.{laid_out, number_refusal};
-
     ghost shown = { λ p c. content_with_docs (with_type c (type_shown (tree_of p.tref))) p.docs };
 
     ghost parts = { λ p h id. type_parts h id (tree_of p.tref) };
@@ -314,11 +246,6 @@ impl ToMarkdown for InterfaceFuncParam {
 }
 
 impl Parts for Document {
-    ghost use Rattle.std.specs.Prelude.{map};
-    ghost use Rattle.witx_ast.specs.Definitions.{definition_tree};
-    ghost use Rattle.witx_docs.specs.Parts.{document_parts};
-    ghost use Rattle.witx_docs.specs.LaidOut.{document_laid_out};
-
     ghost nodes_of = { λ d h id. document_parts h (map definition_tree d.definitions) };
 
     ghost numbers_of = { λ d. document_laid_out (map definition_tree d.definitions) };
@@ -334,11 +261,6 @@ impl Parts for Document {
 }
 
 impl ToMarkdown for Document {
-    ghost use Rattle.std.specs.Prelude.{map};
-    ghost use Rattle.witx_ast.specs.Definitions.{definition_tree};
-    ghost use Rattle.witx_docs.specs.Parts.{document_parts};
-    ghost use Rattle.witx_docs.specs.LaidOut.{document_refusal};
-
     ghost shown = { λ d c. c };
 
     ghost parts = { λ d h id. document_parts h (map definition_tree d.definitions) };

@@ -1,16 +1,13 @@
 //! The page of a document.
 #![tactic(auto, using(crate::proofs::RefusedPages::refusal_rules))]
 
-ghost use Rattle.std.specs.Prelude.{◌≡◌, ◌⊎◌, ◌++◌, IfErr, IfOk, OnOk, Some, None, map, string_bytes};
-ghost use Rattle.std.specs.Map.{keys_of};
-ghost use Rattle.witx_ast.specs.Definitions.{definition_tree};
-ghost use Rattle.witx_ast.specs.Closed.{IsClosed};
+ghost use Rattle.std.specs.{Prelude.{◌≡◌, ◌⊎◌, ◌++◌, IfErr, IfOk, OnOk, map, string_bytes}, Map.{keys_of}};
+ghost use Rattle.witx_ast.specs.{Definitions.{definition_tree}, Closed.{IsClosed}};
 ghost use Rattle.witx_docs.specs.declared.error.DocsError.{DocsError};
-ghost use Rattle.witx_markdown.specs.Contents.{content_text, docs_text};
-ghost use Rattle.witx_docs.specs.LaidOut.{Judged, too_large, document_laid_out, document_refusal};
-ghost use Rattle.witx_markdown.specs.NamesKnown.{NamesKnown, InDefinitions};
+ghost use Rattle.witx_docs.specs.LaidOut.{JudgedByDefinitions, NothingRefuses, RefusedFor};
+ghost use Rattle.witx_docs.specs.Pages.{HasPageText, HasPageLinks, page_answer, page_contents, text_of_contents, missing_of_contents, text_with, missing_with};
+ghost use Rattle.witx_markdown.specs.{Contents.{content_text, docs_text}, NamesKnown.{AllNamesKnown}};
 ghost use Rattle.witx_markdown.specs.Links.{linked, missing, with_links, missing_in};
-ghost use Rattle.witx_docs.specs.Pages.{page_contents, page_text, missing_links as links_without_target, text_of_contents, missing_of_contents, text_with, missing_with};
 
 use crate::documentation::Documentation;
 use crate::documents::put_document;
@@ -34,18 +31,15 @@ use witx_markdown::{
 /// `UnknownConstantType` comes exactly where a constant's type is no typename of the document, for the
 /// first such; `TooLarge` exactly where else a number that the page needs exceeds `usize::MAX`.
 pub fn document_md(alloc: Global, document: &Document) -> Result<(Text, MissingLinks), DocsError>
-    ensures text { IfOk result (λ page. page.0 ≡ page_text (map definition_tree document.now.definitions)) }
-    ensures missing { IfOk result (λ page. page.1 ≡ links_without_target (map definition_tree document.now.definitions)) }
-    ensures accepted { OnOk result (document_refusal (map definition_tree document.now.definitions) ≡ None) }
-    ensures refusal { IfErr result (λ refused.
-        (refused ≡ DocsError.OutOfMemory) ⊎ (document_refusal (map definition_tree document.now.definitions) ≡ Some refused)) }
+    ensures text { IfOk result (HasPageText document.now.definitions) }
+    ensures missing { IfOk result (HasPageLinks document.now.definitions) }
+    ensures accepted { OnOk result (NothingRefuses document.now.definitions) }
+    ensures refusal { IfErr result (RefusedFor document.now.definitions) }
 {
     if let Some(name) = unknown_constant_type(document) {
         return Err(unknown_type_refusal(name));
     }
-    let names = NamedLayouts::LookedThrough;
-    let contents = contents(alloc, names, document.definitions().as_slice())?;
-    let page = linked_page(alloc, contents.as_slice())?;
+    let page = page_of(alloc, NamedLayouts::LookedThrough, document)?;
     Ok(page)
 }
 
@@ -57,19 +51,16 @@ pub fn closed_document_md(
     document: &Document,
 ) -> Result<(Text, MissingLinks), DocsError>
     requires closed { IsClosed (map definition_tree document.now.definitions) }
-    ensures text { IfOk result (λ page. page.0 ≡ page_text (map definition_tree document.now.definitions)) }
-    ensures missing { IfOk result (λ page. page.1 ≡ links_without_target (map definition_tree document.now.definitions)) }
-    ensures accepted { OnOk result (document_refusal (map definition_tree document.now.definitions) ≡ None) }
-    ensures refusal { IfErr result (λ refused.
-        (refused ≡ DocsError.OutOfMemory) ⊎ (document_refusal (map definition_tree document.now.definitions) ≡ Some refused)) }
+    ensures text { IfOk result (HasPageText document.now.definitions) }
+    ensures missing { IfOk result (HasPageLinks document.now.definitions) }
+    ensures accepted { OnOk result (NothingRefuses document.now.definitions) }
+    ensures refusal { IfErr result (RefusedFor document.now.definitions) }
 {
     if let Some(name) = unknown_constant_type(document) {
         return Err(unknown_type_refusal(name));
     }
     let layouts = kept_layouts(alloc, document)?;
-    let names = NamedLayouts::Kept(&layouts);
-    let contents = contents(alloc, names, document.definitions().as_slice())?;
-    let page = linked_page(alloc, contents.as_slice())?;
+    let page = page_of(alloc, NamedLayouts::Kept(&layouts), document)?;
     Ok(page)
 }
 
@@ -83,15 +74,31 @@ pub fn unknown_type_refusal(name: &Id) -> DocsError
     }
 }
 
+/// The page of a document by what is known of its names, where the types of all constants are typenames.
+fn page_of(
+    alloc: Global,
+    names: NamedLayouts,
+    document: &Document,
+) -> Result<(Text, MissingLinks), LayoutError>
+    requires { AllNamesKnown names document.now.definitions }
+    ensures text { IfOk result (HasPageText document.now.definitions) }
+    ensures missing { IfOk result (HasPageLinks document.now.definitions) }
+    ensures refusal { JudgedByDefinitions document.now.definitions result }
+{
+    let contents = contents(alloc, names, document.definitions().as_slice())?;
+    let page = linked_page(alloc, contents.as_slice())?;
+    Ok(page)
+}
+
 /// The contents of a document's page, in the order of the text and without links.
 fn contents(
     alloc: Global,
     names: NamedLayouts,
     definitions: &[Definition],
 ) -> Result<Items<MdContent>, LayoutError>
-    requires { InDefinitions (NamesKnown names) (map definition_tree definitions.now) }
+    requires { AllNamesKnown names definitions.now }
     ensures contents { IfOk result (λ contents. contents ≡ page_contents (map definition_tree definitions.now)) }
-    ensures refusal { Judged (too_large (document_laid_out (map definition_tree definitions.now))) result }
+    ensures refusal { JudgedByDefinitions definitions.now result }
 {
     let mut branch = Branch::new(alloc, 1);
     let root = Place {
@@ -170,10 +177,6 @@ fn put_linked_docs(
 }
 
 impl Documentation for Document {
-    ghost use Rattle.witx_docs.specs.Pages.{page_answer};
-    ghost use Rattle.std.specs.Prelude.{map};
-    ghost use Rattle.witx_ast.specs.Definitions.{definition_tree};
-
     ghost answer = { λ d. page_answer (map definition_tree d.definitions) };
 
     /// The page of `document_md`. Refused as that is: `UnknownConstantType` comes exactly where a constant's type

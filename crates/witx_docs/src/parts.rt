@@ -2,17 +2,15 @@
 #![tactic(auto, using(crate::proofs::PartSteps::part_rules))]
 
 ghost use Rattle.std.specs.Prelude.{◌≡◌, ◌∷◌, ◌++◌, [], IfOk, OnOk, Some, None, codes, map, option_map};
-ghost use Rattle.std.specs.Prelude.{false};
-ghost use Rattle.std.specs.Fmt.{decimal};
+ghost use Rattle.std.specs.{Prelude.{false}, Fmt.{decimal}};
 ghost use Rattle.witx_ast.specs.declared.types.RecordDatatype.{out-RecordDatatype};
-ghost use Rattle.witx_ast.specs.declared.types.Variant.{out-Variant};
-ghost use Rattle.witx_ast.specs.Plain.{plain};
+ghost use Rattle.witx_ast.specs.{declared.types.Variant.{out-Variant}, Plain.{plain}};
 ghost use Rattle.witx_ast.specs.Tree.{fields_of, arms_of};
 ghost use Rattle.witx_ast.specs.Views.{tree_of, datatype_tree, record_tree, variant_tree, member_field, case_arm, members_plain};
 ghost use Rattle.witx_layout.specs.Numbers.{align_of, offsets, size_of};
 ghost use Rattle.witx_markdown.specs.Forests.{lone_node, next_number, sprouted};
-ghost use Rattle.witx_docs.specs.Parts.{section as section_of, item, inner_id, type_shown, type_parts, typed_node, placed_fields, placed_nodes, member_docs, number_section, layout_nodes, variant_layout, case_nodes, member_node, case_node};
 ghost use Rattle.witx_markdown.specs.NamesKnown.{NamesKnown, FieldNamesKnown, ArmNamesKnown, PayloadKnown};
+ghost use Rattle.witx_docs.specs.Parts.{section as section_of, item, inner_id, type_shown, type_parts, typed_node, placed_fields, placed_nodes, member_docs, number_section, layout_nodes, variant_layout, case_nodes, member_node, case_node};
 ghost use Rattle.witx_docs.specs.LaidOut.{Judged, too_large, laid_out, record_numbers, payload_numbers, members_laid_out, cases_laid_out, case_laid_out};
 
 use crate::place::Place;

@@ -1,7 +1,6 @@
 //! Where parts are added to a page: a node with its header and id.
 
 ghost use Rattle.std.specs.Prelude.{◌≡◌, ◌++◌, IfOk, codes, option_map};
-ghost use Rattle.witx_markdown.specs.Contents.{level_down};
 ghost use Rattle.witx_docs.specs.Parts.{inner_id};
 
 use std::alloc::Global;

@@ -8,7 +8,7 @@ ghost use Rattle.witx_docs.specs.declared.error.DocsError.{DocsError};
 use crate::conversion_lines::put_conversions;
 use crate::documentation::Documentation;
 use crate::error::DocsError;
-use crate::written::{Written, put_line, text_of};
+use crate::written::{Written, put_lines, text_of};
 use std::alloc::Global;
 use witx_base::{OutOfMemory, Text};
 use witx_compat::{FuncPolyfill, ModulePolyfill, ParamPolyfill, Polyfill, TypePolyfill};
@@ -18,7 +18,7 @@ impl Written for ModulePolyfill {
 
     fn put(&self, out: &mut String) -> Result<(), OutOfMemory> {
         put_heading(out, self.new.name.as_str(), self.old.name.as_str())?;
-        put_functions(out, self.funcs.as_slice())?;
+        put_lines(out, self.funcs.as_slice())?;
         Ok(())
     }
 }
@@ -30,44 +30,17 @@ fn put_heading(out: &mut String, new: &str, old: &str) -> Result<(), OutOfMemory
     Ok(())
 }
 
-/// The functions, one below the other.
-#[tactic(auto, using(crate::proofs::Viewed::function_rules))]
-fn put_functions(out: &mut String, functions: &[FuncPolyfill]) -> Result<(), OutOfMemory>
-    ensures { OnOk result (string_bytes out.new
-        ≡ string_bytes out.old ++ lines function_text (map function_view functions.now)) }
-{
-    let mut first = true;
-    for function in functions {
-        put_line(out, first, function)?;
-        first = false;
-    }
-    Ok(())
-}
-
 impl Written for Polyfill {
     ghost written = { λ p. polyfill_text (map module_view p.modules) };
 
     fn put(&self, out: &mut String) -> Result<(), OutOfMemory> {
         out.push_str("# Modules\n")?;
-        put_modules(out, self.modules.as_slice())?;
+        put_lines(out, self.modules.as_slice())?;
         out.push_str("\n# Type Conversions\n")?;
         put_true_conversions(out, self)?;
         out.push_str("\n")?;
         Ok(())
     }
-}
-
-/// The modules, one below the other.
-#[tactic(auto, using(crate::proofs::Viewed::module_rules))]
-fn put_modules(out: &mut String, modules: &[ModulePolyfill]) -> Result<(), OutOfMemory>
-    ensures { OnOk result (string_bytes out.new ≡ string_bytes out.old ++ lines module_text (map module_view modules.now)) }
-{
-    let mut first = true;
-    for module in modules {
-        put_line(out, first, module)?;
-        first = false;
-    }
-    Ok(())
 }
 
 /// The conversions between types that are not alike.

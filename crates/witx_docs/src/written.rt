@@ -1,8 +1,7 @@
 //! Text that is written behind other text.
 
 ghost use Rattle.std.specs.Prelude.{◌≡◌, ◌++◌, ℕ, List, IfOk, IfErr, OnOk, string_bytes};
-ghost use Rattle.witx_docs.specs.declared.error.DocsError.{DocsError};
-ghost use Rattle.witx_docs.specs.Pieces.{line_start};
+ghost use Rattle.witx_docs.specs.{declared.error.DocsError.{DocsError}, Pieces.{line_start}, PolyfillTexts.{lines}};
 
 use crate::error::DocsError;
 use std::alloc::Global;
@@ -34,6 +33,19 @@ pub fn put_line<W: Written>(out: &mut String, first: bool, one: &W) -> Result<()
 {
     start_line(out, first)?;
     one.put(out)
+}
+
+/// Appends texts, one below the other.
+#[tactic(auto, using(crate::proofs::Lines::line_rules))]
+pub fn put_lines<W: Written>(out: &mut String, all: &[W]) -> Result<(), OutOfMemory>
+    ensures { OnOk result (string_bytes out.new ≡ string_bytes out.old ++ lines W.written all.now) }
+{
+    let mut first = true;
+    for one in all {
+        put_line(out, first, one)?;
+        first = false;
+    }
+    Ok(())
 }
 
 /// Begins a line below, but for the first.

@@ -1,13 +1,13 @@
 //! Errors of documents, of their layouts and of their pages.
 
 ghost use Rattle.std.specs.Prelude.{◌≡◌, ◌++◌, [], Ok, Some, IfOk, OnOk, codes, string_bytes};
-ghost use Rattle.witx_error_texts.specs.ErrorTexts.{IsAdaptText, IsRefusalText, IsValidationText, docs_error, document_error, layout_error, layouts_error, tag_text, unknown_type_text, unlowerable_text, unlowered_text};
-ghost use Rattle.witx_scope.specs.Blame.{fault_of};
-ghost use Rattle.witx_scope.specs.Messages.{fault_location};
+ghost use Rattle.witx_error_texts.specs.ErrorTexts.{IsAdaptText, IsRefusalText, IsValidationText, docs_error, document_error, layouts_error, tag_text, unknown_type_text, unlowerable_text, unlowered_text};
+ghost use Rattle.witx_scope.specs.{Blame.{fault_of}, Messages.{fault_location}};
 ghost use Rattle.witx_walk.specs.ErrorReports.{IsErrorReport};
 
 use crate::error_text::ErrorText;
 use crate::numbers::{definition_text, located_report, put_part, tag_text};
+use crate::told::told;
 use std::alloc::{AllocError, Global};
 use witx_adapt::DocumentError;
 use witx_base::{Id, OutOfMemory, Text};
@@ -15,7 +15,7 @@ use witx_check::ValidationError;
 use witx_commands::{AdaptError, put_function_called};
 use witx_docs::DocsError;
 use witx_files::{Location, MockFs};
-use witx_layout::{LayoutError, LayoutsError, TagTooNarrow, TooLarge};
+use witx_layout::{LayoutsError, TagTooNarrow};
 use witx_machine::Place;
 use witx_walk::WitxError;
 
@@ -81,35 +81,13 @@ impl ErrorText for TagTooNarrow {
     }
 }
 
-impl ErrorText for TooLarge {
-    ghost is_told = { λ e text. text ≡ codes "size too large" };
-
-    fn error_text(&self, alloc: Global) -> Result<Text, OutOfMemory> {
-        Text::new(alloc, "size too large")
-    }
-}
-
-impl ErrorText for LayoutError {
-    ghost is_told = { λ e text. text ≡ layout_error e };
-
-    fn error_text(&self, alloc: Global) -> Result<Text, OutOfMemory> {
-        match self {
-            LayoutError::TooLarge => Text::new(alloc, "size too large"),
-            LayoutError::OutOfMemory => Text::new(alloc, "out of memory"),
-        }
-    }
-}
-
 impl ErrorText for LayoutsError {
     ghost is_told = { λ e text. text ≡ layouts_error e };
 
     fn error_text(&self, alloc: Global) -> Result<Text, OutOfMemory> {
-        match self {
-            LayoutsError::TooLarge { definition } => {
-                definition_text(alloc, *definition, "size too large")
-            }
-            LayoutsError::OutOfMemory => Text::new(alloc, "out of memory"),
-        }
+        told!(alloc, self => LayoutsError {
+            TooLarge { definition } => definition_text(alloc, *definition, "size too large"),
+        })
     }
 }
 
@@ -117,18 +95,11 @@ impl ErrorText for DocumentError {
     ghost is_told = { λ e text. text ≡ document_error e };
 
     fn error_text(&self, alloc: Global) -> Result<Text, OutOfMemory> {
-        match self {
-            DocumentError::TagTooNarrow(tag) => tag_text(alloc, tag),
-            DocumentError::TooLarge { definition } => {
-                definition_text(alloc, *definition, "size too large")
-            }
-            DocumentError::Unlowerable {
-                module,
-                function,
-                place,
-            } => unlowerable_text(alloc, module, function, *place),
-            DocumentError::OutOfMemory => Text::new(alloc, "out of memory"),
-        }
+        told!(alloc, self => DocumentError {
+            TagTooNarrow(tag) => tag_text(alloc, tag),
+            TooLarge { definition } => definition_text(alloc, *definition, "size too large"),
+            Unlowerable { module, function, place } => unlowerable_text(alloc, module, function, *place),
+        })
     }
 }
 
@@ -136,19 +107,12 @@ impl ErrorText for AdaptError {
     ghost is_told = { λ e text. IsAdaptText e text };
 
     fn error_text(&self, alloc: Global) -> Result<Text, OutOfMemory> {
-        match self {
-            AdaptError::Refused(error) => error.error_text(alloc),
-            AdaptError::TagTooNarrow(tag) => tag_text(alloc, tag),
-            AdaptError::TooLarge { definition } => {
-                definition_text(alloc, *definition, "size too large")
-            }
-            AdaptError::Unlowerable {
-                module,
-                function,
-                place,
-            } => unlowerable_text(alloc, module, function, *place),
-            AdaptError::OutOfMemory => Text::new(alloc, "out of memory"),
-        }
+        told!(alloc, self => AdaptError {
+            Refused(error) => error.error_text(alloc),
+            TagTooNarrow(tag) => tag_text(alloc, tag),
+            TooLarge { definition } => definition_text(alloc, *definition, "size too large"),
+            Unlowerable { module, function, place } => unlowerable_text(alloc, module, function, *place),
+        })
     }
 }
 
@@ -178,11 +142,10 @@ impl ErrorText for DocsError {
     ghost is_told = { λ e text. text ≡ docs_error e };
 
     fn error_text(&self, alloc: Global) -> Result<Text, OutOfMemory> {
-        match self {
-            DocsError::UnknownConstantType { name } => unknown_type(alloc, name.as_str()),
-            DocsError::TooLarge => Text::new(alloc, "size too large"),
-            DocsError::OutOfMemory => Text::new(alloc, "out of memory"),
-        }
+        told!(alloc, self => DocsError {
+            UnknownConstantType { name } => unknown_type(alloc, name.as_str()),
+            TooLarge => Text::new(alloc, "size too large"),
+        })
     }
 }
 

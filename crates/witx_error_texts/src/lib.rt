@@ -7,6 +7,8 @@ mod error_text;
 mod lowering;
 mod numbers;
 mod texts;
+mod told;
 mod tools;
+mod words;
 
 pub use error_text::ErrorText;

@@ -1,7 +1,6 @@
 //! Texts with a place or a number, which several errors have.
 
-ghost use Rattle.std.specs.Prelude.{◌≡◌, ◌++◌, IfOk, OnOk, codes, string_bytes};
-ghost use Rattle.std.specs.Fmt.{decimal};
+ghost use Rattle.std.specs.{Prelude.{◌≡◌, ◌++◌, IfOk, OnOk, codes, string_bytes}, Fmt.{decimal}};
 ghost use Rattle.witx_error_texts.specs.ErrorTexts.{at_place, definition_text, in_file, place_shown, tag_text, unlowered_text};
 
 use std::alloc::{AllocError, Global};

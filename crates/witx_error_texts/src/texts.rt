@@ -1,16 +1,15 @@
 //! Errors of texts, files and bundles.
 
-ghost use Rattle.std.specs.Prelude.{◌≡◌, ◌++◌, IfOk, codes};
-ghost use Rattle.std.specs.Fmt.{decimal};
+ghost use Rattle.std.specs.{Prelude.{◌≡◌, ◌++◌, IfOk, codes}, Fmt.{decimal}};
 ghost use Rattle.witx_error_texts.specs.ErrorTexts.{bundle_error, io_error, lex_error, lex_fault, parse_fault, syntax_error};
-ghost use Rattle.witx_walk.specs.ErrorReports.{fault_text};
 
 use crate::error_text::ErrorText;
 use crate::numbers::placed_message;
+use crate::told::told;
 use std::alloc::Global;
 use witx_base::{OutOfMemory, Text};
 use witx_bundle::BundleError;
-use witx_files::{IoError, IoFault};
+use witx_files::IoError;
 use witx_language::lexical_message;
 use witx_lex::{LexError, LexFault};
 use witx_syntax::{ParseFault, SyntaxError};
@@ -33,10 +32,7 @@ impl ErrorText for LexError {
     ghost is_told = { λ e text. text ≡ lex_error e };
 
     fn error_text(&self, alloc: Global) -> Result<Text, OutOfMemory> {
-        match self {
-            LexError::Bad(fault) => fault.error_text(alloc),
-            LexError::OutOfMemory => Text::new(alloc, "out of memory"),
-        }
+        told!(alloc, self => LexError { Bad(fault) => fault.error_text(alloc) })
     }
 }
 
@@ -53,22 +49,7 @@ impl ErrorText for SyntaxError {
     ghost is_told = { λ e text. text ≡ syntax_error e };
 
     fn error_text(&self, alloc: Global) -> Result<Text, OutOfMemory> {
-        match self {
-            SyntaxError::Parse(fault) => fault.error_text(alloc),
-            SyntaxError::OutOfMemory => Text::new(alloc, "out of memory"),
-        }
-    }
-}
-
-impl ErrorText for IoFault {
-    ghost is_told = { λ e text. text ≡ fault_text e };
-
-    fn error_text(&self, alloc: Global) -> Result<Text, OutOfMemory> {
-        match self {
-            IoFault::NotFound => Text::new(alloc, "file not found"),
-            IoFault::LineNotFound => Text::new(alloc, "line not found"),
-            IoFault::Failed => Text::new(alloc, "read failed"),
-        }
+        told!(alloc, self => SyntaxError { Parse(fault) => fault.error_text(alloc) })
     }
 }
 
@@ -76,10 +57,7 @@ impl ErrorText for IoError {
     ghost is_told = { λ e text. text ≡ io_error e };
 
     fn error_text(&self, alloc: Global) -> Result<Text, OutOfMemory> {
-        match self {
-            IoError::Fault(fault) => fault.error_text(alloc),
-            IoError::OutOfMemory => Text::new(alloc, "out of memory"),
-        }
+        told!(alloc, self => IoError { Fault(fault) => fault.error_text(alloc) })
     }
 }
 
@@ -87,12 +65,11 @@ impl ErrorText for BundleError {
     ghost is_told = { λ e text. text ≡ bundle_error e };
 
     fn error_text(&self, alloc: Global) -> Result<Text, OutOfMemory> {
-        match self {
-            BundleError::TooLong => Text::new(alloc, "bundle has more than 4194304 bytes"),
-            BundleError::NotUtf8 { at } => not_utf8(alloc, *at),
-            BundleError::BeforeFirst { at } => before_first(alloc, *at),
-            BundleError::OutOfMemory => Text::new(alloc, "out of memory"),
-        }
+        told!(alloc, self => BundleError {
+            TooLong => Text::new(alloc, "bundle has more than 4194304 bytes"),
+            NotUtf8 { at } => not_utf8(alloc, *at),
+            BeforeFirst { at } => before_first(alloc, *at),
+        })
     }
 }
 

@@ -1,26 +1,22 @@
 //! Errors of what the tools read and run: values, traces, imports, memories of bytes, input.
 
-ghost use Rattle.std.specs.Prelude.{◌≡◌, ◌++◌, IfOk, codes};
-ghost use Rattle.std.specs.Fmt.{decimal};
-ghost use Rattle.witx_error_texts.specs.ErrorTexts.{imports_error, input_error, invoke_error, place_error, read_error, traces_error, unexpected_line, values_error};
+ghost use Rattle.std.specs.{Prelude.{◌≡◌, ◌++◌, IfOk, codes}, Fmt.{decimal}};
+ghost use Rattle.witx_error_texts.specs.ErrorTexts.{imports_error, input_error, traces_error, unexpected_line, values_error};
 
 use crate::error_text::ErrorText;
+use crate::told::told;
 use std::alloc::Global;
 use witx_base::{OutOfMemory, Text};
-use witx_bytes::{PlaceError, ReadError};
 use witx_commands::InputError;
 use witx_imports::ImportsError;
-use witx_invoke::{InvokeError, ValuesError};
+use witx_invoke::ValuesError;
 use witx_traces::TracesError;
 
 impl ErrorText for ValuesError {
     ghost is_told = { λ e text. text ≡ values_error e };
 
     fn error_text(&self, alloc: Global) -> Result<Text, OutOfMemory> {
-        match self {
-            ValuesError::Line { line } => unexpected_line(alloc, *line),
-            ValuesError::OutOfMemory => Text::new(alloc, "out of memory"),
-        }
+        told!(alloc, self => ValuesError { Line { line } => unexpected_line(alloc, *line) })
     }
 }
 
@@ -28,10 +24,7 @@ impl ErrorText for TracesError {
     ghost is_told = { λ e text. text ≡ traces_error e };
 
     fn error_text(&self, alloc: Global) -> Result<Text, OutOfMemory> {
-        match self {
-            TracesError::Line { line } => unexpected_line(alloc, *line),
-            TracesError::OutOfMemory => Text::new(alloc, "out of memory"),
-        }
+        told!(alloc, self => TracesError { Line { line } => unexpected_line(alloc, *line) })
     }
 }
 
@@ -41,26 +34,13 @@ fn unexpected_line(alloc: Global, line: usize) -> Result<Text, OutOfMemory>
     Ok(Text::from_string(format!(in alloc; "unexpected line {line}")?))
 }
 
-impl ErrorText for InvokeError {
-    ghost is_told = { λ e text. text ≡ invoke_error e };
-
-    fn error_text(&self, alloc: Global) -> Result<Text, OutOfMemory> {
-        match self {
-            InvokeError::ZeroError => Text::new(alloc, "error word is 0"),
-            InvokeError::NoRoom => Text::new(alloc, "out of room"),
-            InvokeError::OutOfMemory => Text::new(alloc, "out of memory"),
-        }
-    }
-}
-
 impl ErrorText for ImportsError {
     ghost is_told = { λ e text. text ≡ imports_error e };
 
     fn error_text(&self, alloc: Global) -> Result<Text, OutOfMemory> {
-        match self {
-            ImportsError::Bad { line, column } => not_an_import(alloc, *line, *column),
-            ImportsError::OutOfMemory => Text::new(alloc, "out of memory"),
-        }
+        told!(alloc, self => ImportsError {
+            Bad { line, column } => not_an_import(alloc, *line, *column),
+        })
     }
 }
 
@@ -70,36 +50,13 @@ fn not_an_import(alloc: Global, line: usize, column: usize) -> Result<Text, OutO
     Ok(Text::from_string(format!(in alloc; "{line}:{column}: not an import")?))
 }
 
-impl ErrorText for PlaceError {
-    ghost is_told = { λ e text. text ≡ place_error e };
-
-    fn error_text(&self, alloc: Global) -> Result<Text, OutOfMemory> {
-        match self {
-            PlaceError::Taken => Text::new(alloc, "range already held"),
-            PlaceError::OutOfMemory => Text::new(alloc, "out of memory"),
-        }
-    }
-}
-
-impl ErrorText for ReadError {
-    ghost is_told = { λ e text. text ≡ read_error e };
-
-    fn error_text(&self, alloc: Global) -> Result<Text, OutOfMemory> {
-        match self {
-            ReadError::NoValue => Text::new(alloc, "no value of the type"),
-            ReadError::OutOfMemory => Text::new(alloc, "out of memory"),
-        }
-    }
-}
-
 impl ErrorText for InputError {
     ghost is_told = { λ e text. text ≡ input_error e };
 
     fn error_text(&self, alloc: Global) -> Result<Text, OutOfMemory> {
-        match self {
-            InputError::Source => Text::new(alloc, "cannot read input"),
-            InputError::Bundle(error) => error.error_text(alloc),
-            InputError::OutOfMemory => Text::new(alloc, "out of memory"),
-        }
+        told!(alloc, self => InputError {
+            Source => Text::new(alloc, "cannot read input"),
+            Bundle(error) => error.error_text(alloc),
+        })
     }
 }

@@ -1,5 +1,5 @@
 -- What a loop has written, with the texts of the items still to come, is what it is to write in all.
-use Rattle.std.proofs.Common.{◌≡◌, ℕ, ◌+◌, ◌<◌, ◌≤◌, List, [], ◌∷◌, ◌++◌, length, map, get_or, drop, sym, ap, ◌∙◌, append_assoc, append-nil}
+use Rattle.std.proofs.Common.{◌≡◌, ℕ, ◌+◌, ◌<◌, ◌≤◌, List, [], ◌∷◌, ◌++◌, length, map, get_or, drop, sym, ap, ◌∙◌, append_assoc, append-nil, Result, Ok, Err, OnOk, is_ok, if◌then◌else◌}
 use Rattle.std.proofs.lemmas.List.{drop_more, drop_all}
 use Rattle.std.specs.List.{flat_map}
 
@@ -52,6 +52,11 @@ four start x y z w a b c d p q r s = two start (x ++ y ++ z) w c d (three start 
 
 pub five : (start x y z w v a b c d e : List ℕ) → a ≡ start ++ x → b ≡ a ++ y → c ≡ b ++ z → d ≡ c ++ w → e ≡ d ++ v → e ≡ start ++ (x ++ y ++ z ++ w ++ v)
 five start x y z w v a b c d e p q r s t = two start (x ++ y ++ z ++ w) v d e (four start x y z w a b c d p q r s) t
+
+-- a last piece, which was pushed where the push ended well
+pub when_pushed : {X E : Type 0} (r : Result X E) (old piece new : List ℕ) (Q : Type 0) → new ≡ (if is_ok r then old ++ piece else old) → (new ≡ old ++ piece → Q) → OnOk r Q
+when_pushed (Ok x) old piece new Q p f = f p
+when_pushed (Err e) old piece new Q p f = tt
 
 pub ruleset piece_rules = (two, three)
 

@@ -1,6 +1,5 @@
 pub mod Appending
 pub mod Commenting
-pub mod Reading
 pub mod Typing
 pub mod Numbered
 pub mod Declaring

@@ -3,6 +3,7 @@ use Rattle.std.proofs.Common.{◌≡◌, ℕ, ◌+◌, ◌<◌, ◌≤◌, List,
 use Rattle.std.specs.Prelude.{◌^◌, All, Any, OnOk, Result, codes}
 use Rattle.std.specs.declared.alloc.Global.{Global}
 use Rattle.std.specs.declared.rc.Rc.{Rc}
+use Rattle.witx_ast.proofs.Trees.{tree_rules, tree-RecordMember, tree-VariantDatatype}
 use Rattle.witx_ast.specs.declared.types.NamedType.{NamedType}
 use Rattle.witx_ast.specs.declared.definition.Definition.TheVariants as definition_variant
 use Rattle.std.specs.List.{flat_map}
@@ -20,7 +21,6 @@ use Rattle.witx_header.specs.CNames.{member_name}
 use Rattle.witx_header.specs.Headers.{c_definition_lines, definition_numbers, header_numbers}
 use Rattle.witx_header.specs.Typedefs.{offset_line, c_part_offsets, placed_lines, header_typename_lines}
 use Rattle.witx_header.proofs.Appending.{joined, next-of, none-left, read-more, read-end}
-use Rattle.witx_header.proofs.Reading.{reading_rules, read-RecordMember, read-VariantDatatype}
 use Rattle.witx_header.proofs.Typing.{arms-listed, nothing-more}
 
 abbrev pub AllFit : List ℕ → Type 0
@@ -58,7 +58,7 @@ next-offset name xs i x done now total l p w e =
   where
     placed-drop : (name : List ℕ) (xs : List RecordMemberLayout) (i : ℕ) (x : RecordMemberLayout) → i < length xs → x ≡ get_or xs i x
         → placed_lines name (drop i xs) ≡ offset_line name (member_name x.member.now.name) x.offset ++ placed_lines name (drop (i + 1) xs)
-    placed-drop name xs i x l p = rw (drop_more xs i x l, ← p, read-RecordMember x.member.now) refl
+    placed-drop name xs i x l p = rw (drop_more xs i x l, ← p, tree-RecordMember x.member.now) refl
 
 pub all-offsets : (name : List ℕ) (xs : List RecordMemberLayout) (i : ℕ) (done total : List ℕ) → length xs ≤ i → done ++ placed_lines name (drop i xs) ≡ total → done ≡ total
 all-offsets name xs i done total l e = sym (append-nil done) ∙ ap (λ t. done ++ placed_lines name t) (sym (drop_all i xs l)) ∙ e
@@ -66,13 +66,13 @@ all-offsets name xs i done total l e = sym (append-nil done) ∙ ap (λ t. done 
 -- ---- a variant, by whether no case has a payload
 
 pub bare-offsets : (name : List ℕ) (v : Variant) → all_arms_bare (map case_arm (out-Variant v).cases) ≡ true → c_part_offsets name (variant_tree v) ≡ []
-bare-offsets name v h = rw (read-VariantDatatype v, arms-listed (map case_arm (out-Variant v).cases), h) refl
+bare-offsets name v h = rw (tree-VariantDatatype v, arms-listed (map case_arm (out-Variant v).cases), h) refl
 
 pub tagged-offsets : (name : List ℕ) (v : Variant) → all_arms_bare (map case_arm (out-Variant v).cases) ≡ false
     → c_part_offsets name (variant_tree v) ≡ offset_line name (codes "u") (payload_offset (out-Variant v).tag_repr (cases_plain (out-Variant v).cases))
-tagged-offsets name v h = rw (read-VariantDatatype v, arms-listed (map case_arm (out-Variant v).cases), h) refl
+tagged-offsets name v h = rw (tree-VariantDatatype v, arms-listed (map case_arm (out-Variant v).cases), h) refl
 
-pub ruleset number_rules = (reading_rules, none-unfit, both-fit, first-large, later-large, next-offset, all-offsets, bare-offsets, tagged-offsets, nothing-more)
+pub ruleset number_rules = (tree_rules, none-unfit, both-fit, first-large, later-large, next-offset, all-offsets, bare-offsets, tagged-offsets, nothing-more)
 
 -- ---- definitions
 

@@ -2,6 +2,7 @@
 use Rattle.std.proofs.Common.{◌≡◌, ℕ, ◌+◌, ◌<◌, ◌≤◌, List, [], ◌∷◌, ◌++◌, true, false, length, get_or, map, drop, refl, sym, ap, ◌∙◌, append-nil}
 use Rattle.std.specs.Prelude.{Option, Some, None, option_map}
 use Rattle.std.proofs.lemmas.List.{drop_more, drop_all}
+use Rattle.witx_ast.proofs.Trees.{tree_rules, tree-Case, tree-RecordMember, tree-VariantDatatype}
 use Rattle.witx_ast.specs.declared.types.Case.{Case}
 use Rattle.witx_ast.specs.declared.types.IntRepr.{IntRepr}
 use Rattle.witx_ast.specs.declared.types.RecordMember.{RecordMember}
@@ -14,7 +15,6 @@ use Rattle.witx_header.specs.CTypes.{members_text, member_text, c_payload_text, 
 use Rattle.witx_header.specs.Headers.{param_text, params_from}
 use Rattle.witx_header.specs.Typedefs.{body_text, case_line, case_lines, case_payload, flag_line, flag_lines, margin, member_lines, c_part_lines, payload_lines, tagged_body, value_lines}
 use Rattle.witx_header.proofs.Appending.{joined, next-of, none-left}
-use Rattle.witx_header.proofs.Reading.{reading_rules, read-Case, read-RecordMember, read-VariantDatatype}
 
 -- ---- members
 
@@ -24,7 +24,7 @@ fields_from xs i = fields_of (map member_field (drop i xs))
 pub next-fields : (xs : List RecordMember) (i : ℕ) (m : RecordMember) → i < length xs → m ≡ get_or xs i m
     → fields_from xs i ≡ Fields.field m.name (tree_of m.tref) m.docs (fields_from xs (i + 1))
 next-fields xs i m l p =
-    ap fields_of (next-of member_field xs i m l p) ∙ ap (λ f. Fields.field f.called f.tree f.comment (fields_from xs (i + 1))) (read-RecordMember m)
+    ap fields_of (next-of member_field xs i m l p) ∙ ap (λ f. Fields.field f.called f.tree f.comment (fields_from xs (i + 1))) (tree-RecordMember m)
 
 pub no-fields : (xs : List RecordMember) (i : ℕ) → length xs ≤ i → fields_from xs i ≡ Fields.no_fields
 no-fields xs i l = ap fields_of (none-left member_field xs i l)
@@ -68,7 +68,7 @@ arms_from xs i = arms_of (map case_arm (drop i xs))
 pub next-arms : (xs : List Case) (i : ℕ) (c : Case) → i < length xs → c ≡ get_or xs i c
     → arms_from xs i ≡ arm c.name (option_map tree_of c.tref) c.docs (arms_from xs (i + 1))
 next-arms xs i c l p =
-    ap arms_of (next-of case_arm xs i c l p) ∙ ap (λ a. arm a.called a.payload a.comment (arms_from xs (i + 1))) (read-Case c)
+    ap arms_of (next-of case_arm xs i c l p) ∙ ap (λ a. arm a.called a.payload a.comment (arms_from xs (i + 1))) (tree-Case c)
 
 pub no-arms : (xs : List Case) (i : ℕ) → length xs ≤ i → arms_from xs i ≡ Arms.no_arms
 no-arms xs i l = ap arms_of (none-left case_arm xs i l)
@@ -107,7 +107,7 @@ pub next-case : (type : List ℕ) (repr : IntRepr) (xs : List Case) (i : ℕ) (c
 next-case type repr xs i c done now total l p w e =
     joined done now (case_line type repr i c.name c.docs) (case_lines type repr (i + 1) (map case_arm (drop (i + 1) xs))) total w
     (ap (λ t. done ++ t) (sym (ap (case_lines type repr i) (next-of case_arm xs i c l p)
-    ∙ ap (λ a. case_line type repr i a.called a.comment ++ case_lines type repr (i + 1) (map case_arm (drop (i + 1) xs))) (read-Case c))) ∙ e)
+    ∙ ap (λ a. case_line type repr i a.called a.comment ++ case_lines type repr (i + 1) (map case_arm (drop (i + 1) xs))) (tree-Case c))) ∙ e)
 
 pub all-cases : (type : List ℕ) (repr : IntRepr) (xs : List Case) (i : ℕ) (done total : List ℕ) → length xs ≤ i
     → done ++ case_lines type repr i (map case_arm (drop i xs)) ≡ total → done ≡ total
@@ -125,27 +125,27 @@ arms-listed (a ∷ more) = one-listed a.called a.comment a.payload (arms_of more
 -- ---- a variant, by whether no case has a payload
 
 pub bare-text : (v : Variant) → all_arms_bare (map case_arm (out-Variant v).cases) ≡ true → type_text (variant_tree v) ≡ c_repr_word (out-Variant v).tag_repr
-bare-text v h = rw (read-VariantDatatype v, arms-listed (map case_arm (out-Variant v).cases), h) refl
+bare-text v h = rw (tree-VariantDatatype v, arms-listed (map case_arm (out-Variant v).cases), h) refl
 
 pub tagged-text : (v : Variant) → all_arms_bare (map case_arm (out-Variant v).cases) ≡ false
     → type_text (variant_tree v) ≡ tagged_text (c_repr_word (out-Variant v).tag_repr) (payloads_text (arms_of (map case_arm (out-Variant v).cases)))
-tagged-text v h = rw (read-VariantDatatype v, arms-listed (map case_arm (out-Variant v).cases), h) refl
+tagged-text v h = rw (tree-VariantDatatype v, arms-listed (map case_arm (out-Variant v).cases), h) refl
 
 pub bare-body : (name : List ℕ) (v : Variant) → all_arms_bare (map case_arm (out-Variant v).cases) ≡ true → body_text name (variant_tree v) ≡ c_repr_word (out-Variant v).tag_repr
-bare-body name v h = rw (read-VariantDatatype v, arms-listed (map case_arm (out-Variant v).cases), h) refl
+bare-body name v h = rw (tree-VariantDatatype v, arms-listed (map case_arm (out-Variant v).cases), h) refl
 
 pub tagged-body : (name : List ℕ) (v : Variant) → all_arms_bare (map case_arm (out-Variant v).cases) ≡ false
     → body_text name (variant_tree v) ≡ tagged_body name (c_repr_word (out-Variant v).tag_repr) (arms_of (map case_arm (out-Variant v).cases))
-tagged-body name v h = rw (read-VariantDatatype v, arms-listed (map case_arm (out-Variant v).cases), h) refl
+tagged-body name v h = rw (tree-VariantDatatype v, arms-listed (map case_arm (out-Variant v).cases), h) refl
 
 pub variant-values : (name : List ℕ) (v : Variant) → value_lines name (variant_tree v) ≡ case_lines name (out-Variant v).tag_repr 0 (map case_arm (out-Variant v).cases)
-variant-values name v = rw (read-VariantDatatype v, arms-listed (map case_arm (out-Variant v).cases)) refl
+variant-values name v = rw (tree-VariantDatatype v, arms-listed (map case_arm (out-Variant v).cases)) refl
 
 -- nothing was written
 pub nothing-more : (text : List ℕ) → text ≡ text ++ []
 nothing-more text = sym (append-nil text)
 
-pub ruleset typing_rules = (reading_rules, next-part, all-parts, next-member, all-members, next-flag, all-flags, next-payload, all-payloads, next-case_payload, all-case_payloads, next-case, all-cases, bare-text, tagged-text, bare-body, tagged-body, variant-values, nothing-more)
+pub ruleset typing_rules = (tree_rules, next-part, all-parts, next-member, all-members, next-flag, all-flags, next-payload, all-payloads, next-case_payload, all-case_payloads, next-case, all-cases, bare-text, tagged-text, bare-body, tagged-body, variant-values, nothing-more)
 
 -- ---- words
 

@@ -1,15 +1,10 @@
 //! The caller's side of a function, below its prototype.
 
-ghost use Rattle.std.specs.Prelude.{◌≡◌, ◌++◌, [], IfOk, OnOk, codes, map, string_bytes};
-ghost use Rattle.std.specs.Fmt.{decimal};
+ghost use Rattle.std.specs.{Prelude.{◌≡◌, ◌++◌, [], IfOk, OnOk, codes, map, string_bytes}, Fmt.{decimal}};
 ghost use Rattle.std.specs.List.{flat_map};
 ghost use Rattle.witx_ast.specs.Functions.{func_tree, param_field};
-ghost use Rattle.witx_machine.specs.Lowerable.{unlowerable};
-ghost use Rattle.witx_machine.specs.Traces.{caller_events};
-ghost use Rattle.witx_instructions.specs.Told.{unlowerable_place};
-ghost use Rattle.witx_instructions.specs.Views.{called};
-ghost use Rattle.witx_header.specs.CNames.{c_name};
-ghost use Rattle.witx_header.specs.CTypes.{type_text};
+ghost use Rattle.witx_machine.specs.{Lowerable.{unlowerable}, Traces.{caller_events}};
+ghost use Rattle.witx_instructions.specs.{Told.{unlowerable_place}, Views.{called}};
 ghost use Rattle.witx_header.specs.Bodies.{body_lines, call_line, calls_from, side_text, value_line, field_lines};
 ghost use Rattle.witx_header.specs.Kept.{call_of};
 
@@ -26,17 +21,13 @@ use witx_base::{Id, Items, OutOfMemory};
 use witx_instructions::functions_are_read_as_their_trees;
 
 /// Appends the caller's side of a function of a module, as a comment; nothing where it can't be lowered.
-pub fn put_body(
-    alloc: Global,
-    text: &mut String,
-    owner: &Id,
-    func: &InterfaceFunc,
-) -> Result<(), OutOfMemory>
+pub fn put_body(text: &mut String, owner: &Id, func: &InterfaceFunc) -> Result<(), OutOfMemory>
     ensures { OnOk result (string_bytes text.new ≡ string_bytes text.old ++ body_lines owner.now (func_tree func.now)) }
 {
+    let alloc = *text.allocator();
     functions_are_read_as_their_trees();
     match caller_calls(alloc, owner, func) {
-        Ok(calls) => put_side(alloc, text, func.params.as_slice(), calls),
+        Ok(calls) => put_side(text, func.params.as_slice(), calls),
         Err(AbiError::Unlowerable(_)) => Ok(()),
         // A body counts no fault, so it is memory that was wanting.
         Err(AbiError::BindgenFailed) | Err(AbiError::OutOfMemory) => Err(OutOfMemory),
@@ -54,7 +45,6 @@ fn caller_calls(alloc: Global, owner: &Id, func: &InterfaceFunc) -> Result<Items
 }
 
 fn put_side(
-    alloc: Global,
     text: &mut String,
     params: &[InterfaceFuncParam],
     calls: Items<Handed>,
@@ -64,17 +54,17 @@ fn put_side(
 {
     text.push_str("/* The caller's side:\n")?;
     put_values(text, params)?;
-    put_lines(alloc, text, calls.as_slice())?;
+    put_lines(text, calls.as_slice())?;
     text.push_str("*/\n\n")?;
     Ok(())
 }
 
 #[tactic(auto, using(crate::proofs::Appending::appending_rules))]
-fn put_lines(alloc: Global, text: &mut String, calls: &[Handed]) -> Result<(), AllocError>
+fn put_lines(text: &mut String, calls: &[Handed]) -> Result<(), AllocError>
     ensures { OnOk result (string_bytes text.new ≡ string_bytes text.old ++ flat_map call_line (map call_of calls.now)) }
 {
     for call in calls {
-        put_line(alloc, text, call)?;
+        put_line(text, call)?;
     }
     Ok(())
 }

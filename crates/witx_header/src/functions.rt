@@ -19,29 +19,20 @@ use witx_machine::WasmType;
 
 /// Appends the prototype of a function of a module, below its documentation, and its caller's side.
 #[tactic(auto, using(crate::proofs::Appending::piece_rules))]
-pub fn put_func(
-    alloc: Global,
-    text: &mut String,
-    owner: &Id,
-    func: &InterfaceFunc,
-) -> Result<(), OutOfMemory>
+pub fn put_func(text: &mut String, owner: &Id, func: &InterfaceFunc) -> Result<(), OutOfMemory>
     ensures { OnOk result (string_bytes text.new ≡ string_bytes text.old ++ c_func_lines owner.now (func_tree func.now)) }
 {
     put_comment(text, "", func.docs.as_str())?;
-    put_import(alloc, text, owner.as_str(), func)?;
-    put_body(alloc, text, owner, func)?;
+    put_import(text, owner.as_str(), func)?;
+    put_body(text, owner, func)?;
     Ok(())
 }
 
 /// Appends the prototype of a function of a module.
-fn put_import(
-    alloc: Global,
-    text: &mut String,
-    owner: &str,
-    func: &InterfaceFunc,
-) -> Result<(), OutOfMemory>
+fn put_import(text: &mut String, owner: &str, func: &InterfaceFunc) -> Result<(), OutOfMemory>
     ensures { OnOk result (string_bytes text.new ≡ string_bytes text.old ++ import_lines owner.now (func_tree func.now)) }
 {
+    let alloc = *text.allocator();
     functions_are_read_as_their_trees();
     let params = words_in(alloc, func)?;
     let results = words_back(alloc, func)?;
@@ -151,6 +142,5 @@ fn put_imported(text: &mut String, owner: &str, name: &str) -> Result<(), AllocE
     put_literal(text, owner)?;
     text.push_str("),\n    __import_name__(")?;
     put_literal(text, name)?;
-    text.push_str(")\n));\n\n")?;
-    Ok(())
+    text.push_str(")\n));\n\n")
 }

@@ -2,8 +2,7 @@
 
 ghost use Rattle.std.specs.Prelude.{◌≡◌, ◌≤◌, ◌<◌, ◌^◌, ◌++◌, All, Any, IfOk, OnOk, map, string_bytes};
 ghost use Rattle.std.specs.List.{flat_map};
-ghost use Rattle.witx_ast.specs.Items.{item_tree};
-ghost use Rattle.witx_ast.specs.Definitions.{definition_tree, module_tree};
+ghost use Rattle.witx_ast.specs.{Items.{item_tree}, Definitions.{definition_tree, module_tree}};
 ghost use Rattle.witx_ast.specs.Views.{tree_of};
 ghost use Rattle.witx_header.specs.Headers.{constant_lines, c_definition_lines, definition_numbers, header as header_of, header_numbers, c_item_lines, c_module_lines};
 ghost use Rattle.witx_header.specs.Typedefs.{declared_lines, header_typename_lines, typename_numbers};
@@ -36,7 +35,7 @@ pub fn header_text(alloc: Global, document: &Document) -> Result<Text, LayoutErr
         &mut text,
         "#pragma once\n\n#include <stddef.h>\n#include <stdint.h>\n\n#ifdef __cplusplus\nextern \"C\" {\n#endif\n\n",
     )?;
-    put_definitions(alloc, &mut text, document.definitions().as_slice())?;
+    put_definitions(&mut text, document.definitions().as_slice())?;
     put(&mut text, "#ifdef __cplusplus\n}\n#endif\n")?;
     Ok(Text::from_string(text))
 }
@@ -49,11 +48,7 @@ fn put(text: &mut String, piece: &str) -> Result<(), OutOfMemory>
 }
 
 #[tactic(auto, using(crate::proofs::Numbered::definition_rules))]
-fn put_definitions(
-    alloc: Global,
-    text: &mut String,
-    definitions: &[Definition],
-) -> Result<(), LayoutError>
+fn put_definitions(text: &mut String, definitions: &[Definition]) -> Result<(), LayoutError>
     ensures lines { OnOk result (string_bytes text.new
         ≡ string_bytes text.old ++ flat_map c_definition_lines (map definition_tree definitions.now)) }
     ensures fits { OnOk result (All (λ n. n < 2 ^ 64) (header_numbers (map definition_tree definitions.now))) }
@@ -61,17 +56,13 @@ fn put_definitions(
         → Any (λ n. 2 ^ 64 ≤ n) (header_numbers (map definition_tree definitions.now)) }
 {
     for definition in definitions {
-        put_definition(alloc, text, definition)?;
+        put_definition(text, definition)?;
     }
     Ok(())
 }
 
 #[tactic(auto, using(crate::proofs::Numbered::number_rules))]
-fn put_definition(
-    alloc: Global,
-    text: &mut String,
-    definition: &Definition,
-) -> Result<(), LayoutError>
+fn put_definition(text: &mut String, definition: &Definition) -> Result<(), LayoutError>
     ensures lines { OnOk result (string_bytes text.new
         ≡ string_bytes text.old ++ c_definition_lines (definition_tree definition.now)) }
     ensures fits { OnOk result (All (λ n. n < 2 ^ 64) (definition_numbers (definition_tree definition.now))) }
@@ -79,13 +70,13 @@ fn put_definition(
         → Any (λ n. 2 ^ 64 ≤ n) (definition_numbers (definition_tree definition.now)) }
 {
     match definition {
-        Definition::Typename(named) => put_typename(alloc, text, named),
-        Definition::Module(module) => Ok(put_module(alloc, text, module)?),
+        Definition::Typename(named) => put_typename(text, named),
+        Definition::Module(module) => Ok(put_module(text, module)?),
         Definition::Constant(constant) => Ok(put_constant(text, constant)?),
     }
 }
 
-fn put_typename(alloc: Global, text: &mut String, named: &NamedType) -> Result<(), LayoutError>
+fn put_typename(text: &mut String, named: &NamedType) -> Result<(), LayoutError>
     ensures lines { OnOk result (string_bytes text.new ≡ string_bytes text.old
         ++ header_typename_lines named.now.name (tree_of named.now.tref) named.now.docs) }
     ensures fits { OnOk result (All (λ n. n < 2 ^ 64) (typename_numbers (tree_of named.now.tref))) }
@@ -93,7 +84,7 @@ fn put_typename(alloc: Global, text: &mut String, named: &NamedType) -> Result<(
         → Any (λ n. 2 ^ 64 ≤ n) (typename_numbers (tree_of named.now.tref)) }
 {
     put_declared(text, named)?;
-    put_layout(alloc, text, named.name.as_str(), &named.tref)?;
+    put_layout(text, named.name.as_str(), &named.tref)?;
     Ok(put(text, "\n")?)
 }
 
@@ -118,40 +109,30 @@ fn put_constant(text: &mut String, constant: &Constant) -> Result<(), OutOfMemor
     Ok(())
 }
 
-fn put_module(alloc: Global, text: &mut String, module: &Module) -> Result<(), OutOfMemory>
+fn put_module(text: &mut String, module: &Module) -> Result<(), OutOfMemory>
     ensures { OnOk result (string_bytes text.new ≡ string_bytes text.old ++ c_module_lines (module_tree «module».now)) }
 {
     put_comment(text, "", module.docs.as_str())?;
     text.push('\n')?;
-    put_items(alloc, text, &module.name, module.definitions().as_slice())
+    put_items(text, &module.name, module.definitions().as_slice())
 }
 
 #[tactic(auto, using(crate::proofs::Appending::appending_rules))]
-fn put_items(
-    alloc: Global,
-    text: &mut String,
-    owner: &Id,
-    items: &[ModuleDefinition],
-) -> Result<(), OutOfMemory>
+fn put_items(text: &mut String, owner: &Id, items: &[ModuleDefinition]) -> Result<(), OutOfMemory>
     ensures { OnOk result (string_bytes text.new
         ≡ string_bytes text.old ++ flat_map (c_item_lines owner.now) (map item_tree items.now)) }
 {
     for item in items {
-        put_item(alloc, text, owner, item)?;
+        put_item(text, owner, item)?;
     }
     Ok(())
 }
 
-fn put_item(
-    alloc: Global,
-    text: &mut String,
-    owner: &Id,
-    item: &ModuleDefinition,
-) -> Result<(), OutOfMemory>
+fn put_item(text: &mut String, owner: &Id, item: &ModuleDefinition) -> Result<(), OutOfMemory>
     ensures { OnOk result (string_bytes text.new ≡ string_bytes text.old ++ c_item_lines owner.now (item_tree item.now)) }
 {
     match item {
         ModuleDefinition::Import(_) => Ok(()),
-        ModuleDefinition::Func(func) => put_func(alloc, text, owner, func),
+        ModuleDefinition::Func(func) => put_func(text, owner, func),
     }
 }

@@ -6,8 +6,7 @@ ghost use Rattle.std.specs.Fmt.{decimal};
 ghost use Rattle.witx_ast.specs.Plain.{plain_fields};
 ghost use Rattle.witx_ast.specs.Views.{datatype_tree, record_tree, tree_of, variant_tree};
 ghost use Rattle.witx_layout.specs.Numbers.{offsets};
-ghost use Rattle.witx_header.specs.CNames.{member_name};
-ghost use Rattle.witx_header.specs.CTypes.{typedef_name};
+ghost use Rattle.witx_header.specs.{CNames.{member_name}, CTypes.{typedef_name}};
 ghost use Rattle.witx_header.specs.Typedefs.{align_line, c_layout_lines, offset_line, offset_numbers, c_part_offsets, placed_lines, record_fields, record_offsets, size_line, typename_numbers};
 
 use crate::names::{put_member_name, put_typedef_name};
@@ -19,12 +18,7 @@ use witx_layout::{Layout, LayoutError, RecordMemberLayout, RecordMembers, Varian
 
 /// Appends assertions on the size and the alignment of a typename and on where its parts begin. Too large exactly where
 /// one of these numbers is.
-pub fn put_layout(
-    alloc: Global,
-    text: &mut String,
-    name: &str,
-    tref: &TypeRef,
-) -> Result<(), LayoutError>
+pub fn put_layout(text: &mut String, name: &str, tref: &TypeRef) -> Result<(), LayoutError>
     ensures lines { OnOk result (string_bytes text.new
         ≡ string_bytes text.old ++ c_layout_lines name.now (tree_of tref.now)) }
     ensures fits { OnOk result (All (λ n. n < 2 ^ 64) (typename_numbers (tree_of tref.now))) }
@@ -33,7 +27,7 @@ pub fn put_layout(
     let layout = tref.mem_size_align()?;
     put_size(text, name, layout.size)?;
     put_align(text, name, layout.align)?;
-    put_offsets(alloc, text, name, tref)?;
+    put_offsets(text, name, tref)?;
     Ok(())
 }
 
@@ -56,12 +50,7 @@ fn put_align(text: &mut String, name: &str, align: usize) -> Result<(), OutOfMem
 }
 
 /// Appends an assertion for each member of a record, and for the payload of a variant.
-fn put_offsets(
-    alloc: Global,
-    text: &mut String,
-    name: &str,
-    tref: &TypeRef,
-) -> Result<(), LayoutError>
+fn put_offsets(text: &mut String, name: &str, tref: &TypeRef) -> Result<(), LayoutError>
     ensures lines { OnOk result (string_bytes text.new
         ≡ string_bytes text.old ++ c_part_offsets name.now (tree_of tref.now)) }
     ensures fits { OnOk result (All (λ n. n < 2 ^ 64) (offset_numbers (tree_of tref.now))) }
@@ -69,16 +58,11 @@ fn put_offsets(
 {
     match tref {
         TypeRef::Name(_) => Ok(()),
-        TypeRef::Value(datatype) => put_offsets_of(alloc, text, name, datatype),
+        TypeRef::Value(datatype) => put_offsets_of(text, name, datatype),
     }
 }
 
-fn put_offsets_of(
-    alloc: Global,
-    text: &mut String,
-    name: &str,
-    datatype: &Datatype,
-) -> Result<(), LayoutError>
+fn put_offsets_of(text: &mut String, name: &str, datatype: &Datatype) -> Result<(), LayoutError>
     ensures lines { OnOk result (string_bytes text.new
         ≡ string_bytes text.old ++ c_part_offsets name.now (datatype_tree datatype.now)) }
     ensures fits { OnOk result (All (λ n. n < 2 ^ 64) (offset_numbers (datatype_tree datatype.now))) }
@@ -86,18 +70,13 @@ fn put_offsets_of(
         → Any (λ n. 2 ^ 64 ≤ n) (offset_numbers (datatype_tree datatype.now)) }
 {
     match datatype {
-        Datatype::Record(record) => put_record_offsets(alloc, text, name, record),
+        Datatype::Record(record) => put_record_offsets(text, name, record),
         Datatype::Variant(variant) => Ok(put_variant_offset(text, name, variant)?),
-        Datatype::Handle(_)
-        | Datatype::List(_)
-        | Datatype::Pointer(_)
-        | Datatype::ConstPointer(_)
-        | Datatype::Builtin(_) => Ok(()),
+        _ => Ok(()),
     }
 }
 
 fn put_record_offsets(
-    alloc: Global,
     text: &mut String,
     name: &str,
     record_type: &RecordDatatype,
@@ -110,12 +89,11 @@ fn put_record_offsets(
 {
     match record_type.kind {
         RecordKind::Bitflags(_) => Ok(()),
-        RecordKind::Tuple | RecordKind::Other => put_members(alloc, text, name, record_type),
+        RecordKind::Tuple | RecordKind::Other => put_members(text, name, record_type),
     }
 }
 
 fn put_members(
-    alloc: Global,
     text: &mut String,
     name: &str,
     record_type: &RecordDatatype,
@@ -126,6 +104,7 @@ fn put_members(
     ensures too_large { result ≡ Err LayoutError.TooLarge
         → Any (λ n. 2 ^ 64 ≤ n) (offsets 0 (plain_fields (record_fields record_type.now))) }
 {
+    let alloc = *text.allocator();
     let layouts = record_type.member_layout(alloc)?;
     Ok(put_each_offset(text, name, layouts.as_slice())?)
 }

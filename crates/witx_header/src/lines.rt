@@ -1,8 +1,7 @@
 //! The line of C for each call of a body.
 
 ghost use Rattle.std.specs.Prelude.{◌≡◌, ◌∷◌, ◌++◌, [], IfOk, OnOk, codes, option_map, slice_get, string_bytes};
-ghost use Rattle.std.specs.Fmt.{decimal};
-ghost use Rattle.std.specs.List.{flat_map};
+ghost use Rattle.std.specs.{Fmt.{decimal}, List.{flat_map}};
 ghost use Rattle.witx_ast.specs.Views.{named_tree, tree_of};
 ghost use Rattle.witx_instructions.specs.Views.{event_of, kept_step};
 ghost use Rattle.witx_header.specs.CTypes.{type_text};
@@ -20,18 +19,17 @@ use witx_instructions::{Event, Step};
 use witx_machine::WasmType;
 
 /// Appends the line of a call. A call has one event.
-pub fn put_line(alloc: Global, text: &mut String, call: &Handed) -> Result<(), AllocError>
+pub fn put_line(text: &mut String, call: &Handed) -> Result<(), AllocError>
     ensures { OnOk result (string_bytes text.new ≡ string_bytes text.old ++ call_line (call_of call.now)) }
 {
     let operands = call.operands.as_slice();
     match call.told.events().as_slice() {
         [] => text.push_str("    // block\n"),
-        [event, ..] => put_event(alloc, text, event, operands, call.results.as_slice()),
+        [event, ..] => put_event(text, event, operands, call.results.as_slice()),
     }
 }
 
 fn put_event(
-    alloc: Global,
     text: &mut String,
     event: &Event,
     operands: &[Variable],
@@ -41,7 +39,7 @@ fn put_event(
         ≡ string_bytes text.old ++ call_line (call_for (event_of event.now ∷ []) operands.now results.now)) }
 {
     match event {
-        Event::Emit(step) => put_step(alloc, text, step, operands, results),
+        Event::Emit(step) => put_step(text, step, operands, results),
         Event::Space { slot, ty } => put_room(text, *slot, ty),
         Event::Push => text.push_str("    // block\n"),
         Event::Finish { .. } => put_end(text, operands),
@@ -84,7 +82,6 @@ fn put_value_end(text: &mut String, variable: Variable) -> Result<(), AllocError
 }
 
 fn put_step(
-    alloc: Global,
     text: &mut String,
     step: &Step,
     operands: &[Variable],
@@ -95,7 +92,7 @@ fn put_step(
 {
     match cast_word(step) {
         Some(word) => put_cast(text, word, operands, results),
-        None => put_own(alloc, text, step, operands, results),
+        None => put_own(text, step, operands, results),
     }
 }
 
@@ -136,7 +133,6 @@ fn cast_word(step: &Step) -> Option<&'static str>
 }
 
 fn put_own(
-    alloc: Global,
     text: &mut String,
     step: &Step,
     operands: &[Variable],
@@ -167,18 +163,34 @@ fn put_own(
         Step::HandleFromI32 { ty }
         | Step::BitflagsFromI32 { ty }
         | Step::BitflagsFromI64 { ty }
-        | Step::EnumLift { ty } => put_named_cast(alloc, text, ty, operands, results),
-        Step::PointerFromI32 { ty } => put_pointer_cast(alloc, text, ty, " *", operands, results),
+        | Step::EnumLift { ty } => put_named_cast(text, ty, operands, results),
+        Step::PointerFromI32 { ty } => put_pointer_cast(text, ty, " *", operands, results),
         Step::ConstPointerFromI32 { ty } => {
-            put_pointer_cast(alloc, text, ty, " const *", operands, results)
+            put_pointer_cast(text, ty, " const *", operands, results)
         }
-        Step::Load { ty } => put_load(alloc, text, ty, operands, results),
+        Step::Load { ty } => put_load(text, ty, operands, results),
         Step::TupleLift { .. } => put_tuple(text, operands, results),
         Step::ReuseReturn => put_returned(text, results),
         Step::ResultLift => put_result(text, operands, results),
         Step::Return { .. } => put_return(text, operands),
         _ => Ok(()),
     }
+}
+
+/// Appends variables between two texts.
+fn put_between(
+    text: &mut String,
+    before: &str,
+    variables: &[Variable],
+    after: &str,
+) -> Result<(), AllocError>
+    ensures { OnOk result (string_bytes text.new
+        ≡ string_bytes text.old ++ (before.now ++ variables_text variables.now ++ after.now)) }
+{
+    text.push_str(before)?;
+    put_variables(text, variables)?;
+    text.push_str(after)?;
+    Ok(())
 }
 
 /// Appends what declares an instruction's results, with their type.
@@ -205,7 +217,6 @@ fn put_cast(
 }
 
 fn put_named_cast(
-    alloc: Global,
     text: &mut String,
     ty: &NamedType,
     operands: &[Variable],
@@ -214,12 +225,12 @@ fn put_named_cast(
     ensures { OnOk result (string_bytes text.new
         ≡ string_bytes text.old ++ cast_line (type_text (named_tree ty.now)) operands.now results.now) }
 {
+    let alloc = *text.allocator();
     let word = named_word(alloc, ty)?;
     put_cast(text, word.as_str(), operands, results)
 }
 
 fn put_pointer_cast(
-    alloc: Global,
     text: &mut String,
     ty: &TypeRef,
     star: &str,
@@ -229,12 +240,12 @@ fn put_pointer_cast(
     ensures { OnOk result (string_bytes text.new ≡ string_bytes text.old
         ++ cast_line (type_text (tree_of ty.now) ++ star.now) operands.now results.now) }
 {
+    let alloc = *text.allocator();
     let word = pointer_word(alloc, ty, star)?;
     put_cast(text, word.as_str(), operands, results)
 }
 
 fn put_load(
-    alloc: Global,
     text: &mut String,
     ty: &NamedType,
     operands: &[Variable],
@@ -243,6 +254,7 @@ fn put_load(
     ensures { OnOk result (string_bytes text.new
         ≡ string_bytes text.old ++ load_line (type_text (named_tree ty.now)) operands.now results.now) }
 {
+    let alloc = *text.allocator();
     let word = named_word(alloc, ty)?;
     put_load_of(text, word.as_str(), operands, results)
 }
@@ -373,8 +385,7 @@ fn put_length(text: &mut String, operands: &[Variable], len: Variable) -> Result
     put_variable(text, len)?;
     text.push_str(" = (int32_t)")?;
     put_variables(text, operands)?;
-    text.push_str(".len;\n")?;
-    Ok(())
+    text.push_str(".len;\n")
 }
 
 fn put_tuple(
@@ -447,9 +458,7 @@ fn put_call_text(
     ensures { OnOk result (string_bytes text.new ≡ string_bytes text.old ++ c_call_text owner.now name.now operands.now) }
 {
     put_imported_name(text, owner, name)?;
-    text.push_str("(")?;
-    put_variables(text, operands)?;
-    text.push_str(")")
+    put_between(text, "(", operands, ")")
 }
 
 fn put_call_end(
@@ -461,18 +470,8 @@ fn put_call_end(
 {
     match words {
         [] => text.push_str(";\n"),
-        [..] => put_kept_word(text, results),
+        [..] => put_between(text, ", ", results, " = returned;\n"),
     }
-}
-
-fn put_kept_word(text: &mut String, results: &[Variable]) -> Result<(), AllocError>
-    ensures { OnOk result (string_bytes text.new
-        ≡ string_bytes text.old ++ (codes ", " ++ variables_text results.now ++ codes " = returned;\n")) }
-{
-    text.push_str(", ")?;
-    put_variables(text, results)?;
-    text.push_str(" = returned;\n")?;
-    Ok(())
 }
 
 fn put_return(text: &mut String, operands: &[Variable]) -> Result<(), AllocError>
@@ -481,14 +480,5 @@ fn put_return(text: &mut String, operands: &[Variable]) -> Result<(), AllocError
     if operands.is_empty() {
         return text.push_str("    return;\n");
     }
-    put_return_of(text, operands)
-}
-
-fn put_return_of(text: &mut String, operands: &[Variable]) -> Result<(), AllocError>
-    ensures { OnOk result (string_bytes text.new
-        ≡ string_bytes text.old ++ (codes "    return " ++ variables_text operands.now ++ codes ";\n")) }
-{
-    text.push_str("    return ")?;
-    put_variables(text, operands)?;
-    text.push_str(";\n")
+    put_between(text, "    return ", operands, ";\n")
 }

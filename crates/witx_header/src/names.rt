@@ -1,9 +1,8 @@
 //! Names and texts as C has them.
 #![tactic(auto, using(crate::proofs::Appending::appending_rules))]
 
-ghost use Rattle.std.specs.Prelude.{◌≡◌, ◌+◌, ◌++◌, ◌<◌, ◌∷◌, [], OnOk, string_bytes};
-ghost use Rattle.std.specs.List.{flat_map};
-ghost use Rattle.witx_header.specs.CNames.{begins_with_digit, c_name, c_upper, imported_name, literal, literal_byte, member_name, octal, stands_alone, upper_byte, word_byte};
+ghost use Rattle.std.specs.{Prelude.{◌≡◌, ◌+◌, ◌++◌, ◌<◌, OnOk, string_bytes}, List.{flat_map}};
+ghost use Rattle.witx_header.specs.CNames.{begins_with_digit, c_name, c_upper, imported_name, literal, literal_byte, member_name, octal, stands_alone, word_byte};
 ghost use Rattle.witx_header.specs.CTypes.{typedef_name};
 
 use std::alloc::AllocError;
@@ -14,15 +13,9 @@ pub fn put_name(text: &mut String, name: &str) -> Result<(), AllocError>
 {
     let bytes = name.as_bytes();
     for byte in bytes {
-        put_word_byte(text, *byte)?;
+        text.push(word_character(*byte))?;
     }
     Ok(())
-}
-
-fn put_word_byte(text: &mut String, byte: u8) -> Result<(), AllocError>
-    ensures { OnOk result (string_bytes text.new ≡ string_bytes text.old ++ word_byte byte ∷ []) }
-{
-    text.push(word_character(byte))
 }
 
 fn word_character(byte: u8) -> char
@@ -42,22 +35,9 @@ pub fn put_upper(text: &mut String, name: &str) -> Result<(), AllocError>
 {
     let bytes = name.as_bytes();
     for byte in bytes {
-        put_upper_byte(text, *byte)?;
+        text.push(word_character(*byte).to_ascii_uppercase())?;
     }
     Ok(())
-}
-
-fn put_upper_byte(text: &mut String, byte: u8) -> Result<(), AllocError>
-    ensures { OnOk result (string_bytes text.new ≡ string_bytes text.old ++ upper_byte byte ∷ []) }
-{
-    text.push(upper_character(byte))
-}
-
-fn upper_character(byte: u8) -> char
-    ensures value { result ≡ upper_byte byte }
-    ensures ascii { result < 128 }
-{
-    word_character(byte).to_ascii_uppercase()
 }
 
 /// Appends the name of a member, which doesn't begin with a digit.

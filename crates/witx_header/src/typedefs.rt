@@ -12,6 +12,7 @@ use crate::names::{put_member_name, put_typedef_name};
 use crate::types::{put_datatype, put_type, repr_word};
 use std::alloc::AllocError;
 use witx_ast::{Case, Datatype, RecordDatatype, RecordKind, RecordMember, TypeRef, Variant};
+use witx_base::{Id, Text};
 
 /// Appends the typedef of a typename. A record that isn't flags and a variant with a payload are written part by part,
 /// each below its documentation.
@@ -41,11 +42,7 @@ fn put_value(text: &mut String, name: &str, datatype: &Datatype) -> Result<(), A
     match datatype {
         Datatype::Record(record) => put_record_body(text, name, record),
         Datatype::Variant(variant) => put_variant_body(text, name, variant),
-        Datatype::Handle(_)
-        | Datatype::List(_)
-        | Datatype::Pointer(_)
-        | Datatype::ConstPointer(_)
-        | Datatype::Builtin(_) => put_datatype(text, datatype),
+        _ => put_datatype(text, datatype),
     }
 }
 
@@ -93,13 +90,7 @@ fn put_member_lines(text: &mut String, members: &[RecordMember]) -> Result<(), A
         ≡ string_bytes text.old ++ member_lines (fields_of (map member_field members.now))) }
 {
     for member in members {
-        put_part_lines(
-            text,
-            "    ",
-            &member.tref,
-            member.name.as_str(),
-            member.docs.as_str(),
-        )?;
+        put_part_lines(text, "    ", &member.tref, &member.name, &member.docs)?;
     }
     Ok(())
 }
@@ -109,17 +100,17 @@ fn put_part_lines(
     text: &mut String,
     margin: &str,
     tref: &TypeRef,
-    name: &str,
-    docs: &str,
+    name: &Id,
+    docs: &Text,
 ) -> Result<(), AllocError>
     ensures { OnOk result (string_bytes text.new ≡ string_bytes text.old
         ++ c_part_lines margin.now (type_text (tree_of tref.now)) name.now docs.now) }
 {
-    put_comment(text, margin, docs)?;
+    put_comment(text, margin, docs.as_str())?;
     text.push_str(margin)?;
     put_type(text, tref)?;
     text.push(' ')?;
-    put_member_name(text, name)?;
+    put_member_name(text, name.as_str())?;
     text.push_str(";\n")
 }
 
@@ -168,13 +159,7 @@ fn put_case_payload(text: &mut String, case: &Case) -> Result<(), AllocError>
         ++ case_payload case.now.name (option_map tree_of case.now.tref) case.now.docs) }
 {
     match &case.tref {
-        Some(tref) => put_part_lines(
-            text,
-            "        ",
-            tref,
-            case.name.as_str(),
-            case.docs.as_str(),
-        ),
+        Some(tref) => put_part_lines(text, "        ", tref, &case.name, &case.docs),
         None => Ok(()),
     }
 }

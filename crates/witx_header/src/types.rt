@@ -2,9 +2,7 @@
 #![tactic(auto, using(crate::proofs::Typing::typing_rules))]
 
 ghost use Rattle.std.specs.Prelude.{◌≡◌, ◌++◌, OnOk, map, option_map, string_bytes};
-ghost use Rattle.witx_ast.specs.Tree.{arms_of, fields_of, list_of};
-ghost use Rattle.witx_ast.specs.TypeNames.{is_char};
-ghost use Rattle.witx_ast.specs.Tree.{behind};
+ghost use Rattle.witx_ast.specs.{Tree.{arms_of, fields_of, list_of}, TypeNames.{is_char}, Tree.{behind}};
 ghost use Rattle.witx_ast.specs.Views.{case_arm, datatype_tree, member_field, named_tree, record_tree, tree_of, variant_tree};
 ghost use Rattle.witx_header.specs.CTypes.{builtin_word, members_text, member_text, c_payload_text, payloads_text, c_repr_word, struct_text, tagged_text, type_text, c_word};
 
@@ -189,14 +187,14 @@ fn builtin_word(builtin: BuiltinType) -> &'static str
     }
 }
 
-/// The type of C for a word.
+/// The type of C for a word: that of the builtin of its size.
 pub fn wasm_word(word: WasmType) -> &'static str
     ensures { result.now ≡ c_word word }
 {
-    match word {
-        WasmType::I32 => "int32_t",
-        WasmType::I64 => "int64_t",
-        WasmType::F32 => "float",
-        WasmType::F64 => "double",
-    }
+    builtin_word(match word {
+        WasmType::I32 => BuiltinType::S32,
+        WasmType::I64 => BuiltinType::S64,
+        WasmType::F32 => BuiltinType::F32,
+        WasmType::F64 => BuiltinType::F64,
+    })
 }

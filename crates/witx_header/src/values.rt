@@ -32,11 +32,7 @@ fn put_values_of(text: &mut String, name: &str, datatype: &Datatype) -> Result<(
     match datatype {
         Datatype::Record(record) => put_flags_of(text, name, record),
         Datatype::Variant(variant) => put_cases_of(text, name, variant),
-        Datatype::Handle(_)
-        | Datatype::List(_)
-        | Datatype::Pointer(_)
-        | Datatype::ConstPointer(_)
-        | Datatype::Builtin(_) => Ok(()),
+        _ => Ok(()),
     }
 }
 
@@ -133,8 +129,7 @@ pub fn put_define(text: &mut String, name: &str, part: &str) -> Result<(), Alloc
     put_upper(text, name)?;
     text.push_str("_")?;
     put_upper(text, part)?;
-    text.push_str(" ")?;
-    Ok(())
+    text.push_str(" ")
 }
 
 fn constant_macro(repr: IntRepr) -> &'static str

@@ -1,8 +1,7 @@
 //! Variables in a line of C.
 #![tactic(auto, using(crate::proofs::Appending::appending_rules))]
 
-ghost use Rattle.std.specs.Prelude.{◌≡◌, ◌++◌, OnOk, codes, string_bytes};
-ghost use Rattle.std.specs.List.{flat_map};
+ghost use Rattle.std.specs.{Prelude.{◌≡◌, ◌++◌, OnOk, string_bytes}, List.{flat_map}};
 ghost use Rattle.witx_header.specs.Bodies.{behind_comma, member, variable_text, variables_text};
 
 use crate::handed::Variable;
@@ -32,16 +31,9 @@ fn put_more(text: &mut String, more: &[Variable]) -> Result<(), AllocError>
     ensures { OnOk result (string_bytes text.new ≡ string_bytes text.old ++ flat_map behind_comma more.now) }
 {
     for variable in more {
-        put_behind_comma(text, *variable)?;
+        text.push_str(", ")?;
+        put_variable(text, *variable)?;
     }
-    Ok(())
-}
-
-fn put_behind_comma(text: &mut String, variable: Variable) -> Result<(), AllocError>
-    ensures { OnOk result (string_bytes text.new ≡ string_bytes text.old ++ behind_comma variable) }
-{
-    text.push_str(", ")?;
-    put_variable(text, variable)?;
     Ok(())
 }
 
@@ -50,19 +42,12 @@ pub fn put_members(text: &mut String, operands: &[Variable]) -> Result<(), Alloc
     ensures { OnOk result (string_bytes text.new ≡ string_bytes text.old ++ flat_map member operands.now) }
 {
     for operand in operands {
-        put_member(text, *operand)?;
+        text.push_str("__typeof__(")?;
+        put_variable(text, *operand)?;
+        text.push_str(") ")?;
+        put_variable(text, *operand)?;
+        text.push_str("; ")?;
     }
-    Ok(())
-}
-
-fn put_member(text: &mut String, operand: Variable) -> Result<(), AllocError>
-    ensures { OnOk result (string_bytes text.new ≡ string_bytes text.old ++ member operand) }
-{
-    text.push_str("__typeof__(")?;
-    put_variable(text, operand)?;
-    text.push_str(") ")?;
-    put_variable(text, operand)?;
-    text.push_str("; ")?;
     Ok(())
 }
 

@@ -1,6 +1,6 @@
 -- What a run of the program is asked for: the header of the document that the files of its source's bundle mean under the paths
 -- that its words spell. And what is so of a run: what it has to write has its cause, and that is what was written.
-use Rattle.std.specs.Prelude.{◌≡◌, ◌≤◌, ◌<◌, ◌^◌, ◌⊎◌, ℕ, List, [], All, Any, true, false, Option, None, Result, Ok, codes}
+use Rattle.std.specs.Prelude.{◌≡◌, ◌≤◌, ◌<◌, ◌^◌, ◌⊎◌, ℕ, List, [], All, Any, true, false, Option, None, Result, Ok, IfErr, codes}
 use Rattle.witx_base.specs.Paths.{Path}
 use Rattle.witx_files.specs.Files.{Files}
 use Rattle.witx_ast.specs.Definitions.{DefinitionTree}
@@ -10,6 +10,7 @@ use Rattle.witx_header.specs.Headers.{header, header_numbers}
 use Rattle.witx_commands.specs.Adapting.{Parses}
 use Rattle.witx_commands.specs.Reports.{AdaptingFails}
 use Rattle.witx_commands.specs.Runs.{IsPrepared, IsWritten, RunInput, SinkSeen, Task}
+use Rattle.witx_commands.specs.Stops.{StopsWith}
 use Rattle.witx_commands.specs.Words.{paths_of}
 use Rattle.witx_commands.specs.declared.output.Output.{Output}
 use Rattle.witx_commands.specs.declared.refusal.Stop.{Stop}
@@ -29,6 +30,10 @@ NumbersFail files handed report =
 
 abbrev pub HeaderFails : Files → List Path → List ℕ → Type 0
 HeaderFails files handed report = AdaptingFails files handed report ⊎ NumbersFail files handed report
+
+-- what ends over these files under these words fails with its cause
+abbrev pub StopsAtHeader : {R : Type 0} → Result R Stop → Files → List (List ℕ) → Type 0
+StopsAtHeader r files words = IfErr r (StopsWith (HeaderFails files (paths_of words)))
 
 -- they mean one that has a header
 abbrev pub HasHeader : Files → List Path → Type 0

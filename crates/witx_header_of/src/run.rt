@@ -1,10 +1,8 @@
 //! A run of the program over a source and two sinks.
 
-ghost use Rattle.std.specs.Prelude.{◌≡◌, [], IfErr, IfOk, None};
-ghost use Rattle.witx_commands.specs.Runs.{IsPrepared, run_input, sink_seen};
-ghost use Rattle.witx_commands.specs.Stops.{StopsWith};
-ghost use Rattle.witx_commands.specs.Words.{paths_of};
-ghost use Rattle.witx_header_of.specs.HeaderRuns.{HeaderFails, IsHeader, IsHeaderRun, header_task};
+ghost use Rattle.std.specs.Prelude.{◌≡◌, [], IfOk, None};
+ghost use Rattle.witx_commands.specs.{Runs.{IsPrepared, run_input, sink_seen}, Words.{paths_of}};
+ghost use Rattle.witx_header_of.specs.HeaderRuns.{IsHeader, IsHeaderRun, StopsAtHeader, header_task};
 
 use std::alloc::Global;
 use witx::program::finish;
@@ -45,7 +43,7 @@ fn prepare<S: Source>(alloc: Global, words: &[Text], source: &mut S) -> Result<O
 fn output_of(alloc: Global, words: &[Text], files: &mut MockFs) -> Result<Output, Stop>
     ensures output { IfOk result (λ o. (o.notes ≡ []) × (o.adapted ≡ None)
         × IsHeader files.old (paths_of words.now) o.text) }
-    ensures stopped { IfErr result (StopsWith (HeaderFails files.old (paths_of words.now))) }
+    ensures stopped { StopsAtHeader result files.old words.now }
 {
     match header_of_files(alloc, words, files) {
         Ok(text) => Ok(text_alone(alloc, text)),
@@ -57,7 +55,7 @@ fn output_of(alloc: Global, words: &[Text], files: &mut MockFs) -> Result<Output
 #[tactic(auto, using(crate::proofs::Failing::failing_rules))]
 fn header_of_files(alloc: Global, words: &[Text], files: &mut MockFs) -> Result<Text, Stop>
     ensures text { IfOk result (λ text. IsHeader files.old (paths_of words.now) text) }
-    ensures stopped { IfErr result (StopsWith (HeaderFails files.old (paths_of words.now))) }
+    ensures stopped { StopsAtHeader result files.old words.now }
 {
     let paths = paths_of(alloc, words)?;
     let adapted = adapted_or_stop(alloc, paths.as_slice(), files)?;

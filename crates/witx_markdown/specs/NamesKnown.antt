@@ -1,11 +1,12 @@
 -- What is known of the names in a type. Where layouts are kept by name it is the layout of each name that is a part of the
 -- type, targets of lists and pointers aside. Where names are looked through nothing has to be known.
-use Rattle.std.specs.Prelude.{List, Option, Some, None}
+use Rattle.std.specs.Prelude.{List, map, Option, Some, None}
 use Rattle.std.specs.List.{AllByRecursion}
 use Rattle.witx_ast.specs.Tree.{Tree, Fields, Arms, Field}
 use Rattle.witx_ast.specs.Functions.{FunctionTree}
 use Rattle.witx_ast.specs.Items.{ItemTree, import_of, func_of}
-use Rattle.witx_ast.specs.Definitions.{DefinitionTree, typename_of, module_of, constant_of}
+use Rattle.witx_ast.specs.declared.definition.Definition.{Definition}
+use Rattle.witx_ast.specs.Definitions.{DefinitionTree, definition_tree, typename_of, module_of, constant_of}
 use Rattle.witx_layout.specs.Known.{Knows, KnowsFields, KnowsArms}
 use Rattle.witx_markdown.specs.declared.named_layouts.NamedLayouts.{NamedLayouts}
 use Rattle.witx_markdown.specs.declared.named_layouts.NamedLayouts.TheVariants as layouts
@@ -47,3 +48,7 @@ InDefinition P (constant_of c) = Unit {0}
 
 abbrev pub InDefinitions : (Tree → Type 0) → List DefinitionTree → Type 0
 InDefinitions P = AllByRecursion (InDefinition P)
+
+-- what has to be known of the names in all that is defined
+abbrev pub AllNamesKnown : NamedLayouts → List Definition → Type 0
+AllNamesKnown names definitions = InDefinitions (NamesKnown names) (map definition_tree definitions)

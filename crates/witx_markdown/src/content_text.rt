@@ -3,7 +3,7 @@
 
 ghost use Rattle.std.specs.Prelude.{◌≡◌, ◌++◌, map, OnOk, string_bytes};
 ghost use Rattle.witx_ast.specs.TypeNames.{comma_joined, separator};
-ghost use Rattle.witx_markdown.specs.Contents.{anchor, anchor_if, name_text, docs_text, type_if, section_text, named_line, named_text, func_line, func_text, signature_text, input_text, outputs_text, tuple_outputs, content_text as text_of_content};
+ghost use Rattle.witx_markdown.specs.Contents.{anchor, anchor_if, docs_text, type_if, section_text, named_line, func_line, signature_text, input_text, outputs_text, tuple_outputs, content_text as text_of_content};
 
 use crate::content::{MdContent, MdFunc, MdNamedType, MdSection};
 use crate::heading::{put, put_heading};
@@ -16,8 +16,14 @@ pub fn put_content(out: &mut String, content: &MdContent) -> Result<(), OutOfMem
     match content {
         MdContent::Root => Ok(()),
         MdContent::Section(section) => put_section(out, section),
-        MdContent::Named(named) => put_named(out, named),
-        MdContent::Func(func) => put_func(out, func),
+        MdContent::Named(named) => {
+            put_named_line(out, named)?;
+            put_docs(out, named.docs.as_str())
+        }
+        MdContent::Func(func) => {
+            put_func_line(out, func)?;
+            put_docs(out, func.docs.as_str())
+        }
     }
 }
 
@@ -31,29 +37,16 @@ fn put_section(out: &mut String, section: &MdSection) -> Result<(), OutOfMemory>
     put(out, "\n")
 }
 
-fn put_named(out: &mut String, named: &MdNamedType) -> Result<(), OutOfMemory>
-    ensures { OnOk result (string_bytes out.new ≡ string_bytes out.old ++ named_text named.now) }
-{
-    put_named_line(out, named)?;
-    put_docs(out, named.docs.as_str())
-}
-
 /// The line of a named content, without its end.
 pub fn put_named_line(out: &mut String, named: &MdNamedType) -> Result<(), OutOfMemory>
     ensures { OnOk result (string_bytes out.new ≡ string_bytes out.old ++ named_line named.now) }
 {
+    let name = named.name.as_str();
     put_heading(out, named.heading)?;
     put(out, " ")?;
     put_anchor(out, named.id.as_str())?;
-    put_name(out, named.name.as_str())?;
+    write!(out, " `{name}`")?;
     put_type_if(out, &named.ty)
-}
-
-fn put_func(out: &mut String, func: &MdFunc) -> Result<(), OutOfMemory>
-    ensures { OnOk result (string_bytes out.new ≡ string_bytes out.old ++ func_text func.now) }
-{
-    put_func_line(out, func)?;
-    put_docs(out, func.docs.as_str())
 }
 
 /// A ruler and the line of a function, without its end.
@@ -86,13 +79,6 @@ fn put_anchor_if(out: &mut String, id: &Option<Text>) -> Result<(), OutOfMemory>
         }
         None => Ok(()),
     }
-}
-
-fn put_name(out: &mut String, name: &str) -> Result<(), OutOfMemory>
-    ensures { OnOk result (string_bytes out.new ≡ string_bytes out.old ++ name_text name.now) }
-{
-    write!(out, " `{name}`")?;
-    Ok(())
 }
 
 fn put_type_if(out: &mut String, ty: &Option<Text>) -> Result<(), OutOfMemory>

@@ -1,7 +1,6 @@
 //! What a line of a page begins with.
 
-ghost use Rattle.std.specs.Prelude.{◌≡◌, ◌++◌, OnOk, codes, string_bytes};
-ghost use Rattle.std.specs.List.{repeat};
+ghost use Rattle.std.specs.{Prelude.{◌≡◌, ◌++◌, OnOk, codes, string_bytes}, List.{repeat}};
 ghost use Rattle.witx_markdown.specs.Contents.{drawn, header_marks, level_down, heading_text};
 
 use witx_base::OutOfMemory;

@@ -1,8 +1,7 @@
 //! The nodes below a node, from the parents of a tree's nodes.
 
 ghost use Rattle.std.specs.Prelude.{◌≡◌, ℕ, ◌+◌, ◌∷◌, ◌++◌, ◌<◌, Some, IfOk, OnOk, length};
-ghost use Rattle.std.specs.List.{All, flat_map};
-ghost use Rattle.std.specs.Option.{option_to_list};
+ghost use Rattle.std.specs.{List.{All, flat_map}, Option.{option_to_list}};
 ghost use Rattle.witx_markdown.specs.Trees.{AreParents, children_of, levels_of, order_from, parent_of};
 ghost use Rattle.witx_markdown.specs.Families.{AreLinked, next_child};
 
@@ -13,7 +12,7 @@ use witx_base::OutOfMemory;
 
 /// Of each node of a tree its first child, and the child of the same parent that follows it.
 #[derive(Drop)]
-struct Kin<'a> {
+pub struct Kin<'a> {
     parents: &'a [Option<usize>],
     first: Vec<Option<usize>>,
     next: Vec<Option<usize>>,
@@ -21,8 +20,7 @@ struct Kin<'a> {
 
 impl<'a> Model for Kin<'a> {
     ghost use Rattle.std.specs.Prelude.{ℕ, List, Option};
-    ghost use Rattle.witx_markdown.specs.Trees.{AreParents};
-    ghost use Rattle.witx_markdown.specs.Families.{AreLinked};
+    ghost use Rattle.witx_markdown.specs.{Trees.{AreParents}, Families.{AreLinked}};
 
     ghost Value = { List (Option ℕ) };
 
@@ -32,7 +30,8 @@ impl<'a> Model for Kin<'a> {
 }
 
 impl<'a> Kin<'a> {
-    fn of(alloc: Global, parents: &'a [Option<usize>]) -> Result<Kin<'a>, OutOfMemory>
+    /// The kin of the nodes with these parents.
+    pub fn of(alloc: Global, parents: &'a [Option<usize>]) -> Result<Kin<'a>, OutOfMemory>
         requires { AreParents parents.now }
         ensures { IfOk result (λ kin. kin ≡ parents.now) }
     {
@@ -91,7 +90,8 @@ impl<'a> Kin<'a> {
     /// A node and what stands below it, in the order of the text.
     fn nodes_from(&self, alloc: Global, node: usize) -> Result<Numbers, OutOfMemory>
         requires { node < length self.now }
-        ensures { IfOk result (λ numbers. numbers ≡ node ∷ order_from 0 self.now node) }
+        ensures order { IfOk result (λ numbers. numbers ≡ node ∷ order_from 0 self.now node) }
+        ensures tree { OnOk result (AreParents self.now) }
     {
         let mut numbers = Numbers::new(alloc);
         numbers.push(node)?;
@@ -105,6 +105,16 @@ impl<'a> Kin<'a> {
             let child = self.first_child(next);
             put_if(&mut ahead, child)?;
         }
+        Ok(numbers)
+    }
+
+    /// The children of `node`, and then in turn the same of each of them.
+    pub fn children_below(&self, alloc: Global, node: usize) -> Result<Numbers, OutOfMemory>
+        requires { node < length self.now }
+        ensures { IfOk result (λ numbers. numbers ≡ levels_of self.now node) }
+    {
+        let nodes = self.nodes_from(alloc, node)?;
+        let numbers = self.children_of_each(alloc, nodes.as_slice())?;
         Ok(numbers)
     }
 }
@@ -132,34 +142,14 @@ fn put_if(ahead: &mut Vec<usize>, node: Option<usize>) -> Result<(), OutOfMemory
     Ok(())
 }
 
-/// A node and what stands below it, in the order of the text.
-pub fn nodes_from(
-    alloc: Global,
-    parents: &[Option<usize>],
-    node: usize,
-) -> Result<Numbers, OutOfMemory>
+/// All nodes of a tree, in the order of the text.
+pub fn text_order(alloc: Global, parents: &[Option<usize>]) -> Result<Numbers, OutOfMemory>
     requires parents { AreParents parents.now }
-    requires node { node < length parents.now }
-    ensures order { IfOk result (λ numbers. numbers ≡ node ∷ order_from 0 parents.now node) }
+    requires root { 0 < length parents.now }
+    ensures order { IfOk result (λ numbers. numbers ≡ 0 ∷ order_from 0 parents.now 0) }
     ensures within { IfOk result (All (λ n. n < length parents.now)) }
 {
     let kin = Kin::of(alloc, parents)?;
-    let nodes = kin.nodes_from(alloc, node)?;
+    let nodes = kin.nodes_from(alloc, 0)?;
     Ok(nodes)
-}
-
-/// The children of `node`, and then in turn the same of each of them.
-pub fn children_below(
-    alloc: Global,
-    parents: &[Option<usize>],
-    node: usize,
-) -> Result<Numbers, OutOfMemory>
-    requires parents { AreParents parents.now }
-    requires node { node < length parents.now }
-    ensures { IfOk result (λ numbers. numbers ≡ levels_of parents.now node) }
-{
-    let nodes = nodes_from(alloc, parents, node)?;
-    let kin = Kin::of(alloc, parents)?;
-    let numbers = kin.children_of_each(alloc, nodes.as_slice())?;
-    Ok(numbers)
 }

@@ -1,11 +1,12 @@
 //! The layouts of types, the names in which are known.
 #![tactic(auto, using(crate::proofs::NameSteps::layout_steps))]
 
-ghost use Rattle.std.specs.Prelude.{◌≡◌, ◌≤◌, ◌<◌, ◌^◌, MatchResult, IfOk, OnOk, map};
+ghost use Rattle.std.specs.Prelude.{◌≡◌, ◌≤◌, ◌<◌, ◌^◌, IfOk, OnOk, map};
 ghost use Rattle.witx_ast.specs.Tree.{fields_of, arms_of};
-ghost use Rattle.witx_ast.specs.Plain.{plain};
 ghost use Rattle.witx_ast.specs.Views.{tree_of, datatype_tree, named_tree, record_tree, variant_tree, member_field, case_arm, members_plain, cases_plain};
-ghost use Rattle.witx_layout.specs.Numbers.{size_of, align_of, align_to, members_end, members_align, payloads_size, payloads_align, offsets};
+ghost use Rattle.witx_layout.specs.Layouts.{Measures, MeasuresType};
+ghost use Rattle.witx_layout.specs.Numbers.{align_to, members_end, members_align, payloads_size, payloads_align, offsets};
+ghost use Rattle.witx_layout.specs.Laws.{ArePlaced};
 ghost use Rattle.witx_markdown.specs.NamesKnown.{NamesKnown, FieldNamesKnown, ArmNamesKnown};
 
 use crate::named_layouts::NamedLayouts;
@@ -22,9 +23,7 @@ use witx_layout::{
 #[cycle(layouts)]
 pub fn type_layout(names: NamedLayouts, tref: &TypeRef) -> Result<SizeAlign, TooLarge>
     requires { NamesKnown names (tree_of tref.now) }
-    ensures { MatchResult result
-        (λ v. (v.size ≡ size_of (plain (tree_of tref.now))) × (v.align ≡ align_of (plain (tree_of tref.now))))
-        (λ _. 2 ^ 64 ≤ size_of (plain (tree_of tref.now))) }
+    ensures { MeasuresType (tree_of tref.now) result }
 {
     match tref {
         TypeRef::Name(named) => named_layout(names, named),
@@ -35,9 +34,7 @@ pub fn type_layout(names: NamedLayouts, tref: &TypeRef) -> Result<SizeAlign, Too
 /// The layout of a name.
 fn named_layout(names: NamedLayouts, named: &NamedType) -> Result<SizeAlign, TooLarge>
     requires { NamesKnown names (named_tree named.now) }
-    ensures { MatchResult result
-        (λ v. (v.size ≡ size_of (plain (named_tree named.now))) × (v.align ≡ align_of (plain (named_tree named.now))))
-        (λ _. 2 ^ 64 ≤ size_of (plain (named_tree named.now))) }
+    ensures { MeasuresType (named_tree named.now) result }
 {
     match names {
         NamedLayouts::Kept(table) => Ok(known_layout(table, named)),
@@ -49,9 +46,7 @@ fn named_layout(names: NamedLayouts, named: &NamedType) -> Result<SizeAlign, Too
 #[cycle(layouts)]
 fn datatype_layout(names: NamedLayouts, datatype: &Datatype) -> Result<SizeAlign, TooLarge>
     requires { NamesKnown names (datatype_tree datatype.now) }
-    ensures { MatchResult result
-        (λ v. (v.size ≡ size_of (plain (datatype_tree datatype.now))) × (v.align ≡ align_of (plain (datatype_tree datatype.now))))
-        (λ _. 2 ^ 64 ≤ size_of (plain (datatype_tree datatype.now))) }
+    ensures { MeasuresType (datatype_tree datatype.now) result }
 {
     match datatype {
         Datatype::Record(record) => record_layout(names, record),
@@ -67,9 +62,7 @@ fn datatype_layout(names: NamedLayouts, datatype: &Datatype) -> Result<SizeAlign
 #[cycle(layouts)]
 fn record_layout(names: NamedLayouts, record_type: &RecordDatatype) -> Result<SizeAlign, TooLarge>
     requires { NamesKnown names (record_tree record_type.now) }
-    ensures { MatchResult result
-        (λ v. (v.size ≡ size_of (plain (record_tree record_type.now))) × (v.align ≡ align_of (plain (record_tree record_type.now))))
-        (λ _. 2 ^ 64 ≤ size_of (plain (record_tree record_type.now))) }
+    ensures { MeasuresType (record_tree record_type.now) result }
 {
     if let RecordKind::Bitflags(_) = record_type.kind {
         return record_type.mem_size_align();
@@ -82,9 +75,7 @@ fn record_layout(names: NamedLayouts, record_type: &RecordDatatype) -> Result<Si
 #[cycle(layouts)]
 pub fn variant_layout(names: NamedLayouts, variant: &Variant) -> Result<SizeAlign, TooLarge>
     requires { NamesKnown names (variant_tree variant.now) }
-    ensures { MatchResult result
-        (λ v. (v.size ≡ size_of (plain (variant_tree variant.now))) × (v.align ≡ align_of (plain (variant_tree variant.now))))
-        (λ _. 2 ^ 64 ≤ size_of (plain (variant_tree variant.now))) }
+    ensures { MeasuresType (variant_tree variant.now) result }
 {
     let width = variant.tag_repr.mem_align();
     let tag = SizeAlign {
@@ -99,9 +90,7 @@ pub fn variant_layout(names: NamedLayouts, variant: &Variant) -> Result<SizeAlig
 #[cycle(layouts)]
 fn members_layout(names: NamedLayouts, members: &[RecordMember]) -> Result<SizeAlign, TooLarge>
     requires { FieldNamesKnown names (fields_of (map member_field members.now)) }
-    ensures { MatchResult result
-        (λ v. (v.size ≡ members_end 0 (members_plain members.now)) × (v.align ≡ members_align (members_plain members.now)))
-        (λ _. 2 ^ 64 ≤ members_end 0 (members_plain members.now)) }
+    ensures { Measures (members_end 0 (members_plain members.now)) (members_align (members_plain members.now)) result }
 {
     let mut reached = SizeAlign { size: 0, align: 1 };
     for member in members {
@@ -115,9 +104,7 @@ fn members_layout(names: NamedLayouts, members: &[RecordMember]) -> Result<SizeA
 #[cycle(layouts)]
 fn greatest_payload(names: NamedLayouts, cases: &[Case]) -> Result<SizeAlign, TooLarge>
     requires { ArmNamesKnown names (arms_of (map case_arm cases.now)) }
-    ensures { MatchResult result
-        (λ v. (v.size ≡ payloads_size (cases_plain cases.now)) × (v.align ≡ payloads_align (cases_plain cases.now)))
-        (λ _. 2 ^ 64 ≤ payloads_size (cases_plain cases.now)) }
+    ensures { Measures (payloads_size (cases_plain cases.now)) (payloads_align (cases_plain cases.now)) result }
 {
     let mut greatest = SizeAlign { size: 0, align: 1 };
     for case in cases {
@@ -141,7 +128,7 @@ pub fn placed<'a>(
     members: &'a [RecordMember],
 ) -> Result<MemberLayouts<'a>, LayoutError>
     requires { FieldNamesKnown names (fields_of (map member_field members.now)) }
-    ensures members { IfOk result (λ layouts. map (λ m. m.member.now) layouts ≡ members.now) }
+    ensures members { IfOk result (ArePlaced members.now) }
     ensures begins { IfOk result (λ layouts. map (λ m. m.offset) layouts ≡ offsets 0 (members_plain members.now)) }
     ensures fits { OnOk result (align_to (members_end 0 (members_plain members.now))
         (members_align (members_plain members.now)) < 2 ^ 64) }

@@ -1,8 +1,7 @@
 //! The links of documentation.
 
 ghost use Rattle.std.specs.Prelude.{◌≡◌, ◌∷◌, ◌++◌, [], ℕ, List, IfOk, OnOk, MatchOption, string_bytes};
-ghost use Rattle.std.specs.List.{list_any};
-ghost use Rattle.std.specs.Map.{keys_of};
+ghost use Rattle.std.specs.{List.{list_any}, Map.{keys_of}};
 ghost use Rattle.witx_base.specs.Texts.{same_text};
 ghost use Rattle.witx_markdown.specs.Links.{dotted, ids, link as link_text, link_to, linked, missing, missing_if, pieces};
 

@@ -2,10 +2,8 @@
 #![tactic(auto, using(crate::proofs::Ancestry::tree_rules))]
 
 ghost use Rattle.std.specs.Prelude.{◌≡◌, ◌∷◌, ◌++◌, [], ◌<◌, IfOk, OnOk, OnErr, length, string_bytes, Some, None};
-ghost use Rattle.std.specs.Borrow.{sem};
-ghost use Rattle.std.specs.List.{All, flat_map};
-ghost use Rattle.witx_markdown.specs.declared.content.MdContent.{MdContent};
-ghost use Rattle.witx_markdown.specs.Contents.{content_text};
+ghost use Rattle.std.specs.{Borrow.{sem}, List.{All, flat_map}};
+ghost use Rattle.witx_markdown.specs.{declared.content.MdContent.{MdContent}, Contents.{content_text}};
 ghost use Rattle.witx_markdown.specs.Trees.{HaveParents, ancestors_of, levels_of, tree_text, content_at, heading_below};
 ghost use Rattle.witx_markdown.specs.Lending.{LendsContent};
 
@@ -14,7 +12,7 @@ use crate::content::MdContent;
 use crate::content_text::put_content;
 use crate::family::{ancestor_count, ancestors_in};
 use crate::heading::MdHeading;
-use crate::kin::{children_below, nodes_from};
+use crate::kin::{Kin, text_order};
 use std::alloc::Global;
 use std::marker::Model;
 use witx_base::{Items, OutOfMemory, Text};
@@ -94,14 +92,16 @@ impl MdTree {
         requires { node < length self.now.contents }
         ensures { IfOk result (λ numbers. numbers ≡ levels_of self.now.parents node) }
     {
-        children_below(allocator_of(self), self.parents.as_slice(), node)
+        let kin = Kin::of(allocator_of(self), self.parents.as_slice())?;
+        let numbers = kin.children_below(allocator_of(self), node)?;
+        Ok(numbers)
     }
 
     /// The text of the whole tree: each node's text, and then that of its children, one after the other.
     pub fn text(&self) -> Result<Text, OutOfMemory>
         ensures { IfOk result (λ text. text ≡ tree_text self.now) }
     {
-        let nodes = nodes_from(allocator_of(self), self.parents.as_slice(), 0)?;
+        let nodes = text_order(allocator_of(self), self.parents.as_slice())?;
         let mut out = String::new(allocator_of(self));
         put_nodes(&mut out, self.contents.as_slice(), nodes.as_slice())?;
         Ok(Text::from_string(out))

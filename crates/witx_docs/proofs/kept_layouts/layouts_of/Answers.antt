@@ -12,17 +12,11 @@ loop-definition-init c = record {
 }
 
 pub loop-definition-preserved : goal.loop-definition-preserved
-loop-definition-preserved c =
-    let xs = c.args.definitions.now in
-    let i = c.loop-definition.definition-index in
-    let d = c.definition-item.result in
-    let here = c.loop-definition-test.true in
-    let is = c.definition-item.is in
-    let before = c.loop-definition.invariant in
-    record {
-      ahead = next-ahead xs i d here is before.ahead;
-      tabled = next-tabled c.loop-definition.table c.keep_layout.new.table xs i d here is before.ahead before.tabled c.in_ok-keep_layout.ensures.kept;
-    }
+loop-definition-preserved c = record {
+  ahead = next-ahead c.args.definitions.now c.loop-definition.definition-index c.definition-item.result c.loop-definition-test.true c.definition-item.is c.loop-definition.invariant.ahead;
+  tabled = next-tabled c.loop-definition.table c.keep_layout.new.table c.args.definitions.now c.loop-definition.definition-index c.definition-item.result c.loop-definition-test.true
+      c.definition-item.is c.loop-definition.invariant.ahead c.loop-definition.invariant.tabled c.in_ok-keep_layout.ensures.kept;
+}
 
 pub returns-in_err-keep_layout-clause-refusal : goal.returns-in_err-keep_layout-clause-refusal
 returns-in_err-keep_layout-clause-refusal c =

@@ -1,11 +1,10 @@
-use Rattle.std.proofs.Common.{rules, ◌≡◌, ◌+◌, arith, ap, sym, ◌∙◌, map}
-use Rattle.std.proofs.lemmas.Grind.{common_steps}
+use Rattle.std.proofs.Common.{◌≡◌, ◌+◌, arith, ap, sym, ◌∙◌, map}
 use Rattle.witx_ast.specs.Tree.{fields_of, arms_of}
 use Rattle.witx_ast.specs.Views.{tree_of, datatype_tree, record_tree, variant_tree, member_field, case_arm}
 use Rattle.witx_layout.specs.Nodes.{type_nodes, field_nodes, arm_nodes}
 use Rattle.witx_layout.proofs.Onward.{next-end, next-align, bare-size, bare-align, carries-size, carries-align}
 use Rattle.witx_layout.proofs.Nodes.{in-record-nodes, in-variant-nodes, in-value-nodes, record-nodes, variant-nodes, member-nodes, fewer-nodes, payload-nodes, same-arm-nodes, fewer-arm-nodes}
-use Rattle.witx_markdown.proofs.NameSteps.{value-in, record-in, variant-in, members-in, cases-in, member-in, members-left, payload-in, cases-left, bare-left, layout_steps}
+use Rattle.witx_markdown.proofs.NameSteps.{value-in, record-in, variant-in, members-in, cases-in, member-in, members-left, payload-in, cases-left, bare-left}
 use Rattle.witx_markdown.proofs.known_layout.+layouts.Goals as goal
 
 pub datatype_layout-record_layout-requires : goal.datatype_layout-record_layout-requires
@@ -42,22 +41,15 @@ members_layout-type_layout-requires t c =
     (omega arith, member-in c.args.names c.args.members.now c.loop-member.member-index c.member-item.result c.loop-member-test.true c.member-item.is c.loop-member.invariant.known)
 
 pub members_layout-loop-member-preserved : goal.members_layout-loop-member-preserved
-members_layout-loop-member-preserved t c =
-    let xs = c.args.members.now in
-    let i = c.loop-member.member-index in
-    let m = c.member-item.result in
-    let here = c.loop-member-test.true in
-    let is = c.member-item.is in
-    let before = c.loop-member.invariant in
-    let layout = c.in_ok-part.ensures in
-    let next = c.in_ok-reached.ensures in
-    record {
-      some = omega (arith, before.some, next.2);
-      ends = rw (next.1, layout.0, layout.1) (next-end xs i m c.loop-member.reached.size _ here is before.ends);
-      aligned = rw (next.2, layout.1) (next-align xs i m c.loop-member.reached.align _ here is before.aligned);
-      left = fewer-nodes xs i m _ here is before.left;
-      known = members-left c.args.names xs i m here is before.known;
-    }
+members_layout-loop-member-preserved t c = record {
+  some = omega (arith, c.loop-member.invariant.some, c.in_ok-reached.ensures.2);
+  ends = rw (c.in_ok-reached.ensures.1, c.in_ok-part.ensures.0, c.in_ok-part.ensures.1)
+      (next-end c.args.members.now c.loop-member.member-index c.member-item.result c.loop-member.reached.size _ c.loop-member-test.true c.member-item.is c.loop-member.invariant.ends);
+  aligned = rw (c.in_ok-reached.ensures.2, c.in_ok-part.ensures.1)
+      (next-align c.args.members.now c.loop-member.member-index c.member-item.result c.loop-member.reached.align _ c.loop-member-test.true c.member-item.is c.loop-member.invariant.aligned);
+  left = fewer-nodes c.args.members.now c.loop-member.member-index c.member-item.result _ c.loop-member-test.true c.member-item.is c.loop-member.invariant.left;
+  known = members-left c.args.names c.args.members.now c.loop-member.member-index c.member-item.result c.loop-member-test.true c.member-item.is c.loop-member.invariant.known;
+}
 
 pub greatest_payload-type_layout-requires : goal.greatest_payload-type_layout-requires
 greatest_payload-type_layout-requires t c =
@@ -65,78 +57,21 @@ greatest_payload-type_layout-requires t c =
     (omega arith, payload-in c.args.names c.args.cases.now c.loop-case.case-index c.case-item.result c.in-Some.tref c.loop-case-test.true c.case-item.is c.in-Some.is c.loop-case.invariant.known)
 
 pub greatest_payload-loop-case-preserved-in_default : goal.greatest_payload-loop-case-preserved-in_default
-greatest_payload-loop-case-preserved-in_default t c =
-    let xs = c.args.cases.now in
-    let i = c.loop-case.case-index in
-    let one = c.case-item.result in
-    let here = c.loop-case-test.true in
-    let is = c.case-item.is in
-    let before = c.loop-case.invariant in
-    record {
-      some = before.some;
-      greatest = bare-size xs i one c.loop-case.greatest.size _ here is c.in_default.is before.greatest;
-      aligned = bare-align xs i one c.loop-case.greatest.align _ here is c.in_default.is before.aligned;
-      left = same-arm-nodes xs i one _ here is c.in_default.is before.left;
-      known = bare-left c.args.names xs i one here is c.in_default.is before.known;
-    }
+greatest_payload-loop-case-preserved-in_default t c = record {
+  some = c.loop-case.invariant.some;
+  greatest = bare-size c.args.cases.now c.loop-case.case-index c.case-item.result c.loop-case.greatest.size _ c.loop-case-test.true c.case-item.is c.in_default.is c.loop-case.invariant.greatest;
+  aligned = bare-align c.args.cases.now c.loop-case.case-index c.case-item.result c.loop-case.greatest.align _ c.loop-case-test.true c.case-item.is c.in_default.is c.loop-case.invariant.aligned;
+  left = same-arm-nodes c.args.cases.now c.loop-case.case-index c.case-item.result _ c.loop-case-test.true c.case-item.is c.in_default.is c.loop-case.invariant.left;
+  known = bare-left c.args.names c.args.cases.now c.loop-case.case-index c.case-item.result c.loop-case-test.true c.case-item.is c.in_default.is c.loop-case.invariant.known;
+}
 
 pub greatest_payload-loop-case-preserved : goal.greatest_payload-loop-case-preserved
-greatest_payload-loop-case-preserved t c =
-    let xs = c.args.cases.now in
-    let i = c.loop-case.case-index in
-    let one = c.case-item.result in
-    let payload = c.in-Some.tref in
-    let here = c.loop-case-test.true in
-    let is = c.case-item.is in
-    let has = c.in-Some.is in
-    let before = c.loop-case.invariant in
-    let layout = c.in_ok-payload.ensures in
-    record {
-      some = omega (arith, before.some, c.greater-in-loop-case.ensures);
-      greatest = rw (c.greater.ensures, layout.0) (carries-size xs i one payload c.loop-case.greatest.size _ here is has before.greatest);
-      aligned = rw (c.greater-in-loop-case.ensures, layout.1) (carries-align xs i one payload c.loop-case.greatest.align _ here is has before.aligned);
-      left = fewer-arm-nodes xs i one payload _ here is has before.left;
-      known = cases-left c.args.names xs i one payload here is has before.known;
-    }
-
-pub datatype_layout-returns-in-Record : goal.datatype_layout-returns-in-Record
-datatype_layout-returns-in-Record t c = search (rules, layout_steps)
-
-pub datatype_layout-returns-in-Variant : goal.datatype_layout-returns-in-Variant
-datatype_layout-returns-in-Variant t c = search (rules, layout_steps)
-
-pub greatest_payload-returns : goal.greatest_payload-returns
-greatest_payload-returns t c = search (rules, layout_steps)
-
-pub greatest_payload-returns-in_err-payload : goal.greatest_payload-returns-in_err-payload
-greatest_payload-returns-in_err-payload t c = search (rules, layout_steps)
-
-pub members_layout-returns : goal.members_layout-returns
-members_layout-returns t c = search (rules, layout_steps)
-
-pub members_layout-returns-in_err-part : goal.members_layout-returns-in_err-part
-members_layout-returns-in_err-part t c = search (rules, layout_steps)
-
-pub members_layout-returns-in_err-reached : goal.members_layout-returns-in_err-reached
-members_layout-returns-in_err-reached t c = grind (arith, common_steps, layout_steps)
-
-pub record_layout-returns : goal.record_layout-returns
-record_layout-returns t c = search (rules, layout_steps)
-
-pub record_layout-returns-in_err-members : goal.record_layout-returns-in_err-members
-record_layout-returns-in_err-members t c = search (rules, layout_steps)
-
-pub type_layout-returns-in-Name : goal.type_layout-returns-in-Name
-type_layout-returns-in-Name t c = search (rules, layout_steps)
-
-pub type_layout-returns-in-Value : goal.type_layout-returns-in-Value
-type_layout-returns-in-Value t c = search (rules, layout_steps)
-
-pub variant_layout-returns : goal.variant_layout-returns
-variant_layout-returns t c = search (rules, layout_steps)
-
-pub variant_layout-returns-in_err-behind : goal.variant_layout-returns-in_err-behind
-variant_layout-returns-in_err-behind t c = search (rules, layout_steps)
-
-pub variant_layout-returns-in_err-payload : goal.variant_layout-returns-in_err-payload
-variant_layout-returns-in_err-payload t c = search (rules, layout_steps)
+greatest_payload-loop-case-preserved t c = record {
+  some = omega (arith, c.loop-case.invariant.some, c.greater-in-loop-case.ensures);
+  greatest = rw (c.greater.ensures, c.in_ok-payload.ensures.0)
+      (carries-size c.args.cases.now c.loop-case.case-index c.case-item.result c.in-Some.tref c.loop-case.greatest.size _ c.loop-case-test.true c.case-item.is c.in-Some.is c.loop-case.invariant.greatest);
+  aligned = rw (c.greater-in-loop-case.ensures, c.in_ok-payload.ensures.1)
+      (carries-align c.args.cases.now c.loop-case.case-index c.case-item.result c.in-Some.tref c.loop-case.greatest.align _ c.loop-case-test.true c.case-item.is c.in-Some.is c.loop-case.invariant.aligned);
+  left = fewer-arm-nodes c.args.cases.now c.loop-case.case-index c.case-item.result c.in-Some.tref _ c.loop-case-test.true c.case-item.is c.in-Some.is c.loop-case.invariant.left;
+  known = cases-left c.args.names c.args.cases.now c.loop-case.case-index c.case-item.result c.in-Some.tref c.loop-case-test.true c.case-item.is c.in-Some.is c.loop-case.invariant.known;
+}
