@@ -3,11 +3,9 @@
 ghost use Rattle.std.specs.Prelude.{◌≡◌, [], IfErr, IfOk, None, map, true};
 ghost use Rattle.witx_ast.specs.Definitions.{definition_tree};
 ghost use Rattle.witx_render.specs.DocumentTexts.{document_text};
-ghost use Rattle.witx_commands.specs.Causes.{IsOutput};
-ghost use Rattle.witx_commands.specs.Reports.{CommandRefuses};
-ghost use Rattle.witx_commands.specs.Stops.{StopsWith};
-ghost use Rattle.witx_commands.specs.Words as asked;
+ghost use Rattle.witx_commands.specs.{Causes.{IsOutput}, Reports.{CommandRefuses}, Stops.{StopsWith}};
 ghost use Rattle.witx_commands.specs.Words.{asked_by, is_of_run};
+ghost use Rattle.witx_commands.specs.Words as asked;
 
 use std::alloc::Global;
 use witx_ast::Document;

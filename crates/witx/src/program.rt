@@ -5,7 +5,7 @@ ghost use Rattle.std.specs.Io.KnownBytes.{Appends};
 ghost use Rattle.witx_base.specs.Causes.{Rose};
 ghost use Rattle.witx_commands.specs.Causes.{FilesCause, IsBundle};
 ghost use Rattle.witx_commands.specs.Runs.{IsPrepared, IsRun, IsWritten, command_task, run_input, sink_seen, task_of};
-ghost use Rattle.witx_commands.specs.Streams.{Finished, TookInput, TookPrefix, source_seen};
+ghost use Rattle.witx_commands.specs.Streams.{Finished, TakesInput, TookPrefix, source_seen};
 ghost use Rattle.witx_commands.specs.Words.{IsBounded, asked_by, bundle_bytes, is_of_run, reads_source};
 
 use crate::commands::perform;
@@ -105,7 +105,7 @@ pub fn files_for<S: Source>(
         (FilesCause (asked_by command.now) (source_seen S.left S.faults S.reads source.old source.new)) }
     ensures later { S.faults source.old ≤ S.faults source.new }
     ensures reads { S.reads source.new ≤ S.reads source.old + 4194305 }
-    ensures taken { TookInput (source_seen S.left S.faults S.reads source.old source.new) }
+    ensures taken { TakesInput S.left S.faults S.reads source.old source.new }
 {
     match command {
         Command::Sample { functions } => match sample_files(alloc, *functions) {

@@ -1,10 +1,8 @@
 //! The writing of what is told of a refusal.
 
-ghost use Rattle.std.specs.Prelude.{◌≡◌, ◌<◌, ◌≤◌, ◌⊎◌, OnErr, OnOk};
-ghost use Rattle.std.specs.Io.KnownBytes.{Appends};
+ghost use Rattle.std.specs.{Prelude.{◌≡◌, ◌<◌, ◌≤◌, ◌⊎◌, OnErr, OnOk}, Io.KnownBytes.{Appends}};
 ghost use Rattle.witx_base.specs.Causes.{Rose};
-ghost use Rattle.witx_commands.specs.Runs.{IsUsage};
-ghost use Rattle.witx_commands.specs.Streams.{TookPrefix};
+ghost use Rattle.witx_commands.specs.{Runs.{IsUsage, ToldWhole}, Streams.{TookPrefix}};
 ghost use Rattle.witx_commands.specs.Texts.{IsRefused, status_of, text_of, usage_text};
 
 use crate::output::put_text;
@@ -15,10 +13,11 @@ use witx_commands::{Forms, NO_FORM, NO_MEMORY, Refusal, UNWRITTEN, command_lines
 /// Writes what is to be said of a refusal, and answers the status: that of the refusal, or 4 where the
 /// sink failed, or 5 where there was no memory for the text, which that of the forms doesn't take. Of a
 /// refusal for want of memory nothing is written.
+#[tactic(auto, using(witx_commands::proofs::WrittenWhole::silent_rules))]
 pub fn put_refusal<E: Sink>(alloc: Global, refusal: &Refusal, err: &mut E) -> u8
     ensures status { IsRefused (status_of refusal.now) result }
     ensures usage { IsUsage refusal.now → (result ≡ 2) ⊎ (result ≡ 4) }
-    ensures told { result ≡ status_of refusal.now → Appends (E.taken err.old) (E.taken err.new) (text_of refusal.now) }
+    ensures told { ToldWhole refusal.now result E.taken err.old err.new }
     ensures unwritten { result ≡ 4
         → Rose (E.faults err.old) (E.faults err.new)
         × TookPrefix (E.taken err.old) (E.taken err.new) (text_of refusal.now) }
@@ -26,24 +25,9 @@ pub fn put_refusal<E: Sink>(alloc: Global, refusal: &Refusal, err: &mut E) -> u8
     ensures failed { E.faults err.old < E.faults err.new → result ≡ 4 }
     ensures later { E.faults err.old ≤ E.faults err.new }
 {
-    match refusal {
-        Refusal::Usage(known) => put_usage(*known, err),
-        Refusal::Source | Refusal::Bundle(_) | Refusal::Command(_) => put_told(alloc, refusal, err),
+    if let Refusal::Usage(known) = refusal {
+        return put_usage(*known, err);
     }
-}
-
-/// Writes the text of a refusal.
-#[tactic(auto, using(witx_commands::proofs::WrittenWhole::silent_rules))]
-fn put_told<E: Sink>(alloc: Global, refusal: &Refusal, err: &mut E) -> u8
-    ensures status { IsRefused (status_of refusal.now) result }
-    ensures told { result ≡ status_of refusal.now → Appends (E.taken err.old) (E.taken err.new) (text_of refusal.now) }
-    ensures unwritten { result ≡ 4
-        → Rose (E.faults err.old) (E.faults err.new)
-        × TookPrefix (E.taken err.old) (E.taken err.new) (text_of refusal.now) }
-    ensures no_memory { result ≡ 5 → err.new ≡ err.old }
-    ensures failed { E.faults err.old < E.faults err.new → result ≡ 4 }
-    ensures later { E.faults err.old ≤ E.faults err.new }
-{
     let text = match refusal.text(alloc) {
         Ok(text) => text,
         Err(_) => return NO_MEMORY,

@@ -1,8 +1,7 @@
 //! The run of a call, and what it wrote.
 
 ghost use Rattle.std.specs.Prelude.{◌≡◌, ℕ, List, []};
-ghost use Rattle.witx_c.specs.Runs.{AreWords, IsRunInMemory};
-ghost use Rattle.witx_c.specs.Words.{words_between_zeros};
+ghost use Rattle.witx_c.specs.{Runs.{AreWords, IsRunInMemory}, Words.{words_between_zeros}};
 
 use crate::devices::{SliceSource, VecSink};
 use crate::words::texts_in;

@@ -20,10 +20,14 @@ pub record IsWhole (a : Adapted) : Type 0 where
   pub faithful : All IsFaithful a.functions
   pub adaptable : IsAdaptable (defined a)
 
+-- the lines give the function of an entry these values
+abbrev pub AreGiven : AdaptedFunc → List ℕ → List Value → Option Value → Type 0
+AreGiven f lines arguments reply = Gives (function_of (func_tree f.func.value)) lines arguments reply
+
 -- the call carried what the lines say: the callee was handed their arguments, and their reply came back
 pub record Carries (f : AdaptedFunc) (lines : List ℕ) (i : Invoked) : Type 0 where
   pub arguments : List Value
   pub reply : Option Value
-  pub given : Gives (function_of (func_tree f.func.value)) lines arguments reply
+  pub given : AreGiven f lines arguments reply
   pub notes : map seen i.notes ≡ arguments
   pub returned : option_map seen i.returned ≡ reply

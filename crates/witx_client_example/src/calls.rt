@@ -1,12 +1,8 @@
 //! A function, called with the values that lines give.
 
 ghost use Rattle.std.specs.Prelude.{All, IfOk, map, option_map};
-ghost use Rattle.witx_tools.specs.FunctionTrees.{func_tree};
-ghost use Rattle.witx_tools.specs.Functions.{function_of};
-ghost use Rattle.witx_tools.specs.Seen.{seen};
-ghost use Rattle.witx_client_example.specs.Whole.{Carries, IsWhole};
-ghost use Rattle.witx_tools.specs.Callable.{IsCallable};
-ghost use Rattle.witx_tools.specs.Lines.{Gives};
+ghost use Rattle.witx_tools.specs.{Seen.{seen}, Callable.{IsCallable}};
+ghost use Rattle.witx_client_example.specs.Whole.{AreGiven, Carries, IsWhole};
 
 use crate::error::{ClientError, refused};
 use std::alloc::Global;
@@ -58,7 +54,7 @@ fn called_with(
     given: &GivenValues,
 ) -> Result<Invoked, ClientError>
     requires callable { IsCallable entry.now }
-    requires given { Gives (function_of (func_tree entry.now.func.value)) lines.now (map seen given.now.args)
+    requires given { AreGiven entry.now lines.now (map seen given.now.args)
         (option_map seen given.now.reply) }
     ensures { IfOk result (Carries entry.now lines.now) }
 {

@@ -1,9 +1,7 @@
 //! A text, parsed and adapted.
 
 ghost use Rattle.std.specs.Prelude.{IfOk, map};
-ghost use Rattle.witx_tools.specs.Closed.{IsClosed};
-ghost use Rattle.witx_tools.specs.Definitions.{definition_tree};
-ghost use Rattle.witx_tools.specs.Ordered.{IsOrdered};
+ghost use Rattle.witx_tools.specs.{Closed.{IsClosed}, Definitions.{definition_tree}, Ordered.{IsOrdered}};
 ghost use Rattle.witx_client_example.specs.Whole.{IsWhole};
 
 use crate::error::{ClientError, refused};

@@ -1,7 +1,5 @@
 //! Why the client has no answer, told as text.
 
-ghost use Rattle.std.specs.Prelude.{◌≡◌};
-
 use std::alloc::Global;
 use witx_tools::{ErrorText, OutOfMemory, Text};
 

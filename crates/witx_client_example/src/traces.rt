@@ -1,10 +1,8 @@
 //! A listing, read back and checked.
 
 ghost use Rattle.std.specs.Prelude.{◌≡◌, IfOk, IfSome, None, map, true};
-ghost use Rattle.witx_tools.specs.EventViews.{called, event_of};
-ghost use Rattle.witx_tools.specs.Faithful.{Faithful};
-ghost use Rattle.witx_tools.specs.ListedTraces.{GivesTraces, HasEachEntry, listed};
-ghost use Rattle.witx_tools.specs.Passages.{sides_of};
+ghost use Rattle.witx_tools.specs.{EventViews.{called, event_of}, Faithful.{Faithful}};
+ghost use Rattle.witx_tools.specs.{ListedTraces.{GivesTraces, HasEachEntry, listed}, Passages.{sides_of}};
 ghost use Rattle.witx_client_example.specs.Whole.{IsWhole};
 
 use crate::error::{ClientError, refused};
@@ -64,13 +62,8 @@ pub fn holds(alloc: Global, entry: &AdaptedFunc, pair: &TracePair) -> Result<boo
     ensures { IfOk result (λ yes. yes ≡ true → Faithful entry.now.module.value.name (called entry.now.func.value)
         (map event_of pair.now.caller) (map event_of pair.now.callee)) }
 {
-    let found = verify(
-        alloc,
-        &entry.module.name,
-        &entry.func,
-        &pair.caller,
-        &pair.callee,
-    )?;
+    let TracePair { caller, callee } = pair;
+    let found = verify(alloc, &entry.module.name, &entry.func, caller, callee)?;
     match found {
         Verdict::Yes => Ok(true),
         Verdict::No(_) => Ok(false),

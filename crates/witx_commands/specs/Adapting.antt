@@ -3,7 +3,10 @@
 use Rattle.std.specs.Prelude.{◌≡◌, ℕ, List, [], map, All, Option, Some, Ok, Err}
 use Rattle.witx_base.specs.Paths.{Path}
 use Rattle.witx_files.specs.Files.{Files, Aliases}
+use Rattle.witx_ast.specs.Closed.{IsClosed}
 use Rattle.witx_ast.specs.Definitions.{DefinitionTree, definition_tree}
+use Rattle.witx_ast.specs.Ordered.{IsOrdered}
+use Rattle.witx_ast.specs.declared.definition.Definition.{Definition}
 use Rattle.witx_walk.specs.Answers.{Answer, HasCause, IsWalkAnswer}
 use Rattle.witx_walk.specs.declared.error.WitxError.{WitxError}
 use Rattle.witx_walk.specs.declared.error.WitxError.TheVariants as witx_error
@@ -22,12 +25,23 @@ use Rattle.witx_commands.specs.declared.error.Unadapted.TheVariants as unadapted
 abbrev pub defined : Adapted → List DefinitionTree
 defined a = map definition_tree a.document.definitions
 
+-- its functions are those of its document, each with its signature and its events
+abbrev pub HasEntries : Adapted → Type 0
+HasEntries a = map entry_of a.functions ≡ map entry_for (all_functions (defined a))
+
 -- its parts are those of its document
 pub record IsAdapted (a : Adapted) : Type 0 where
   pub layouts : a.layouts ≡ all_layouts (defined a)
-  pub functions : map entry_of a.functions ≡ map entry_for (all_functions (defined a))
+  pub functions : HasEntries a
   pub faithful : All IsFaithful a.functions
   pub adaptable : IsAdaptable (defined a)
+
+-- definitions of a document that is ordered, and of one that is closed
+abbrev pub AreOrdered : List Definition → Type 0
+AreOrdered definitions = IsOrdered (map definition_tree definitions)
+
+abbrev pub AreClosed : List Definition → Type 0
+AreClosed definitions = IsClosed (map definition_tree definitions)
 
 -- what reading the files at these paths answers: the document that they mean, or the refusal that comes first
 unfoldable pub IsParsedDocument : Option Files → Option Aliases → List Path → (before now : ℕ) → Answer → Type 0
@@ -63,6 +77,10 @@ HasAdaptCause IsNameless files before now _ = now ≡ before
 -- over the files of a bundle, where no path stands for another and no call fails
 abbrev pub Parses : Files → List Path → Answer → Type 0
 Parses files handed r = IsParsedDocument (Some files) (Some []) handed 0 0 r
+
+-- the document of an adapted value is the one that they mean
+abbrev pub AdaptsFiles : Files → List Path → Adapted → Type 0
+AdaptsFiles files handed a = Parses files handed (Ok (defined a))
 
 unfoldable pub AdaptRefusesBundle : Files → List Path → AdaptError → Type 0
 AdaptRefusesBundle files handed e = AdaptRefuses (Some files) (Some []) handed 0 0 e

@@ -1,6 +1,6 @@
 -- What is so of a run: what its words ask for, when it refuses or has its output, with which status it ends, and what it has
 -- written then. It is said once, of whatever the words ask for: what the commands of `run` tell stands here, what the others tell above.
-use Rattle.std.specs.Prelude.{◌≡◌, ◌==◌, ◌<◌, ◌≤◌, ◌+◌, ◌⊎◌, ℕ, List, [], map, All, Bool, true, false, Option, None, Some, Result, Ok, Err, IfSome, IsSome, if◌then◌else◌}
+use Rattle.std.specs.Prelude.{◌≡◌, ◌==◌, ◌<◌, ◌≤◌, ◌+◌, ◌⊎◌, ℕ, List, [], All, Bool, true, false, Option, None, Some, Result, Ok, Err, IfSome, IsSome, if◌then◌else◌}
 use Rattle.std.specs.Io.KnownBytes.{Appends}
 use Rattle.witx_base.specs.Causes.{Rose}
 use Rattle.witx_base.specs.Paths.{Path}
@@ -8,9 +8,9 @@ use Rattle.witx_files.specs.Files.{Files}
 use Rattle.witx_bundle.specs.Bundles.{IsRead}
 use Rattle.witx_bundle.specs.declared.error.BundleError.{BundleError}
 use Rattle.witx_layout.specs.Layouts.{all_layouts}
-use Rattle.witx_adapt.specs.Entries.{IsFaithful, all_functions, entry_for, entry_of}
+use Rattle.witx_adapt.specs.Entries.{IsFaithful}
 use Rattle.witx_adapt.specs.declared.adapted.Adapted.{Adapted}
-use Rattle.witx_commands.specs.Adapting.{defined}
+use Rattle.witx_commands.specs.Adapting.{HasEntries, defined}
 use Rattle.witx_commands.specs.Causes.{IsCause, IsMeaning, IsOutput, IsValidFor, IsBundle, adapted_text}
 use Rattle.witx_commands.specs.Reports.{CommandRefuses}
 use Rattle.witx_commands.specs.Streams.{BrokeOff, Finished, NoFault, SourceSeen, TookInput, TookPrefix, source_seen}
@@ -181,6 +181,10 @@ abbrev pub IsUsage : Refusal → Type 0
 IsUsage (refusal.Usage known) = Unit {0}
 IsUsage _ = ⊥
 
+-- where a run ends with the status of its refusal, a sink took the whole text that is told of it
+abbrev pub ToldWhole : {K : Type 0} → Refusal → (status : ℕ) → (taken : K → Option (List ℕ)) → (old new : K) → Type 0
+ToldWhole r status taken old new = status ≡ status_of r → Appends (taken old) (taken new) (text_of r)
+
 -- what is told of a refusal was written
 pub record WroteRefusal (r : Refusal) (status : ℕ) (adapted : Option Adapted) (err : SinkSeen)
     (out_kept : Type 0) : Type 0 where
@@ -232,7 +236,7 @@ pub record IsRun (i : RunInput) (status : ℕ) (value : Option Adapted) (out err
   -- function, exact layouts, and pairs of traces each of which is faithful
   pub listing : IfSome value (λ a. Took out (i.task.adapted_text a))
   pub document : IfSome value (λ a. IsMeaning (input_bytes i) i.task.adapted_paths (defined a))
-  pub functions : IfSome value (λ a. map entry_of a.functions ≡ map entry_for (all_functions (defined a)))
+  pub functions : IfSome value HasEntries
   pub layouts : IfSome value (λ a. a.layouts ≡ all_layouts (defined a))
   pub faithful : IfSome value (λ a. All IsFaithful a.functions)
   -- it is there exactly at status 0 of what lists an adapted document

@@ -41,6 +41,10 @@ pub record TookAtMost (most : ℕ) (s : SourceSeen) : Type 0 where
 abbrev pub TookInput : SourceSeen → Type 0
 TookInput s = TookAtMost (LONGEST_BUNDLE + 1) s
 
+-- so between two states of a source
+abbrev pub TakesInput : {S : Type 0} → (S → Option (List ℕ)) → (faults reads : S → ℕ) → (old new : S) → Type 0
+TakesInput left faults reads old new = TookInput (source_seen left faults reads old new)
+
 -- The source failed when at most so many bytes had been taken.
 abbrev pub FailedWithin : ℕ → SourceSeen → Type 0
 FailedWithin most s = Rose s.before s.now × TookAtMost most s

@@ -1,15 +1,12 @@
 //! `adapt`: the document that files mean with its layouts and traces, or the refusal that comes first.
 
-ghost use Rattle.std.specs.Prelude.{◌≡◌, All, Contains, IfErr, IfOk, List, None, Ok, OnOk, Some, map};
-ghost use Rattle.witx_base.specs.Causes.{Rose};
-ghost use Rattle.witx_base.specs.Paths.{file_name};
+ghost use Rattle.std.specs.Prelude.{◌≡◌, All, Contains, IfErr, IfOk, List, None, Ok, OnOk, Some};
+ghost use Rattle.witx_base.specs.{Causes.{Rose}, Paths.{file_name}};
 ghost use Rattle.witx_files.specs.Files.{Aliases, Files};
-ghost use Rattle.witx_ast.specs.Closed.{IsClosed};
-ghost use Rattle.witx_ast.specs.Definitions.{DefinitionTree};
-ghost use Rattle.witx_adapt.specs.Adaptable.{IsAdaptable};
-ghost use Rattle.witx_adapt.specs.Entries.{IsFaithful, all_functions, entry_for, entry_of};
+ghost use Rattle.witx_ast.specs.{Closed.{IsClosed}, Definitions.{DefinitionTree}};
+ghost use Rattle.witx_adapt.specs.{Adaptable.{IsAdaptable}, Entries.{IsFaithful}};
 ghost use Rattle.witx_layout.specs.Layouts.{all_layouts};
-ghost use Rattle.witx_commands.specs.Adapting.{AdaptRefuses, HasAdaptCause, IsMeantByFiles, IsParsedDocument, defined, document_error_refusal, unadapted_refusal, text_refusal};
+ghost use Rattle.witx_commands.specs.Adapting.{AdaptRefuses, HasAdaptCause, HasEntries, IsMeantByFiles, IsParsedDocument, defined, document_error_refusal, unadapted_refusal, text_refusal};
 
 use crate::error::{AdaptError, Unadapted};
 use crate::laws::valid_files_are_not_refused;
@@ -33,7 +30,7 @@ pub fn adapt<I: WitxIo>(
     ensures document { IfOk result (λ a.
         IsParsedDocument (I.files io.old) (I.aliases io.old) paths.now (I.faults io.old) (I.faults io.new) (Ok (defined a))) }
     ensures layouts { IfOk result (λ a. a.layouts ≡ all_layouts (defined a)) }
-    ensures functions { IfOk result (λ a. map entry_of a.functions ≡ map entry_for (all_functions (defined a))) }
+    ensures functions { IfOk result HasEntries }
     ensures faithful { IfOk result (λ a. All IsFaithful a.functions) }
     ensures closed { IfOk result (λ a. IsClosed (defined a)) }
     ensures adaptable { IfOk result (λ a. IsAdaptable (defined a)) }
@@ -67,7 +64,7 @@ pub fn adapted<I: WitxIo>(
     ensures document { IfOk result (λ a.
         IsParsedDocument (I.files io.old) (I.aliases io.old) paths.now (I.faults io.old) (I.faults io.new) (Ok (defined a))) }
     ensures layouts { IfOk result (λ a. a.layouts ≡ all_layouts (defined a)) }
-    ensures functions { IfOk result (λ a. map entry_of a.functions ≡ map entry_for (all_functions (defined a))) }
+    ensures functions { IfOk result HasEntries }
     ensures faithful { IfOk result (λ a. All IsFaithful a.functions) }
     ensures closed { IfOk result (λ a. IsClosed (defined a)) }
     ensures adaptable { IfOk result (λ a. IsAdaptable (defined a)) }

@@ -1,12 +1,11 @@
 //! What commands make of the files of a bundle: adapted documents with their listing or summary, and layouts.
 
-ghost use Rattle.std.specs.Prelude.{◌≡◌, ◌^◌, ◌<◌, [], All, IfErr, IfOk, None, Ok, OnOk, Some, map};
+ghost use Rattle.std.specs.Prelude.{◌≡◌, ◌^◌, ◌<◌, [], All, IfErr, IfOk, None, OnOk, Some, map};
 ghost use Rattle.witx_ast.specs.Definitions.{definition_tree};
-ghost use Rattle.witx_ast.specs.Ordered.{IsOrdered};
 ghost use Rattle.witx_adapt.specs.Listings.{listing_text};
 ghost use Rattle.witx_layout.specs.LayoutsText.{layouts_text as text_of_layouts, typename_sizes};
 ghost use Rattle.witx_sample.specs.Summaries.{summary_text};
-ghost use Rattle.witx_commands.specs.Adapting.{IsAdapted, Parses, RefusesBundle, defined};
+ghost use Rattle.witx_commands.specs.Adapting.{AdaptsFiles, AreOrdered, IsAdapted, RefusesBundle};
 ghost use Rattle.witx_commands.specs.Causes.{IsOutput};
 ghost use Rattle.witx_commands.specs.Reports.{AdaptingFails, CommandRefuses, IsSizeReport, IsUnadaptedReport};
 ghost use Rattle.witx_commands.specs.Stops.{StopsWith};
@@ -63,7 +62,7 @@ pub fn adapted_or_stop(
     paths: &[WitxPath],
     files: &mut MockFs,
 ) -> Result<Adapted, Stop>
-    ensures document { IfOk result (λ a. Parses files.old paths.now (Ok (defined a))) }
+    ensures document { IfOk result (AdaptsFiles files.old paths.now) }
     ensures parts { IfOk result IsAdapted }
     ensures stopped { IfErr result (StopsWith (AdaptingFails files.old paths.now)) }
     ensures kept { OnOk result (files.new ≡ files.old) }
@@ -81,7 +80,7 @@ fn adapted_bundle(
     paths: &[WitxPath],
     files: &mut MockFs,
 ) -> Result<Adapted, Unadapted>
-    ensures document { IfOk result (λ a. Parses files.old paths.now (Ok (defined a))) }
+    ensures document { IfOk result (AdaptsFiles files.old paths.now) }
     ensures parts { IfOk result IsAdapted }
     ensures refused { IfErr result (RefusesBundle files.old paths.now) }
     ensures kept { files.new ≡ files.old }
@@ -134,7 +133,7 @@ fn summarized(alloc: Global, adapted: Adapted) -> Result<Output, Stop>
 /// The layouts of an ordered document. Want of memory also where they would be too long.
 #[tactic(auto, using(crate::proofs::Refusing::size_rules))]
 fn document_layouts(alloc: Global, document: &Document) -> Result<Output, Stop>
-    requires { IsOrdered (map definition_tree document.now.definitions) }
+    requires { AreOrdered document.now.definitions }
     ensures text { IfOk result (λ o. o.text ≡ text_of_layouts (map definition_tree document.now.definitions)) }
     ensures sizes { OnOk result
         (All (λ size. size < 2 ^ 64) (typename_sizes (map definition_tree document.now.definitions))) }

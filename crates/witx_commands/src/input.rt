@@ -2,9 +2,9 @@
 
 ghost use Rattle.std.specs.Prelude.{◌≡◌, ◌<◌, ◌≤◌, ◌+◌, [], Ok, Err, IfOk, OnOk, IfErr, length};
 ghost use Rattle.witx_base.specs.Causes.{one_more};
-ghost use Rattle.witx_commands.specs.Streams.{Finished, IsInput, TakesMore, TookAtMost, TookInput, source_seen};
-ghost use Rattle.witx_bundle.specs.declared.bundle.TheConstants.{LONGEST_BUNDLE};
+ghost use Rattle.witx_commands.specs.Streams.{Finished, IsInput, TakesInput, TakesMore, TookAtMost, source_seen};
 ghost use Rattle.witx_commands.specs.Causes.{InputCause, ReadCause, IsBundle};
+ghost use Rattle.witx_bundle.specs.declared.bundle.TheConstants.{LONGEST_BUNDLE};
 
 use std::alloc::{AllocError, Global};
 use witx_base::{Failed, Source};
@@ -93,7 +93,7 @@ fn read_through<S: Source>(
     ensures no_fault { OnOk result (S.faults source.new ≡ S.faults source.old) }
     ensures refused { IfErr result
         (ReadCause LONGEST_BUNDLE (source_seen S.left S.faults S.reads source.old source.new)) }
-    ensures taken { TookInput (source_seen S.left S.faults S.reads source.old source.new) }
+    ensures taken { TakesInput S.left S.faults S.reads source.old source.new }
     ensures later { S.faults source.old ≤ S.faults source.new }
     ensures reads { S.reads source.new ≤ S.reads source.old + 4194305 }
 {
@@ -114,7 +114,7 @@ fn read_bytes<S: Source>(alloc: Global, source: &mut S) -> Result<Vec<u8>, Input
     ensures no_fault { OnOk result (S.faults source.new ≡ S.faults source.old) }
     ensures refused { IfErr result
         (ReadCause LONGEST_BUNDLE (source_seen S.left S.faults S.reads source.old source.new)) }
-    ensures taken { TookInput (source_seen S.left S.faults S.reads source.old source.new) }
+    ensures taken { TakesInput S.left S.faults S.reads source.old source.new }
     ensures later { S.faults source.old ≤ S.faults source.new }
     ensures reads { S.reads source.new ≤ S.reads source.old + 4194305 }
 {
@@ -135,7 +135,7 @@ pub fn read_bundle<S: Source>(alloc: Global, source: &mut S) -> Result<MockFs, I
     ensures finished { OnOk result (Finished (S.left source.old) (S.left source.new)) }
     ensures no_fault { OnOk result (S.faults source.new ≡ S.faults source.old) }
     ensures refused { IfErr result (InputCause (source_seen S.left S.faults S.reads source.old source.new)) }
-    ensures taken { TookInput (source_seen S.left S.faults S.reads source.old source.new) }
+    ensures taken { TakesInput S.left S.faults S.reads source.old source.new }
     ensures later { S.faults source.old ≤ S.faults source.new }
     ensures reads { S.reads source.new ≤ S.reads source.old + 4194305 }
 {

@@ -1,13 +1,11 @@
 //! The page of the document that files mean, and what it lacks.
 
 ghost use Rattle.std.specs.Prelude.{◌≡◌, ◌++◌, IfErr, IfOk, None, OnOk, map, string_bytes};
-ghost use Rattle.witx_ast.specs.Closed.{IsClosed};
 ghost use Rattle.witx_ast.specs.Definitions.{definition_tree};
-ghost use Rattle.witx_docs.specs.Pages.{missing_line, missing_lines};
-ghost use Rattle.witx_commands.specs.Causes.{IsOutput};
+ghost use Rattle.witx_commands.specs.{Adapting.{AreClosed}, Causes.{IsOutput}};
 ghost use Rattle.witx_commands.specs.MeantPages.{IsPage, IsPageReport, IsRefusedPage};
-ghost use Rattle.witx_commands.specs.Reports.{CommandRefuses};
-ghost use Rattle.witx_commands.specs.Stops.{StopsWith};
+ghost use Rattle.witx_commands.specs.{Reports.{CommandRefuses}, Stops.{StopsWith}};
+ghost use Rattle.witx_docs.specs.Pages.{missing_line, missing_lines};
 ghost use Rattle.witx_commands.specs.Words as asked;
 
 use crate::output::Output;
@@ -39,7 +37,7 @@ pub fn page_of_files(alloc: Global, words: &[Text], files: &mut MockFs) -> Resul
 /// The page of a document. Want of memory also where it would be too long.
 #[tactic(auto, using(crate::proofs::Noting::page_rules))]
 fn document_page(alloc: Global, document: &Document) -> Result<Output, Stop>
-    requires closed { IsClosed (map definition_tree document.now.definitions) }
+    requires closed { AreClosed document.now.definitions }
     ensures page { IfOk result (λ o. IsPage (map definition_tree document.now.definitions) o.text o.notes) }
     ensures value { IfOk result (λ o. o.adapted ≡ None) }
     ensures refused { IfErr result (StopsWith (IsPageReport (map definition_tree document.now.definitions))) }

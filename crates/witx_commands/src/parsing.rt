@@ -2,13 +2,10 @@
 
 ghost use Rattle.std.specs.Prelude.{◌≡◌, Contains, Err, IfErr, IfOk, None, Ok, OnOk, map};
 ghost use Rattle.witx_base.specs.Paths.{file_name};
-ghost use Rattle.witx_ast.specs.Closed.{IsClosed};
 ghost use Rattle.witx_ast.specs.Definitions.{definition_tree};
-ghost use Rattle.witx_ast.specs.Ordered.{IsOrdered};
 ghost use Rattle.witx_walk.specs.Answers.{HasCause};
-ghost use Rattle.witx_commands.specs.Adapting.{IsParsedDocument, Parses};
-ghost use Rattle.witx_commands.specs.Reports.{IsTextReport, ParsingFails};
-ghost use Rattle.witx_commands.specs.Stops.{StopsWith};
+ghost use Rattle.witx_commands.specs.Adapting.{AreClosed, AreOrdered, IsParsedDocument, Parses};
+ghost use Rattle.witx_commands.specs.{Reports.{IsTextReport, ParsingFails}, Stops.{StopsWith}};
 ghost use Rattle.witx_commands.specs.Words.{paths_of};
 
 use crate::refusal::{Refusal, Stop};
@@ -29,8 +26,8 @@ pub fn parsed<I: WitxIo>(
     ensures document { IfOk result (λ d.
         IsParsedDocument (I.files io.old) (I.aliases io.old) paths.now (I.faults io.old) (I.faults io.new)
         (Ok (map definition_tree d.definitions))) }
-    ensures ordered { IfOk result (λ d. IsOrdered (map definition_tree d.definitions)) }
-    ensures closed { IfOk result (λ d. IsClosed (map definition_tree d.definitions)) }
+    ensures ordered { IfOk result (λ d. AreOrdered d.definitions) }
+    ensures closed { IfOk result (λ d. AreClosed d.definitions) }
     ensures refused { IfErr result (λ e.
         IsParsedDocument (I.files io.old) (I.aliases io.old) paths.now (I.faults io.old) (I.faults io.new) (Err e)) }
     ensures cause { IfErr result
@@ -50,8 +47,8 @@ pub fn parsed_bundle(
     files: &mut MockFs,
 ) -> Result<Document, WitxError>
     ensures document { IfOk result (λ d. Parses files.old paths.now (Ok (map definition_tree d.definitions))) }
-    ensures ordered { IfOk result (λ d. IsOrdered (map definition_tree d.definitions)) }
-    ensures closed { IfOk result (λ d. IsClosed (map definition_tree d.definitions)) }
+    ensures ordered { IfOk result (λ d. AreOrdered d.definitions) }
+    ensures closed { IfOk result (λ d. AreClosed d.definitions) }
     ensures refused { IfErr result (λ e. Parses files.old paths.now (Err e)) }
     ensures kept { files.new ≡ files.old }
 {
@@ -87,8 +84,8 @@ pub fn parsed_or_stop(
 ) -> Result<Document, Stop>
     ensures document { IfOk result (λ d.
         Parses files.old (paths_of arguments.now) (Ok (map definition_tree d.definitions))) }
-    ensures ordered { IfOk result (λ d. IsOrdered (map definition_tree d.definitions)) }
-    ensures closed { IfOk result (λ d. IsClosed (map definition_tree d.definitions)) }
+    ensures ordered { IfOk result (λ d. AreOrdered d.definitions) }
+    ensures closed { IfOk result (λ d. AreClosed d.definitions) }
     ensures stopped { IfErr result (StopsWith (ParsingFails files.old (paths_of arguments.now))) }
     ensures kept { OnOk result (files.new ≡ files.old) }
 {

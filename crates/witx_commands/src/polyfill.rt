@@ -1,20 +1,15 @@
 //! The report on the modules of an old file in terms of those of a new one.
 
-ghost use Rattle.std.specs.Prelude.{◌≡◌, [], IfErr, IfOk, None, Ok, OnOk, map};
-ghost use Rattle.std.specs.BTreeMap.{insert_entry};
-ghost use Rattle.std.specs.Cmp.Lexicographic.{slice_cmp};
-ghost use Rattle.std.specs.Ordering.{nat_cmp};
+ghost use Rattle.std.specs.{Prelude.{◌≡◌, [], IfErr, IfOk, None, Ok, OnOk, map}, BTreeMap.{insert_entry}};
+ghost use Rattle.std.specs.{Cmp.Lexicographic.{slice_cmp}, Ordering.{nat_cmp}};
 ghost use Rattle.witx_ast.specs.Definitions.{definition_tree};
-ghost use Rattle.witx_compat.specs.Polyfills.{polyfill_answer};
-ghost use Rattle.witx_compat.specs.Views.{module_view};
+ghost use Rattle.witx_compat.specs.{Polyfills.{polyfill_answer}, Views.{module_view}};
 ghost use Rattle.witx_docs.specs.PolyfillTexts.{polyfill_text};
 ghost use Rattle.witx_commands.specs.Causes.{IsOutput};
 ghost use Rattle.witx_commands.specs.Mappings.{IsAbsentReport, IsErrorText, IsPolyfillText, MeansBoth, mapping_of};
-ghost use Rattle.witx_commands.specs.Reports.{BothFail, CommandRefuses};
-ghost use Rattle.witx_commands.specs.Stops.{StopsWith};
-ghost use Rattle.witx_commands.specs.Texts.{absent_function, absent_module};
+ghost use Rattle.witx_commands.specs.{Reports.{BothFail, CommandRefuses}, Stops.{StopsWith}};
+ghost use Rattle.witx_commands.specs.{Texts.{absent_function, absent_module}, Words.{two_files}};
 ghost use Rattle.witx_commands.specs.Words as asked;
-ghost use Rattle.witx_commands.specs.Words.{two_files};
 
 use crate::extents::check_modules;
 use crate::output::{Output, no_notes};

@@ -1,9 +1,7 @@
 //! Why a run has no output, with its status and what is written of it.
 
 ghost use Rattle.std.specs.Prelude.{◌≡◌, ◌++◌, IfOk, codes};
-ghost use Rattle.witx_commands.specs.Causes.{stop_of};
-ghost use Rattle.witx_commands.specs.Stops.{StopsWith};
-ghost use Rattle.witx_commands.specs.Texts.{line, status_of, text_of};
+ghost use Rattle.witx_commands.specs.{Causes.{stop_of}, Stops.{StopsWith}, Texts.{line, status_of, text_of}};
 
 use crate::forms::{Forms, usage_text};
 use crate::input::InputError;

@@ -1,9 +1,8 @@
 //! The report of files that can't be adapted, byte for byte.
 
 ghost use Rattle.std.specs.Prelude.{◌≡◌, ◌++◌, IfOk, OnOk, map, slice_get, string_bytes};
-ghost use Rattle.witx_ast.specs.Definitions.{definition_tree};
-ghost use Rattle.witx_ast.specs.Functions.{func_tree, param_field};
-ghost use Rattle.witx_commands.specs.Reports.{IsDocumentReport, IsUnadaptedReport, counts_text, definition_name, field_at, field_name, function_called, definition_name_at, named_before, owner_text, part_name, part_text, part_word, refused_text, size_report, tag_report, unlowerable_report};
+ghost use Rattle.witx_ast.specs.{Definitions.{definition_tree}, Functions.{func_tree, param_field}};
+ghost use Rattle.witx_commands.specs.Reports.{IsDocumentReport, IsUnadaptedReport, counts_text, definition_name, field_at, field_name, function_called, definition_name_at, named_before, part_name, part_text, part_word, size_report, tag_report, unlowerable_report};
 
 use crate::error::Unadapted;
 use crate::parsing::text_report;
@@ -170,30 +169,11 @@ fn unlowerable_report(
 pub fn put_function_called(text: &mut String, owner: &str, function: &str) -> Result<(), AllocError>
     ensures { OnOk result (string_bytes text.new ≡ string_bytes text.old ++ function_called owner.now function.now) }
 {
-    text.push_str("function `")?;
-    text.push_str(function)?;
-    put_owner(text, owner)
-}
-
-fn put_owner(text: &mut String, owner: &str) -> Result<(), AllocError>
-    ensures { OnOk result (string_bytes text.new ≡ string_bytes text.old ++ owner_text owner.now) }
-{
-    text.push_str("` of module `")?;
-    text.push_str(owner)?;
-    text.push_str("`: ")
+    write!(text, "function `{function}` of module `{owner}`: ")
 }
 
 fn put_part(text: &mut String, word: &str, part: &str) -> Result<(), AllocError>
     ensures { OnOk result (string_bytes text.new ≡ string_bytes text.old ++ part_text word.now part.now) }
 {
-    text.push_str(word)?;
-    put_refused(text, part)
-}
-
-fn put_refused(text: &mut String, part: &str) -> Result<(), AllocError>
-    ensures { OnOk result (string_bytes text.new ≡ string_bytes text.old ++ refused_text part.now) }
-{
-    text.push_str(" `")?;
-    text.push_str(part)?;
-    text.push_str("` cannot be lowered")
+    write!(text, "{word} `{part}` cannot be lowered")
 }

@@ -2,15 +2,11 @@
 
 use std::alloc::{AllocError, Global};
 use std::fmt::Write;
-use witx_base::{Calls, Items, OutOfMemory};
+use witx_base::{Calls, OutOfMemory};
 
 /// Numbers of calls that fail.
 pub fn calls_of(alloc: Global, numbers: &[u64]) -> Result<Calls, OutOfMemory> {
-    let mut calls = Items::new(alloc);
-    for number in numbers {
-        calls.push(*number)?;
-    }
-    Ok(calls)
+    Ok(Calls::from_vec(Vec::from_slice(alloc, numbers)?))
 }
 
 /// `front`, then `unit` so many times, then `back`.

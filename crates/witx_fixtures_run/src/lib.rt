@@ -7,3 +7,4 @@ mod runs;
 
 pub use declared::{func_of, typename_of};
 pub use runs::{ADD, ADD_LISTING, Case, Gave, run_on, run_over, sink_of, source_of, words_of};
+pub use witx_fixtures::Devices;

@@ -3,9 +3,9 @@
 ghost use Rattle.std.specs.Prelude.{◌<◌};
 
 use std::alloc::Global;
-use witx::run;
+use witx::{Ran, run};
 use witx_base::{Bytes, Items, MemSink, MemSource, OutOfMemory, Text};
-use witx_fixtures::calls_of;
+use witx_fixtures::{Devices, calls_of};
 
 /// A bundle of one document, whose function `add` takes two numbers.
 pub const ADD: &str = r#";;;; file /a
@@ -35,14 +35,6 @@ callee
 /// Words, the bundle, the status, and what is written on the output and of the refusal.
 pub type Case = (&'static str, &'static str, u8, &'static str, &'static str);
 
-fn bytes_of(alloc: Global, bytes: &[u8]) -> Result<Bytes, OutOfMemory> {
-    let mut list = Items::new(alloc);
-    for byte in bytes {
-        list.push(*byte)?;
-    }
-    Ok(list)
-}
-
 /// A source that gives so many bytes a call, of whose calls these fail.
 pub fn source_of(
     alloc: Global,
@@ -52,7 +44,8 @@ pub fn source_of(
 ) -> Result<MemSource, OutOfMemory>
     requires { 0 < gives }
 {
-    Ok(MemSource::new(bytes_of(alloc, bytes)?, gives, calls_of(alloc, fails)?))
+    let bytes = Bytes::from_vec(Vec::from_slice(alloc, bytes)?);
+    Ok(MemSource::new(bytes, gives, calls_of(alloc, fails)?))
 }
 
 /// A sink that takes so many bytes a call, of whose calls these fail.
@@ -74,22 +67,30 @@ pub fn words_of(alloc: Global, line: &str) -> Result<Items<Text>, OutOfMemory> {
     Ok(words)
 }
 
-/// What a run gives: its status, whether it has a value, and its devices.
+/// What a run gives: its status, whether it has a value, and its devices, behind what it read and wrote.
 #[derive(Drop)]
 pub struct Gave {
     /// The status.
     pub status: u8,
     /// Whether it has a value.
     pub has_value: bool,
-    /// The source, behind what was read.
-    pub source: MemSource,
-    /// The output.
-    pub out: MemSink,
-    /// The sink of refusals.
-    pub err: MemSink,
+    /// The devices.
+    pub devices: Devices,
 }
 
 impl Gave {
+    /// What a run gives that ended so and left its devices like this.
+    pub fn of(ran: Ran, devices: Devices) -> Gave {
+        let status = ran.status;
+        let has_value = ran.adapted.is_some();
+        drop(ran);
+        Gave {
+            status,
+            has_value,
+            devices,
+        }
+    }
+
     /// Whether the run ended so, with a value exactly where `adapt` or `sample` is done.
     fn ended(&self, line: &str, status: u8) -> bool {
         let is_adapting = line.starts_with("adapt") || line.starts_with("sample");
@@ -99,31 +100,17 @@ impl Gave {
     /// Whether the run ended so, with these texts written.
     pub fn is(&self, line: &str, status: u8, listing: &str, refusal: &str) -> bool {
         self.ended(line, status)
-            && self.out.bytes() == listing.as_bytes()
-            && self.err.bytes() == refusal.as_bytes()
+            && self.devices.out.bytes() == listing.as_bytes()
+            && self.devices.err.bytes() == refusal.as_bytes()
     }
 }
 
 /// A run of the words of a line over these devices.
-pub fn run_on(
-    alloc: Global,
-    line: &str,
-    mut source: MemSource,
-    mut out: MemSink,
-    mut err: MemSink,
-) -> Result<Gave, OutOfMemory> {
+pub fn run_on(alloc: Global, line: &str, mut devices: Devices) -> Result<Gave, OutOfMemory> {
+    let Devices { source, out, err } = &mut devices;
     let words = words_of(alloc, line)?;
-    let ran = run(alloc, words.as_slice(), &mut source, &mut out, &mut err);
-    let status = ran.status;
-    let has_value = ran.adapted.is_some();
-    drop(ran);
-    Ok(Gave {
-        status,
-        has_value,
-        source,
-        out,
-        err,
-    })
+    let ran = run(alloc, words.as_slice(), source, out, err);
+    Ok(Gave::of(ran, devices))
 }
 
 /// A run over devices that don't fail.
@@ -131,5 +118,5 @@ pub fn run_over(alloc: Global, line: &str, bundle: &[u8]) -> Result<Gave, OutOfM
     let out = sink_of(alloc, 500, &[])?;
     let err = sink_of(alloc, 500, &[])?;
     let source = source_of(alloc, bundle, 50_000, &[])?;
-    run_on(alloc, line, source, out, err)
+    run_on(alloc, line, Devices { source, out, err })
 }

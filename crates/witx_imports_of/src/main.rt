@@ -9,11 +9,11 @@
 mod report;
 
 use report::{left_out, reason};
-use std::alloc::{AllocError, Global};
+use std::alloc::Global;
 use std::env;
 use std::io::{Read, Write as _};
 use std::process::ExitCode;
-use witx_base::{OutOfMemory, Text};
+use witx_base::{MemoryRefused, Text};
 use witx_import_list::{ListError, function_imports, import_list_text};
 use witx_wasm::{ModuleError, WasmModule, read_module};
 
@@ -30,14 +30,8 @@ pub enum Stop {
     OutOfMemory,
 }
 
-impl From<OutOfMemory> for Stop {
-    fn from(_: OutOfMemory) -> Stop {
-        Stop::OutOfMemory
-    }
-}
-
-impl From<AllocError> for Stop {
-    fn from(_: AllocError) -> Stop {
+impl<E: MemoryRefused> From<E> for Stop {
+    fn from(_refused: E) -> Stop {
         Stop::OutOfMemory
     }
 }

@@ -11,11 +11,12 @@
 //! failed; and what the refusal is, as it begins.
 
 use crate::Stop;
-use crate::devices::{Devices, Ended, Settings, run_line};
+use crate::devices::{Ended, Settings, run_line};
 use std::alloc::{AllocError, Global};
 use std::fmt::Write;
 use std::str::from_utf8;
 use witx_base::Items;
+use witx_fixtures::Devices;
 
 /// Runs each input of a batch, and writes its line.
 pub fn answer_all(alloc: Global, batch: &[u8], answers: &mut String) -> Result<(), Stop> {

@@ -3,8 +3,9 @@
 ghost use Rattle.std.specs.Prelude.{◌<◌};
 
 use std::alloc::Global;
-use witx_base::{Bytes, Calls, Items, MemSink, MemSource, OutOfMemory, Text};
+use witx_base::{Bytes, Items, MemSink, MemSource, OutOfMemory, Text};
 use witx_commands::let_go;
+use witx_fixtures::{Devices, calls_of};
 use witx_tools::run_all;
 
 /// How devices are made. Of the calls of each only one fails, counted from 0.
@@ -33,17 +34,6 @@ pub fn whole(room: usize) -> Settings
         put: u64::MAX,
         told: u64::MAX,
     }
-}
-
-/// The source and the sinks of a run.
-#[derive(Drop)]
-pub struct Devices {
-    /// What gives the bundle.
-    pub source: MemSource,
-    /// What takes the output.
-    pub out: MemSink,
-    /// What takes a refusal, or what is noted.
-    pub err: MemSink,
 }
 
 /// How a run ended.
@@ -132,7 +122,7 @@ fn devices_of(alloc: Global, settings: Settings, bytes: &[u8]) -> Result<Devices
 fn source_of(alloc: Global, settings: Settings, bytes: &[u8]) -> Result<MemSource, OutOfMemory>
     requires { 0 < settings.moves }
 {
-    let fails = calls_of(alloc, settings.read)?;
+    let fails = calls_of(alloc, &[settings.read])?;
     let bytes = Bytes::from_vec(Vec::from_slice(alloc, bytes)?);
     Ok(MemSource::new(bytes, settings.moves, fails))
 }
@@ -148,13 +138,10 @@ fn sinks_of(alloc: Global, settings: Settings) -> Result<(MemSink, MemSink), Out
 fn sink_of(alloc: Global, settings: Settings, fails: u64) -> Result<MemSink, OutOfMemory>
     requires { 0 < settings.moves }
 {
-    let fails = calls_of(alloc, fails)?;
-    MemSink::new(alloc, settings.room, settings.moves, fails)
-}
-
-/// The one call that fails.
-fn calls_of(alloc: Global, number: u64) -> Result<Calls, OutOfMemory> {
-    let mut calls = Items::new(alloc);
-    calls.push(number)?;
-    Ok(calls)
+    MemSink::new(
+        alloc,
+        settings.room,
+        settings.moves,
+        calls_of(alloc, &[fails])?,
+    )
 }

@@ -14,11 +14,11 @@ mod rows;
 
 use batch::answer_all;
 use rows::{hold, put_all};
-use std::alloc::{AllocError, Global};
+use std::alloc::Global;
 use std::io::{Read, Write as _};
 use std::process::ExitCode;
 use std::{env, fs};
-use witx_base::OutOfMemory;
+use witx_base::MemoryRefused;
 
 /// Why the program ends before its end.
 #[derive(Clone, Copy)]
@@ -30,14 +30,8 @@ pub enum Stop {
     OutOfMemory,
 }
 
-impl From<OutOfMemory> for Stop {
-    fn from(_: OutOfMemory) -> Stop {
-        Stop::OutOfMemory
-    }
-}
-
-impl From<AllocError> for Stop {
-    fn from(_: AllocError) -> Stop {
+impl<E: MemoryRefused> From<E> for Stop {
+    fn from(_refused: E) -> Stop {
         Stop::OutOfMemory
     }
 }

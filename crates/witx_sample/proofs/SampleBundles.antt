@@ -20,55 +20,22 @@ longer a b m n p q = omega (arith, length-append a b, p, q)
 digits-few : (i : ℕ) → i < 2 ^ 64 → length (decimal i) ≤ 20
 digits-few i h = length-decimal-le 20 i (omega arith) (omega (arith, h)) h
 
+-- a number between two texts
+numbered-few : (front back : List ℕ) (i : ℕ) → i < 2 ^ 64 → length (front ++ decimal i ++ back) ≤ length front + 20 + length back
+numbered-few front back i h = longer (front ++ decimal i) back (length front + 20) (length back) (longer front (decimal i) (length front) 20 (few front (length front) refl) (digits-few i h)) (few back (length back) refl)
+
 record-few : (i : ℕ) → i < 2 ^ 64 → length (record_line i) ≤ 87
 unfolding record_line
-record-few i h =
-    let d = digits-few i h in
-    let s1 = longer (codes "(typename $r") (decimal i) 12 20 (few (codes "(typename $r") 12 refl) (d) in
-    let s2 = longer (codes "(typename $r" ++ decimal i) (codes " (record (field $a u32) (field $b $e) (field $c u64)))\n") 32 55 s1 (few (codes " (record (field $a u32) (field $b $e) (field $c u64)))\n") 55 refl) in
-    s2
-
-variant_head-few : (i : ℕ) → i < 2 ^ 64 → length (variant_head i) ≤ 56
-unfolding variant_head
-variant_head-few i h =
-    let front = longer (codes "(typename $v") (decimal i) 12 20 (few (codes "(typename $v") 12 refl) (digits-few i h) in
-    longer (codes "(typename $v" ++ decimal i) (codes " (variant (@witx tag u8)") 32 24 front (few (codes " (variant (@witx tag u8)") 24 refl)
-
-record_case-few : (i : ℕ) → i < 2 ^ 64 → length (record_case i) ≤ 33
-unfolding record_case
-record_case-few i h =
-    let front = longer (codes " (case $x $r") (decimal i) 12 20 (few (codes " (case $x $r") 12 refl) (digits-few i h) in
-    longer (codes " (case $x $r" ++ decimal i) (codes ")") 32 1 front (few (codes ")") 1 refl)
-
-list_case-few : (i : ℕ) → i < 2 ^ 64 → length (list_case i) ≤ 53
-unfolding list_case
-list_case-few i h =
-    let front = longer (codes " (case $y (list $r") (decimal i) 18 20 (few (codes " (case $y (list $r") 18 refl) (digits-few i h) in
-    longer (codes " (case $y (list $r" ++ decimal i) (codes ")) (case $z)))\n") 38 15 front (few (codes ")) (case $z)))\n") 15 refl)
-
-func_head-few : (i : ℕ) → i < 2 ^ 64 → length (func_head i) ≤ 49
-unfolding func_head
-func_head-few i h =
-    let front = longer (codes "(@interface func (export \"f") (decimal i) 27 20 (few (codes "(@interface func (export \"f") 27 refl) (digits-few i h) in
-    longer (codes "(@interface func (export \"f" ++ decimal i) (codes "\")") 47 2 front (few (codes "\")") 2 refl)
-
-func_params-few : (i : ℕ) → i < 2 ^ 64 → length (func_params i) ≤ 52
-unfolding func_params
-func_params-few i h =
-    let front = longer (codes " (param $p $v") (decimal i) 13 20 (few (codes " (param $p $v") 13 refl) (digits-few i h) in
-    longer (codes " (param $p $v" ++ decimal i) (codes ") (param $q string)") 33 19 front (few (codes ") (param $q string)") 19 refl)
-
-func_result-few : (i : ℕ) → i < 2 ^ 64 → length (func_result i) ≤ 70
-unfolding func_result
-func_result-few i h =
-    let front = longer (codes " (result $s (expected (tuple $r") (decimal i) 31 20 (few (codes " (result $s (expected (tuple $r") 31 refl) (digits-few i h) in
-    longer (codes " (result $s (expected (tuple $r" ++ decimal i) (codes " $e) (error $e))))\n") 51 19 front (few (codes " $e) (error $e))))\n") 19 refl)
+record-few i h = numbered-few (codes "(typename $r") (codes " (record (field $a u32) (field $b $e) (field $c u64)))\n") i h
 
 variant-few : (i : ℕ) → i < 2 ^ 64 → length (variant_line i) ≤ 168
-unfolding variant_line
+unfolding variant_line variant_head record_case list_case
 variant-few i h =
-    let back = longer (record_case i) (list_case i) 33 53 (record_case-few i h) (list_case-few i h) in
-    let all = longer (variant_head i) (record_case i ++ list_case i) 56 86 (variant_head-few i h) back in
+    let head = numbered-few (codes "(typename $v") (codes " (variant (@witx tag u8)") i h in
+    let record' = numbered-few (codes " (case $x $r") (codes ")") i h in
+    let list = numbered-few (codes " (case $y (list $r") (codes ")) (case $z)))\n") i h in
+    let back = longer (record_case i) (list_case i) 33 53 record' list in
+    let all = longer (variant_head i) (record_case i ++ list_case i) 56 86 head back in
     omega (arith, all)
 
 type-few : (i : ℕ) → i < 2 ^ 64 → length (type_lines i) ≤ 256
@@ -76,10 +43,13 @@ unfolding type_lines
 type-few i h = omega (arith, longer (record_line i) (variant_line i) 87 168 (record-few i h) (variant-few i h))
 
 func-few : (i : ℕ) → i < 2 ^ 64 → length (sample_func_line i) ≤ 256
-unfolding sample_func_line
+unfolding sample_func_line func_head func_params func_result
 func-few i h =
-    let back = longer (func_params i) (func_result i) 52 70 (func_params-few i h) (func_result-few i h) in
-    let all = longer (func_head i) (func_params i ++ func_result i) 49 122 (func_head-few i h) back in
+    let head = numbered-few (codes "(@interface func (export \"f") (codes "\")") i h in
+    let params = numbered-few (codes " (param $p $v") (codes ") (param $q string)") i h in
+    let result = numbered-few (codes " (result $s (expected (tuple $r") (codes " $e) (error $e))))\n") i h in
+    let back = longer (func_params i) (func_result i) 52 70 params result in
+    let all = longer (func_head i) (func_params i ++ func_result i) 49 122 head back in
     omega (arith, all)
 
 each-few : (f : ℕ → List ℕ) → ((i : ℕ) → i < 2 ^ 64 → length (f i) ≤ 256) → (a n : ℕ) → a + n ≤ 2 ^ 64 → length (flat_map f (range_with_len a n)) ≤ 256 * n

@@ -1,8 +1,7 @@
 //! What the summaries of a sample's document are.
 #![tactic(auto, using(crate::proofs::Totals::total_rules))]
 
-ghost use Rattle.std.specs.Prelude.{◌≡◌, ◌<◌, IfOk};
-ghost use Rattle.std.specs.List.{sum_by};
+ghost use Rattle.std.specs.{Prelude.{◌≡◌, ◌<◌, IfOk}, List.{sum_by}};
 ghost use Rattle.witx_sample.specs.Summaries.{event_count, size_in_bytes, summary_text};
 
 use std::alloc::Global;

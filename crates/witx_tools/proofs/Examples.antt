@@ -37,29 +37,17 @@ said_quoted : verdict_line (codes "q\"") (Verdict.No (Doubt.Function (Place.Para
 unfolding chars lib.Utf8.encode
 said_quoted = refl
 
-said_caller : verdict_line (codes "f") (Verdict.No (Doubt.Caller 12)) ≡ codes "func \"f\" no caller 12\n"
+said_sides : (verdict_line (codes "f") (Verdict.No (Doubt.Caller 12)) ≡ codes "func \"f\" no caller 12\n")
+    × (verdict_line (codes "add") (Verdict.No (Doubt.Callee 3)) ≡ codes "func \"add\" no callee 3\n")
 unfolding chars digits lib.Utf8.encode
-said_caller = refl
+said_sides = (refl, refl)
 
-said_callee : verdict_line (codes "add") (Verdict.No (Doubt.Callee 3)) ≡ codes "func \"add\" no callee 3\n"
-unfolding chars digits lib.Utf8.encode
-said_callee = refl
-
-said_passes : verdict_line (codes "f") (Verdict.No Doubt.Passes) ≡ codes "func \"f\" no passes\n"
+said_plain : (verdict_line (codes "f") (Verdict.No Doubt.Passes) ≡ codes "func \"f\" no passes\n")
+    × (verdict_line (codes "f") (Verdict.No Doubt.Returns) ≡ codes "func \"f\" no returns\n")
+    × (verdict_line (codes "f") (Verdict.No Doubt.Notes) ≡ codes "func \"f\" no notes\n")
+    × (verdict_line (codes "f") (Verdict.No Doubt.Reply) ≡ codes "func \"f\" no reply\n")
 unfolding chars lib.Utf8.encode
-said_passes = refl
-
-said_returns : verdict_line (codes "f") (Verdict.No Doubt.Returns) ≡ codes "func \"f\" no returns\n"
-unfolding chars lib.Utf8.encode
-said_returns = refl
-
-said_notes : verdict_line (codes "f") (Verdict.No Doubt.Notes) ≡ codes "func \"f\" no notes\n"
-unfolding chars lib.Utf8.encode
-said_notes = refl
-
-said_reply : verdict_line (codes "f") (Verdict.No Doubt.Reply) ≡ codes "func \"f\" no reply\n"
-unfolding chars lib.Utf8.encode
-said_reply = refl
+said_plain = (refl, refl, refl, refl)
 
 said_unfit : unfit_report 4 ≡ codes "listing: unexpected line 4"
 unfolding digits

@@ -5,27 +5,19 @@ ghost use Rattle.std.specs.Prelude.{◌≡◌, ◌≤◌, [], All, None, Ok, Opt
 ghost use Rattle.std.specs.Borrow.{Bor};
 ghost use Rattle.witx_ast.specs.Closed.{IsClosed};
 ghost use Rattle.witx_ast.specs.Definitions.{DefinitionsFit, definition_tree, module_tree};
-ghost use Rattle.witx_ast.specs.Functions.{func_tree};
-ghost use Rattle.witx_ast.specs.Ordered.{IsOrdered};
-ghost use Rattle.witx_ast.specs.Tags.{function_fits};
-ghost use Rattle.witx_machine.specs.Functions.{function_of};
+ghost use Rattle.witx_ast.specs.{Functions.{func_tree}, Ordered.{IsOrdered}, Tags.{function_fits}};
 ghost use Rattle.witx_machine.specs.Lowerable.{unlowerable};
 ghost use Rattle.witx_instructions.specs.Views.{called, event_of};
-ghost use Rattle.witx_adapt.specs.Adaptable.{IsAdaptable};
-ghost use Rattle.witx_adapt.specs.Entries.{IsFaithful, all_functions, entry_for, entry_of};
-ghost use Rattle.witx_bytes.specs.Seen.{seen};
-ghost use Rattle.witx_bytes.specs.declared.value.Value.{Value};
-ghost use Rattle.witx_call.specs.Lines.{Gives};
-ghost use Rattle.witx_compat.specs.Polyfills.{module_answer, polyfill_answer};
-ghost use Rattle.witx_compat.specs.Views.{module_view};
+ghost use Rattle.witx_adapt.specs.{Adaptable.{IsAdaptable}, Entries.{IsFaithful, entry_of}};
+ghost use Rattle.witx_bytes.specs.{Seen.{seen}, declared.value.Value.{Value}};
+ghost use Rattle.witx_compat.specs.{Polyfills.{module_answer, polyfill_answer}, Views.{module_view}};
 ghost use Rattle.witx_check.specs.Validators.{nothing_kept};
-ghost use Rattle.witx_commands.specs.Adapting.{defined};
+ghost use Rattle.witx_commands.specs.Adapting.{HasEntries, defined};
 ghost use Rattle.witx_invoke.specs.Invoking.{CanRun};
 ghost use Rattle.witx_run.specs.Views.{reply_of};
-ghost use Rattle.witx_scope.specs.Declarations.{nothing_before};
-ghost use Rattle.witx_scope.specs.Kept.{Keeps};
+ghost use Rattle.witx_scope.specs.{Declarations.{nothing_before}, Kept.{Keeps}};
 ghost use Rattle.witx_traces.specs.Traces.{HasEachEntry, listed};
-ghost use Rattle.witx_tools.specs.Callable.{IsCallable};
+ghost use Rattle.witx_tools.specs.{Callable.{IsCallable, handed_of}, Calls.{GivesValues}};
 ghost use Rattle.witx_tools.specs.MappedBy.{AreMapped};
 
 use witx_adapt::{Adapted, AdaptedFunc};
@@ -45,7 +37,7 @@ pub fn new_validator_meets_conditions()
 /// result, fits its tags, and can be called with any values of its types.
 pub fn adapted_meets_conditions(adapted: &Adapted)
     requires closed { IsClosed (defined adapted.now) }
-    requires functions { map entry_of adapted.now.functions ≡ map entry_for (all_functions (defined adapted.now)) }
+    requires functions { HasEntries adapted.now }
     requires faithful { All IsFaithful adapted.now.functions }
     requires adaptable { IsAdaptable (defined adapted.now) }
     ensures ordered { IsOrdered (defined adapted.now) }
@@ -61,8 +53,7 @@ pub fn adapted_meets_conditions(adapted: &Adapted)
 /// Values that lines give a function that can be called: the call can be made, whichever reference holds the reply.
 pub fn given_values_meet_conditions(entry: &AdaptedFunc, lines: &str, given: &GivenValues)
     requires callable { IsCallable entry.now }
-    requires given { Gives (function_of (func_tree entry.now.func.value)) lines.now (map seen given.now.args)
-        (option_map seen given.now.reply) }
+    requires given { GivesValues (entry_of entry.now) lines.now (handed_of given.now) }
     ensures { (reply : Option (Bor Value)) → option_map (λ v. v.now) reply ≡ given.now.reply
         → CanRun entry.now.module.value.name (called entry.now.func.value) (map event_of entry.now.caller.events) (map event_of entry.now.callee.events)
         (map seen given.now.args) (reply_of seen reply) }

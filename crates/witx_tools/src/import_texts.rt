@@ -1,17 +1,12 @@
 //! The check of a list of imports against a document.
 
 ghost use Rattle.std.specs.Prelude.{◌≡◌, ◌++◌, IfErr, IfOk, OnOk, Ok, Some, codes, map, option_copied, option_map, string_bytes};
-ghost use Rattle.std.specs.Fmt.{decimal};
-ghost use Rattle.std.specs.List.{flat_map};
-ghost use Rattle.witx_files.specs.Files.{text_in};
-ghost use Rattle.witx_imports.specs.Faults.{offered_import};
-ghost use Rattle.witx_imports.specs.Reads.{Lists};
-ghost use Rattle.witx_commands.specs.Stops.{StopsWith};
+ghost use Rattle.std.specs.{Fmt.{decimal}, List.{flat_map}};
+ghost use Rattle.witx_imports.specs.{Faults.{offered_import}, Reads.{Lists}};
+ghost use Rattle.witx_commands.specs.{Stops.{StopsWith}, Words.{own_file}};
 ghost use Rattle.witx_commands.specs.Words as asked;
-ghost use Rattle.witx_commands.specs.Words.{own_file};
 ghost use Rattle.witx_tools.specs.ImportTexts.{IsBadList, asked_text, bad_report, differs_line, expected_text, fault_line, faults_text, lacking_line, names_text};
-ghost use Rattle.witx_tools.specs.ToolCauses.{ToolRefuses};
-ghost use Rattle.witx_tools.specs.ToolRuns.{ToolTells};
+ghost use Rattle.witx_tools.specs.{ToolCauses.{ToolRefuses}, ToolRuns.{ToolTells}};
 
 use crate::own::opened_file;
 use std::alloc::{AllocError, Global};

@@ -1,30 +1,23 @@
 //! The call of a function with given values, over a memory of bytes.
 
 ghost use Rattle.std.specs.Prelude.{◌≡◌, ◌<◌, ◌≤◌, ◌+◌, ◌/◌, ◌%◌, ◌^◌, ◌++◌, ◌∷◌, [], All, IfErr, IfOk, None, OnOk, Some, codes, map, option_map, position, string_bytes};
-ghost use Rattle.std.specs.Fmt.{decimal};
-ghost use Rattle.std.specs.List.{flat_map};
+ghost use Rattle.std.specs.{Fmt.{decimal}, List.{flat_map}};
 ghost use Rattle.witx_machine.specs.Run.{numbers};
-ghost use Rattle.witx_adapt.specs.Entries.{entry_of};
-ghost use Rattle.witx_adapt.specs.Names.{digit, wasm_word};
-ghost use Rattle.witx_bytes.specs.Bytes.{held};
-ghost use Rattle.witx_bytes.specs.Seen.{seen};
-ghost use Rattle.witx_call.specs.CallSeen.{placed_of, seen_of};
-ghost use Rattle.witx_call.specs.ValueTexts.{value_text as text_of};
+ghost use Rattle.witx_adapt.specs.{Entries.{entry_of}, Names.{digit, wasm_word}};
+ghost use Rattle.witx_bytes.specs.{Bytes.{held}, Seen.{seen}};
+ghost use Rattle.witx_call.specs.{CallSeen.{placed_of, seen_of}, ValueTexts.{value_text as text_of}};
 ghost use Rattle.witx_call.specs.WordViews.{word_view};
-ghost use Rattle.witx_commands.specs.Stops.{StopsWith};
+ghost use Rattle.witx_commands.specs.{Stops.{StopsWith}, Words.{both_names, own_file}};
 ghost use Rattle.witx_commands.specs.Words as asked;
-ghost use Rattle.witx_commands.specs.Words.{both_names, own_file};
 ghost use Rattle.witx_tools.specs.Callable.{AreFor, IsCallable, handed_of};
 ghost use Rattle.witx_tools.specs.Calls.{CallFails, GivesValues, HandedFails, IsCallText, IsHandedText, IsNamedText, LineFails, NamedFails, absent_report, first_named, has_function_names, line_report};
 ghost use Rattle.witx_tools.specs.InvokeTexts.{byte_text, call_text, note_line, range_line, returned_line, word_text, words_line};
-ghost use Rattle.witx_tools.specs.ToolCauses.{ToolRefuses};
-ghost use Rattle.witx_tools.specs.ToolRuns.{ToolTells};
+ghost use Rattle.witx_tools.specs.{ToolCauses.{ToolRefuses}, ToolRuns.{ToolTells}};
 
 use crate::own::opened_file;
 use std::alloc::{AllocError, Global};
 use std::fmt::Write;
-use witx_abi::WasmType;
-use witx_adapt::AdaptedFunc;
+use witx_adapt::{AdaptedFunc, wasm_word};
 use witx_base::{OutOfMemory, Text};
 use witx_bytes::{ByteMemory, Value, traces_take_writable};
 use witx_commands::{Output, OwnFile, Refusal, Stop, text_alone};
@@ -236,7 +229,7 @@ fn put_word(text: &mut String, word: Word) -> Result<(), AllocError>
     ensures { OnOk result (string_bytes text.new ≡ string_bytes text.old ++ word_text (word_view word)) }
 {
     text.push_str(" ")?;
-    text.push_str(type_name(word.ty))?;
+    text.push_str(wasm_word(word.ty))?;
     put_bits(text, word.bits)
 }
 
@@ -244,17 +237,6 @@ fn put_bits(text: &mut String, bits: u64) -> Result<(), AllocError>
     ensures { OnOk result (string_bytes text.new ≡ string_bytes text.old ++ (codes ":" ++ decimal bits)) }
 {
     write!(text, ":{bits}")
-}
-
-fn type_name(ty: WasmType) -> &'static str
-    ensures { result.now ≡ wasm_word ty }
-{
-    match ty {
-        WasmType::I32 => "i32",
-        WasmType::I64 => "i64",
-        WasmType::F32 => "f32",
-        WasmType::F64 => "f64",
-    }
 }
 
 /// A line for each value that is noted.

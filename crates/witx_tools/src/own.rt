@@ -2,12 +2,10 @@
 
 ghost use Rattle.std.specs.Prelude.{◌≡◌, IfErr, IfOk, OnOk, Ok, Some};
 ghost use Rattle.witx_base.specs.Paths.{path_of};
-ghost use Rattle.witx_files.specs.Files.{text_in};
-ghost use Rattle.witx_files.specs.declared.fault.IoFault.{IoFault};
+ghost use Rattle.witx_files.specs.{Files.{text_in}, declared.fault.IoFault.{IoFault}};
 ghost use Rattle.witx_walk.specs.ErrorReports.{io_report};
 ghost use Rattle.witx_commands.specs.Adapting.{IsAdapted, Parses, defined};
-ghost use Rattle.witx_commands.specs.Reports.{AdaptingFails, IsTextReport};
-ghost use Rattle.witx_commands.specs.Stops.{StopsWith};
+ghost use Rattle.witx_commands.specs.{Reports.{AdaptingFails, IsTextReport}, Stops.{StopsWith}};
 ghost use Rattle.witx_commands.specs.Words.{own_file, paths_of};
 ghost use Rattle.witx_tools.specs.ToolCauses.{LacksOwn, OpeningFails};
 

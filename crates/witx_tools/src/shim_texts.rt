@@ -5,12 +5,10 @@ ghost use Rattle.std.specs.List.{flat_map};
 ghost use Rattle.witx_compat.specs.Views.{function_view, module_view};
 ghost use Rattle.witx_ast.specs.Functions.{func_tree};
 ghost use Rattle.witx_shim.specs.Refusals.{ShimRefusal, IsShimRefusal, refusal_of};
-ghost use Rattle.witx_commands.specs.Stops.{StopsWith};
+ghost use Rattle.witx_commands.specs.{Stops.{StopsWith}, Words.{two_files}};
 ghost use Rattle.witx_commands.specs.Words as asked;
-ghost use Rattle.witx_commands.specs.Words.{two_files};
 ghost use Rattle.witx_tools.specs.ShimTexts.{function_lines, listed_line, module_lines, pass_line, passing_line, refusal_line, shims_text, spaced_number};
-ghost use Rattle.witx_tools.specs.ToolCauses.{ToolRefuses};
-ghost use Rattle.witx_tools.specs.MappedBy.{AreMapped, IsMapped};
+ghost use Rattle.witx_tools.specs.{ToolCauses.{ToolRefuses}, MappedBy.{AreMapped, IsMapped}};
 ghost use Rattle.witx_tools.specs.ToolRuns.{ToolTells};
 
 use crate::own::adapted_words;

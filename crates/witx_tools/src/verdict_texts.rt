@@ -1,16 +1,11 @@
 //! The verdicts on the traces that a listing shows.
 
-ghost use Rattle.std.specs.Prelude.{◌≡◌, ◌++◌, IfErr, IfOk, OnOk, codes, map, string_bytes};
-ghost use Rattle.std.specs.Fmt.{decimal};
+ghost use Rattle.std.specs.{Prelude.{◌≡◌, ◌++◌, IfErr, IfOk, OnOk, codes, map, string_bytes}, Fmt.{decimal}};
 ghost use Rattle.std.specs.List.{flat_map, zip};
-ghost use Rattle.witx_traces.specs.Passages.{sides_of};
-ghost use Rattle.witx_traces.specs.Traces.{GivesTraces, listed};
-ghost use Rattle.witx_commands.specs.Adapting.{IsAdapted};
-ghost use Rattle.witx_commands.specs.Stops.{StopsWith};
+ghost use Rattle.witx_traces.specs.{Passages.{sides_of}, Traces.{GivesTraces, listed}};
+ghost use Rattle.witx_commands.specs.{Adapting.{IsAdapted}, Stops.{StopsWith}, Words.{own_file}};
 ghost use Rattle.witx_commands.specs.Words as asked;
-ghost use Rattle.witx_commands.specs.Words.{own_file};
-ghost use Rattle.witx_tools.specs.ToolCauses.{ToolRefuses};
-ghost use Rattle.witx_tools.specs.ToolRuns.{ToolTells};
+ghost use Rattle.witx_tools.specs.{ToolCauses.{ToolRefuses}, ToolRuns.{ToolTells}};
 ghost use Rattle.witx_tools.specs.VerdictTexts.{IsUnfitListing, doubt_text, found_text, judged_line, owned_of, unfit_report, verdict_line, verdicts_text};
 
 use crate::own::opened_file;

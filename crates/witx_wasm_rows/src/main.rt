@@ -10,7 +10,7 @@ use std::alloc::{AllocError, Global};
 use std::fs;
 use std::io::{Read, Write as _};
 use std::process::ExitCode;
-use witx_base::OutOfMemory;
+use witx_base::{MemoryRefused, OutOfMemory};
 use witx_import_list::{ListError, function_imports, import_list_text};
 use witx_wasm::{FaultKind, ModuleError, WasmModule, read_module};
 
@@ -22,14 +22,8 @@ pub enum Stop {
     OutOfMemory,
 }
 
-impl From<OutOfMemory> for Stop {
-    fn from(_: OutOfMemory) -> Stop {
-        Stop::OutOfMemory
-    }
-}
-
-impl From<AllocError> for Stop {
-    fn from(_: AllocError) -> Stop {
+impl<E: MemoryRefused> From<E> for Stop {
+    fn from(_refused: E) -> Stop {
         Stop::OutOfMemory
     }
 }
