@@ -6,18 +6,4 @@
 #![tactic(auto)]
 
 #[cfg(test)]
-mod check;
-#[cfg(test)]
-mod generated;
-#[cfg(test)]
-mod pages;
-#[cfg(test)]
-mod read_back;
-#[cfg(test)]
-mod refused;
-#[cfg(test)]
-mod render;
-#[cfg(test)]
-mod surface;
-#[cfg(test)]
-mod walk;
+mod tests;

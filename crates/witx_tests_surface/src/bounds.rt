@@ -40,3 +40,12 @@ pub fn plain_and_hashed<T: PartialEq + Eq + Hash + Copy + Debug>() {}
 
 /// Equality, order, hash, `Copy` and `Debug`.
 pub fn plain_and_ordered<T: PartialEq + Eq + PartialOrd + Ord + Hash + Copy + Debug>() {}
+
+/// Asks the same of each of these types.
+macro_rules! each {
+    ($bound:ident: $($row:ty),+ $(,)?) => {
+        $($bound::<$row>();)+
+    };
+}
+
+pub(crate) use each;

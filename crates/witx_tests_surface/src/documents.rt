@@ -2,7 +2,8 @@
 //! `witx_layout`.
 
 use crate::bounds::{
-    cloned, cloned_and_hashed, copied, equal, error, hashed, plain_and_hashed, plain_and_ordered,
+    cloned, cloned_and_hashed, copied, each, equal, error, hashed, plain_and_hashed,
+    plain_and_ordered,
 };
 use std::alloc::Global;
 use std::rc::Rc;
@@ -25,41 +26,22 @@ use witx_syntax::{CommentSyntax, DeclSyntax};
 
 /// Documents, modules, and their look-ups.
 pub fn documents() {
-    hashed::<Document>();
-    hashed::<Definition>();
-    hashed::<Definitions>();
-    hashed::<Module>();
-    hashed::<ModuleDefinition>();
-    hashed::<ModuleDefinitions>();
-    hashed::<ModuleImport>();
-    hashed::<InterfaceFunc>();
-    hashed::<InterfaceFuncParam>();
-    hashed::<Params>();
-    hashed::<Constant>();
-    cloned::<Entry>();
-    cloned::<ModuleEntry>();
-    copied::<Entries>();
-    copied::<ModuleEntries>();
-    plain_and_hashed::<Abi>();
-    plain_and_hashed::<ModuleImportVariant>();
+    each!(hashed:
+        Document, Definition, Definitions, Module, ModuleDefinition, ModuleDefinitions,
+        ModuleImport, InterfaceFunc, InterfaceFuncParam, Params, Constant,
+    );
+    each!(cloned: Entry, ModuleEntry);
+    each!(copied: Entries, ModuleEntries);
+    each!(plain_and_hashed: Abi, ModuleImportVariant);
 }
 
 /// Types.
 pub fn types() {
-    hashed::<NamedType>();
-    hashed::<Datatype>();
-    hashed::<RecordDatatype>();
-    hashed::<RecordMember>();
-    hashed::<Members>();
-    hashed::<Variant>();
-    hashed::<Case>();
-    hashed::<Cases>();
-    hashed::<TypeRefs>();
+    each!(hashed:
+        NamedType, Datatype, RecordDatatype, RecordMember, Members, Variant, Case, Cases, TypeRefs,
+    );
     cloned_and_hashed::<TypeRef>();
-    plain_and_hashed::<BuiltinType>();
-    plain_and_hashed::<IntRepr>();
-    plain_and_hashed::<RecordKind>();
-    plain_and_hashed::<HandleDatatype>();
+    each!(plain_and_hashed: BuiltinType, IntRepr, RecordKind, HandleDatatype);
 }
 
 /// The checks of declarations.
@@ -82,10 +64,7 @@ pub fn validated(
 pub fn layout() {
     plain_and_ordered::<SizeAlign>();
     hashed::<SizeAligns>();
-    equal::<TooLarge>();
-    equal::<LayoutError>();
-    equal::<TagTooNarrow>();
-    equal::<LayoutsError>();
+    each!(equal: TooLarge, LayoutError, TagTooNarrow, LayoutsError);
 }
 
 /// The offset of a member.

@@ -1,7 +1,7 @@
 //! The surface of the crates that write of a document: `witx_abi`, `witx_render`, `witx_compat`,
 //! `witx_docs`.
 
-use crate::bounds::{copied, displayed, equal, error, hashed, plain, shown};
+use crate::bounds::{copied, displayed, each, equal, error, hashed, plain, shown};
 use std::alloc::Global;
 use std::rc::Rc;
 use witx_abi::{
@@ -28,16 +28,10 @@ use witx_render::{SExpr, SExprs, ToSExpr, document_text};
 /// Signatures, instructions, traces.
 pub fn abi() {
     plain::<WasmType>();
-    equal::<Place>();
-    equal::<SignatureError>();
-    equal::<AbiError>();
-    equal::<BindgenError>();
-    equal::<Event>();
-    equal::<Step>();
-    equal::<WasmCall>();
-    equal::<InterfaceCall>();
-    equal::<Payloads>();
-    equal::<Events>();
+    each!(equal:
+        Place, SignatureError, AbiError, BindgenError, Event, Step, WasmCall, InterfaceCall,
+        Payloads, Events,
+    );
     copied::<WasmTypes>();
     shown::<Instruction<'static>>();
 }
@@ -50,43 +44,32 @@ pub fn sizes_of(instruction: &Instruction<'_>) -> (usize, usize) {
 /// S-expressions.
 pub fn expressions() {
     displayed::<SExpr>();
-    copied::<SExpr>();
-    copied::<SExprs>();
+    each!(copied: SExpr, SExprs);
 }
 
 /// Compatibility of two documents.
 pub fn compatibility() {
     plain::<RepEquality>();
-    hashed::<Polyfill>();
-    hashed::<ModulePolyfill>();
-    hashed::<FuncPolyfill>();
-    hashed::<ParamPolyfill>();
-    hashed::<ParamUnknown>();
-    hashed::<TypePolyfill>();
+    each!(hashed:
+        Polyfill, ModulePolyfill, FuncPolyfill, ParamPolyfill, ParamUnknown, TypePolyfill,
+    );
     error::<PolyfillError>();
 }
 
 /// The lists of polyfills, and the mapping of modules.
 pub fn compatibility_lists() {
-    hashed::<ModulePolyfills>();
-    hashed::<FuncPolyfills>();
-    hashed::<ParamPolyfills>();
-    hashed::<ParamUnknowns>();
-    hashed::<TypePolyfills>();
+    each!(hashed: ModulePolyfills, FuncPolyfills, ParamPolyfills, ParamUnknowns, TypePolyfills);
     copied::<ModuleMap>();
 }
 
 /// Pages.
 pub fn pages() {
     equal::<DocsError>();
-    hashed::<Numbers>();
-    hashed::<MissingLinks>();
+    each!(hashed: Numbers, MissingLinks);
 }
 
 /// The tree that a page is made from.
 pub fn nodes() {
     plain::<MdHeading>();
-    shown::<MdSection>();
-    shown::<MdNamedType>();
-    shown::<MdFunc>();
+    each!(shown: MdSection, MdNamedType, MdFunc);
 }

@@ -1,6 +1,6 @@
 //! The surface of `witx`: the headline's call, the program, and its parts.
 
-use crate::bounds::{equal, error};
+use crate::bounds::{each, equal, error};
 use std::alloc::Global;
 use witx::{
     AdaptError, Adapted, AdaptedFuncs, Bundle, BundleError, InputError, Ran, WitxError, adapt,
@@ -15,8 +15,7 @@ use witx_syntax::ParseError;
 /// What the texts mean, and what is written of it.
 pub fn headline() {
     error::<WitxError>();
-    equal::<AdaptError>();
-    equal::<BundleError>();
+    each!(equal: AdaptError, BundleError);
 }
 
 /// The pairs of traces of an adapted document.

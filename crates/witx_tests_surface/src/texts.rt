@@ -1,6 +1,6 @@
 //! The surface of the crates that read one text: `witx_base`, `witx_lex`, `witx_syntax`, `witx_files`.
 
-use crate::bounds::{copied, equal, error, hashed, ordered, plain};
+use crate::bounds::{copied, each, equal, error, hashed, ordered, plain};
 use std::alloc::Global;
 use witx_base::{
     Bytes, Calls, Failed, Id, Items, MemSink, MemSource, NameMap, OutOfMemory, Sink, Source, Text,
@@ -21,13 +21,9 @@ use witx_syntax::{
 
 /// Texts, names, paths, and the devices in memory.
 pub fn base() {
-    ordered::<Text>();
-    ordered::<WitxPath>();
-    hashed::<Id>();
-    hashed::<Bytes>();
-    hashed::<Calls>();
-    equal::<OutOfMemory>();
-    equal::<Failed>();
+    each!(ordered: Text, WitxPath);
+    each!(hashed: Id, Bytes, Calls);
+    each!(equal: OutOfMemory, Failed);
 }
 
 /// The token of a quoted text owns the text.
@@ -37,43 +33,24 @@ pub fn quoted(text: Text) -> Token<'static> {
 
 /// Tokens, faults of texts, and places.
 pub fn tokens() {
-    equal::<Span>();
-    equal::<Token<'static>>();
-    equal::<Lexed<'static>>();
-    equal::<Tokens<'static>>();
-    equal::<LexFault>();
-    equal::<LexKind>();
-    equal::<LexError>();
+    each!(equal:
+        Span, Token<'static>, Lexed<'static>, Tokens<'static>, LexFault, LexKind, LexError,
+    );
     copied::<Comments<'static>>();
 }
 
 /// Syntax trees, and the parser.
 pub fn syntax() {
-    plain::<IdSyntax<'static>>();
-    plain::<BuiltinSyntax>();
-    plain::<HandleSyntax>();
-    plain::<ImportTypeSyntax>();
-    copied::<CommentSyntax<'static>>();
-    copied::<Documented<'static, TypedefSyntax<'static>>>();
-    copied::<TopLevelDocument<'static>>();
-    copied::<TopLevelSyntax<'static>>();
-    copied::<DeclSyntax<'static>>();
-    copied::<TypenameSyntax<'static>>();
-    copied::<TypedefSyntax<'static>>();
-    copied::<EnumSyntax<'static>>();
-    copied::<FlagsSyntax<'static>>();
-    copied::<TupleSyntax<'static>>();
-    copied::<ExpectedSyntax<'static>>();
-    copied::<ConstSyntax<'static>>();
-    copied::<RecordSyntax<'static>>();
-    copied::<FieldSyntax<'static>>();
-    copied::<UnionSyntax<'static>>();
-    copied::<VariantSyntax<'static>>();
-    copied::<CaseSyntax<'static>>();
-    copied::<ModuleSyntax<'static>>();
-    copied::<ModuleDeclSyntax<'static>>();
-    copied::<ModuleImportSyntax>();
-    copied::<InterfaceFuncSyntax<'static>>();
+    each!(plain: IdSyntax<'static>, BuiltinSyntax, HandleSyntax, ImportTypeSyntax);
+    each!(copied:
+        CommentSyntax<'static>, Documented<'static, TypedefSyntax<'static>>,
+        TopLevelDocument<'static>, TopLevelSyntax<'static>, DeclSyntax<'static>,
+        TypenameSyntax<'static>, TypedefSyntax<'static>, EnumSyntax<'static>, FlagsSyntax<'static>,
+        TupleSyntax<'static>, ExpectedSyntax<'static>, ConstSyntax<'static>, RecordSyntax<'static>,
+        FieldSyntax<'static>, UnionSyntax<'static>, VariantSyntax<'static>, CaseSyntax<'static>,
+        ModuleSyntax<'static>, ModuleDeclSyntax<'static>, ModuleImportSyntax,
+        InterfaceFuncSyntax<'static>,
+    );
 }
 
 /// The documentation of comments.
@@ -83,22 +60,17 @@ pub fn docs_of(alloc: Global, comments: &CommentSyntax<'_>) -> Result<Text, OutO
 
 /// The lists of syntax trees, and why a text has no tree.
 pub fn syntax_lists() {
-    copied::<CaseSyntaxes<'static>>();
-    copied::<FieldSyntaxes<'static>>();
-    copied::<MemberSyntaxes<'static>>();
-    copied::<ModuleDeclSyntaxes<'static>>();
-    copied::<TopLevelSyntaxes<'static>>();
-    copied::<TypeSyntaxes<'static>>();
-    copied::<UnionFieldSyntaxes<'static>>();
+    each!(copied:
+        CaseSyntaxes<'static>, FieldSyntaxes<'static>, MemberSyntaxes<'static>,
+        ModuleDeclSyntaxes<'static>, TopLevelSyntaxes<'static>, TypeSyntaxes<'static>,
+        UnionFieldSyntaxes<'static>,
+    );
     error::<ParseError>();
-    equal::<ParseFault>();
-    equal::<SyntaxError>();
+    each!(equal: ParseFault, SyntaxError);
 }
 
 /// Files in memory, places in them, and what a reader of files answers.
 pub fn files() {
-    copied::<Location>();
-    copied::<Aliases>();
-    equal::<IoError>();
-    equal::<IoFault>();
+    each!(copied: Location, Aliases);
+    each!(equal: IoError, IoFault);
 }

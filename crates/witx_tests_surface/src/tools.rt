@@ -1,7 +1,7 @@
 //! The surface of the crates of the tools: `witx_bytes`, `witx_shim`, `witx_verify`, `witx_invoke`,
 //! `witx_imports`, `witx_tools`.
 
-use crate::bounds::{copied, equal};
+use crate::bounds::{copied, each, equal};
 use std::alloc::Global;
 use witx::{Adapted, AdaptedFunc, Ran};
 use witx_abi::Events;
@@ -25,41 +25,25 @@ use witx_verify::{Doubt, TracePair, TracePairs, TracesError, Verdict, read_trace
 
 /// A memory of bytes, and the images of values in it.
 pub fn bytes() {
-    equal::<Value>();
-    equal::<Values>();
-    equal::<PlaceError>();
-    equal::<ReadError>();
+    each!(equal: Value, Values, PlaceError, ReadError);
     copied::<Bools>();
 }
 
 /// Shims, and the checker of traces.
 pub fn pairs() {
-    equal::<Shim>();
-    equal::<ShimError>();
-    equal::<Verdict>();
-    equal::<Doubt>();
-    equal::<TracesError>();
+    each!(equal: Shim, ShimError, Verdict, Doubt, TracesError);
     copied::<Places>();
-    equal::<TracePair>();
-    equal::<TracePairs>();
+    each!(equal: TracePair, TracePairs);
 }
 
 /// One call of a function, over bytes.
 pub fn calls() {
-    equal::<Word>();
-    equal::<Placed>();
-    copied::<Words>();
-    copied::<PlacedRanges>();
-    equal::<GivenValues>();
-    equal::<InvokeError>();
-    equal::<ValuesError>();
+    each!(equal: Word, Placed);
+    each!(copied: Words, PlacedRanges);
+    each!(equal: GivenValues, InvokeError, ValuesError);
 }
 
 /// Lists of imports.
 pub fn imports() {
-    equal::<ImportsError>();
-    equal::<WasmImport>();
-    equal::<WasmImports>();
-    equal::<ImportFault>();
-    equal::<ImportFaults>();
+    each!(equal: ImportsError, WasmImport, WasmImports, ImportFault, ImportFaults);
 }

@@ -4,20 +4,4 @@
 #![tactic(auto)]
 
 #[cfg(test)]
-mod base;
-#[cfg(test)]
-mod bundle;
-#[cfg(test)]
-mod comments;
-#[cfg(test)]
-mod files;
-#[cfg(test)]
-mod grammar;
-#[cfg(test)]
-mod lex;
-#[cfg(test)]
-mod streams;
-#[cfg(test)]
-mod syntax;
-#[cfg(test)]
-mod tree;
+mod tests;

@@ -5,24 +5,4 @@
 #![tactic(auto)]
 
 #[cfg(test)]
-mod by_hand;
-#[cfg(test)]
-mod devices;
-#[cfg(test)]
-mod first_lines;
-#[cfg(test)]
-mod imports;
-#[cfg(test)]
-mod invoke;
-#[cfg(test)]
-mod listings;
-#[cfg(test)]
-mod sample;
-#[cfg(test)]
-mod texts;
-#[cfg(test)]
-mod tools;
-#[cfg(test)]
-mod values;
-#[cfg(test)]
-mod verify;
+mod tests;

@@ -5,16 +5,4 @@
 #![tactic(auto)]
 
 #[cfg(test)]
-mod abi;
-#[cfg(test)]
-mod ast;
-#[cfg(test)]
-mod bytes;
-#[cfg(test)]
-mod compat;
-#[cfg(test)]
-mod hostile;
-#[cfg(test)]
-mod layout;
-#[cfg(test)]
-mod shim;
+mod tests;
